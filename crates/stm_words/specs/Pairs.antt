@@ -1,0 +1,13 @@
+-- Lists of pairs as finite maps.
+use Rattle.std.proofs.Common.{ℕ, List, [], ◌∷◌}
+use Rattle.std.specs.FinMap.{insert, empty}
+use Rattle.stm_words.specs.View.{Words}
+
+-- the map with the pairs put into it, the later over the earlier
+abbrev pub with_pairs : Words → List (ℕ × ℕ) → Words
+with_pairs m [] = m
+with_pairs m (pair ∷ pairs) = with_pairs (insert m pair.0 pair.1) pairs
+
+-- the map of a list of pairs
+abbrev pub map_of : List (ℕ × ℕ) → Words
+map_of pairs = with_pairs empty pairs

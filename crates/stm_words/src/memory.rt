@@ -1,0 +1,59 @@
+ghost use Rattle.std.specs.Prelude.{◌≡◌, ℕ, ◌<◌, List, IfOk, MatchResult};
+ghost use Rattle.std.specs.FinMap.{insert};
+ghost use Rattle.stm_words.specs.View.{View, Sees, SameFrame, HasRead, Loaded, Stored};
+
+/// The number of a data word.
+#[derive(Clone, Copy, Debug, PartialEq, Eq, PartialOrd, Ord)]
+pub struct Addr(pub u32);
+
+/// A memory whose words are read in a transaction.
+///
+/// Its meaning is a `View`: a size, the images that fit, and two finite maps, the reads and the
+/// writes. Some fitting image of that size agrees with the reads at every moment (`seen`).
+pub trait TxRead {
+    /// Why the transaction cannot go on.
+    type Stop;
+
+    ghost view: { Self → View };
+
+    /// The word at an address below the size: the transaction's own write of it, or a value that
+    /// enters the reads. A refusal changes neither reads nor writes.
+    fn read(&mut self, addr: Addr) -> Result<u64, Self::Stop>
+        requires { addr.0 < (view self.old).size }
+        ensures frame { SameFrame (view self.old) (view self.new) }
+        ensures writes { (view self.new).writes ≡ (view self.old).writes }
+        ensures answer { MatchResult result (λ v. HasRead (view self.old) (view self.new) addr.0 v) (λ _. (view self.new).reads ≡ (view self.old).reads) };
+
+    ghost seen: { (s : Self) → ∥ ((image : List ℕ) × Sees (view s) image) ∥₁ };
+}
+
+/// A memory whose words are read and written in a transaction.
+pub trait TxMem: TxRead {
+    /// Lets the value enter the writes, at an address below the size. A refusal changes neither
+    /// reads nor writes.
+    fn write(&mut self, addr: Addr, value: u64) -> Result<(), Self::Stop>
+        requires { addr.0 < (Self.view self.old).size }
+        ensures frame { SameFrame (Self.view self.old) (Self.view self.new) }
+        ensures reads { (Self.view self.new).reads ≡ (Self.view self.old).reads }
+        ensures answer { MatchResult result (λ _. (Self.view self.new).writes ≡ insert (Self.view self.old).writes addr.0 value) (λ _. (Self.view self.new).writes ≡ (Self.view self.old).writes) };
+}
+
+/// A read, in terms of every image that the memory may stand on: under each that agrees with the
+/// reads afterwards, the word was the answer.
+#[inline]
+pub fn load<M: TxRead>(memory: &mut M, addr: Addr) -> Result<u64, M::Stop>
+    requires { addr.0 < (M.view memory.old).size }
+    ensures { IfOk result (λ v. Loaded (M.view memory.old) (M.view memory.new) addr.0 v) }
+{
+    memory.read(addr)
+}
+
+/// A write, in terms of every image that the memory may stand on: under each, the word at this
+/// address is the value, and every other word is as before.
+#[inline]
+pub fn store<M: TxMem>(memory: &mut M, addr: Addr, value: u64) -> Result<(), M::Stop>
+    requires { addr.0 < (M.view memory.old).size }
+    ensures { IfOk result (λ _. Stored (M.view memory.old) (M.view memory.new) addr.0 value) }
+{
+    memory.write(addr, value)
+}

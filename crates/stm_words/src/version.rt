@@ -1,0 +1,76 @@
+ghost use Rattle.std.specs.Prelude.{◌≡◌, ℕ, ◌+◌, ◌*◌, ◌^◌, ◌<◌, ◌≤◌, ◌↔◌, IsNone, IfSome, true, false};
+ghost use Rattle.stm_words.specs.LockWord.{free_word, held_word};
+
+use std::marker::Model;
+
+/// A version of the version clock, at most 2^62 - 1.
+#[derive(Clone, Copy, Debug, PartialEq, Eq, PartialOrd, Ord)]
+pub struct Version {
+    number: u64,
+}
+
+impl Model for Version {
+    ghost Value = { ℕ };
+
+    ghost view = { λ v. v.number };
+
+    ghost invariant = { λ v. v.number < 2 ^ 62 };
+
+    ghost inverse = { λ n. record { number = n } };
+}
+
+impl Version {
+    /// The version of a number, or `None` above 2^62 - 1.
+    #[inline]
+    pub fn new(number: u64) -> Option<Version>
+        ensures none { IsNone result ↔ (2 ^ 62 ≤ number) }
+        ensures some { IfSome result (λ v. v ≡ number) }
+    {
+        if number < 1 << 62 {
+            Some(Version { number })
+        } else {
+            None
+        }
+    }
+
+    /// The version's number.
+    #[inline]
+    pub fn get(self) -> u64
+        ensures number { result ≡ self }
+        ensures small { result < 2 ^ 62 }
+    {
+        self.number
+    }
+}
+
+/// The encoding of lock words: twice the version when free, and one more when held, then with the
+/// version from before.
+pub struct LockWord;
+
+impl LockWord {
+    /// The word of a free lock of this version.
+    #[inline]
+    pub fn free(version: Version) -> u64
+        ensures { result ≡ free_word version }
+    {
+        2 * version.number
+    }
+
+    /// The word of a held lock whose version was this one before.
+    #[inline]
+    pub fn held(version: Version) -> u64
+        ensures { result ≡ held_word version }
+    {
+        Self::free(version) + 1
+    }
+
+    /// The version of a lock word and whether the lock is held.
+    #[inline]
+    pub fn decode(word: u64) -> (Version, bool)
+        requires { word < 2 ^ 63 }
+        ensures free { (v : ℕ) → word ≡ free_word v → (result.0 ≡ v) × (result.1 ≡ false) }
+        ensures held { (v : ℕ) → word ≡ held_word v → (result.0 ≡ v) × (result.1 ≡ true) }
+    {
+        (Version { number: word / 2 }, word % 2 == 1)
+    }
+}
