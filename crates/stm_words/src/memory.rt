@@ -9,10 +9,16 @@ pub struct Addr(pub u32);
 /// A memory whose words are read in a transaction.
 ///
 /// Its meaning is a `View`: a size, the images that fit, and two finite maps, the reads and the
-/// writes. Some fitting image of that size agrees with the reads at every moment (`seen`).
+/// writes. Some fitting image of that size agrees with the reads at every moment (`seen`). Its
+/// `origin` is what no read and no write changes, refused ones among them: of a running
+/// transaction, its region and its client as the attempt began.
 pub trait TxRead {
     /// Why the transaction cannot go on.
     type Stop;
+
+    ghost Origin: { Type 0 };
+
+    ghost origin: { Self → Origin };
 
     ghost view: { Self → View };
 
@@ -20,6 +26,7 @@ pub trait TxRead {
     /// enters the reads. A refusal changes neither reads nor writes.
     fn read(&mut self, addr: Addr) -> Result<u64, Self::Stop>
         requires { addr.0 < (view self.old).size }
+        ensures origin { origin self.new ≡ origin self.old }
         ensures frame { SameFrame (view self.old) (view self.new) }
         ensures writes { (view self.new).writes ≡ (view self.old).writes }
         ensures answer { MatchResult result (λ v. HasRead (view self.old) (view self.new) addr.0 v) (λ _. (view self.new).reads ≡ (view self.old).reads) };
@@ -33,6 +40,7 @@ pub trait TxMem: TxRead {
     /// reads nor writes.
     fn write(&mut self, addr: Addr, value: u64) -> Result<(), Self::Stop>
         requires { addr.0 < (Self.view self.old).size }
+        ensures origin { Self.origin self.new ≡ Self.origin self.old }
         ensures frame { SameFrame (Self.view self.old) (Self.view self.new) }
         ensures reads { (Self.view self.new).reads ≡ (Self.view self.old).reads }
         ensures answer { MatchResult result (λ _. (Self.view self.new).writes ≡ insert (Self.view self.old).writes addr.0 value) (λ _. (Self.view self.new).writes ≡ (Self.view self.old).writes) };
@@ -43,7 +51,8 @@ pub trait TxMem: TxRead {
 #[inline]
 pub fn load<M: TxRead>(memory: &mut M, addr: Addr) -> Result<u64, M::Stop>
     requires { addr.0 < (M.view memory.old).size }
-    ensures { IfOk result (λ v. Loaded (M.view memory.old) (M.view memory.new) addr.0 v) }
+    ensures origin { M.origin memory.new ≡ M.origin memory.old }
+    ensures answer { IfOk result (λ v. Loaded (M.view memory.old) (M.view memory.new) addr.0 v) }
 {
     memory.read(addr)
 }
@@ -53,7 +62,8 @@ pub fn load<M: TxRead>(memory: &mut M, addr: Addr) -> Result<u64, M::Stop>
 #[inline]
 pub fn store<M: TxMem>(memory: &mut M, addr: Addr, value: u64) -> Result<(), M::Stop>
     requires { addr.0 < (M.view memory.old).size }
-    ensures { IfOk result (λ _. Stored (M.view memory.old) (M.view memory.new) addr.0 value) }
+    ensures origin { M.origin memory.new ≡ M.origin memory.old }
+    ensures answer { IfOk result (λ _. Stored (M.view memory.old) (M.view memory.new) addr.0 value) }
 {
     memory.write(addr, value)
 }

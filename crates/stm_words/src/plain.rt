@@ -42,6 +42,10 @@ impl TxRead for Flat {
 
     type Stop = Infallible;
 
+    ghost Origin = { Unit {0} };
+
+    ghost origin = { λ _. tt };
+
     ghost view = { λ words. flat_view words };
 
     #[inline]

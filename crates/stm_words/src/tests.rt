@@ -32,7 +32,8 @@ fn lock_words(rt: HostRuntime) -> Result<(), Fail> {
 fn swap<M: TxMem>(memory: &mut M, a: Addr, b: Addr) -> Result<(), M::Stop>
     requires a { a.0 < (M.view memory.old).size }
     requires b { b.0 < (M.view memory.old).size }
-    ensures { IfOk result (λ _. (M.view memory.new).size ≡ (M.view memory.old).size) }
+    ensures origin { M.origin memory.new ≡ M.origin memory.old }
+    ensures size { IfOk result (λ _. (M.view memory.new).size ≡ (M.view memory.old).size) }
 {
     let x = load(memory, a)?;
     let y = load(memory, b)?;

@@ -1,5 +1,5 @@
 use Rattle.stm_words.specs.Seen.{has_loaded}
 use Rattle.stm_words.proofs.memory.load.Goals as goal
 
-pub returns : goal.returns
-returns g c = has_loaded _ _ _ _ c.read.ensures.frame c.read.ensures.writes c.read.ensures.answer
+pub returns-clause-answer : goal.returns-clause-answer
+returns-clause-answer g c = has_loaded _ _ _ _ c.read.ensures.frame c.read.ensures.writes c.read.ensures.answer

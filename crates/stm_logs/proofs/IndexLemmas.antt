@@ -1,0 +1,228 @@
+-- The search in the index, and a node that enters it.
+use Rattle.std.proofs.Common.{◌≡◌, ◌≢◌, inl, inr, ℕ, ◌+◌, ◌-◌, ◌<◌, ◌≤◌, Bool, cond, nat_eq, nat_lt, List, length, set, refl, sym, ap, ◌∙◌, arith, length-set, subst}
+use Rattle.std.proofs.lemmas.Bool.{cases_lt}
+use Rattle.std.proofs.lemmas.Bool.Decides.{nat_tests}
+use Rattle.stm_logs.specs.declared.nodes.Node.{Node}
+use Rattle.stm_logs.specs.Nodes.{at}
+use Rattle.stm_logs.specs.Index.{home, is_lock_node, HasKey, Along, IsTaken, IsOther, taken, IsIndexed, HasNone, Answers, SameNode, Entered}
+use Rattle.stm_logs.proofs.NodeLemmas.{same_or, put_here, put_other, field_kept, taken_put, free_place, bit}
+
+pub along_map : (P Q : ℕ → Type 0) (len start end : ℕ) → ((q : ℕ) → P q → Q q) → Along P len start end → Along Q len start end
+along_map P Q len start end f a = record {
+  straight = λ l q h k. f q (a.straight l q h k);
+  high = λ l q h k. f q (a.high l q h k);
+  low = λ l q h. f q (a.low l q h);
+}
+
+pub along_none : (P : ℕ → Type 0) (len start : ℕ) → Along P len start start
+along_none P len start = record {
+  straight = λ l q h k. absurd (omega arith);
+  high = λ l q h k. absurd (omega arith);
+  low = λ l q h. absurd (omega arith);
+}
+
+-- one place further, not past the last
+pub along_on : (P : ℕ → Type 0) (len start end : ℕ) → start < len → end + 1 < len → (end + 1 ≡ start → (f : ℕ) × ((f < len) × ¬ (P f))) → Along P len start end → P end → Along P len start (end + 1)
+along_on P len start end s m gap a here = record {
+  straight = λ l q h k. elim (cases_lt end start) [
+    | inl wrapped ↦ (
+        let g = gap (omega arith) in
+        absurd (g.1.1 (elim (cases_lt g.0 start) [
+          | inl below ↦ (elim (same_or g.0 end) [ inl is ↦ subst P (sym is) here | inr ne ↦ a.low wrapped g.0 (omega arith) ])
+          | inr above ↦ a.high wrapped g.0 above g.1.0
+        ])))
+    | inr straight ↦ (elim (same_or q end) [ inl is ↦ subst P (sym is) here | inr ne ↦ a.straight straight q h (omega arith) ])
+  ];
+  high = λ l q h k. a.high (omega arith) q h k;
+  low = λ l q h. elim (same_or q end) [ inl is ↦ subst P (sym is) here | inr ne ↦ a.low (omega arith) q (omega arith) ];
+}
+
+-- past the last place comes the first
+pub along_round : (P : ℕ → Type 0) (len start end : ℕ) → start < len → end < len → end + 1 ≡ len → (0 ≡ start → (f : ℕ) × ((f < len) × ¬ (P f))) → Along P len start end → P end → Along P len start 0
+along_round P len start end s m last gap a here =
+    let all : (q : ℕ) → start ≤ q → q < len → P q = λ q h k. elim (same_or q end) [ inl is ↦ subst P (sym is) here | inr ne ↦ a.straight (omega arith) q h (omega arith) ] in
+    record {
+      straight = λ l q h k. absurd (omega arith);
+      high = λ l q h k. all q h k;
+      low = λ l q h. absurd (omega arith);
+    }
+
+-- where the search has passed other nodes alone and stands at a free place, no node has the key
+pub no_match : (ns : List Node) (n : ℕ) (b : Bool) (k h p : ℕ) → IsIndexed ns n → p < length ns → h ≡ home b k (length ns) → Along (IsOther ns b k) (length ns) h p → (at ns p).slot ≡ 0 → HasNone ns n b k
+no_match ns n b k h p ix l hs a free e z m key =
+    let q : ℕ = (at ns e).place in
+    let there = ix.places e z m in
+    let same : home (is_lock_node (at ns e)) (at ns e).number (length ns) ≡ h = ap (λ c. home c (at ns e).number (length ns)) key.1 ∙ ap (λ j. home b j (length ns)) key.0 ∙ sym hs in
+    let r : Along (IsTaken ns) (length ns) h q = subst (λ s. Along (IsTaken ns) (length ns) s q) same (ix.reached e z m) in
+    let passed : IsOther ns b k q → ⊥ = λ other. other.1 (subst (λ j. HasKey (at ns j) b k) (sym there.1) key) in
+    let not_free : q ≢ p = λ is. absurd (omega (arith, there.1, ap (λ j. (at ns j).slot) is)) in
+    elim (cases_lt p h) [
+      | inl wrapped ↦ elim (cases_lt q h) [
+        | inl low ↦ elim (cases_lt q p) [
+          | inl before ↦ passed (a.low wrapped q before)
+          | inr after ↦ (let t = r.low low p (omega (arith, not_free)) in absurd (omega (arith, t)))
+        ]
+        | inr high ↦ passed (a.high wrapped q high there.0)
+      ]
+      | inr straight ↦ elim (cases_lt q h) [
+        | inl low ↦ (let t = r.high low p straight l in absurd (omega (arith, t)))
+        | inr high ↦ elim (cases_lt q p) [
+          | inl before ↦ passed (a.straight straight q high before)
+          | inr after ↦ (let t = r.straight high p straight (omega (arith, not_free)) in absurd (omega (arith, t)))
+        ]
+      ]
+    ]
+
+-- what is written where node n + 1 enters at the free place q
+pub record Written (ns ns' : List Node) (n q : ℕ) (y : Node) : Type 0 where
+  pub len : length ns' ≡ length ns
+  pub slot_here : (at ns' q).slot ≡ n + 1
+  pub slot_other : (j : ℕ) → j ≢ q → (at ns' j).slot ≡ (at ns j).slot
+  pub place_here : (at ns' (n + 1)).place ≡ q
+  pub place_other : (j : ℕ) → j ≢ n + 1 → (at ns' j).place ≡ (at ns j).place
+  pub others : (e : ℕ) → e ≢ n + 1 → SameNode (at ns e) (at ns' e)
+  pub here : SameNode y (at ns' (n + 1))
+  pub count : taken ns' ≡ taken ns + 1
+
+same_lock : (a b : Node) → SameNode a b → is_lock_node b ≡ is_lock_node a
+same_lock a b s = ap (λ p. nat_eq p 0) s.parent
+
+same_home : (a b : Node) (len len' : ℕ) → SameNode a b → len' ≡ len → home (is_lock_node b) b.number len' ≡ home (is_lock_node a) a.number len
+same_home a b len len' s e = ap (λ c. home c b.number len') (same_lock a b s) ∙ ap (λ k. home (is_lock_node a) k len') s.number ∙ ap (λ j. home (is_lock_node a) a.number j) e
+
+still_taken : (ns ns' : List Node) (n q : ℕ) (y : Node) → Written ns ns' n q y → (j : ℕ) → IsTaken ns j → IsTaken ns' j
+still_taken ns ns' n q y w j t = elim (same_or j q) [
+  | inl is ↦ omega (arith, w.slot_here, ap (λ k. (at ns' k).slot) is)
+  | inr ne ↦ omega (arith, w.slot_other j ne)
+]
+
+pub along_at : (P : ℕ → Type 0) (len len' start start' end end' : ℕ) → len' ≡ len → start' ≡ start → end' ≡ end → Along P len start end → Along P len' start' end'
+along_at P len len' start start' end end' a b c h = subst (λ x. Along P x start' end') (sym a) (subst (λ x. Along P len x end') (sym b) (subst (λ x. Along P len start x) (sym c) h))
+
+pub entered : (ns ns' : List Node) (n q : ℕ) (y : Node) → IsIndexed ns n → n + 1 < length ns → Answers ns n (is_lock_node y) y.number q → (at ns q).slot ≡ 0 → Written ns ns' n q y → Entered ns ns' n y
+entered ns ns' n q y ix room an free w = record {
+  indexed = record {
+    room = omega (arith, w.len);
+    limit = omega (arith, w.len, ix.limit);
+    count = omega (arith, w.count, ix.count);
+    places = λ e z m. elim (same_or e (n + 1)) [
+      | inl is ↦ (
+          let p : (at ns' e).place ≡ q = ap (λ j. (at ns' j).place) is ∙ w.place_here in
+          (omega (arith, p, an.inside, w.len), ap (λ j. (at ns' j).slot) p ∙ w.slot_here ∙ sym is))
+      | inr ne ↦ (
+          let p = w.place_other e ne in
+          let there = ix.places e z (omega arith) in
+          let apart : (at ns e).place ≢ q = λ is. absurd (omega (arith, there.1, ap (λ j. (at ns j).slot) is)) in
+          (omega (arith, p, there.0, w.len), ap (λ j. (at ns' j).slot) p ∙ w.slot_other _ apart ∙ there.1))
+    ];
+    slots = λ p l t. elim (same_or p q) [
+      | inl is ↦ (
+          let s : (at ns' p).slot ≡ n + 1 = ap (λ j. (at ns' j).slot) is ∙ w.slot_here in
+          (omega (arith, s), ap (λ j. (at ns' j).place) s ∙ w.place_here ∙ sym is))
+      | inr ne ↦ (
+          let s = w.slot_other p ne in
+          let there = ix.slots p (omega (arith, w.len)) (omega (arith, s)) in
+          (omega (arith, s, there.0), ap (λ j. (at ns' j).place) s ∙ w.place_other _ (λ is. absurd (omega (arith, there.0, is))) ∙ there.1))
+    ];
+    reached = λ e z m. elim (same_or e (n + 1)) [
+      | inl is ↦ (
+          let s : SameNode y (at ns' e) = subst (λ j. SameNode y (at ns' j)) (sym is) w.here in
+          along_at (IsTaken ns') _ _ _ _ _ _ w.len (same_home y (at ns' e) _ _ s w.len) (ap (λ j. (at ns' j).place) is ∙ w.place_here)
+          (along_map (IsTaken ns) (IsTaken ns') _ _ _ (still_taken ns ns' n q y w) (an.free free).1))
+      | inr ne ↦
+          along_at (IsTaken ns') _ _ _ _ _ _ w.len (same_home (at ns e) (at ns' e) _ _ (w.others e ne) w.len) (w.place_other e ne)
+          (along_map (IsTaken ns) (IsTaken ns') _ _ _ (still_taken ns ns' n q y w) (ix.reached e z (omega arith)))
+    ];
+  };
+  len = w.len;
+  others = w.others;
+  here = w.here;
+}
+
+-- a node with the slot of the place where it is put
+abbrev pub placed : Node → ℕ → ℕ → Node
+placed y place slot = record y { place = place; slot = slot }
+
+abbrev pub leads : Node → ℕ → Node
+leads y slot = record y { slot = slot }
+
+unplaced : (y b : Node) (q s : ℕ) → SameNode (placed y q s) b → SameNode y b
+unplaced y b q s h = record { value = h.value; number = h.number; parent = h.parent; first = h.first; recent = h.recent; next = h.next }
+
+pub written : (ns : List Node) (n q : ℕ) (y : Node) → n + 1 < length ns → q < length ns → (at ns q).slot ≡ 0
+    → Written ns (set (set ns (n + 1) (placed y q (at ns (n + 1)).slot)) q (leads (at (set ns (n + 1) (placed y q (at ns (n + 1)).slot)) q) (n + 1))) n q y
+written ns n q y room l free =
+    let mid : List Node = set ns (n + 1) (placed y q (at ns (n + 1)).slot) in
+    let z : Node = leads (at mid q) (n + 1) in
+    let end : List Node = set mid q z in
+    let m : length mid ≡ length ns = length-set ns (n + 1) (placed y q (at ns (n + 1)).slot) in
+    let lm : q < length mid = omega (arith, m) in
+    let here : at mid (n + 1) ≡ placed y q (at ns (n + 1)).slot = put_here ns (n + 1) _ room in
+    let slots : (j : ℕ) → (at mid j).slot ≡ (at ns j).slot = field_kept (λ x. x.slot) ns (n + 1) _ room refl in
+    let others : (j : ℕ) → j ≢ n + 1 → at mid j ≡ at ns j = λ j ne. put_other ns (n + 1) j _ ne in
+    let at_end : (j : ℕ) → SameNode (at mid j) (at end j) = λ j. record {
+      value = field_kept (λ x. x.value) mid q z lm refl j;
+      number = field_kept (λ x. x.number) mid q z lm refl j;
+      parent = field_kept (λ x. x.parent) mid q z lm refl j;
+      first = field_kept (λ x. x.first) mid q z lm refl j;
+      recent = field_kept (λ x. x.recent) mid q z lm refl j;
+      next = field_kept (λ x. x.next) mid q z lm refl j;
+    } in
+    let places : (j : ℕ) → (at end j).place ≡ (at mid j).place = field_kept (λ x. x.place) mid q z lm refl in
+    let first = taken_put ns (n + 1) (placed y q (at ns (n + 1)).slot) room in
+    let second = taken_put mid q z lm in
+    let empty : bit (at mid q).slot ≡ 0 = ap bit (slots q ∙ free) in
+    let full : bit (n + 1) ≡ 1 = grind (arith, nat_tests) in
+    record {
+      len = length-set mid q z ∙ m;
+      slot_here = ap (λ x. x.slot) (put_here mid q z lm);
+      slot_other = λ j ne. ap (λ x. x.slot) (put_other mid q j z ne) ∙ slots j;
+      place_here = places (n + 1) ∙ ap (λ x. x.place) here;
+      place_other = λ j ne. places j ∙ ap (λ x. x.place) (others j ne);
+      others = λ j ne. subst (λ x. SameNode x (at end j)) (others j ne) (at_end j);
+      here = unplaced y _ q _ (subst (λ x. SameNode x (at end (n + 1))) here (at_end (n + 1)));
+      count = omega (arith, first, second, empty, full);
+    }
+
+-- how many places are left until the search is round
+abbrev pub to_go : ℕ → ℕ → ℕ → ℕ
+to_go start len place = cond (nat_lt place start) (start - place) (len + start - place)
+
+pub record Stepped (P : ℕ → Type 0) (len start place next : ℕ) : Type 0 where
+  pub inside : next < len
+  pub along : Along P len start next
+  pub nearer : to_go start len next < to_go start len place
+
+stepped_on : (P : ℕ → Type 0) (len start place next : ℕ) → start < len → place + 1 < len → next ≡ place + 1 → (f : ℕ) × ((f < len) × ¬ (P f)) → Along P len start place → P place → Stepped P len start place next
+stepped_on P len start place next s l is gap a here =
+    let along : Along P len start (place + 1) = along_on P len start place s l (λ _. gap) a here in
+    let full : (place + 1 ≡ start) → ⊥ = λ e. gap.1.1 (elim (cases_lt gap.0 start) [
+      | inl below ↦ (elim (same_or gap.0 place) [ inl at ↦ subst P (sym at) here | inr ne ↦ a.low (omega arith) gap.0 (omega arith) ])
+      | inr above ↦ a.high (omega arith) gap.0 above gap.1.0
+    ]) in
+    record {
+      inside = omega arith;
+      along = subst (λ e. Along P len start e) (sym is) along;
+      nearer = grind (arith, nat_tests, is, full);
+    }
+
+stepped_round : (P : ℕ → Type 0) (len start place next : ℕ) → start < len → place + 1 ≡ len → next ≡ 0 → (f : ℕ) × ((f < len) × ¬ (P f)) → Along P len start place → P place → Stepped P len start place next
+stepped_round P len start place next s l is gap a here =
+    let along : Along P len start 0 = along_round P len start place s (omega arith) l (λ _. gap) a here in
+    let full : (0 ≡ start) → ⊥ = λ e. gap.1.1 (elim (same_or gap.0 place) [ inl at ↦ subst P (sym at) here | inr ne ↦ a.straight (omega arith) gap.0 (omega arith) (omega arith) ]) in
+    record {
+      inside = omega arith;
+      along = subst (λ e. Along P len start e) (sym is) along;
+      nearer = grind (arith, nat_tests, is, full);
+    }
+
+pub stepped : (ns : List Node) (n : ℕ) (b : Bool) (k start place next : ℕ) → IsIndexed ns n → start < length ns → place < length ns
+    → (place + 1 < length ns → next ≡ place + 1) → (place + 1 ≡ length ns → next ≡ 0)
+    → Along (IsOther ns b k) (length ns) start place → IsOther ns b k place → Stepped (IsOther ns b k) (length ns) start place next
+stepped ns n b k start place next ix s l on round a here =
+    let g = free_place ns (omega (arith, ix.count, ix.room)) in
+    let gap : (f : ℕ) × ((f < length ns) × ¬ (IsOther ns b k f)) = (g.0, (g.1.0, λ o. absurd (omega (arith, o.0, g.1.1)))) in
+    elim (cases_lt (place + 1) (length ns)) [
+      | inl below ↦ stepped_on _ _ _ _ _ s below (on below) gap a here
+      | inr last ↦ stepped_round _ _ _ _ _ s (omega arith) (round (omega arith)) gap a here
+    ]

@@ -1,0 +1,15 @@
+pub mod Opens
+pub mod Leases
+pub mod Lent
+pub mod ChunkLemmas
+pub mod NodeLemmas
+pub mod IndexLemmas
+pub mod TreeLemmas
+pub mod AddLemmas
+pub mod TableLemmas
+pub mod LogLemmas
+pub mod RisingLemmas
+pub mod ChainLemmas
+pub mod ClearLemmas
+pub mod StripeLemmas
+pub mod LockLemmas

@@ -1,0 +1,7 @@
+use Rattle.std.proofs.Common.{ℕ, sym}
+use Rattle.std.specs.FinMap.{len-empty}
+use Rattle.std.specs.Ordering.{nat_cmp}
+use Rattle.stm_logs.proofs.write.WriteLog.new.Goals as goal
+
+pub invariant_of-result : goal.invariant_of-result
+invariant_of-result g c = (tt, sym (len-empty nat_cmp ℕ))

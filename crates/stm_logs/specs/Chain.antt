@@ -1,0 +1,31 @@
+-- The children of a node, one after the other.
+use Rattle.std.specs.Prelude.{◌≡◌, ℕ, ◌<◌, cond, Option, Some, None, List, [], ◌∷◌, length, nat_eq}
+use Prim.Native.Nat.{zero, suc}
+use Rattle.std.specs.Borrow.{Bor}
+use Rattle.stm_logs.specs.declared.nodes.Node.{Node}
+use Rattle.stm_logs.specs.Nodes.{Block, at}
+
+-- what f says of the nodes of a chain from p on, of at most so many
+abbrev pub chain : {X : Type 0} → (Node → X) → List Node → ℕ → ℕ → List X
+chain f ns zero p = []
+chain f ns (suc most) p = cond (nat_eq p 0) [] (f (at ns p) ∷ chain f ns most (at ns p).next)
+
+-- the chain from p on ends within so many nodes, all of them in the block
+abbrev pub Ends : List Node → ℕ → ℕ → Type 0
+Ends ns zero p = p ≡ 0
+Ends ns (suc most) p = 0 < p → (p < length ns) × Ends ns most (at ns p).next
+
+abbrev pub number_of : Node → ℕ
+number_of node = node.number
+
+abbrev pub pair_of : Node → ℕ × ℕ
+pair_of node = (node.number, node.value)
+
+-- the same of a block that there may be
+abbrev pub chain_in : {X : Type 0} → (Node → X) → Option (Bor Block) → ℕ → ℕ → List X
+chain_in f None most p = []
+chain_in f (Some block) most p = chain f block.now.list most p
+
+abbrev pub EndsIn : Option (Bor Block) → ℕ → ℕ → Type 0
+EndsIn None most p = Unit {0}
+EndsIn (Some block) most p = Ends block.now.list most p

@@ -1,0 +1,10 @@
+-- A block and the right to free it.
+use Rattle.std.specs.Prelude.{◌≡◌}
+use Rattle.stm_logs.specs.declared.row.Row.{Row}
+use Rattle.stm_logs.specs.declared.row.Right.{Right}
+
+-- right is the allocator's right to free the block of the row
+pub record Frees {T A : Type 0} (alloc : A) (row : Row T) (right : Right T A) : Type 0 where
+  pub ptr : right.ptr ≡ row.ptr
+  pub len : right.len ≡ row.len
+  pub heap : right.alloc ≡ alloc

@@ -1,0 +1,61 @@
+-- A write log in its block, or one that has no block yet.
+use Rattle.std.specs.Prelude.{◌≡◌, ℕ, ◌+◌, ◌<◌, ◌≤◌, Option, Some, None, List, length}
+use Rattle.std.specs.FinMap.{insert}
+use Rattle.stm_logs.specs.declared.nodes.Node.{Node}
+use Rattle.stm_logs.specs.Nodes.{Block, at}
+use Rattle.stm_logs.specs.Log.{LogValue, empty_log}
+use Rattle.stm_logs.specs.Index.{IsIndexed, SameNode, IsTaken}
+use Rattle.stm_logs.specs.Tree.{IsReady, SameSight, log_value}
+
+-- nodes 1 to n are a log: each lock has a word
+pub record IsLog (ns : List Node) (n : ℕ) : Type 0 where
+  pub ready : IsReady ns n
+  pub places : 4 ≤ length ns
+  pub used : (l : ℕ) → 0 < l → l ≤ n → (at ns l).parent ≡ 0 → (f : ℕ) × ((0 < f) × (f ≤ n) × ((at ns f).parent ≡ l))
+
+abbrev pub held_value : Option Block → LogValue
+held_value None = empty_log
+held_value (Some s) = log_value s.list s.count
+
+abbrev pub IsHeld : Option Block → Type 0
+IsHeld None = Unit {0}
+IsHeld (Some s) = IsLog s.list s.count
+
+-- the log with one word more
+abbrev pub with_word : LogValue → ℕ → ℕ → ℕ → LogValue
+with_word w address lock value = record { words = insert w.words address value; locks = insert w.locks address lock }
+
+-- there is a block, with room for two nodes more
+abbrev pub HasBlock : Option Block → Type 0
+HasBlock None = ⊥
+HasBlock (Some s) = IsLog s.list s.count × (s.count + 2 < length s.list)
+
+-- new has a block with room, and says what old says
+pub record IsRoomy (old new : Option Block) : Type 0 where
+  pub block : HasBlock new
+  pub same : held_value new ≡ held_value old
+
+-- l is the node of the lock, which was there or has entered behind the others
+pub record HasLock (old : List Node) (n : ℕ) (new : List Node) (m lock l : ℕ) : Type 0 where
+  pub ready : IsReady new m
+  pub len : length new ≡ length old
+  pub sights : (e : ℕ) → e ≤ n → SameSight (at old e) (at new e)
+  pub more : n ≤ m
+  pub once : m ≤ n + 1
+  pub entered : n < m → l ≡ m
+  pub some : 0 < l
+  pub inside : l ≤ m
+  pub above : (at new l).parent ≡ 0
+  pub lock_is : (at new l).number ≡ lock
+
+-- the first e nodes of old stand in new, and are indexed there
+pub record Copied (old new : List Node) (e : ℕ) : Type 0 where
+  pub indexed : IsIndexed new e
+  pub same : (i : ℕ) → i ≤ e → SameNode (at old i) (at new i)
+
+-- of the nodes 1 to n the first e have left the index
+pub record Cleared (old new : List Node) (n e : ℕ) : Type 0 where
+  pub len : length new ≡ length old
+  pub places : (i : ℕ) → (at new i).place ≡ (at old i).place
+  pub parents : (i : ℕ) → (at new i).parent ≡ (at old i).parent
+  pub left : (q : ℕ) → q < length new → IsTaken new q → (e < (at new q).slot) × ((at new q).slot ≤ n) × ((at new ((at new q).slot)).place ≡ q)

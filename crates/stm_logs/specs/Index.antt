@@ -1,0 +1,70 @@
+-- The index of a write log: an open-addressed table of the nodes by kind and number.
+use Rattle.std.specs.Prelude.{◌≡◌, ◌≢◌, ℕ, ◌+◌, ◌*◌, ◌/◌, ◌%◌, ◌<◌, ◌≤◌, Bool, cond, List, [], ◌∷◌, length, nat_eq}
+use Rattle.stm_logs.specs.declared.nodes.Node.{Node}
+use Rattle.stm_logs.specs.Nodes.{at}
+
+-- a node is a lock where it has no parent, and else a word
+abbrev pub is_lock_node : Node → Bool
+is_lock_node node = nat_eq node.parent 0
+
+-- where the search for a node begins, in an index of len places
+abbrev pub home : Bool → ℕ → ℕ → ℕ
+home is_lock number len = (number * cond is_lock 2246822519 2654435769 % 4294967296) * len / 4294967296
+
+-- the node is a lock or a word, as asked, and has the number
+abbrev pub HasKey : Node → Bool → ℕ → Type 0
+HasKey node is_lock number = (node.number ≡ number) × (is_lock_node node ≡ is_lock)
+
+-- P holds at each place from start on and before end, where the places go round
+pub record Along (P : ℕ → Type 0) (len start end : ℕ) : Type 0 where
+  pub straight : start ≤ end → (q : ℕ) → start ≤ q → q < end → P q
+  pub high : end < start → (q : ℕ) → start ≤ q → q < len → P q
+  pub low : end < start → (q : ℕ) → q < end → P q
+
+-- the place of the index leads somewhere
+abbrev pub IsTaken : List Node → ℕ → Type 0
+IsTaken ns q = 0 < (at ns q).slot
+
+-- the place leads to a node with another key
+abbrev pub IsOther : List Node → Bool → ℕ → ℕ → Type 0
+IsOther ns is_lock number q = IsTaken ns q × ¬ (HasKey (at ns ((at ns q).slot)) is_lock number)
+
+-- how many places lead somewhere
+abbrev pub taken : List Node → ℕ
+taken [] = 0
+taken (node ∷ ns) = cond (nat_eq node.slot 0) 0 1 + taken ns
+
+-- nodes 1 to n are indexed, and nothing else
+pub record IsIndexed (ns : List Node) (n : ℕ) : Type 0 where
+  pub room : n < length ns
+  pub limit : length ns ≤ 2147483648
+  pub count : taken ns ≡ n
+  pub places : (e : ℕ) → 0 < e → e ≤ n → ((at ns e).place < length ns) × ((at ns ((at ns e).place)).slot ≡ e)
+  pub slots : (q : ℕ) → q < length ns → IsTaken ns q → ((at ns q).slot ≤ n) × ((at ns ((at ns q).slot)).place ≡ q)
+  pub reached : (e : ℕ) → 0 < e → e ≤ n → Along (IsTaken ns) (length ns) (home (is_lock_node (at ns e)) (at ns e).number (length ns)) (at ns e).place
+
+-- no node has the key
+abbrev pub HasNone : List Node → ℕ → Bool → ℕ → Type 0
+HasNone ns n is_lock number = (e : ℕ) → 0 < e → e ≤ n → ¬ (HasKey (at ns e) is_lock number)
+
+-- a place of the index answers for a key: it leads to the node with the key, or it is the free one where that node would enter
+pub record Answers (ns : List Node) (n : ℕ) (is_lock : Bool) (number q : ℕ) : Type 0 where
+  pub inside : q < length ns
+  pub found : IsTaken ns q → ((at ns q).slot ≤ n) × HasKey (at ns ((at ns q).slot)) is_lock number
+  pub free : (at ns q).slot ≡ 0 → HasNone ns n is_lock number × Along (IsTaken ns) (length ns) (home is_lock number (length ns)) q
+
+-- what the index and the tree see of two nodes is the same
+pub record SameNode (old new : Node) : Type 0 where
+  pub value : new.value ≡ old.value
+  pub number : new.number ≡ old.number
+  pub parent : new.parent ≡ old.parent
+  pub first : new.first ≡ old.first
+  pub recent : new.recent ≡ old.recent
+  pub next : new.next ≡ old.next
+
+-- new has one node more than old, behind the others, and it has the given fields
+pub record Entered (old new : List Node) (n : ℕ) (node : Node) : Type 0 where
+  pub indexed : IsIndexed new (n + 1)
+  pub len : length new ≡ length old
+  pub others : (e : ℕ) → e ≢ n + 1 → SameNode (at old e) (at new e)
+  pub here : SameNode node (at new (n + 1))

@@ -1,0 +1,50 @@
+-- What the logs of a transaction mean.
+use Rattle.std.specs.Prelude.{◌≡◌, ℕ, ◌%◌, Bool, false, List, Option, Some, None, filter, map, nat_eq}
+use Rattle.std.specs.Ordering.{nat_cmp}
+use Rattle.std.specs.FinMap.{FinMap, empty, get, entries, keys, from_entries}
+use Rattle.std.specs.Coded.{Coded, code_by, coded×, coded_ℕ}
+use Rattle.std.specs.FinMap as finite
+use Rattle.std.proofs.Common.{refl}
+use Rattle.stm_words.specs.View.{Words}
+
+-- a write log: the value of each address that was written, and the number of its lock
+pub record LogValue : Type 0 where
+  pub words : Words
+  pub locks : Words
+
+-- a log is stored as its two maps
+abbrev pub log_code : Coded LogValue
+log_code = code_by (Words × Words) (coded× (finite.code coded_ℕ coded_ℕ) (finite.code coded_ℕ coded_ℕ)) (λ w. (w.words, w.locks)) (λ p. record { words = p.0; locks = p.1 }) (λ _. refl)
+
+-- nothing was written
+abbrev pub empty_log : LogValue
+empty_log = record { words = empty; locks = empty }
+
+-- the written addresses with their values, by ascending address
+abbrev pub log_pairs : LogValue → List (ℕ × ℕ)
+log_pairs w = entries w.words
+
+-- from each lock of the written addresses to one of its addresses
+abbrev pub lock_map : LogValue → FinMap nat_cmp ℕ
+lock_map w = from_entries (map (λ p. (p.1, p.0)) (entries w.locks))
+
+-- the locks of the written addresses in ascending order, each once
+abbrev pub log_locks : LogValue → List ℕ
+log_locks w = keys (lock_map w)
+
+-- whether a lock number that may be there is this one
+abbrev pub is_number : Option ℕ → ℕ → Bool
+is_number None lock = false
+is_number (Some k) lock = nat_eq k lock
+
+-- the written addresses of one lock with their values, by ascending address
+abbrev pub pairs_of : LogValue → ℕ → List (ℕ × ℕ)
+pairs_of w lock = filter (λ p. is_number (get w.locks p.0) lock) (log_pairs w)
+
+-- the same addresses have a value and a lock
+abbrev pub SameAddresses : LogValue → Type 0
+SameAddresses w = (a : ℕ) → (get w.words a ≡ None → get w.locks a ≡ None) × (get w.locks a ≡ None → get w.words a ≡ None)
+
+-- each address has the lock of its remainder by the number of stripes
+abbrev pub IsStriped : LogValue → ℕ → Type 0
+IsStriped w stripes = (a lock : ℕ) → get w.locks a ≡ Some lock → lock ≡ a % stripes

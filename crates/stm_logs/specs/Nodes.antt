@@ -1,0 +1,16 @@
+-- The nodes of a write log, as a list: the root stands first, then come locks and words in the order in which they entered.
+use Rattle.std.specs.Prelude.{ℕ, List, slice_index_or}
+use Rattle.stm_logs.specs.declared.nodes.Node.{Node}
+
+-- a node before anything was put there
+abbrev pub blank : Node
+blank = record { value = 0; number = 0; parent = 0; first = 0; recent = 0; next = 0; place = 0; slot = 0 }
+
+-- the node at a position
+abbrev pub at : List Node → ℕ → Node
+at nodes e = slice_index_or nodes e blank
+
+-- a block of nodes: what its places hold, and how many nodes there are beside the root
+pub record Block : Type 0 where
+  pub list : List Node
+  pub count : ℕ

@@ -1,0 +1,106 @@
+//! The index of a write log: open addressing with linear probing.
+ghost use Rattle.std.specs.Prelude.{◌≡◌, ◌↔◌, ℕ, ◌+◌, ◌*◌, ◌<◌, ◌≤◌, Bool, true, false, IsTrue, List, length, slice_set};
+ghost use Rattle.stm_logs.specs.Nodes.{Block, at};
+ghost use Rattle.stm_logs.specs.Index.{home, is_lock_node, HasKey, IsIndexed, HasNone, Answers, Entered};
+
+use crate::nodes::{Node, Nodes};
+use std::alloc::Allocator;
+
+const WORD_FACTOR: u64 = 2_654_435_769;
+
+const LOCK_FACTOR: u64 = 2_246_822_519;
+
+const NUMBERS: u64 = 4_294_967_296;
+
+// Where the search for a node begins: a multiplicative hash, scaled to the length.
+#[inline]
+fn start(is_lock: bool, number: u32, len: usize) -> usize
+    requires some { 0 < len }
+    requires limit { len ≤ 2147483648 }
+    ensures place { result ≡ home is_lock number len }
+    ensures inside { result < len }
+{
+    let factor = if is_lock { LOCK_FACTOR } else { WORD_FACTOR };
+    let mixed = number as u64 * factor % NUMBERS;
+    (mixed * len as u64 / NUMBERS) as usize
+}
+
+#[inline]
+fn has_key(node: &Node, is_lock: bool, number: u32) -> bool
+    ensures { IsTrue result ↔ HasKey node.now is_lock number }
+{
+    node.number == number && (node.parent == 0) == is_lock
+}
+
+// The next place, and behind the last the first.
+#[inline]
+fn behind(place: usize, len: usize) -> usize
+    requires { place < len }
+    ensures on { place + 1 < len → result ≡ place + 1 }
+    ensures round { place + 1 ≡ len → result ≡ 0 }
+{
+    if place + 1 == len { 0 } else { place + 1 }
+}
+
+/// The place of the index that leads to the lock or the word with this number, or the free place
+/// where such a node would enter.
+#[inline]
+pub(crate) fn probe<A: Allocator>(nodes: &Nodes<A>, is_lock: bool, number: u32) -> usize
+    requires { IsIndexed nodes.now.list nodes.now.count }
+    ensures { Answers nodes.now.list nodes.now.count is_lock number result }
+{
+    let len = nodes.len();
+    let mut place = start(is_lock, number, len);
+    loop {
+        let slot = nodes.get(place).slot as usize;
+        if slot == 0 {
+            return place;
+        }
+        if has_key(nodes.get(slot), is_lock, number) {
+            return place;
+        }
+        place = behind(place, len);
+    }
+}
+
+/// The node with this number, or 0.
+#[inline]
+pub(crate) fn find<A: Allocator>(nodes: &Nodes<A>, is_lock: bool, number: u32) -> usize
+    requires { IsIndexed nodes.now.list nodes.now.count }
+    ensures there { 0 < result → (result ≤ nodes.now.count) × HasKey (at nodes.now.list result) is_lock number }
+    ensures none { result ≡ 0 → HasNone nodes.now.list nodes.now.count is_lock number }
+{
+    let place = probe(nodes, is_lock, number);
+    nodes.get(place).slot as usize
+}
+
+/// A node enters behind the others and at the free place of the index that its key led to. It
+/// is not counted yet.
+#[inline]
+pub(crate) fn enter<A: Allocator>(nodes: &mut Nodes<A>, place: usize, node: Node)
+    requires indexed { IsIndexed nodes.old.list nodes.old.count }
+    requires room { nodes.old.count + 1 < length nodes.old.list }
+    requires answers { Answers nodes.old.list nodes.old.count (is_lock_node node) node.number place }
+    requires free { (at nodes.old.list place).slot ≡ 0 }
+    ensures entered { Entered nodes.old.list nodes.new.list nodes.old.count node }
+    ensures count { nodes.new.count ≡ nodes.old.count }
+{
+    let position = nodes.count() + 1;
+    let slot = nodes.get(position).slot;
+    nodes.put(
+        position,
+        Node {
+            place: place as u32,
+            slot,
+            ..node
+        },
+    );
+    let there = *nodes.get(place);
+    nodes.put(
+        place,
+        Node {
+            slot: position as u32,
+            ..there
+        },
+    );
+}

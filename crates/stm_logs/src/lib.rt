@@ -1,0 +1,20 @@
+//! The read log and the write log of a running transaction, over raw memory.
+//!
+//! They are the read set and the write set of Transactional Locking II (Dice, Shalev, Shavit, DISC
+//! 2006): the addresses that were read, to be looked at again before a commit, and the values that
+//! wait to be stored, by address and by lock.
+#![tactic(auto)]
+
+mod chain;
+mod index;
+mod nodes;
+mod read;
+mod row;
+#[cfg(test)]
+mod tests;
+mod tree;
+mod write;
+
+pub use chain::{Locks, Words};
+pub use read::ReadLog;
+pub use write::WriteLog;

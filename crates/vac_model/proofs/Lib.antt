@@ -1,0 +1,17 @@
+pub mod Views
+pub mod Places
+pub mod Sums
+pub mod States
+pub mod Holdings
+pub mod Balance
+pub mod Departure
+pub mod Bounds
+pub mod Kept
+pub mod Noted
+pub mod Choices
+pub mod Empty
+pub mod Codes
+pub mod TasksKept
+pub mod Refused
+pub mod Totals
+pub mod Settled

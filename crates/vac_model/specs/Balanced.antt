@@ -1,0 +1,36 @@
+-- When the parts of a state fit one another.
+use Rattle.std.specs.Prelude.{◌≡◌, ℕ, ◌+◌, ◌*◌, ◌^◌, ◌<◌, ◌≤◌, Some, IsSome}
+use Rattle.std.specs.FinMap.{get}
+use Rattle.vac_model.specs.declared.items.Kind.{Kind}
+use Rattle.vac_model.specs.declared.items.Item.{Item}
+use Rattle.vac_model.specs.State.{State, Booking, Bookings, item_of, bookings_of, units_held, size}
+use Rattle.vac_model.specs.Step.{total_limit, unit_limit}
+
+-- an id is 1 to 4,294,967,295
+pub record IsId (n : ℕ) : Type 0 where
+  pub low : 1 ≤ n
+  pub high : n < 2 ^ 32
+
+-- an item of a balanced state: its numbers are in their ranges, its units are booked or free, and as many are booked as customers hold
+pub record IsItem (s : State) (kind : Kind) (id : ℕ) (item : Item) : Type 0 where
+  pub id_range : IsId id
+  pub some_units : 1 ≤ item.total
+  pub few_units : item.total ≤ total_limit
+  pub price_range : item.price ≤ 1000000
+  pub counts : item.used + item.free ≡ item.total
+  pub held : item.used ≡ units_held s (kind, id)
+
+-- a booking of a balanced state: its item is there, and its units and their sum are in their ranges
+pub record IsBooking (s : State) (kind : Kind) (id : ℕ) (b : Booking) : Type 0 where
+  pub item : IsSome (item_of s kind id)
+  pub some_units : 1 ≤ b.units
+  pub few_units : b.units ≤ unit_limit
+  pub sum_range : b.sum ≤ b.units * 1000000
+
+-- a state whose entries fit one another, and are no more than its capacity
+pub record IsBalanced (s : State) : Type 0 where
+  pub room : size s ≤ s.capacity
+  pub items : (kind : Kind) (id : ℕ) (item : Item) → item_of s kind id ≡ Some item → IsItem s kind id item
+  pub customers : (id : ℕ) (bookings : Bookings) → bookings_of s id ≡ Some bookings → IsId id
+  pub bookings : (customer : ℕ) (bookings : Bookings) (kind : Kind) (id : ℕ) (b : Booking) →
+      bookings_of s customer ≡ Some bookings → get bookings (kind, id) ≡ Some b → IsBooking s kind id b

@@ -1,0 +1,10 @@
+pub mod State
+pub mod Amounts
+pub mod Ranges
+pub mod Step
+pub mod Run
+pub mod Balanced
+pub mod Fits
+pub mod Laws
+pub mod Code
+pub mod Coded

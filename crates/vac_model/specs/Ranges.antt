@@ -1,0 +1,43 @@
+-- Whether a command or a task can be asked for.
+use Rattle.std.specs.Prelude.{Bool, true, false, ◌&&◌, length}
+use Rattle.std.specs.List.{list_all}
+use Rattle.vac_model.specs.Amounts.{is_id, is_amount, is_optional_amount, is_unit_count, has_deletable_units, is_list_length}
+use Rattle.vac_model.specs.declared.commands.Command.{Command}
+use Rattle.vac_model.specs.declared.commands.Command.TheVariants as command
+use Rattle.vac_model.specs.declared.tasks.Task.{Task}
+use Rattle.vac_model.specs.declared.tasks.Task.TheVariants as task
+
+-- whether a command's numbers are in their ranges
+abbrev pub is_command : Command → Bool
+is_command (command.Add kind id num price) = is_id id && is_amount num && is_optional_amount price
+is_command (command.Delete kind id num) = has_deletable_units kind && is_id id && is_amount num
+is_command (command.DropFlight id) = is_id id
+is_command (command.NewCustomer id) = is_id id
+is_command (command.DropCustomer id) = is_id id
+is_command (command.Free kind id) = is_id id
+is_command (command.Price kind id) = is_id id
+is_command (command.Bill id) = is_id id
+is_command (command.Reserve customer kind id num) = is_id customer && is_id id && is_unit_count num
+is_command (command.Cancel customer kind id) = is_id customer && is_id id
+is_command command.Audit = true
+
+-- whether a command is a change of the tables, as an update has them
+abbrev pub is_change : Command → Bool
+is_change (command.Add kind id num price) = true
+is_change (command.Delete kind id num) = true
+is_change (command.DropFlight id) = true
+is_change (command.NewCustomer id) = false
+is_change (command.DropCustomer id) = false
+is_change (command.Free kind id) = false
+is_change (command.Price kind id) = false
+is_change (command.Bill id) = false
+is_change (command.Reserve customer kind id num) = false
+is_change (command.Cancel customer kind id) = false
+is_change command.Audit = false
+
+-- whether a task can be asked for: its numbers are in their ranges and its lists are not too long
+abbrev pub is_task : Task → Bool
+is_task (task.One c) = is_command c
+is_task (task.Trip customer asks) = is_id customer && is_list_length (length asks) && list_all (λ a. is_id a.1) asks
+is_task (task.Leave customer) = is_id customer
+is_task (task.Update changes) = is_list_length (length changes) && list_all (λ c. is_change c && is_command c) changes

@@ -1,0 +1,103 @@
+-- What a task does: one command, or a trip, a leave or an update, which are made of commands. The kinds of task are those of
+-- STAMP's client; the picks of a trip are this product's own.
+use Rattle.std.specs.Prelude.{ℕ, ◌-◌, ◌||◌, Option, Some, None, is_some, List, [], ◌∷◌, ◌++◌, length, fold, replicate, nat_lt, ◌==◌, if◌then◌else◌}
+use Rattle.vac_model.specs.declared.items.Kind.{Kind}
+use Rattle.vac_model.specs.declared.items.Kind.TheVariants.{Car, Flight, Room}
+use Rattle.vac_model.specs.declared.commands.Command.{Command}
+use Rattle.vac_model.specs.declared.commands.Command.TheVariants as command
+use Rattle.vac_model.specs.declared.commands.Why.{Why}
+use Rattle.vac_model.specs.declared.replies.Reply.{Reply}
+use Rattle.vac_model.specs.declared.replies.Reply.TheVariants as reply
+use Rattle.vac_model.specs.declared.replies.Joined.{Joined}
+use Rattle.vac_model.specs.declared.replies.Joined.TheVariants as joined
+use Rattle.vac_model.specs.declared.replies.Pick.{Pick}
+use Rattle.vac_model.specs.declared.tasks.Task.{Task}
+use Rattle.vac_model.specs.declared.tasks.Task.TheVariants as task
+use Rattle.vac_model.specs.State.{State, Place, bookings_of, bill_of, kind_number}
+use Rattle.vac_model.specs.Step.{Outcome, step, when_found, answered, price_of}
+
+-- why a reply refused, if it did
+abbrev pub refusal_of : Reply → Option Why
+refusal_of reply.Done = None
+refusal_of (reply.Number n) = None
+refusal_of (reply.Report r) = None
+refusal_of (reply.No why) = Some why
+refusal_of (reply.Trip r) = None
+refusal_of (reply.Update r) = None
+
+-- an item that a trip may book: its id and its price
+abbrev pub Choice : Type 0
+Choice = ℕ × ℕ
+
+-- the choice after one more ask was answered: any price beats none, and a later one must be strictly greater
+abbrev pub dearer : Option Choice → ℕ → Option ℕ → Option Choice
+dearer best id None = best
+dearer None id (Some price) = Some (id, price)
+dearer (Some best) id (Some price) = if nat_lt best.1 price then Some (id, price) else Some best
+
+-- of the asks for one kind the first of the dearest that are found; one with nothing free counts as found
+abbrev pub choice_of : State → Kind → List Place → Option Choice
+choice_of s kind asks =
+    fold (λ best ask. if kind_number ask.0 == kind_number kind then dearer best ask.1 (price_of s ask.0 ask.1) else best) None asks
+
+-- what became of the customer of a trip
+abbrev pub joined_of : Reply → Joined
+joined_of reply.Done = joined.Added
+joined_of (reply.Number n) = joined.Added
+joined_of (reply.Report r) = joined.Added
+joined_of (reply.No why) = joined.Refused why
+joined_of (reply.Trip r) = joined.Added
+joined_of (reply.Update r) = joined.Added
+
+-- one unit of what was chosen of a kind is reserved; the refusal is noted
+abbrev pub reserve_choice : State → ℕ → Kind → Option Choice → State × Option Pick
+reserve_choice s customer kind None = (s, None)
+reserve_choice s customer kind (Some choice) =
+    let outcome = step s (command.Reserve customer kind choice.0 1) in
+    (outcome.0, Some (record { id = choice.0; price = choice.1; refused = refusal_of outcome.1 }))
+
+-- the customer is asked for, and then what was chosen of each kind is reserved
+abbrev pub book_choices : State → ℕ → Option Choice → Option Choice → Option Choice → Outcome
+book_choices s customer car flight room =
+    let asked = step s (command.NewCustomer customer) in
+    let a = reserve_choice asked.0 customer Car car in
+    let b = reserve_choice a.0 customer Flight flight in
+    let c = reserve_choice b.0 customer Room room in
+    (c.0, reply.Trip (record { joined = joined_of asked.1; picks = a.1 ∷ b.1 ∷ c.1 ∷ [] }))
+
+-- a trip whose choices are made
+abbrev pub trip_with : State → ℕ → Option Choice → Option Choice → Option Choice → Outcome
+trip_with s customer car flight room =
+    if is_some car || is_some flight || is_some room then book_choices s customer car flight room
+    else (s, reply.Trip (record { joined = joined.NotAsked; picks = None ∷ None ∷ None ∷ [] }))
+
+-- a trip books the dearest item of each kind that was asked for
+abbrev pub trip : State → ℕ → List Place → Outcome
+trip s customer asks = trip_with s customer (choice_of s Car asks) (choice_of s Flight asks) (choice_of s Room asks)
+
+-- a leave answers the bill of a customer that is there, and drops that customer
+abbrev pub leave : State → ℕ → Outcome
+leave s customer =
+    when_found (bookings_of s customer) (answered s None) (λ bookings.
+    answered (step s (command.DropCustomer customer)).0 (Some (bill_of bookings)))
+
+-- the state after these commands, and why each of them was refused
+abbrev pub steps : State → List Command → State × List (Option Why)
+steps s [] = (s, [])
+steps s (c ∷ cs) =
+    let first = step s c in
+    let rest = steps first.0 cs in
+    (rest.0, refusal_of first.1 ∷ rest.1)
+
+-- an update does its changes in order; a refusal is noted and the next one follows
+abbrev pub update : State → List Command → Outcome
+update s changes =
+    let after = steps s changes in
+    (after.0, reply.Update (record { len = length changes; refused = after.1 ++ replicate (32 - length changes) None }))
+
+-- the outcome of a task
+abbrev pub run : State → Task → Outcome
+run s (task.One c) = step s c
+run s (task.Trip customer asks) = trip s customer asks
+run s (task.Leave customer) = leave s customer
+run s (task.Update changes) = update s changes

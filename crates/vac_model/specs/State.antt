@@ -1,0 +1,127 @@
+-- A state of the reservation system, after STAMP's Vacation: tables of cars, flights and rooms, and customers with their bookings.
+use Rattle.std.specs.Prelude.{ℕ, ◌+◌, Bool, Option, sum_by, nat_le}
+use Rattle.std.specs.Option.{option_map_or}
+use Rattle.std.specs.Ordering.{nat_cmp, ordering_then}
+use Rattle.std.specs.FinMap.{FinMap, empty, get, insert, remove, len, values}
+use Rattle.std.specs.declared.cmp.Ordering.{Ordering}
+use Rattle.vac_model.specs.declared.items.Kind.{Kind}
+use Rattle.vac_model.specs.declared.items.Kind.TheVariants.{Car, Flight, Room}
+use Rattle.vac_model.specs.declared.items.Item.{Item}
+pub use Rattle.vac_model.specs.declared.items.Booking.{Booking}
+use Rattle.vac_model.specs.declared.replies.Report.{Report}
+
+-- the place of a kind in the order of kinds
+abbrev pub kind_number : Kind → ℕ
+kind_number Car = 0
+kind_number Flight = 1
+kind_number Room = 2
+
+-- an item is named by its kind and its id
+abbrev pub Place : Type 0
+Place = Kind × ℕ
+
+-- bookings are ordered by kind, then by id
+abbrev pub place_cmp : Place → Place → Ordering
+place_cmp p q = ordering_then (nat_cmp (kind_number p.0) (kind_number q.0)) (nat_cmp p.1 q.1)
+
+-- the items of one kind, by their ids
+abbrev pub Table : Type 0
+Table = FinMap nat_cmp Item
+
+-- the bookings of one customer, by the item that is booked
+abbrev pub Bookings : Type 0
+Bookings = FinMap place_cmp Booking
+
+-- the customers, by their ids
+abbrev pub Customers : Type 0
+Customers = FinMap nat_cmp Bookings
+
+-- the four tables, and how many entries there may be
+pub record State : Type 0 where
+  pub capacity : ℕ
+  pub cars : Table
+  pub flights : Table
+  pub rooms : Table
+  pub customers : Customers
+
+-- the state with no entries
+abbrev pub empty_state : ℕ → State
+empty_state n = record { capacity = n; cars = empty; flights = empty; rooms = empty; customers = empty }
+
+-- the table of a kind
+abbrev pub table_of : State → Kind → Table
+table_of s Car = s.cars
+table_of s Flight = s.flights
+table_of s Room = s.rooms
+
+-- the state with another table of a kind
+abbrev pub with_table : State → Kind → Table → State
+with_table s Car t = record s { cars = t }
+with_table s Flight t = record s { flights = t }
+with_table s Room t = record s { rooms = t }
+
+-- the item of a kind and an id
+abbrev pub item_of : State → Kind → ℕ → Option Item
+item_of s kind id = get (table_of s kind) id
+
+-- the state in which the item of a kind and an id is this one
+abbrev pub with_item : State → Kind → ℕ → Item → State
+with_item s kind id item = with_table s kind (insert (table_of s kind) id item)
+
+-- the state without the item
+abbrev pub without_item : State → Kind → ℕ → State
+without_item s kind id = with_table s kind (remove (table_of s kind) id)
+
+-- the bookings of the customer of an id
+abbrev pub bookings_of : State → ℕ → Option Bookings
+bookings_of s customer = get s.customers customer
+
+-- the state in which the customer has these bookings
+abbrev pub with_bookings : State → ℕ → Bookings → State
+with_bookings s customer bookings = record s { customers = insert s.customers customer bookings }
+
+-- the state without the customer
+abbrev pub without_customer : State → ℕ → State
+without_customer s customer = record s { customers = remove s.customers customer }
+
+-- how many entries a state has: its items, its customers and their bookings
+abbrev pub size : State → ℕ
+size s = len s.cars + len s.flights + len s.rooms + len s.customers + sum_by len (values s.customers)
+
+-- whether no further entry has a place
+abbrev pub is_full : State → Bool
+is_full s = nat_le s.capacity (size s)
+
+-- the sum of the prices at which a customer's units were booked
+abbrev pub bill_of : Bookings → ℕ
+bill_of bookings = sum_by (λ b. b.sum) (values bookings)
+
+-- how many units of all items a customer has booked
+abbrev pub units_booked : Bookings → ℕ
+units_booked bookings = sum_by (λ b. b.units) (values bookings)
+
+-- how many units of one item a customer has booked
+abbrev pub units_of : Bookings → Place → ℕ
+units_of bookings place = option_map_or (λ b. b.units) (get bookings place) 0
+
+-- how many units of one item all customers have booked
+abbrev pub units_held : State → Place → ℕ
+units_held s place = sum_by (λ bookings. units_of bookings place) (values s.customers)
+
+-- a number of each item, added up over the three tables
+abbrev pub sum_of_items : (Item → ℕ) → State → ℕ
+sum_of_items f s = sum_by f (values s.cars) + sum_by f (values s.flights) + sum_by f (values s.rooms)
+
+-- the report of a state: the entries of each table, the units booked, the sums over all items, and the sum of all bills
+abbrev pub report : State → Report
+report s = record {
+  cars = len s.cars;
+  flights = len s.flights;
+  rooms = len s.rooms;
+  customers = len s.customers;
+  bookings = sum_by units_booked (values s.customers);
+  used = sum_of_items (λ i. i.used) s;
+  free = sum_of_items (λ i. i.free) s;
+  total = sum_of_items (λ i. i.total) s;
+  billed = sum_by bill_of (values s.customers);
+}

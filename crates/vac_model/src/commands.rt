@@ -1,0 +1,165 @@
+//! Commands, and the reasons to refuse one.
+
+ghost use Rattle.std.specs.Prelude.{◌≡◌};
+ghost use Rattle.vac_model.specs.Ranges as Ranges;
+ghost use Rattle.vac_model.specs.Amounts as amounts;
+
+use crate::items::Kind;
+
+/// One step of the manager of reservations.
+///
+/// Ids are 1 to 4,294,967,295; counts and prices 0 to 1,000,000; a `Reserve` is for 1 to 100
+/// units. A number out of its range, and a `Delete` of a flight, make the command one that cannot
+/// be asked for.
+#[derive(Clone, Copy, Debug, PartialEq, Eq, Default)]
+pub enum Command {
+    /// Makes the item, or adds `num` units to it and replaces its price where one is given.
+    Add {
+        kind: Kind,
+        id: u32,
+        num: u32,
+        price: Option<u32>,
+    },
+    /// Takes `num` free units from a car or a room; one with no unit left is removed.
+    Delete {
+        kind: Kind,
+        id: u32,
+        num: u32,
+    },
+    /// Removes a flight of which nothing is booked.
+    DropFlight {
+        id: u32,
+    },
+    /// Makes a customer without bookings.
+    NewCustomer {
+        id: u32,
+    },
+    /// Gives back all that the customer has booked, and removes the customer.
+    DropCustomer {
+        id: u32,
+    },
+    /// Asks how many units of the item are free.
+    Free {
+        kind: Kind,
+        id: u32,
+    },
+    /// Asks for the price of the item.
+    Price {
+        kind: Kind,
+        id: u32,
+    },
+    /// Asks for the sum of the prices at which the customer's units were booked.
+    Bill {
+        id: u32,
+    },
+    /// Books `num` units of the item for the customer at the price of now.
+    Reserve {
+        customer: u32,
+        kind: Kind,
+        id: u32,
+        num: u32,
+    },
+    /// Gives back all units of the item that the customer has booked.
+    Cancel {
+        customer: u32,
+        kind: Kind,
+        id: u32,
+    },
+    /// Asks for the report of the whole state.
+    #[default]
+    Audit,
+}
+
+impl Command {
+    /// Whether the command can be asked for: its numbers are in their ranges, and it is no
+    /// `Delete` of a flight.
+    pub fn is_in_range(&self) -> bool
+        ensures { result ≡ Ranges.is_command self.now }
+    {
+        match *self {
+            Command::Add { id, num, price, .. } => is_id(id)
+                && is_amount(num)
+                && is_optional_amount(price),
+            Command::Delete { kind, id, num } => {
+                has_deletable_units(kind) && is_id(id) && is_amount(num)
+            }
+            Command::Reserve {
+                customer,
+                id,
+                num,
+                ..
+            } => is_id(customer) && is_id(id) && is_unit_count(num),
+            Command::Cancel { customer, id, .. } => is_id(customer) && is_id(id),
+            Command::DropFlight { id }
+            | Command::NewCustomer { id }
+            | Command::DropCustomer { id }
+            | Command::Free { id, .. }
+            | Command::Price { id, .. }
+            | Command::Bill { id } => is_id(id),
+            Command::Audit => true,
+        }
+    }
+
+    /// Whether the command is one of those that an update is made of: `Add`, `Delete` and
+    /// `DropFlight`.
+    pub fn is_change(&self) -> bool
+        ensures { result ≡ Ranges.is_change self.now }
+    {
+        match self {
+            Command::Add { .. } | Command::Delete { .. } | Command::DropFlight { .. } => true,
+            _ => false,
+        }
+    }
+}
+
+pub(crate) fn is_id(id: u32) -> bool
+    ensures { result ≡ amounts.is_id id }
+{
+    1 <= id
+}
+
+fn is_amount(amount: u32) -> bool
+    ensures { result ≡ amounts.is_amount amount }
+{
+    amount <= 1_000_000
+}
+
+fn is_optional_amount(amount: Option<u32>) -> bool
+    ensures { result ≡ amounts.is_optional_amount amount }
+{
+    match amount {
+        None => true,
+        Some(amount) => is_amount(amount),
+    }
+}
+
+fn is_unit_count(num: u32) -> bool
+    ensures { result ≡ amounts.is_unit_count num }
+{
+    1 <= num && num <= 100
+}
+
+fn has_deletable_units(kind: Kind) -> bool
+    ensures { result ≡ amounts.has_deletable_units kind }
+{
+    match kind {
+        Kind::Car | Kind::Room => true,
+        Kind::Flight => false,
+    }
+}
+
+/// Why a command was refused. The numbers are those of the protocol; 10 is out of use.
+#[derive(Clone, Copy, Debug, PartialEq, Eq)]
+pub enum Why {
+    NeedsCountAndPrice = 1,
+    TotalLimit = 2,
+    Full = 3,
+    NoItem = 4,
+    NotFree = 5,
+    InUse = 6,
+    Exists = 7,
+    NoCustomer = 8,
+    SoldOut = 9,
+    NotBooked = 11,
+    UnitLimit = 12,
+}

@@ -1,0 +1,27 @@
+//! The rules of the reservation system, after the program Vacation of the STAMP benchmarks
+//! (Cao Minh, Chung, Kozyrakis, Olukotun, IISWC 2008).
+//!
+//! The types of commands, tasks and replies stand here with the definitions of what they mean
+//! (`specs/`), below all other crates. [`Sequential`] is the plain program that computes them: one
+//! call at a time, over ordered maps.
+#![tactic(auto)]
+
+mod commands;
+mod items;
+pub mod laws;
+mod maps;
+mod replies;
+mod runs;
+mod sequential;
+mod steps;
+mod tables;
+mod tasks;
+
+pub use commands::{Command, Why};
+pub use items::{Booking, Item, Kind};
+pub use replies::{Joined, Pick, Reply, Report, TripReply, UpdateReply};
+pub use sequential::{Sequential, SequentialFault};
+pub use tasks::{Asks, Changes, Task};
+
+#[cfg(test)]
+mod tests;

@@ -1,0 +1,399 @@
+//! The commands.
+
+ghost use Rattle.std.specs.Prelude.{◌≡◌, ◌<◌, ◌≤◌, ◌+◌, ◌-◌, ◌*◌, ◌^◌, IsTrue, IsSome, IfOk, OnOk, OnErr};
+ghost use Rattle.std.specs.Option.{option_copied, option_map};
+ghost use Rattle.std.specs.FinMap as map;
+ghost use Rattle.vac_model.specs.Step as rules;
+ghost use Rattle.vac_model.specs.Fits.{IsSmall, IsItemInRange, IsBookingInRange, CanGiveBack};
+ghost use Rattle.vac_model.specs.Ranges.{is_command};
+
+use crate::commands::{Command, Why};
+use crate::items::{Booking, Item, Kind};
+use crate::maps::BookingMap;
+use crate::replies::Reply;
+use crate::tables::Tables;
+use std::alloc::AllocError;
+
+/// The most units of an item.
+const TOTAL_LIMIT: u64 = 1_000_000_000;
+
+/// The most units of a booking.
+const UNIT_LIMIT: u64 = 10_000;
+
+impl Item {
+    fn new(num: u32, price: u32) -> Item
+        ensures { result ≡ rules.new_item num price }
+    {
+        Item {
+            used: 0,
+            free: num as u64,
+            total: num as u64,
+            price: price as u64,
+        }
+    }
+
+    fn added(self, num: u32, price: Option<u32>) -> Item
+        requires { IsItemInRange self }
+        ensures { result ≡ rules.added self num price }
+    {
+        Item {
+            used: self.used,
+            free: self.free + num as u64,
+            total: self.total + num as u64,
+            price: match price {
+                Some(price) => price as u64,
+                None => self.price,
+            },
+        }
+    }
+
+    fn deleted(self, num: u32) -> Item
+        requires range { IsItemInRange self }
+        requires free { num ≤ self.free }
+        ensures { result ≡ rules.deleted self num }
+    {
+        Item {
+            free: self.free - num as u64,
+            total: self.total - num as u64,
+            ..self
+        }
+    }
+
+    fn taken(self, num: u32) -> Item
+        requires range { IsItemInRange self }
+        requires free { num ≤ self.free }
+        ensures { result ≡ rules.taken self num }
+    {
+        Item {
+            used: self.used + num as u64,
+            free: self.free - num as u64,
+            ..self
+        }
+    }
+
+    fn given_back(self, units: u64) -> Item
+        requires range { IsItemInRange self }
+        requires used { units ≤ self.used }
+        ensures { result ≡ rules.given_back self units }
+    {
+        Item {
+            used: self.used - units,
+            free: self.free + units,
+            ..self
+        }
+    }
+}
+
+impl Booking {
+    fn new(num: u32, price: u64) -> Booking
+        requires { price ≤ 1000000 }
+        ensures { result ≡ rules.new_booking num price }
+    {
+        Booking {
+            units: num as u64,
+            sum: num as u64 * price,
+        }
+    }
+
+    fn extended(self, num: u32, price: u64) -> Booking
+        requires range { IsBookingInRange self }
+        requires price { price ≤ 1000000 }
+        ensures { result ≡ rules.extended self num price }
+    {
+        Booking {
+            units: self.units + num as u64,
+            sum: self.sum + num as u64 * price,
+        }
+    }
+}
+
+impl Tables {
+    ghost use Rattle.std.specs.Prelude.{Some};
+    ghost use Rattle.vac_model.specs.State.{Bookings, item_of, bookings_of, bill_of};
+
+    pub(crate) fn add(
+        &mut self,
+        kind: Kind,
+        id: u32,
+        num: u32,
+        price: Option<u32>,
+    ) -> Result<Reply, AllocError>
+        requires { IsSmall self.old }
+        ensures ok { IfOk result (λ reply. rules.add self.old kind id num price ≡ (self.new, reply)) }
+        ensures err { OnErr result (self.new ≡ self.old) }
+    {
+        match self.item(kind, id) {
+            Some(item) => Ok(self.add_more(kind, id, num, price, item)),
+            None => self.add_new(kind, id, num, price),
+        }
+    }
+
+    fn add_new(
+        &mut self,
+        kind: Kind,
+        id: u32,
+        num: u32,
+        price: Option<u32>,
+    ) -> Result<Reply, AllocError>
+        requires { IsSmall self.old }
+        ensures ok { IfOk result (λ reply. rules.add_new self.old kind id num price ≡ (self.new, reply)) }
+        ensures err { OnErr result (self.new ≡ self.old) }
+    {
+        let Some(price) = price else {
+            return Ok(Reply::No(Why::NeedsCountAndPrice));
+        };
+        if num == 0 {
+            return Ok(Reply::No(Why::NeedsCountAndPrice));
+        }
+        if self.is_full() {
+            return Ok(Reply::No(Why::Full));
+        }
+        self.insert_item(kind, id, Item::new(num, price))?;
+        Ok(Reply::Done)
+    }
+
+    fn add_more(&mut self, kind: Kind, id: u32, num: u32, price: Option<u32>, item: Item) -> Reply
+        requires there { item_of self.old kind id ≡ Some item }
+        requires range { IsItemInRange item }
+        ensures { rules.add_more self.old kind id num price item ≡ (self.new, result) }
+    {
+        if item.total + num as u64 > TOTAL_LIMIT {
+            return Reply::No(Why::TotalLimit);
+        }
+        self.replace_item(kind, id, item.added(num, price));
+        Reply::Done
+    }
+
+    pub(crate) fn delete(&mut self, kind: Kind, id: u32, num: u32) -> Reply
+        requires { IsSmall self.old }
+        ensures { rules.delete self.old kind id num ≡ (self.new, result) }
+    {
+        let Some(item) = self.item(kind, id) else {
+            return Reply::No(Why::NoItem);
+        };
+        if item.free < num as u64 {
+            return Reply::No(Why::NotFree);
+        }
+        if item.total == num as u64 {
+            self.remove_item(kind, id);
+        } else {
+            self.replace_item(kind, id, item.deleted(num));
+        }
+        Reply::Done
+    }
+
+    pub(crate) fn drop_flight(&mut self, id: u32) -> Reply
+        requires { IsSmall self.old }
+        ensures { rules.drop_flight self.old id ≡ (self.new, result) }
+    {
+        let Some(item) = self.item(Kind::Flight, id) else {
+            return Reply::No(Why::NoItem);
+        };
+        if item.used > 0 {
+            return Reply::No(Why::InUse);
+        }
+        self.remove_item(Kind::Flight, id);
+        Reply::Done
+    }
+
+    pub(crate) fn new_customer(&mut self, id: u32) -> Result<Reply, AllocError>
+        requires { IsSmall self.old }
+        ensures ok { IfOk result (λ reply. rules.new_customer self.old id ≡ (self.new, reply)) }
+        ensures err { OnErr result (self.new ≡ self.old) }
+    {
+        if self.bookings(id).is_some() {
+            return Ok(Reply::No(Why::Exists));
+        }
+        if self.is_full() {
+            return Ok(Reply::No(Why::Full));
+        }
+        self.insert_customer(id)?;
+        Ok(Reply::Done)
+    }
+
+    pub(crate) fn reserve(
+        &mut self,
+        customer: u32,
+        kind: Kind,
+        id: u32,
+        num: u32,
+    ) -> Result<Reply, AllocError>
+        requires small { IsSmall self.old }
+        requires count { num ≤ 100 }
+        ensures ok { IfOk result (λ reply. rules.reserve self.old customer kind id num ≡ (self.new, reply)) }
+        ensures err { OnErr result (self.new ≡ self.old) }
+    {
+        let Some(bookings) = self.bookings(customer) else {
+            return Ok(Reply::No(Why::NoCustomer));
+        };
+        let booked = bookings.get(kind, id);
+        let Some(item) = self.item(kind, id) else {
+            return Ok(Reply::No(Why::NoItem));
+        };
+        if item.free < num as u64 {
+            return Ok(Reply::No(Why::SoldOut));
+        }
+        match booked {
+            None => self.book_new(customer, kind, id, num, item),
+            Some(booking) => self.book_more(customer, kind, id, num, item, booking),
+        }
+    }
+
+    fn book_new(
+        &mut self,
+        customer: u32,
+        kind: Kind,
+        id: u32,
+        num: u32,
+        item: Item,
+    ) -> Result<Reply, AllocError>
+        requires small { IsSmall self.old }
+        requires count { num ≤ 100 }
+        requires customer { IsSome (bookings_of self.old customer) }
+        requires item { item_of self.old kind id ≡ Some item }
+        requires free { num ≤ item.free }
+        ensures ok { IfOk result (λ reply. (bookings : Bookings) → bookings_of self.old customer ≡ Some bookings
+            → rules.book_new self.old customer kind id num bookings item ≡ (self.new, reply)) }
+        ensures err { OnErr result (self.new ≡ self.old) }
+    {
+        if self.is_full() {
+            return Ok(Reply::No(Why::Full));
+        }
+        self.put_booking(customer, kind, id, Booking::new(num, item.price))?;
+        self.replace_item(kind, id, item.taken(num));
+        Ok(Reply::Done)
+    }
+
+    fn book_more(
+        &mut self,
+        customer: u32,
+        kind: Kind,
+        id: u32,
+        num: u32,
+        item: Item,
+        booking: Booking,
+    ) -> Result<Reply, AllocError>
+        requires small { IsSmall self.old }
+        requires count { num ≤ 100 }
+        requires customer { IsSome (bookings_of self.old customer) }
+        requires item { item_of self.old kind id ≡ Some item }
+        requires free { num ≤ item.free }
+        requires booking { IsBookingInRange booking }
+        ensures ok { IfOk result (λ reply. (bookings : Bookings) → bookings_of self.old customer ≡ Some bookings
+            → rules.book_more self.old customer kind id num bookings item booking ≡ (self.new, reply)) }
+        ensures err { OnErr result (self.new ≡ self.old) }
+    {
+        if booking.units + num as u64 > UNIT_LIMIT {
+            return Ok(Reply::No(Why::UnitLimit));
+        }
+        self.put_booking(customer, kind, id, booking.extended(num, item.price))?;
+        self.replace_item(kind, id, item.taken(num));
+        Ok(Reply::Done)
+    }
+
+    pub(crate) fn cancel(&mut self, customer: u32, kind: Kind, id: u32) -> Reply
+        requires { IsSmall self.old }
+        ensures { rules.cancel self.old customer kind id ≡ (self.new, result) }
+    {
+        let Some(bookings) = self.bookings(customer) else {
+            return Reply::No(Why::NoCustomer);
+        };
+        let booked = bookings.get(kind, id);
+        let Some(item) = self.item(kind, id) else {
+            return Reply::No(Why::NoItem);
+        };
+        let Some(booking) = booked else {
+            return Reply::No(Why::NotBooked);
+        };
+        self.remove_booking(customer, kind, id);
+        self.replace_item(kind, id, item.given_back(booking.units));
+        Reply::Done
+    }
+
+    pub(crate) fn drop_customer(&mut self, id: u32) -> Reply
+        requires { IsSmall self.old }
+        ensures { rules.drop_customer self.old id ≡ (self.new, result) }
+    {
+        match self.remove_customer(id) {
+            None => Reply::No(Why::NoCustomer),
+            Some(bookings) => {
+                self.give_back_all(bookings);
+                Reply::Done
+            }
+        }
+    }
+
+    fn give_back_all(&mut self, bookings: BookingMap)
+        requires { CanGiveBack self.old (map.entries bookings) }
+        ensures { self.new ≡ rules.give_back_all self.old (map.entries bookings) }
+    {
+        let mut bookings = bookings;
+        while let Some(((kind, id), booking)) = bookings.pop_first() {
+            if let Some(item) = self.item(kind, id) {
+                self.replace_item(kind, id, item.given_back(booking.units));
+            }
+        }
+    }
+
+    fn free(&self, kind: Kind, id: u32) -> Option<u64>
+        ensures { result ≡ option_map (λ item. item.free) (item_of self.now kind id) }
+    {
+        let item = self.item(kind, id)?;
+        Some(item.free)
+    }
+
+    pub(crate) fn price(&self, kind: Kind, id: u32) -> Option<u64>
+        ensures { result ≡ rules.price_of self.now kind id }
+    {
+        let item = self.item(kind, id)?;
+        Some(item.price)
+    }
+
+    pub(crate) fn bill(&self, customer: u32) -> Option<u64>
+        requires { IsSmall self.now }
+        ensures { result ≡ option_map bill_of (bookings_of self.now customer) }
+    {
+        let bookings = self.bookings(customer)?;
+        Some(bookings.bill())
+    }
+
+    pub(crate) fn step(&mut self, command: &Command) -> Result<Reply, AllocError>
+        requires small { IsSmall self.old }
+        requires in_range { IsTrue (is_command command.now) }
+        ensures ok { IfOk result (λ reply. rules.step self.old command.now ≡ (self.new, reply)) }
+        ensures stays_small { OnOk result (IsSmall self.new) }
+    {
+        let reply = self.outcome(command)?;
+        Ok(reply)
+    }
+
+    fn outcome(&mut self, command: &Command) -> Result<Reply, AllocError>
+        requires small { IsSmall self.old }
+        requires in_range { IsTrue (is_command command.now) }
+        ensures ok { IfOk result (λ reply. rules.step self.old command.now ≡ (self.new, reply)) }
+    {
+        match *command {
+            Command::Add {
+                kind,
+                id,
+                num,
+                price,
+            } => self.add(kind, id, num, price),
+            Command::Delete { kind, id, num } => Ok(self.delete(kind, id, num)),
+            Command::DropFlight { id } => Ok(self.drop_flight(id)),
+            Command::NewCustomer { id } => self.new_customer(id),
+            Command::DropCustomer { id } => Ok(self.drop_customer(id)),
+            Command::Free { kind, id } => Ok(Reply::Number(self.free(kind, id))),
+            Command::Price { kind, id } => Ok(Reply::Number(self.price(kind, id))),
+            Command::Bill { id } => Ok(Reply::Number(self.bill(id))),
+            Command::Reserve {
+                customer,
+                kind,
+                id,
+                num,
+            } => self.reserve(customer, kind, id, num),
+            Command::Cancel { customer, kind, id } => Ok(self.cancel(customer, kind, id)),
+            Command::Audit => Ok(Reply::Report(self.report())),
+        }
+    }
+}

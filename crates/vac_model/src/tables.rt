@@ -1,0 +1,195 @@
+//! The four tables, which contracts see as a state.
+
+ghost use Rattle.std.specs.Prelude.{◌≡◌, ◌<◌, ◌≤◌, ◌^◌, IsTrue, IsSome, IfOk, OnOk, OnErr, Some, ℕ};
+ghost use Rattle.std.specs.Option.{option_copied};
+ghost use Rattle.std.specs.FinMap as map;
+
+use crate::items::{Booking, Item, Kind};
+use crate::maps::{BookingMap, IdMap};
+use crate::replies::Report;
+use std::alloc::{AllocError, Global};
+use std::marker::Model;
+
+#[derive(Drop)]
+pub(crate) struct Tables {
+    alloc: Global,
+    capacity: u64,
+    cars: IdMap<Item>,
+    flights: IdMap<Item>,
+    rooms: IdMap<Item>,
+    customers: IdMap<BookingMap>,
+}
+
+impl Model for Tables {
+    ghost use Rattle.vac_model.specs.State.{State};
+    ghost use Rattle.vac_model.specs.Coded.{state_coded};
+
+    ghost Value = { State };
+
+    ghost coded = { state_coded };
+
+    ghost view = { λ t. record { capacity = t.capacity; cars = t.cars; flights = t.flights; rooms = t.rooms; customers = t.customers } };
+}
+
+impl Tables {
+    ghost use Rattle.vac_model.specs.State.{Bookings, empty_state, table_of, item_of, with_item, without_item, bookings_of, with_bookings, without_customer, size, is_full, report};
+    ghost use Rattle.vac_model.specs.Fits.{IsSmall};
+    ghost use Rattle.vac_model.specs.declared.items.Kind.{Kind};
+
+    pub(crate) fn new(alloc: Global, capacity: u64) -> Self
+        ensures { result ≡ empty_state capacity }
+    {
+        Self {
+            alloc,
+            capacity,
+            cars: IdMap::new(alloc),
+            flights: IdMap::new(alloc),
+            rooms: IdMap::new(alloc),
+            customers: IdMap::new(alloc),
+        }
+    }
+
+    pub(crate) fn copy(&self) -> Result<Self, AllocError>
+        ensures { IfOk result (λ t. t ≡ self.now) }
+    {
+        Ok(Self {
+            alloc: self.alloc,
+            capacity: self.capacity,
+            cars: self.cars.copy()?,
+            flights: self.flights.copy()?,
+            rooms: self.rooms.copy()?,
+            customers: self.customers.copy()?,
+        })
+    }
+
+    pub(crate) fn item(&self, kind: Kind, id: u32) -> Option<Item>
+        ensures { result ≡ item_of self.now kind id }
+    {
+        match kind {
+            Kind::Car => self.cars.get(id).copied(),
+            Kind::Flight => self.flights.get(id).copied(),
+            Kind::Room => self.rooms.get(id).copied(),
+        }
+    }
+
+    /// How many entries there are.
+    pub(crate) fn size(&self) -> u64
+        requires { size self.now < 2 ^ 63 }
+        ensures { result ≡ size self.now }
+    {
+        self.cars.len()
+            + self.flights.len()
+            + self.rooms.len()
+            + self.customers.len()
+            + self.customers.bookings()
+    }
+
+    pub(crate) fn is_full(&self) -> bool
+        requires { size self.now < 2 ^ 63 }
+        ensures { result ≡ is_full self.now }
+    {
+        self.capacity <= self.size()
+    }
+
+    pub(crate) fn report(&self) -> Report
+        requires { IsSmall self.now }
+        ensures { result ≡ report self.now }
+    {
+        Report {
+            cars: self.cars.len(),
+            flights: self.flights.len(),
+            rooms: self.rooms.len(),
+            customers: self.customers.len(),
+            bookings: self.customers.units(),
+            used: self.cars.used() + self.flights.used() + self.rooms.used(),
+            free: self.cars.free() + self.flights.free() + self.rooms.free(),
+            total: self.cars.total() + self.flights.total() + self.rooms.total(),
+            billed: self.customers.bills(),
+        }
+    }
+
+    /// Puts an item. Only memory for a new one can be refused.
+    pub(crate) fn insert_item(&mut self, kind: Kind, id: u32, item: Item) -> Result<(), AllocError>
+        ensures ok { OnOk result (self.new ≡ with_item self.old kind id item) }
+        ensures err { OnErr result (self.new ≡ self.old) }
+    {
+        match kind {
+            Kind::Car => self.cars.insert(id, item)?,
+            Kind::Flight => self.flights.insert(id, item)?,
+            Kind::Room => self.rooms.insert(id, item)?,
+        }
+        Ok(())
+    }
+
+    /// Puts other numbers of an item that is there.
+    pub(crate) fn replace_item(&mut self, kind: Kind, id: u32, item: Item)
+        requires { IsSome (item_of self.old kind id) }
+        ensures { self.new ≡ with_item self.old kind id item }
+    {
+        match kind {
+            Kind::Car => self.cars.replace(id, item),
+            Kind::Flight => self.flights.replace(id, item),
+            Kind::Room => self.rooms.replace(id, item),
+        }
+    }
+
+    pub(crate) fn remove_item(&mut self, kind: Kind, id: u32)
+        ensures { self.new ≡ without_item self.old kind id }
+    {
+        match kind {
+            Kind::Car => self.cars.remove(id),
+            Kind::Flight => self.flights.remove(id),
+            Kind::Room => self.rooms.remove(id),
+        };
+    }
+
+    pub(crate) fn bookings(&self, customer: u32) -> Option<&BookingMap>
+        ensures { option_copied result ≡ bookings_of self.now customer }
+    {
+        self.customers.get(customer)
+    }
+
+    /// Makes a customer without bookings.
+    pub(crate) fn insert_customer(&mut self, customer: u32) -> Result<(), AllocError>
+        ensures ok { OnOk result (self.new ≡ with_bookings self.old customer map.empty) }
+        ensures err { OnErr result (self.new ≡ self.old) }
+    {
+        self.customers
+            .insert(customer, BookingMap::new(self.alloc))?;
+        Ok(())
+    }
+
+    pub(crate) fn remove_customer(&mut self, customer: u32) -> Option<BookingMap>
+        ensures removed { self.new ≡ without_customer self.old customer }
+        ensures value { result ≡ bookings_of self.old customer }
+    {
+        self.customers.remove(customer)
+    }
+
+    /// Puts a booking of a customer. Only memory for a new one can be refused.
+    pub(crate) fn put_booking(
+        &mut self,
+        customer: u32,
+        kind: Kind,
+        id: u32,
+        booking: Booking,
+    ) -> Result<(), AllocError>
+        requires { IsSome (bookings_of self.old customer) }
+        ensures ok { OnOk result ((bookings : Bookings) → bookings_of self.old customer ≡ Some bookings
+            → self.new ≡ with_bookings self.old customer (map.insert bookings (kind, id) booking)) }
+        ensures err { OnErr result (self.new ≡ self.old) }
+        ensures items { (k : Kind) (i : ℕ) → item_of self.new k i ≡ item_of self.old k i }
+    {
+        self.customers.put_booking(customer, kind, id, booking)
+    }
+
+    /// Removes a booking of a customer.
+    pub(crate) fn remove_booking(&mut self, customer: u32, kind: Kind, id: u32)
+        requires { IsSome (bookings_of self.old customer) }
+        ensures removed { (bookings : Bookings) → bookings_of self.old customer ≡ Some bookings
+            → self.new ≡ with_bookings self.old customer (map.remove bookings (kind, id)) }
+        ensures items { (k : Kind) (i : ℕ) → item_of self.new k i ≡ item_of self.old k i }
+    {
+        self.customers.remove_booking(customer, kind, id);
+    }
+}

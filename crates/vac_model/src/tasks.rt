@@ -1,0 +1,136 @@
+//! Tasks: what a client asks for at once.
+
+ghost use Rattle.std.specs.Prelude.{◌≡◌, IfOk};
+ghost use Rattle.std.specs.Prelude.{◌&&◌};
+ghost use Rattle.std.specs.List.{list_all};
+ghost use Rattle.vac_model.specs.Amounts as amounts;
+ghost use Rattle.vac_model.specs.Ranges.{is_change, is_command, is_task};
+
+use crate::commands::{Command, is_id};
+use crate::items::Kind;
+use smallvec::SmallVec;
+use std::alloc::{AllocError, Global};
+use std::marker::Model;
+
+/// The asks of a trip, in their order. Up to eight need no allocation.
+#[derive(Drop)]
+pub struct Asks {
+    items: SmallVec<(Kind, u32), 8>,
+}
+
+impl Model for Asks {
+    ghost use Rattle.std.specs.Prelude.{List, ℕ};
+    ghost use Rattle.vac_model.specs.declared.items.Kind.{Kind};
+
+    ghost Value = { List (Kind × ℕ) };
+
+    ghost view = { λ a. a.items.items };
+}
+
+impl Asks {
+    /// The asks as a slice.
+    pub fn as_slice(&self) -> &[(Kind, u32)]
+        ensures { result.now ≡ self.now }
+    {
+        self.items.as_slice()
+    }
+}
+
+/// The changes of an update, in their order. Up to four need no allocation.
+#[derive(Drop)]
+pub struct Changes {
+    commands: SmallVec<Command, 4>,
+}
+
+impl Model for Changes {
+    ghost use Rattle.std.specs.Prelude.{List};
+    ghost use Rattle.vac_model.specs.declared.commands.Command.{Command};
+
+    ghost Value = { List Command };
+
+    ghost view = { λ a. a.commands.items };
+}
+
+impl Changes {
+    /// The changes as a slice.
+    pub fn as_slice(&self) -> &[Command]
+        ensures { result.now ≡ self.now }
+    {
+        self.commands.as_slice()
+    }
+}
+
+/// What a client asks for at once: all of it happens, or none.
+#[derive(Drop)]
+pub enum Task {
+    /// One command.
+    One(Command),
+    /// Of each kind the dearest item among the asks, one unit of each, for this customer.
+    Trip { customer: u32, asks: Asks },
+    /// The bill of the customer, who then is deleted.
+    Leave { customer: u32 },
+    /// Changes of the tables, one after the other.
+    Update { changes: Changes },
+}
+
+impl Task {
+    /// Whether the task can be asked for: its numbers are in their ranges, and an update has only
+    /// changes of the tables. A trip has 1 to 32 asks, an update 1 to 32 changes.
+    pub fn is_in_range(&self) -> bool
+        ensures { result ≡ is_task self.now }
+    {
+        match self {
+            Task::One(command) => command.is_in_range(),
+            Task::Trip { customer, asks } => {
+                let asks = asks.as_slice();
+                is_id(*customer) && is_list_length(asks.len()) && have_ids(asks)
+            }
+            Task::Leave { customer } => is_id(*customer),
+            Task::Update { changes } => {
+                let changes = changes.as_slice();
+                is_list_length(changes.len()) && are_changes(changes)
+            }
+        }
+    }
+
+    /// The trip with these asks. Only memory can be refused.
+    pub fn trip(alloc: Global, customer: u32, asks: &[(Kind, u32)]) -> Result<Task, AllocError>
+        ensures { IfOk result (λ task. task ≡ Task.Trip customer asks.now) }
+    {
+        let items = SmallVec::from_slice(alloc, asks)?;
+        Ok(Task::Trip {
+            customer,
+            asks: Asks { items },
+        })
+    }
+
+    /// The update with these changes. Only memory can be refused.
+    pub fn update(alloc: Global, changes: &[Command]) -> Result<Task, AllocError>
+        ensures { IfOk result (λ task. task ≡ Task.Update changes.now) }
+    {
+        let commands = SmallVec::from_slice(alloc, changes)?;
+        Ok(Task::Update {
+            changes: Changes { commands },
+        })
+    }
+}
+
+fn is_list_length(len: usize) -> bool
+    ensures { result ≡ amounts.is_list_length len }
+{
+    1 <= len && len <= 32
+}
+
+fn have_ids(asks: &[(Kind, u32)]) -> bool
+    ensures { result ≡ list_all (λ ask. amounts.is_id ask.1) asks.now }
+{
+    asks.iter().all(|ask| is_id(ask.1))
+}
+
+fn are_changes(changes: &[Command]) -> bool
+    ensures { result ≡ list_all (λ c. is_change c && is_command c) changes.now }
+{
+    changes
+        .iter()
+        .all(|change| change.is_change() && change.is_in_range())
+}

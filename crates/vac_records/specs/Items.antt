@@ -1,0 +1,53 @@
+-- Items in blocks of a transactional memory. The words of a block are key, left, right, colour, used, free, total, price.
+use Rattle.std.specs.Prelude.{◌≡◌, ◌≢◌, ◌⊎◌, ℕ, ◌+◌, ◌<◌, ◌≤◌, ◌^◌, List}
+use Rattle.stm_words.specs.View.{View, Sees, Kept, memory}
+use Rattle.vac_model.specs.declared.items.Item.{Item}
+
+-- the words of a memory, should this be the image that it stands on
+abbrev pub mem : View → List ℕ → ℕ → ℕ
+mem s image = memory image s.writes
+
+-- the item in the block that starts at node
+abbrev pub item_in : (ℕ → ℕ) → ℕ → Item
+item_in m node = record { used = m (node + 4); free = m (node + 5); total = m (node + 6); price = m (node + 7) }
+
+-- the eight words from node on are words of the memory, and each address fits 32 bits
+pub record IsNode (s : View) (node : ℕ) : Type 0 where
+  pub inside : node + 8 ≤ s.size
+  pub small : s.size ≤ 2 ^ 32
+
+-- under each image so many units can be added to the item's counts and fit a word
+pub record HasRoom (s : View) (node num : ℕ) : Type 0 where
+  pub free : (image : List ℕ) → Sees s image → mem s image (node + 5) + num < 2 ^ 64
+  pub total : (image : List ℕ) → Sees s image → mem s image (node + 6) + num < 2 ^ 64
+
+-- the block became an item of which nothing is used; its links and all words outside are as before
+pub record IsNewItem (m m' : ℕ → ℕ) (node key num price : ℕ) : Type 0 where
+  pub key_is : m' node ≡ key
+  pub used_is : m' (node + 4) ≡ 0
+  pub free_is : m' (node + 5) ≡ num
+  pub total_is : m' (node + 6) ≡ num
+  pub price_is : m' (node + 7) ≡ price
+  pub others : (x : ℕ) → x ≢ node → (x < node + 4) ⊎ (node + 8 ≤ x) → m' x ≡ m x
+
+-- so many free units were added to the item, and all other words are as before
+pub record HasMore (m m' : ℕ → ℕ) (node num : ℕ) : Type 0 where
+  pub free_is : m' (node + 5) ≡ m (node + 5) + num
+  pub total_is : m' (node + 6) ≡ m (node + 6) + num
+  pub others : (x : ℕ) → x ≢ node + 5 → x ≢ node + 6 → m' x ≡ m x
+
+-- under each image the block became a new item
+pub record ItemMade (s s' : View) (node key num price : ℕ) : Type 0 where
+  pub kept : Kept s s'
+  pub made : (image : List ℕ) → Sees s' image → IsNewItem (mem s image) (mem s' image) node key num price
+
+-- under each image so many units were added
+pub record UnitsAdded (s s' : View) (node num : ℕ) : Type 0 where
+  pub kept : Kept s s'
+  pub added : (image : List ℕ) → Sees s' image → HasMore (mem s image) (mem s' image) node num
+
+-- only reads were made, and under each image this is the item of the block
+pub record ItemRead (s s' : View) (node : ℕ) (item : Item) : Type 0 where
+  pub kept : Kept s s'
+  pub writes : s'.writes ≡ s.writes
+  pub answer : (image : List ℕ) → Sees s' image → item_in (mem s image) node ≡ item

@@ -1,0 +1,121 @@
+//! Reading and writing the items of the tables.
+
+ghost use Rattle.std.specs.Prelude.{◌≡◌, ◌+◌, ◌<◌, ◌^◌, IfOk};
+ghost use Rattle.stm_words.specs.View.{Loaded, Stored};
+ghost use Rattle.vac_records.specs.Items.{IsNode, HasRoom, ItemMade, ItemRead, UnitsAdded};
+
+use crate::place;
+use stm_words::{Addr, TxMem, TxRead, load, store};
+use vac_model::Item;
+
+#[inline]
+fn word_of(node: Addr, place: u32) -> Addr
+    requires { node.0 + place < 2 ^ 32 }
+    ensures { result.0 ≡ node.0 + place }
+{
+    Addr(node.0 + place)
+}
+
+/// Makes the block an item with this key, of which `num` units are free at this price and none is
+/// used. The words that link the block into a table are left to the table.
+pub fn init_item<M: TxMem>(
+    memory: &mut M,
+    node: Addr,
+    key: u32,
+    num: u32,
+    price: u32,
+) -> Result<(), M::Stop>
+    requires { IsNode (M.view memory.old) node.0 }
+    ensures origin { M.origin memory.new ≡ M.origin memory.old }
+    ensures answer { IfOk result (λ _. ItemMade (M.view memory.old) (M.view memory.new) node.0 key num price) }
+{
+    store(memory, word_of(node, place::KEY), key as u64)?;
+    store(memory, word_of(node, place::USED), 0)?;
+    store(memory, word_of(node, place::FREE), num as u64)?;
+    store(memory, word_of(node, place::TOTAL), num as u64)?;
+    store(memory, word_of(node, place::PRICE), price as u64)?;
+    Ok(())
+}
+
+/// The item of the block.
+pub fn item_at<M: TxRead>(memory: &mut M, node: Addr) -> Result<Item, M::Stop>
+    requires { IsNode (M.view memory.old) node.0 }
+    ensures origin { M.origin memory.new ≡ M.origin memory.old }
+    ensures answer { IfOk result (λ item. ItemRead (M.view memory.old) (M.view memory.new) node.0 item) }
+{
+    let used = used_at(memory, node)?;
+    let free = free_at(memory, node)?;
+    let total = total_at(memory, node)?;
+    let price = price_at(memory, node)?;
+    Ok(Item {
+        used,
+        free,
+        total,
+        price,
+    })
+}
+
+/// How many units of the item are booked.
+#[inline]
+pub fn used_at<M: TxRead>(memory: &mut M, node: Addr) -> Result<u64, M::Stop>
+    requires { IsNode (M.view memory.old) node.0 }
+    ensures origin { M.origin memory.new ≡ M.origin memory.old }
+    ensures answer { IfOk result (λ v. Loaded (M.view memory.old) (M.view memory.new) (node.0 + 4) v) }
+{
+    load(memory, word_of(node, place::USED))
+}
+
+/// How many units of the item can be booked.
+#[inline]
+pub fn free_at<M: TxRead>(memory: &mut M, node: Addr) -> Result<u64, M::Stop>
+    requires { IsNode (M.view memory.old) node.0 }
+    ensures origin { M.origin memory.new ≡ M.origin memory.old }
+    ensures answer { IfOk result (λ v. Loaded (M.view memory.old) (M.view memory.new) (node.0 + 5) v) }
+{
+    load(memory, word_of(node, place::FREE))
+}
+
+/// How many units of the item there are, booked or not.
+#[inline]
+pub fn total_at<M: TxRead>(memory: &mut M, node: Addr) -> Result<u64, M::Stop>
+    requires { IsNode (M.view memory.old) node.0 }
+    ensures origin { M.origin memory.new ≡ M.origin memory.old }
+    ensures answer { IfOk result (λ v. Loaded (M.view memory.old) (M.view memory.new) (node.0 + 6) v) }
+{
+    load(memory, word_of(node, place::TOTAL))
+}
+
+/// The price of a unit of the item.
+#[inline]
+pub fn price_at<M: TxRead>(memory: &mut M, node: Addr) -> Result<u64, M::Stop>
+    requires { IsNode (M.view memory.old) node.0 }
+    ensures origin { M.origin memory.new ≡ M.origin memory.old }
+    ensures answer { IfOk result (λ v. Loaded (M.view memory.old) (M.view memory.new) (node.0 + 7) v) }
+{
+    load(memory, word_of(node, place::PRICE))
+}
+
+/// Adds free units to the item.
+pub fn add_total<M: TxMem>(memory: &mut M, node: Addr, num: u32) -> Result<(), M::Stop>
+    requires node { IsNode (M.view memory.old) node.0 }
+    requires room { HasRoom (M.view memory.old) node.0 num }
+    ensures origin { M.origin memory.new ≡ M.origin memory.old }
+    ensures answer { IfOk result (λ _. UnitsAdded (M.view memory.old) (M.view memory.new) node.0 num) }
+{
+    let free = free_at(memory, node)?;
+    store(memory, word_of(node, place::FREE), free + num as u64)?;
+    let total = total_at(memory, node)?;
+    store(memory, word_of(node, place::TOTAL), total + num as u64)?;
+    Ok(())
+}
+
+/// Gives the item another price. Units that are booked keep theirs.
+#[inline]
+pub fn set_price<M: TxMem>(memory: &mut M, node: Addr, price: u32) -> Result<(), M::Stop>
+    requires { IsNode (M.view memory.old) node.0 }
+    ensures origin { M.origin memory.new ≡ M.origin memory.old }
+    ensures answer { IfOk result (λ _. Stored (M.view memory.old) (M.view memory.new) (node.0 + 7) price) }
+{
+    let word = word_of(node, place::PRICE);
+    store(memory, word, price as u64)
+}

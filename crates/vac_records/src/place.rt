@@ -1,0 +1,17 @@
+//! Where the words of an item stand in its block. The words between the key and these link the
+//! block into its table.
+
+/// The key, which is the item's id.
+pub const KEY: u32 = 0;
+
+/// How many units are booked.
+pub const USED: u32 = 4;
+
+/// How many units can be booked.
+pub const FREE: u32 = 5;
+
+/// How many units there are.
+pub const TOTAL: u32 = 6;
+
+/// The price of a unit that is booked from now on.
+pub const PRICE: u32 = 7;
