@@ -1,0 +1,114 @@
+-- A decided writer's record beside the story, and a reader's.
+use Rattle.std.proofs.Common.{◌≡◌, ◌≢◌, ℕ, suc, ◌-◌, ◌<◌, inl, inr, ⊎_elim, true, false, List, [], length-set, set, sym, ap, ◌∙◌, subst, arith}
+use mathlib.Core.Option.{some}
+use mathlib.Core.Logic.{dite}
+use native.Mathlib.Decide.{ℕ_discrete}
+use lib.ListN.{get_elem?}
+use Rattle.stm_words.specs.Image.{In}
+use Rattle.stm_core.specs.Client.{Client, Record, decided, inserted}
+use Rattle.stm_core.specs.Version.{At, IsOpen}
+use Rattle.stm_core.specs.Records.{AllInside, IsTold, IsFiled, Filed}
+use Rattle.stm_core.proofs.Lists.{at_set, set_here, set_else, clash, nothing_in}
+use Rattle.stm_core.proofs.Orders.{in_inserted, inserted_in, inserted_old, inserted_ordered}
+use Rattle.stm_core.proofs.Filing.{told_on, filed_on, filing_keeps, split_writer, stay_keeps}
+
+module _ (lawful : List ℕ → List (ℕ × ℕ) → List (ℕ × ℕ) → Type 0) (size renewal : ℕ) (story : List (List (ℕ × ℕ))) (clock : ℕ) (cs : List Client) (id : ℕ) (v w : Client) (r : Record) (h : Filed lawful size renewal story clock cs) (at : At cs id v) where
+  it : IsFiled lawful size renewal story v
+  it = h.filed id v at
+
+  module _ (open' : IsOpen v) (numbers : (i : ℕ) (o : Client) → At cs i o → i ≢ id → decided o ≡ true → (0 < o.wv) × (o.wv ≢ v.wv)) (phase : decided w ≡ true) (spent : w.spent ≡ false) (reads : w.reads ≡ v.reads) (wv : w.wv ≡ v.wv) (writes : w.writes ≡ v.writes)
+      (records : w.records ≡ inserted r v.records) (r_tag : r.tag ≡ v.tag) (r_reads : r.reads ≡ v.reads) (r_writes : r.writes ≡ v.writes) (r_writer : r.writer ≡ true) (r_version : r.version ≡ v.wv) (r_renewal : r.renewal ≡ renewal) where
+    abbrev story' : List (List (ℕ × ℕ))
+    story' = set story (v.wv - 1) v.writes
+
+    place : get_elem? story (v.wv - 1) ≡ some []
+    place = h.empty id v at open'
+
+    differ : (n : ℕ) → 0 < n → n ≢ v.wv → n - 1 ≢ v.wv - 1
+    differ n z ne e = ne (let k = open'.0 in omega (arith, z, e))
+
+    record_stays : (i : ℕ) (o : Client) → At cs i o → (x : Record) → In x o.records → x.writer ≡ true → 0 < x.version → get_elem? story (x.version - 1) ≡ some x.writes → get_elem? story' (x.version - 1) ≡ some x.writes
+    record_stays i o e x m t z p = set_else story (v.wv - 1) (x.version - 1) v.writes x.writes (differ x.version z (h.unwritten i id o v x e at m t open')) p
+
+    other : (i : ℕ) (o : Client) → At cs i o → i ≢ id → IsFiled lawful size renewal story' o
+    other i o e n = filed_on lawful size renewal story story' o (h.filed i o e) (record_stays i o e) (λ d p. let q = numbers i o e n d in set_else story (v.wv - 1) (o.wv - 1) v.writes o.writes (differ o.wv q.0 q.1) p)
+
+    here : get_elem? story' (v.wv - 1) ≡ some v.writes
+    here = set_here story (v.wv - 1) [] v.writes place
+
+    new_told : IsTold lawful size renewal story' r
+    new_told = record {
+      abides = rw (r_tag, r_reads, r_writes) (it.abides open');
+      present = r_renewal;
+      reads = rw r_reads it.reads;
+      writes = rw r_writes (it.writes open'.0).0;
+      once = rw r_writes (it.writes open'.0).1;
+      writer = λ t. rw (r_version, r_writes) (open'.0, here);
+      reader = λ f. clash r_writer f;
+    }
+
+    mine : IsFiled lawful size renewal story' w
+    mine = record {
+      ordered = rw records (inserted_ordered r v.records it.ordered (λ x m t t'. rw r_version (h.unwritten id id v v x at at m t open')));
+      told = λ x m. ⊎_elim (λ e. subst (IsTold lawful size renewal story') e new_told) (λ old. told_on lawful size renewal story story' x (it.told x old) (record_stays id v at x old)) (in_inserted r v.records x (subst (In x) records m));
+      reads = rw reads it.reads;
+      writes = λ z. rw writes (it.writes open'.0);
+      abides = λ o. clash phase o.1;
+      commits = λ d. rw (wv, writes) here;
+      gone = λ s. clash s spent;
+    }
+
+    new_else : (i : ℕ) (o : Client) (x y : Record) → At cs i o → i ≢ id → In x w.records → x.writer ≡ true → In y o.records → y.writer ≡ true → x.version ≢ y.version
+    new_else i o x y e n m t m' t' = ⊎_elim (λ q. λ s. h.unwritten i id o v y e at m' t' open' (sym s ∙ (sym (ap (λ (z : Record). z.version) q) ∙ r_version))) (λ old. h.once id i v o x y at e (λ s. n (sym s)) old m' t t') (in_inserted r v.records x (subst (In x) records m))
+
+    pub commit_keeps : ((i : ℕ) (o : Client) → At cs i o → i ≢ id → IsOpen o → o.wv ≢ v.wv) → Filed lawful size renewal story' clock (set cs id w)
+    commit_keeps opens = filing_keeps lawful size renewal story story' clock clock cs id v w h at record {
+      mine = mine;
+      others = other;
+      versions = length-set story (v.wv - 1) v.writes ∙ h.versions;
+      unwritten_mine = λ i o x e n m t op. clash phase op.1;
+      unwritten_else = λ i o x e n m t op. ⊎_elim (λ q. λ s. opens i o e n op (sym s ∙ (sym (ap (λ (z : Record). z.version) q) ∙ r_version))) (λ old. h.unwritten id i v o x at e old t op) (in_inserted r v.records x (subst (In x) records m));
+      unwritten_self = λ x m t op. clash phase op.1;
+      empty_mine = λ op. clash phase op.1;
+      empty_else = λ i o e n op. set_else story (v.wv - 1) (o.wv - 1) v.writes [] (differ o.wv op.0 (opens i o e n op)) (h.empty i o e op);
+      once = λ i o x y e n m m' t t'. new_else i o x y e n m t m' t';
+      complete = λ u ws e n. dite (ℕ_discrete u (v.wv - 1)) (λ q. inl (r, rw records (inserted_in r v.records), r_writer, r_version ∙ (let k = open'.0 in omega (arith, q))))
+          (λ q. ⊎_elim (λ p. inl (p.0, rw records (inserted_old r v.records p.0 p.1), p.2, p.3)) (λ p. inr p) (split_writer lawful size renewal story clock cs id v h at (suc u) (h.complete u ws (back u ws q e) n)));
+    }
+      where
+        back : (u : ℕ) (ws : List (ℕ × ℕ)) → u ≢ v.wv - 1 → get_elem? story' u ≡ some ws → get_elem? story u ≡ some ws
+        back u ws q e = ⊎_elim (λ p. absurd (q p.0)) (λ p. p.1) (at_set story (v.wv - 1) u v.writes ws e)
+
+  -- a reader's record
+  module _ (phase : decided w ≡ false) (spent : w.spent ≡ false) (reads : w.reads ≡ v.reads) (wv : w.wv ≡ v.wv) (none' : v.wv ≡ 0) (records : w.records ≡ inserted r v.records) (r_lawful : lawful r.tag r.reads r.writes) (r_reads : r.reads ≡ v.reads) (r_writes : r.writes ≡ [])
+      (r_writer : r.writer ≡ false) (r_renewal : r.renewal ≡ renewal) where
+    closed : 0 < w.wv → ⊥
+    closed z = (let e : w.wv ≡ 0 = wv ∙ none' in omega arith)
+
+    nothing_inside : AllInside size []
+    nothing_inside a x i = absurd (nothing_in (a, x) i)
+
+    reader_told : IsTold lawful size renewal story r
+    reader_told = record {
+      abides = r_lawful;
+      present = r_renewal;
+      reads = rw r_reads it.reads;
+      writes = rw r_writes nothing_inside;
+      once = rw r_writes tt;
+      writer = λ t. clash t r_writer;
+      reader = λ f. r_writes;
+    }
+
+    pub reader_keeps : Filed lawful size renewal story clock (set cs id w)
+    reader_keeps = stay_keeps lawful size renewal story clock cs id v h at w
+        record {
+          ordered = rw records (inserted_ordered r v.records it.ordered (λ x m t t'. clash t' r_writer));
+          told = λ x m. ⊎_elim (λ e. subst (IsTold lawful size renewal story) e reader_told) (λ old. it.told x old) (in_inserted r v.records x (subst (In x) records m));
+          reads = rw reads it.reads;
+          writes = λ z. absurd (closed z);
+          abides = λ o. absurd (closed o.0);
+          commits = λ d. clash d phase;
+          gone = λ s. clash s spent;
+        }
+        (λ x m t. ⊎_elim (λ e. clash t (sym (ap (λ (z : Record). z.writer) e) ∙ r_writer)) (λ old. old) (in_inserted r v.records x (subst (In x) records m)))
+        (λ x m. rw records (inserted_old r v.records x m)) (λ o. absurd (closed o.0))

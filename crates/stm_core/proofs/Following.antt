@@ -1,0 +1,307 @@
+-- The running core follows the core, event by event.
+use Rattle.std.proofs.Common.{◌≡◌, ◌≢◌, ℕ, zero, suc, ◌+◌, ◌-◌, ◌*◌, ◌^◌, ◌≤◌, ◌<◌, ◌⊎◌, inl, inr, ⊎_elim, Bool, true, false, cond, not, eqb, nat_lt, ◌==◌, ◌&&◌, ◌||◌, List, [], ◌∷◌, ◌++◌, length, length-set, set, get_or, map, replicate, slice_set, refl, sym, ap, ◌∙◌, subst, arith}
+use mathlib.Core.Option.{some}
+use lib.ListN.{get_elem?}
+use Rattle.std.proofs.lemmas.Bool.Decides.{nat_tests}
+use Rattle.stm_words.specs.Image.{In}
+use Rattle.stm_core.specs.Client.{Client, Record, Stamp, checked, locked, ticked, looked, version_of, word_before, value_fetched, writes_to, old_version, is_committed}
+use Rattle.stm_core.specs.Event.{Action, begin, probe, fetch, check, lock, tick, validate, put, release, give_back, finish, is_empty, committed_by, stepping, failing, read_too, holding, versioned, decides_at_once, won, passes, passing, after, giving, fresh, taking, gone}
+use Rattle.stm_core.specs.Core.{Core, bounds_of, found, left, written, Event, acts, splits, gathers, IsClient, Allowed, client_of, played, Leads, opened}
+use Rattle.stm_core.specs.Theorem.{stripe_of, free_law}
+use Rattle.stm_core.specs.Invariant.{Inv}
+use Rattle.stm_core.specs.Seat.{blank, seat_after}
+use Rattle.stm_core.specs.Tests.{may_act}
+use Rattle.stm_core.specs.Running.{Running, IsSane, stripes_of, is_out, may_play, decision, entered, stamp_of, run_acts, run_played, run_opened, shown, ran}
+use Rattle.stm_core.specs.Follows.{IsReached, RunningFollows}
+use Rattle.stm_core.proofs.Lists.{clash, nothing_in, by_bool, in_range}
+use Rattle.stm_core.proofs.Steps.{by_case, word_inside}
+use Rattle.stm_core.proofs.Held.{old_in}
+use Rattle.stm_core.proofs.Simulating.{act_is, is_act, left_of, right_of, both, not_of, empty_is}
+use Rattle.stm_core.proofs.Playing.{get_is, event_keeps}
+use Rattle.stm_core.proofs.Joining.{opening_keeps}
+use Rattle.stm_core.proofs.Facts.{grants_of_two}
+
+get_map : (l : List Client) (i : ℕ) → get_or (map blank l) i gone ≡ blank (get_or l i gone)
+get_map [] i = refl
+get_map (x ∷ l) zero = refl
+get_map (x ∷ l) (suc i) = get_map l i
+
+map_set : (l : List Client) (i : ℕ) (v : Client) → map blank (set l i v) ≡ set (map blank l) i (blank v)
+map_set [] i v = refl
+map_set (x ∷ l) zero v = refl
+map_set (x ∷ l) (suc i) v = ap (λ m. blank x ∷ m) (map_set l i v)
+
+map_snoc : (l : List Client) (v : Client) → map blank (l ++ v ∷ []) ≡ map blank l ++ blank v ∷ []
+map_snoc [] v = refl
+map_snoc (x ∷ l) v = ap (λ m. blank x ∷ m) (map_snoc l v)
+
+map_length : (l : List Client) → length (map blank l) ≡ length l
+map_length [] = refl
+map_length (x ∷ l) = ap suc (map_length l)
+
+client_shown : (c : Core) (k : ℕ) → client_of (shown c) k ≡ blank (client_of c k)
+client_shown c k = get_map c.clients (k - 1)
+
+found_shown : (lk : ℕ → ℕ) (c : Core) (e : Action) → found lk (shown c) e ≡ found lk c e
+found_shown lk c begin = refl
+found_shown lk c (probe k) = refl
+found_shown lk c (fetch a) = refl
+found_shown lk c (check a) = refl
+found_shown lk c (lock k) = refl
+found_shown lk c (tick f t w) = refl
+found_shown lk c (validate k) = refl
+found_shown lk c (put a x) = refl
+found_shown lk c (release k) = refl
+found_shown lk c (give_back k) = refl
+found_shown lk c (finish t) = refl
+
+left_shown : (e : Action) (n : ℕ) (v : Client) → left e n (blank v) ≡ left e n v
+left_shown begin n v = refl
+left_shown (probe k) n v = refl
+left_shown (fetch a) n v = refl
+left_shown (check a) n v = refl
+left_shown (lock k) n v = refl
+left_shown (tick f t w) n v = refl
+left_shown (validate k) n v = refl
+left_shown (put a x) n v = refl
+left_shown (release k) n v = refl
+left_shown (give_back k) n v = refl
+left_shown (finish t) n v = refl
+
+after_shown : (t : Stamp) (lk : ℕ → ℕ) (e : Action) (n : ℕ) (v : Client) → blank (after t lk e n v) ≡ seat_after t.place e n (blank v)
+after_shown t lk begin n v = refl
+after_shown t lk (probe k) n v = refl
+after_shown t lk (fetch a) n v = refl
+after_shown t lk (check a) n v = by_case (λ b. blank (stepping (checked a (word_before v.last) n) (cond b (read_too a (value_fetched v.last) v) (failing v))) ≡ blank (stepping (checked a (word_before v.last) n) (cond b (read_too a (value_fetched v.last) (blank v)) (failing (blank v))))) (eqb n (word_before v.last)) (λ e. refl) (λ e. refl)
+after_shown t lk (lock k) n v = by_case (λ b. blank (stepping (locked k (word_before v.last) n) (cond b (holding k (version_of n) v) (failing v))) ≡ blank (stepping (locked k (word_before v.last) n) (cond b (holding k (version_of n) (blank v)) (failing (blank v))))) (eqb n (word_before v.last)) (λ e. refl) (λ e. refl)
+after_shown t lk (tick from tag writes) n v =
+    let u : Stamp = record { client = 0; place = t.place; renewal = 0 } in
+    let w = versioned t (from + 1) tag writes v in
+    let w' = versioned u (from + 1) tag writes (blank v) in
+    by_case (λ b. blank (record (stepping (ticked from n) (cond b (won t (from + 1) tag writes v) v)) { ticks = v.ticks + 1; next_from = n }) ≡ blank (record (stepping (ticked from n) (cond b (won u (from + 1) tag writes (blank v)) (blank v))) { ticks = v.ticks + 1; next_from = n })) (eqb n from)
+    (λ e. by_case (λ b. blank (record (stepping (ticked from n) (cond b (committed_by t w) w)) { ticks = v.ticks + 1; next_from = n }) ≡ blank (record (stepping (ticked from n) (cond b (committed_by u w') w')) { ticks = v.ticks + 1; next_from = n })) (decides_at_once w) (λ z. refl) (λ z. refl))
+    (λ e. refl)
+after_shown t lk (validate k) n v =
+    let u : Stamp = record { client = 0; place = t.place; renewal = 0 } in
+    let w : Client = record v { passed = v.passed + 1 } in
+    let w' : Client = record (blank v) { passed = v.passed + 1 } in
+    by_case (λ b. blank (record (stepping (looked k n) (cond b (passing t v) (failing v))) { mine = writes_to v.held k }) ≡ blank (record (stepping (looked k n) (cond b (passing u (blank v)) (failing (blank v)))) { mine = writes_to v.held k })) (passes k n v)
+    (λ e. by_case (λ b. blank (record (stepping (looked k n) (cond b (committed_by t w) w)) { mine = writes_to v.held k }) ≡ blank (record (stepping (looked k n) (cond b (committed_by u w') w')) { mine = writes_to v.held k })) (eqb (v.passed + 1) (length v.reads)) (λ z. refl) (λ z. refl))
+    (λ e. refl)
+after_shown t lk (put a x) n v = refl
+after_shown t lk (release k) n v = refl
+after_shown t lk (give_back k) n v = refl
+after_shown t lk (finish tag) n v = refl
+
+written_shown : (e : Action) (m : ℕ) (c : Core) (cs : List Client) → record (written e m (shown c)) { clients = map blank cs; events = c.events + 1 } ≡ shown (record (written e m c) { clients = cs; events = c.events + 1 })
+written_shown begin m c cs = refl
+written_shown (probe k) m c cs = refl
+written_shown (fetch a) m c cs = refl
+written_shown (check a) m c cs = refl
+written_shown (lock k) m c cs = refl
+written_shown (tick f t w) m c cs = refl
+written_shown (validate k) m c cs = refl
+written_shown (put a x) m c cs = refl
+written_shown (release k) m c cs = refl
+written_shown (give_back k) m c cs = refl
+written_shown (finish t) m c cs = refl
+
+entered_core : (rs : List Record) (s : Running) → (entered rs s).core ≡ s.core
+entered_core [] s = refl
+entered_core (r ∷ rs) s = refl
+
+-- an event leads both to what shows the same
+play_shown : (e : Event) (c : Core) (s : Running) → s.core ≡ shown c → (run_played e s).core ≡ shown (played (stripes_of c) e c)
+play_shown (acts k e) c s same =
+    let t = stamp_of (shown c) k in
+    let v = client_of c k in
+    let n = found (stripes_of c) c e in
+    let w = after (record { client = k; place = c.events; renewal = c.renewal }) (stripes_of c) e n v in
+    subst (λ d. (run_acts k e (record s { core = d })).core ≡ shown (played (stripes_of c) (acts k e) c)) (sym same)
+    (entered_core (decision t e (found (stripes_of c) (shown c) e) (client_of (shown c) k)) (record s { core = record (written e (left e (found (stripes_of c) (shown c) e) (client_of (shown c) k)) (shown c)) { clients = slice_set (map blank c.clients) (k - 1) (seat_after c.events e (found (stripes_of c) (shown c) e) (client_of (shown c) k)); events = c.events + 1 } })
+    ∙ (rw (found_shown (stripes_of c) c e, client_shown c k, left_shown e n v, ← after_shown (record { client = k; place = c.events; renewal = c.renewal }) (stripes_of c) e n v, ← map_set c.clients (k - 1) w) (written_shown e (left e n v) c (set c.clients (k - 1) w))))
+play_shown (splits k) c s same =
+    subst (λ d. (run_played (splits k) (record s { core = d })).core ≡ shown (played (stripes_of c) (splits k) c)) (sym same)
+    (rw (client_shown c k) (λ i. record (shown c) { clients = sym (map_snoc (set c.clients (k - 1) (giving (client_of c k))) (fresh (client_of c k)) ∙ ap (λ l. l ++ blank (fresh (client_of c k)) ∷ []) (map_set c.clients (k - 1) (giving (client_of c k)))) i; events = c.events + 1 }))
+play_shown (gathers k j) c s same =
+    subst (λ d. (run_played (gathers k j) (record s { core = d })).core ≡ shown (played (stripes_of c) (gathers k j) c)) (sym same)
+    (rw (client_shown c k, client_shown c j) (λ i. record (shown c) { clients = sym (map_set (set c.clients (k - 1) (taking (client_of c k) (client_of c j))) (j - 1) gone ∙ ap (λ l. set l (j - 1) gone) (map_set c.clients (k - 1) (taking (client_of c k) (client_of c j)))) i; events = c.events + 1 }))
+
+at_of : (l : List Client) (i : ℕ) → i < length l → get_elem? l i ≡ some (get_or l i gone)
+at_of [] i h = absurd (omega arith)
+at_of (x ∷ l) zero h = refl
+at_of (x ∷ l) (suc i) h = at_of l i (omega arith)
+
+out_shown : (c : Core) (k : ℕ) → is_out (shown c) k ≡ is_out c k
+out_shown c k = rw (map_length c.clients, client_shown c k) refl
+
+may_shown : (e : Event) (c : Core) → may_play e (shown c) ≡ may_play e c
+may_shown (acts k e) c = rw (out_shown c k, client_shown c k) (ap (λ b. is_out c k && b) (same e))
+  where
+    same : (e : Action) → may_act (bounds_of c) e (blank (client_of c k)) ≡ may_act (bounds_of c) e (client_of c k)
+    same begin = refl
+    same (probe n) = refl
+    same (fetch a) = refl
+    same (check a) = refl
+    same (lock n) = refl
+    same (tick f t w) = refl
+    same (validate n) = refl
+    same (put a x) = refl
+    same (release n) = refl
+    same (give_back n) = refl
+    same (finish t) = refl
+may_shown (splits k) c = rw (out_shown c k, client_shown c k, map_length c.clients) refl
+may_shown (gathers k j) c = rw (out_shown c k, out_shown c j, client_shown c k, client_shown c j) refl
+
+out_is : (c : Core) (k : ℕ) → is_out c k ≡ true → IsClient c k (client_of c k) × ((client_of c k).spent ≡ false)
+out_is c k h =
+    let g = left_of (nat_lt 0 k && nat_lt (k - 1) (length c.clients)) (not (client_of c k).spent) h in
+    let a = left_of (nat_lt 0 k) (nat_lt (k - 1) (length c.clients)) g in
+    let b = right_of (nat_lt 0 k) (nat_lt (k - 1) (length c.clients)) g in
+    (((grind (arith, nat_tests)), at_of c.clients (k - 1) (grind (arith, nat_tests))), not_of (client_of c k).spent (right_of (nat_lt 0 k && nat_lt (k - 1) (length c.clients)) (not (client_of c k).spent) h))
+
+is_out_of : (c : Core) (k : ℕ) (v : Client) → IsClient c k v → v.spent ≡ false → (is_out c k ≡ true) × (client_of c k ≡ v)
+is_out_of c k v h s =
+    let same : client_of c k ≡ v = get_is c.clients (k - 1) v gone h.1 in
+    let l = in_range c.clients (k - 1) v h.1 in
+    (both (nat_lt 0 k && nat_lt (k - 1) (length c.clients)) (not (client_of c k).spent) (both (nat_lt 0 k) (nat_lt (k - 1) (length c.clients)) (let z = h.0 in grind (arith, nat_tests)) (grind (arith, nat_tests))) (rw same (ap not s)), same)
+
+-- the running core allows just the events that are allowed
+pub may_is : (e : Event) (c : Core) → may_play e c ≡ true → Allowed free_law (stripes_of c) e c
+may_is (acts k e) c h = let o = out_is c k (left_of (is_out c k) (may_act (bounds_of c) e (client_of c k)) h) in (client_of c k, o.0, (o.1, act_is (bounds_of c) (client_of c k) e (right_of (is_out c k) (may_act (bounds_of c) e (client_of c k)) h)))
+may_is (splits k) c h =
+    let g2 = left_of (is_out c k && is_empty (client_of c k).held && nat_lt 0 (client_of c k).grants) (nat_lt (length c.clients) (2 ^ 32 - 1)) h in
+    let g1 = left_of (is_out c k && is_empty (client_of c k).held) (nat_lt 0 (client_of c k).grants) g2 in
+    let o = out_is c k (left_of (is_out c k) (is_empty (client_of c k).held) g1) in (
+      client_of c k,
+      o.0,
+      (o.1, empty_is (client_of c k).held (right_of (is_out c k) (is_empty (client_of c k).held) g1)),
+      (let e = right_of (is_out c k && is_empty (client_of c k).held) (nat_lt 0 (client_of c k).grants) g2 in grind (arith, nat_tests)),
+      (let e = right_of (is_out c k && is_empty (client_of c k).held && nat_lt 0 (client_of c k).grants) (nat_lt (length c.clients) (2 ^ 32 - 1)) h in grind (arith, nat_tests)),
+    )
+may_is (gathers k j) c h =
+    let g3 = left_of (is_out c k && is_out c j && not (k == j) && is_empty (client_of c k).held) (is_empty (client_of c j).held) h in
+    let g2 = left_of (is_out c k && is_out c j && not (k == j)) (is_empty (client_of c k).held) g3 in
+    let g1 = left_of (is_out c k && is_out c j) (not (k == j)) g2 in
+    let o = out_is c k (left_of (is_out c k) (is_out c j) g1) in
+    let q = out_is c j (right_of (is_out c k) (is_out c j) g1) in (
+      client_of c k,
+      client_of c j,
+      o.0,
+      q.0,
+      (λ z. let e = not_of (k == j) (right_of (is_out c k && is_out c j) (not (k == j)) g2) in clash (let y : (k == j) ≡ true = grind (arith, nat_tests) in y) e),
+      (o.1, empty_is (client_of c k).held (right_of (is_out c k && is_out c j && not (k == j)) (is_empty (client_of c k).held) g3)),
+      (q.1, empty_is (client_of c j).held (right_of (is_out c k && is_out c j && not (k == j) && is_empty (client_of c k).held) (is_empty (client_of c j).held) h)),
+    )
+
+pub is_may : (e : Event) (c : Core) → Allowed free_law (stripes_of c) e c → may_play e c ≡ true
+is_may (acts k e) c h = let o = is_out_of c k h.0 h.1 h.2.0 in both (is_out c k) (may_act (bounds_of c) e (client_of c k)) o.0 (rw o.1 (is_act (bounds_of c) h.0 e h.2.1))
+is_may (splits k) c h = let o = is_out_of c k h.0 h.1 h.2.0 in
+    both (is_out c k && is_empty (client_of c k).held && nat_lt 0 (client_of c k).grants) (nat_lt (length c.clients) (2 ^ 32 - 1)) (both (is_out c k && is_empty (client_of c k).held) (nat_lt 0 (client_of c k).grants) (both (is_out c k) (is_empty (client_of c k).held) o.0 (rw o.1 (ap is_empty h.2.1))) (rw o.1 (let e = h.3 in grind (arith, nat_tests)))) (let e = h.4 in grind (arith, nat_tests))
+is_may (gathers k j) c h = let o = is_out_of c k h.0 h.2 h.5.0 in let q = is_out_of c j h.1 h.3 h.6.0 in
+    both (is_out c k && is_out c j && not (k == j) && is_empty (client_of c k).held) (is_empty (client_of c j).held) (both (is_out c k && is_out c j && not (k == j)) (is_empty (client_of c k).held) (both (is_out c k && is_out c j) (not (k == j)) (both (is_out c k) (is_out c j) o.0 q.0) (let n = h.4 in by_bool (k == j) (λ t. absurd (n (grind (arith, nat_tests)))) (λ f. ap not f))) (rw o.1 (ap is_empty h.5.1))) (rw q.1 (ap is_empty h.6.1))
+
+last_stays : (lk : ℕ → ℕ) (e : Event) (c : Core) → ((played lk e c).last ≡ c.last) × (length (played lk e c).locks ≡ length c.locks)
+last_stays lk (acts k begin) c = (refl, refl)
+last_stays lk (acts k (probe n)) c = (refl, refl)
+last_stays lk (acts k (fetch a)) c = (refl, refl)
+last_stays lk (acts k (check a)) c = (refl, refl)
+last_stays lk (acts k (lock n)) c = (refl, length-set c.locks n (left (lock n) (found lk c (lock n)) (client_of c k)))
+last_stays lk (acts k (tick f t w)) c = (refl, refl)
+last_stays lk (acts k (validate n)) c = (refl, refl)
+last_stays lk (acts k (put a x)) c = (refl, refl)
+last_stays lk (acts k (release n)) c = (refl, length-set c.locks n (2 * (client_of c k).wv))
+last_stays lk (acts k (give_back n)) c = (refl, length-set c.locks n (2 * old_version (client_of c k).held n))
+last_stays lk (acts k (finish t)) c = (refl, refl)
+last_stays lk (splits k) c = (refl, refl)
+last_stays lk (gathers k j) c = (refl, refl)
+
+replicated : (n : ℕ) → length (replicate n (let z : ℕ = 0 in z)) ≡ n
+replicated zero = refl
+replicated (suc n) = ap suc (replicated n)
+
+pub reached_opening : (image : List ℕ) (last stripes : ℕ) → last < 2 ^ 62 → 0 < stripes → IsReached (run_opened image last stripes)
+reached_opening image last stripes l s = (opened image last stripes, opening_keeps free_law (stripes_of (opened image last stripes)) image last stripes, l, rw (replicated stripes) s, refl)
+
+pub reached_next : (e : Event) (s : Running) → IsReached s → may_play e s.core ≡ true → IsReached (run_played e s)
+reached_next e s h may =
+    let c = h.0 in
+    let ok : may_play e c ≡ true = sym (may_shown e c) ∙ (ap (may_play e) (sym h.4) ∙ may) in
+    let q = last_stays (stripes_of c) e c in (
+      played (stripes_of c) e c,
+      subst (λ n. Inv free_law (stripe_of n) (played (stripes_of c) e c)) (sym q.1) (event_keeps free_law (stripes_of c) c e h.1 (may_is e c ok)),
+      rw q.0 h.2,
+      rw q.1 h.3,
+      play_shown e c s h.4,
+    )
+
+client_cases : (c : Core) (k : ℕ) → (get_elem? c.clients (k - 1) ≡ some (client_of c k)) ⊎ (client_of c k ≡ gone)
+client_cases c k = go c.clients (k - 1)
+  where
+    go : (l : List Client) (i : ℕ) → (get_elem? l i ≡ some (get_or l i gone)) ⊎ (get_or l i gone ≡ gone)
+    go [] i = inr refl
+    go (x ∷ l) zero = inl refl
+    go (x ∷ l) (suc i) = go l i
+
+old_none : (l : List (ℕ × ℕ)) (k : ℕ) → writes_to l k ≡ false → old_version l k ≡ 0
+old_none [] k h = refl
+old_none (p ∷ ps) k h = go (eqb p.0 k) refl (λ e. old_none ps k e)
+  where
+    go : (b : Bool) → eqb p.0 k ≡ b → (writes_to ps k ≡ false → old_version ps k ≡ 0) → cond (eqb p.0 k) p.1 (old_version ps k) ≡ 0
+    go true e f = clash (ap (λ b. b || writes_to ps k) e) h
+    go false e f = rw e (f (subst (λ b. (b || writes_to ps k) ≡ false) e h))
+
+module _ (c : Core) (h : Inv free_law (stripes_of c) c) (low : c.last < 2 ^ 62) (some' : 0 < length c.locks) where
+  lock_inside : (k j : ℕ) → writes_to (client_of c k).held j ≡ true → j < length c.locks
+  lock_inside k j t = ⊎_elim
+      (λ at. word_inside c.locks j (2 * old_version (client_of c k).held j) ((h.books.booked (k - 1) (client_of c k) at).listed j (old_version (client_of c k).held j) (old_in (client_of c k).held j t) ∙ omega arith))
+      (λ g. clash t (ap (λ (z : Client). writes_to z.held j) g)) (client_cases c k)
+
+  cell_inside : (k a x : ℕ) → is_committed (client_of c k).phase ≡ true → In (a, x) (client_of c k).writes → a < length c.cells
+  cell_inside k a x t i = ⊎_elim
+      (λ at. let z = ((h.books.booked (k - 1) (client_of c k) at).told t).0 in let l = ((h.filed.filed (k - 1) (client_of c k) at).writes z).0 a x i in (let e = h.size in omega arith))
+      (λ g. absurd (nothing_in (a, x) (subst (λ (z : Client). In (a, x) z.writes) g i))) (client_cases c k)
+
+  small_version : (k : ℕ) → (client_of c k).wv < 2 ^ 62
+  small_version k = ⊎_elim (λ at. (let a = (h.version.sound (k - 1) (client_of c k) at).wv in let b = h.bounded in omega arith)) (λ g. subst (λ (z : Client). z.wv < 2 ^ 62) (sym g) (omega arith)) (client_cases c k)
+
+  small_old : (k j : ℕ) → old_version (client_of c k).held j < 2 ^ 62
+  small_old k j = by_bool (writes_to (client_of c k).held j)
+      (λ t. ⊎_elim (λ at. (let a = (h.books.booked (k - 1) (client_of c k) at).listed j (old_version (client_of c k).held j) (old_in (client_of c k).held j t) in let b = h.version.versions j in let d = h.bounded in omega arith))
+      (λ g. clash t (ap (λ (z : Client). writes_to z.held j) g)) (client_cases c k))
+      (λ f. (let e = old_none (client_of c k).held j f in omega arith))
+
+  few_grants : (k j : ℕ) → k ≢ j → is_out c k ≡ true → is_out c j ≡ true → (client_of c k).grants + (client_of c j).grants + 1 ≤ 63
+  few_grants k j n o p = let a = out_is c k o in let b = out_is c j p in grants_of_two free_law (stripes_of c) c h (k - 1) (j - 1) (client_of c k) (client_of c j) (λ e. n (let x = a.0.0 in let y = b.0.0 in omega arith)) a.0.1 b.0.1 a.1 b.1
+
+  sane_shown : IsSane (shown c)
+  sane_shown = record {
+    last = low;
+    some = some';
+    held = λ k j t. lock_inside k j (subst (λ (z : Client). writes_to z.held j ≡ true) (client_shown c k) t);
+    written = λ k a x t i. cell_inside k a x (subst (λ (z : Client). is_committed z.phase ≡ true) (client_shown c k) t) (subst (λ (z : Client). In (a, x) z.writes) (client_shown c k) i);
+    versions = λ k. subst (λ (z : Client). z.wv < 2 ^ 62) (sym (client_shown c k)) (small_version k);
+    old = λ k j. subst (λ (z : Client). old_version z.held j < 2 ^ 62) (sym (client_shown c k)) (small_old k j);
+    grants = λ k j n o p. rw (client_shown c k, client_shown c j) (few_grants k j n (sym (out_shown c k) ∙ o) (sym (out_shown c j) ∙ p));
+  }
+
+-- a reached core is sane
+pub reached_sane : (s : Running) → IsReached s → IsSane s.core
+reached_sane s h = subst IsSane (sym h.4) (sane_shown h.0 h.1 h.2 h.3)
+
+ran_shows : (es : List Event) (c d : Core) (s : Running) → s.core ≡ shown c → Leads free_law (stripe_of (length c.locks)) c es d → ((ran es s).core ≡ shown d) × (length d.locks ≡ length c.locks)
+ran_shows [] c d s same e = (same ∙ ap shown e, ap (λ (x : Core). length x.locks) (sym e))
+ran_shows (a ∷ es) c d s same e =
+    let n = (last_stays (stripes_of c) a c).1 in
+    let q = ran_shows es (played (stripes_of c) a c) d (run_played a s) (play_shown a c s same) (subst (λ m. Leads free_law (stripe_of m) (played (stripes_of c) a c) es d) (sym n) e.1) in (q.0, q.1 ∙ n)
+
+pub running_follows : RunningFollows
+running_follows image last stripes es c leads =
+    let n = replicated stripes in
+    let q = ran_shows es (opened image last stripes) c (run_opened image last stripes) refl (subst (λ m. Leads free_law (stripe_of m) (opened image last stripes) es c) (sym n) leads) in (
+      q.0,
+      λ e. (
+        (λ t. subst (λ m. Allowed free_law (stripe_of m) e c) (q.1 ∙ n) (may_is e c (sym (may_shown e c) ∙ (ap (may_play e) (sym q.0) ∙ t)))),
+        (λ a. ap (may_play e) q.0 ∙ (may_shown e c ∙ is_may e c (subst (λ m. Allowed free_law (stripe_of m) e c) (sym (q.1 ∙ n)) a))),
+      ),
+    )

@@ -1,0 +1,170 @@
+-- The steps that change no word and leave locks, versions and writes: they load a word, or fail.
+use Rattle.std.proofs.Common.{◌≡◌, ℕ, suc, ◌+◌, ◌*◌, ◌-◌, ◌≤◌, ◌<◌, ◌⊎◌, inl, inr, ⊎_elim, true, false, List, [], ◌∷◌, ◌++◌, set, refl, sym, ap, ◌∙◌, subst, arith}
+use mathlib.Core.Option.{some, some-injective}
+use mathlib.Core.Logic.{dite}
+use native.Mathlib.Decide.{ℕ_discrete}
+use lib.ListN.{get_elem?}
+use Rattle.stm_words.specs.Image.{In}
+use Rattle.stm_core.specs.Client.{Client, Record, fetched, decided, version_of, IsFree, writes_to, base, inserted}
+use Rattle.stm_core.specs.Version.{World, At, IsOpen, Claims, runs, passes, noted, Saw, IsSound, IsBooked}
+use Rattle.stm_core.proofs.Lists.{in_snoc, same_at, by_bool, not_true}
+use Rattle.stm_core.proofs.Turns.{Heart, look_keeps}
+use Rattle.stm_core.proofs.Orders.{in_inserted}
+
+pub claims_as : (v w : Client) → w.rv ≡ v.rv → w.reads ≡ v.reads → w.wv ≡ v.wv → w.passed ≡ v.passed → w.records ≡ v.records → (b a x : ℕ) → Claims w b a x → Claims v b a x
+claims_as v w e f g p q b a x (runs k i) = runs (k ∙ e) (subst (In (a, x)) f i)
+claims_as v w e f g p q b a x (passes k j l i) = passes (k ∙ g) j (subst (λ n. j < n) p l) (subst (λ y. get_elem? y j ≡ some (a, x)) f i)
+claims_as v w e f g p q b a x (noted r i k m) = noted r (subst (In r) q i) k m
+
+module _ (lk : ℕ → ℕ) (s : World) (cs : List Client) (id : ℕ) (v : Client) (h : Heart lk s cs) (at : At cs id v) where
+  me : IsSound lk s v
+  me = h.version.sound id v at
+
+  mine : IsBooked lk s v
+  mine = h.books.booked id v at
+
+  -- nothing changes but bookkeeping and the last step
+  pub same_keeps : (w : Client) → w.held ≡ v.held → w.wv ≡ v.wv → w.writes ≡ v.writes → w.stored ≡ v.stored → decided w ≡ decided v → w.rv ≡ v.rv → w.floor ≤ s.clock → w.reads ≡ v.reads → w.passed ≡ v.passed → w.records ≡ v.records
+      → Saw lk s w.rv w.last → Heart lk s (set cs id w)
+  same_keeps w held wv writes stored phase rv floor reads passed records saw =
+      let c : (b a x : ℕ) → Claims w b a x → Claims v b a x = claims_as v w rv reads wv passed records in
+      look_keeps lk s cs id v w h at
+      record {
+        held = held;
+        wv = wv;
+        writes = writes;
+        stored = stored;
+        phase = phase;
+        rv = rw rv me.rv;
+        floor = floor;
+        recorded = λ r i. me.recorded r (subst (In r) records i);
+        later = λ z. rw (rv, wv) (mine.later (subst (λ n. 0 < n) wv z));
+        agrees = λ b a x p. me.agrees b a x (c b a x p);
+        saw = saw;
+        apart = λ i o b a x e p q l. h.version.apart id i v o b a x at e (c b a x p) q l;
+      }
+
+  -- what a fetch sees: the newest image's value, or a writer above the probe's version
+  pub shown : (a n : ℕ) → version_of n ≤ version_of (s.lock (lk a)) → (s.cell a ≡ s.val s.clock a) ⊎ ((u : ℕ) × (version_of n < u) × (s.wrote u a ≡ true))
+  shown a n l =
+      dite (ℕ_discrete (s.lock (lk a)) (2 * version_of (s.lock (lk a))))
+      (λ e. inl (h.version.free (lk a) a 0 e refl).0)
+      (λ ne. let q = h.version.holder (lk a) (omega arith) in
+      let it = h.version.kept q.0 q.1 (lk a) (version_of (s.lock (lk a))) q.2 q.3 in
+      let so = h.version.sound q.0 q.1 q.2 in
+      let bo = h.books.booked q.0 q.1 q.2 in
+      by_bool (decided q.1) (λ d. by_bool (writes_to q.1.writes a) (λ t. let z = bo.told d in inr (q.1.wv, (let p = so.above (lk a) (version_of (s.lock (lk a))) q.3 z.0 in omega arith), z.1 a ∙ t)) (λ f. inl (it.same a refl (inr (inl f)))))
+      (λ d. inl (it.same a refl (inl d))))
+
+  -- what a check finds out where the word is still the probe's
+  unchanged : (a n x : ℕ) → Saw lk s v.rv (fetched a n x) → s.lock (lk a) ≡ n → s.val v.rv a ≡ x
+  unchanged a n x saw e =
+      let even : IsFree (s.lock (lk a)) = rw e saw.1 in
+      let quiet : (w : ℕ) → version_of n < w → s.wrote w a ≡ false = λ w p. (h.version.free (lk a) a w even refl).1 (rw e p) in
+      let now : s.val v.rv a ≡ s.val s.clock a = h.books.steady a v.rv s.clock me.rv (λ u p q. quiet u (omega (arith, saw.0))) in
+      now ∙ ⊎_elim (λ same. sym same) (λ over. absurd (let k : true ≡ false = sym over.2 ∙ quiet over.0 over.1 in cc)) saw.3
+
+  -- a read that was checked
+  module _ (w : Client) (a n x : ℕ) (last : v.last ≡ fetched a n x) (still : s.lock (lk a) ≡ n) (fresh : v.wv ≡ 0) (more : w.reads ≡ v.reads ++ (a, x) ∷ []) (rv : w.rv ≡ v.rv) (wv : w.wv ≡ v.wv) (records : w.records ≡ v.records) where
+    claims_more : (b c y : ℕ) → Claims w b c y → Claims v b c y ⊎ ((b ≡ v.rv) × (c ≡ a) × (y ≡ x))
+    claims_more b c y (runs e i) =
+        ⊎_elim (λ p. inl (runs (e ∙ rv) p)) (λ (p : (a, x) ≡ (c, y)). inr (e ∙ rv, sym (ap (λ (q : ℕ × ℕ). q.0) p), sym (ap (λ (q : ℕ × ℕ). q.1) p))) (in_snoc v.reads (a, x) (c, y) (subst (In (c, y)) more i))
+    claims_more b c y (passes e j l i) = absurd (let z : suc b ≡ 0 = e ∙ (wv ∙ fresh) in omega arith)
+    claims_more b c y (noted r i e m) = inl (noted r (subst (In r) records i) e m)
+
+    saw' : Saw lk s v.rv (fetched a n x)
+    saw' = subst (Saw lk s v.rv) last me.saw
+
+    odd_even : (m u : ℕ) → m ≡ 2 * u + 1 → IsFree m → ⊥
+    odd_even m u p q = omega arith
+
+    pub check_keeps : w.held ≡ v.held → w.writes ≡ v.writes → w.stored ≡ v.stored → decided w ≡ decided v → w.floor ≡ v.floor → Saw lk s w.rv w.last → Heart lk s (set cs id w)
+    check_keeps held writes stored phase floor saw =
+        look_keeps lk s cs id v w h at
+        record {
+          held = held;
+          wv = wv;
+          writes = writes;
+          stored = stored;
+          phase = phase;
+          rv = rw rv me.rv;
+          floor = rw floor me.floor;
+          recorded = λ r i. me.recorded r (subst (In r) records i);
+          later = λ z. rw (rv, wv) (mine.later (subst (λ n. 0 < n) wv z));
+          agrees = λ b c y p. ⊎_elim (λ old. me.agrees b c y old) (λ new. (rw (new.0, new.1, new.2) (unchanged a n x saw' still), omega (arith, new.0, me.rv))) (claims_more b c y p);
+          saw = saw;
+          apart = λ j o b c y f p op l. ⊎_elim (λ old. h.version.apart id j v o b c y at f old op l)
+              (λ new. not_true (writes_to o.writes c) (λ t. let g = (h.version.sound j o f).locked op c t in
+              let odd : s.lock (lk a) ≡ 2 * g.0 + 1 = subst (λ d. s.lock (lk d) ≡ 2 * g.0 + 1) new.1 ((h.books.booked j o f).listed (lk c) g.0 g.1) in odd_even n g.0 (sym still ∙ odd) saw'.1))
+              (claims_more b c y p);
+        }
+
+  -- a look that passes
+  module _ (w : Client) (a x : ℕ) (open' : IsOpen v) (read : get_elem? v.reads v.passed ≡ some (a, x)) (fine : (IsFree (s.lock (lk a)) × (version_of (s.lock (lk a)) ≤ v.rv)) ⊎ ((u : ℕ) × In (lk a, u) v.held × (u ≤ v.rv)))
+      (rv : w.rv ≡ v.rv) (reads : w.reads ≡ v.reads) (wv : w.wv ≡ v.wv) (passed : w.passed ≡ v.passed + 1) (records : w.records ≡ v.records) where
+    quiet : (u : ℕ) → v.rv < u → s.wrote u a ≡ false
+    quiet u l = ⊎_elim (λ f. (h.version.free (lk a) a u f.0 refl).1 (let k = f.1 in omega arith)) (λ m. (h.version.kept id v (lk a) m.0 at m.1).newest a u refl (let k = m.2 in omega arith) (inl open'.1)) fine
+
+    value_there : s.val (v.wv - 1) a ≡ x
+    value_there =
+        let low = mine.later open'.0 in
+        sym (h.books.steady a v.rv (v.wv - 1) (omega arith) (λ u p q. quiet u p)) ∙ (me.agrees v.rv a x (runs refl (v.passed, read))).0
+
+    none_below : (j : ℕ) (o : Client) → At cs j o → IsOpen o → o.wv ≤ v.wv - 1 → writes_to o.writes a ≡ false
+    none_below j o e op l =
+        by_bool (writes_to o.writes a) (λ t. let g = (h.version.sound j o e).locked op a t in let odd = (h.books.booked j o e).listed (lk a) g.0 g.1 in
+        absurd (⊎_elim (λ f. (let even = f.0 in omega arith)) (λ m. let here : j ≡ id = h.version.alone j id o v (lk a) g.0 m.0 e at g.1 m.1 in let same : o ≡ v = same_at cs id o v (subst (λ k. At cs k o) here e) at in
+        (let z : o.wv ≡ v.wv = ap (λ (c : Client). c.wv) same in let p = open'.0 in omega arith)) fine)) (λ f. f)
+
+    claims_passed : (b c y : ℕ) → Claims w b c y → Claims v b c y ⊎ ((b ≡ v.wv - 1) × (c ≡ a) × (y ≡ x))
+    claims_passed b c y (runs e i) = inl (runs (e ∙ rv) (subst (In (c, y)) reads i))
+    claims_passed b c y (passes e j l i) =
+        let i' : get_elem? v.reads j ≡ some (c, y) = subst (λ y'. get_elem? y' j ≡ some (c, y)) reads i in
+        let e' : suc b ≡ v.wv = e ∙ wv in
+        dite (ℕ_discrete j v.passed) (λ n. let p : (a, x) ≡ (c, y) = some-injective (a, x) (c, y) (sym read ∙ subst (λ k. get_elem? v.reads k ≡ some (c, y)) n i') in inr (omega arith, sym (ap (λ (q : ℕ × ℕ). q.0) p), sym (ap (λ (q : ℕ × ℕ). q.1) p)))
+        (λ n. inl (passes e' j (let l' : j < v.passed + 1 = subst (λ m. j < m) passed l in omega arith) i'))
+    claims_passed b c y (noted r i e m) = inl (noted r (subst (In r) records i) e m)
+
+    pub pass_keeps : w.held ≡ v.held → w.writes ≡ v.writes → w.stored ≡ v.stored → decided w ≡ decided v → w.floor ≡ v.floor → Saw lk s w.rv w.last → Heart lk s (set cs id w)
+    pass_keeps held writes stored phase floor saw =
+        look_keeps lk s cs id v w h at
+        record {
+          held = held;
+          wv = wv;
+          writes = writes;
+          stored = stored;
+          phase = phase;
+          rv = rw rv me.rv;
+          floor = rw floor me.floor;
+          recorded = λ r i. me.recorded r (subst (In r) records i);
+          later = λ z. rw (rv, wv) (mine.later (subst (λ n. 0 < n) wv z));
+          agrees = λ b c y p. ⊎_elim (λ old. me.agrees b c y old) (λ new. (rw (new.0, new.1, new.2) value_there, (let k = me.wv in omega (arith, new.0)))) (claims_passed b c y p);
+          saw = saw;
+          apart = λ j o b c y f p op l. ⊎_elim (λ old. h.version.apart id j v o b c y at f old op l) (λ new. rw new.1 (none_below j o f op (let k = new.0 in omega arith))) (claims_passed b c y p);
+        }
+
+  -- a reader's record more
+  module _ (w : Client) (r : Record) (reads : w.reads ≡ v.reads) (rv : w.rv ≡ v.rv) (wv : w.wv ≡ v.wv) (passed : w.passed ≡ v.passed) (records : w.records ≡ inserted r v.records) (same : r.reads ≡ v.reads) (there : base r ≡ v.rv) (version : r.version ≡ v.rv) where
+    claims_read : (b a x : ℕ) → Claims w b a x → Claims v b a x
+    claims_read b a x (runs e i) = runs (e ∙ rv) (subst (In (a, x)) reads i)
+    claims_read b a x (passes e j l i) = passes (e ∙ wv) j (subst (λ n. j < n) passed l) (subst (λ y. get_elem? y j ≡ some (a, x)) reads i)
+    claims_read b a x (noted y i e m) =
+        ⊎_elim (λ new. runs (e ∙ (ap base (sym new) ∙ there)) (subst (In (a, x)) same (subst (λ (z : Record). In (a, x) z.reads) (sym new) m))) (λ old. noted y old e m) (in_inserted r v.records y (subst (In y) records i))
+
+    pub finish_keeps : w.held ≡ v.held → w.writes ≡ v.writes → w.stored ≡ v.stored → decided w ≡ decided v → w.floor ≡ v.floor → Saw lk s w.rv w.last → Heart lk s (set cs id w)
+    finish_keeps held writes stored phase floor saw =
+        look_keeps lk s cs id v w h at
+        record {
+          held = held;
+          wv = wv;
+          writes = writes;
+          stored = stored;
+          phase = phase;
+          rv = rw rv me.rv;
+          floor = rw floor me.floor;
+          recorded = λ y i. ⊎_elim (λ new. subst (λ (z : Record). z.version ≤ s.clock) new (rw version me.rv)) (λ old. me.recorded y old) (in_inserted r v.records y (subst (In y) records i));
+          later = λ z. rw (rv, wv) (mine.later (subst (λ n. 0 < n) wv z));
+          agrees = λ b a x p. me.agrees b a x (claims_read b a x p);
+          saw = saw;
+          apart = λ j o b a x f p op l. h.version.apart id j v o b a x at f (claims_read b a x p) op l;
+        }

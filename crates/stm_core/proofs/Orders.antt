@@ -1,0 +1,133 @@
+-- Lists of records in order: what stands in them, and that they stay in order.
+use Rattle.std.proofs.Common.{◌≡◌, ◌≢◌, ℕ, zero, suc, ◌<◌, ◌≤◌, ◌⊎◌, inl, inr, ⊎_elim, Bool, true, false, cond, eqb, ltb, ◌||◌, ◌&&◌, List, [], ◌∷◌, refl, sym, ap, subst, arith}
+use mathlib.Core.Option.{some, some-injective}
+use lib.ListN.{get_elem?}
+use Rattle.std.proofs.lemmas.Bool.Decides.{nat_tests}
+use Rattle.stm_words.specs.Image.{In}
+use Rattle.stm_core.specs.Client.{Record, before, rank, inserted, merged}
+use Rattle.stm_core.specs.Records.{Follows, Ordered}
+use Rattle.stm_core.proofs.Lists.{nothing_in, not_true, clash, by_bool}
+
+module _ {A : Type 0} where
+  pub in_cons : (x y : A) (xs : List A) → In y (x ∷ xs) → (x ≡ y) ⊎ In y xs
+  in_cons x y xs i = go i.0 i.1
+    where
+      go : (j : ℕ) → get_elem? (x ∷ xs) j ≡ some y → (x ≡ y) ⊎ In y xs
+      go zero e = inl (some-injective x y e)
+      go (suc j) e = inr (j, e)
+
+pub in_inserted : (r : Record) (l : List Record) (x : Record) → In x (inserted r l) → (r ≡ x) ⊎ In x l
+in_inserted r [] x i = in_cons r x [] i
+in_inserted r (y ∷ l) x i = go (before r y) i (λ h. in_inserted r l x h)
+  where
+    go : (b : Bool) → In x (cond b (r ∷ y ∷ l) (y ∷ inserted r l)) → (In x (inserted r l) → (r ≡ x) ⊎ In x l) → (r ≡ x) ⊎ In x (y ∷ l)
+    go true j f = in_cons r x (y ∷ l) j
+    go false j f = ⊎_elim (λ e. inr (0, ap some e)) (λ k. ⊎_elim (λ e. inl e) (λ o. inr (suc o.0, o.1)) (f k)) (in_cons y x (inserted r l) j)
+
+pub in_merged : (l m : List Record) (x : Record) → In x (merged l m) → In x l ⊎ In x m
+in_merged l [] x i = inl i
+in_merged l (y ∷ m) x i = ⊎_elim (λ p. ⊎_elim (λ e. inr (0, ap some e)) (λ o. inl o) (in_inserted y l x p)) (λ p. inr (suc p.0, p.1)) (in_merged (inserted y l) m x i)
+
+pub inserted_in : (r : Record) (l : List Record) → In r (inserted r l)
+inserted_in r [] = (0, refl)
+inserted_in r (y ∷ l) = go (before r y) (inserted_in r l)
+  where
+    go : (b : Bool) → In r (inserted r l) → In r (cond b (r ∷ y ∷ l) (y ∷ inserted r l))
+    go true i = (0, refl)
+    go false i = (suc i.0, i.1)
+
+pub inserted_old : (r : Record) (l : List Record) (x : Record) → In x l → In x (inserted r l)
+inserted_old r [] x i = absurd (nothing_in x i)
+inserted_old r (y ∷ l) x i = go (before r y) (in_cons y x l i) (λ h. inserted_old r l x h)
+  where
+    go : (b : Bool) → (y ≡ x) ⊎ In x l → (In x l → In x (inserted r l)) → In x (cond b (r ∷ y ∷ l) (y ∷ inserted r l))
+    go true j f = ⊎_elim (λ e. (1, ap some e)) (λ h. (suc (suc h.0), h.1)) j
+    go false j f = ⊎_elim (λ e. (0, ap some e)) (λ h. let q = f h in (suc q.0, q.1)) j
+
+pub merged_left : (l m : List Record) (x : Record) → In x l → In x (merged l m)
+merged_left l [] x i = i
+merged_left l (y ∷ m) x i = merged_left (inserted y l) m x (inserted_old y l x i)
+
+pub merged_right : (l m : List Record) (x : Record) → In x m → In x (merged l m)
+merged_right l [] x i = absurd (nothing_in x i)
+merged_right l (y ∷ m) x i = ⊎_elim (λ e. subst (λ z. In z (merged (inserted y l) m)) e (merged_left (inserted y l) m y (inserted_in y l))) (λ h. merged_right (inserted y l) m x h) (in_cons y x m i)
+
+-- the order of places is strict
+before_is : (a b c d e f : ℕ) → (ltb a d || (eqb a d && (ltb b e || (eqb b e && ltb c f)))) ≡ true → (a < d) ⊎ ((a ≡ d) × ((b < e) ⊎ ((b ≡ e) × (c < f))))
+before_is a b c d e f h = grind (arith, nat_tests)
+
+is_before : (a b c d e f : ℕ) → (a < d) ⊎ ((a ≡ d) × ((b < e) ⊎ ((b ≡ e) × (c < f)))) → (ltb a d || (eqb a d && (ltb b e || (eqb b e && ltb c f)))) ≡ true
+is_before a b c d e f h = grind (arith, nat_tests)
+
+Place : Record → Record → Type 0
+Place r x = (r.renewal < x.renewal) ⊎ ((r.renewal ≡ x.renewal) × ((rank r < rank x) ⊎ ((rank r ≡ rank x) × (r.point < x.point))))
+
+place_of : (r x : Record) → before r x ≡ true → Place r x
+unfolding Place
+place_of r x h = before_is r.renewal (rank r) r.point x.renewal (rank x) x.point h
+
+of_place : (r x : Record) → Place r x → before r x ≡ true
+unfolding Place
+of_place r x h = is_before r.renewal (rank r) r.point x.renewal (rank x) x.point h
+
+before_asym : (r x : Record) → before r x ≡ true → before x r ≡ false
+unfolding Place
+before_asym r x h = not_true (before x r) (λ k. let p = place_of r x h in let q = place_of x r k in go r.renewal (rank r) r.point x.renewal (rank x) x.point p q)
+  where
+    go : (a b c d e f : ℕ) → (a < d) ⊎ ((a ≡ d) × ((b < e) ⊎ ((b ≡ e) × (c < f)))) → (d < a) ⊎ ((d ≡ a) × ((e < b) ⊎ ((e ≡ b) × (f < c)))) → ⊥
+    go a b c d e f p q = grind arith
+
+pub before_trans : (r x y : Record) → before r x ≡ true → before x y ≡ true → before r y ≡ true
+unfolding Place
+before_trans r x y h k = of_place r y (go r.renewal (rank r) r.point x.renewal (rank x) x.point y.renewal (rank y) y.point (place_of r x h) (place_of x y k))
+  where
+    go : (a b c d e f g h i : ℕ) → (a < d) ⊎ ((a ≡ d) × ((b < e) ⊎ ((b ≡ e) × (c < f)))) → (d < g) ⊎ ((d ≡ g) × ((e < h) ⊎ ((e ≡ h) × (f < i)))) → (a < g) ⊎ ((a ≡ g) × ((b < h) ⊎ ((b ≡ h) × (c < i))))
+    go a b c d e f g h i p q = ⊎_elim (λ l. ⊎_elim (λ m. inl (omega arith)) (λ m. inl (omega arith)) q)
+        (λ l. ⊎_elim (λ m. inl (omega arith)) (λ m. inr (omega arith, ⊎_elim (λ u. ⊎_elim (λ w. inl (omega arith)) (λ w. inl (omega arith)) m.1) (λ u. ⊎_elim (λ w. inl (omega arith)) (λ w. inr (omega arith, omega arith)) m.1) l.1)) q) p
+
+-- what is not before what stands before x is not before x
+pub behind : (r x y : Record) → before r x ≡ true → before y x ≡ false → before y r ≡ false
+behind r x y h k = not_true (before y r) (λ m. clash (before_trans y r x m h) k)
+
+-- not before, in one renewal: not of a smaller rank
+pub rank_after : (r x : Record) → before r x ≡ false → r.renewal ≡ x.renewal → rank x ≤ rank r
+rank_after r x h e = by_bool (ltb (rank r) (rank x)) (λ t. clash (of_place_rank r x e t) h) (λ f. grind (arith, nat_tests))
+  where
+    of_place_rank : (r x : Record) → r.renewal ≡ x.renewal → ltb (rank r) (rank x) ≡ true → before r x ≡ true
+    of_place_rank r x e t = is_before r.renewal (rank r) r.point x.renewal (rank x) x.point (inr (e, inl (grind (arith, nat_tests))))
+
+-- a record of no writer's version in the list comes into its place
+pub inserted_ordered : (r : Record) (l : List Record) → Ordered l → ((x : Record) → In x l → x.writer ≡ true → r.writer ≡ true → x.version ≢ r.version) → Ordered (inserted r l)
+inserted_ordered r [] o f = (λ y i. absurd (nothing_in y i), tt)
+inserted_ordered r (x ∷ xs) o f = go (before r x) refl (inserted_ordered r xs o.1 (λ y i. f y (suc i.0, i.1)))
+  where
+    follow : before r x ≡ true → (y : Record) → In y (x ∷ xs) → Follows r y
+    follow t y i = (
+      ⊎_elim (λ e. subst (λ z. before z r ≡ false) e (before_asym r x t)) (λ j. behind r x y t (o.0 y j).0) (in_cons x y xs i),
+      λ p q e. f y i q p (sym e),
+    )
+
+    go : (b : Bool) → before r x ≡ b → Ordered (inserted r xs) → Ordered (cond b (r ∷ x ∷ xs) (x ∷ inserted r xs))
+    go true t k = (follow t, o)
+    go false t k = (λ y i. ⊎_elim (λ e. subst (λ z. Follows x z) e (t, λ p q. f x (0, refl) p q)) (λ j. o.0 y j) (in_inserted r xs y i), k)
+
+pub merged_ordered : (l m : List Record) → Ordered l → Ordered m → ((x y : Record) → In x l → In y m → x.writer ≡ true → y.writer ≡ true → x.version ≢ y.version) → Ordered (merged l m)
+merged_ordered l [] o p f = o
+merged_ordered l (y ∷ m) o p f = merged_ordered (inserted y l) m (inserted_ordered y l o (λ x i. f x y i (0, refl))) p.1
+    (λ x z i j. ⊎_elim (λ e. subst (λ (q : Record). q.writer ≡ true → z.writer ≡ true → q.version ≢ z.version) e (p.0 z j).1) (λ k. f x z k (suc j.0, j.1)) (in_inserted y l x i))
+
+-- r before x, and x not behind y: r before y
+pub before_le : (r x y : Record) → before r x ≡ true → before y x ≡ false → before r y ≡ true
+unfolding Place
+before_le r x y h k = by_bool (before x y) (λ t. before_trans r x y h t) (λ f. of_place r y (go r.renewal (rank r) r.point x.renewal (rank x) x.point y.renewal (rank y) y.point (place_of r x h) (λ p. clash (of_place y x p) k) (λ p. clash (of_place x y p) f)))
+  where
+    go : (a b c d e f g h i : ℕ) → (a < d) ⊎ ((a ≡ d) × ((b < e) ⊎ ((b ≡ e) × (c < f)))) → ((g < d) ⊎ ((g ≡ d) × ((h < e) ⊎ ((h ≡ e) × (i < f)))) → ⊥) → ((d < g) ⊎ ((d ≡ g) × ((e < h) ⊎ ((e ≡ h) × (f < i)))) → ⊥)
+        → (a < g) ⊎ ((a ≡ g) × ((b < h) ⊎ ((b ≡ h) × (c < i))))
+    go a b c d e f g h i p q r =
+        let s : d ≡ g = same d g (λ z. q (inl z)) (λ z. r (inl z)) in
+        let t : e ≡ h = same e h (λ z. q (inr (sym s, inl z))) (λ z. r (inr (s, inl z))) in
+        let u : f ≡ i = same f i (λ z. q (inr (sym s, inr (sym t, z)))) (λ z. r (inr (s, inr (t, z)))) in
+        subst (λ z. (a < z) ⊎ ((a ≡ z) × ((b < h) ⊎ ((b ≡ h) × (c < i))))) s (subst (λ z. (a < d) ⊎ ((a ≡ d) × ((b < z) ⊎ ((b ≡ z) × (c < i))))) t (subst (λ z. (a < d) ⊎ ((a ≡ d) × ((b < e) ⊎ ((b ≡ e) × (c < z))))) u p))
+      where
+        same : (m n : ℕ) → (n < m → ⊥) → (m < n → ⊥) → m ≡ n
+        same m n x y = grind arith

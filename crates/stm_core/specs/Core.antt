@@ -1,0 +1,114 @@
+-- The state of a whole region as plain data, and what a list of events makes of it.
+use Rattle.std.specs.Prelude.{◌≡◌, ◌≢◌, ℕ, ◌+◌, ◌*◌, ◌-◌, ◌^◌, ◌<◌, cond, eqb, false, List, [], ◌∷◌, ◌++◌, length, slice_index, slice_set, get_or, replicate}
+use mathlib.Core.Option.{some}
+use lib.ListN.{get_elem?}
+use Rattle.stm_core.specs.Client.{Client, Stamp, word_before, old_version}
+use Rattle.stm_core.specs.Event.{Action, begin, probe, fetch, check, lock, tick, validate, put, release, give_back, finish, Bounds, May, after, giving, fresh, taking, gone, opener}
+
+-- the words and the clients' values, with what the region was opened on
+pub record Core : Type 0 where
+  pub last : ℕ
+  pub opening : List ℕ
+  -- how many renewals of the clock were made
+  pub renewal : ℕ
+  -- how many events there were: the place of the next one
+  pub events : ℕ
+  pub clock : ℕ
+  pub locks : List ℕ
+  pub cells : List ℕ
+  pub clients : List Client
+
+abbrev pub bounds_of : Core → Bounds
+bounds_of c = record { last = c.last; stripes = length c.locks; size = length c.cells }
+
+-- the word that a load or an exchange finds
+abbrev pub found : (ℕ → ℕ) → Core → Action → ℕ
+found lk c begin = c.clock
+found lk c (probe k) = slice_index c.locks k
+found lk c (fetch a) = slice_index c.cells a
+found lk c (check a) = slice_index c.locks (lk a)
+found lk c (lock k) = slice_index c.locks k
+found lk c (tick from tag writes) = c.clock
+found lk c (validate k) = slice_index c.locks k
+found lk c (put a x) = slice_index c.cells a
+found lk c (release k) = slice_index c.locks k
+found lk c (give_back k) = slice_index c.locks k
+found lk c (finish tag) = c.clock
+
+-- the word that the step leaves where it found n
+abbrev pub left : Action → ℕ → Client → ℕ
+left begin n v = n
+left (probe k) n v = n
+left (fetch a) n v = n
+left (check a) n v = n
+left (lock k) n v = cond (eqb n (word_before v.last)) (n + 1) n
+left (tick from tag writes) n v = cond (eqb n from) (from + 1) n
+left (validate k) n v = n
+left (put a x) n v = x
+left (release k) n v = 2 * v.wv
+left (give_back k) n v = 2 * old_version v.held k
+left (finish tag) n v = n
+
+-- the words after a step that leaves m
+abbrev pub written : Action → ℕ → Core → Core
+written begin m c = c
+written (probe k) m c = c
+written (fetch a) m c = c
+written (check a) m c = c
+written (lock k) m c = record c { locks = slice_set c.locks k m }
+written (tick from tag writes) m c = record c { clock = m }
+written (validate k) m c = c
+written (put a x) m c = record c { cells = slice_set c.cells a m }
+written (release k) m c = record c { locks = slice_set c.locks k m }
+written (give_back k) m c = record c { locks = slice_set c.locks k m }
+written (finish tag) m c = c
+
+-- the core after a step of the client at a place of the list
+abbrev pub stepped : Stamp → (ℕ → ℕ) → Action → ℕ → Client → Core → Core
+stepped t lk e i v c =
+    let n = found lk c e in
+    let d = written e (left e n v) c in record d { clients = slice_set c.clients i (after t lk e n v); events = c.events + 1 }
+
+abbrev pub divided : ℕ → Client → Core → Core
+divided i v c = record c { clients = slice_set c.clients i (giving v) ++ fresh v ∷ []; events = c.events + 1 }
+
+abbrev pub gathered : ℕ → Client → ℕ → Client → Core → Core
+gathered i v j w c = record c { clients = slice_set (slice_set c.clients i (taking v w)) j gone; events = c.events + 1 }
+
+-- an event names its clients by their numbers, from 1 on
+pub data Event : Type 0 where
+  acts : (client : ℕ) → Action → Event
+  splits : (client : ℕ) → Event
+  gathers : (client other : ℕ) → Event
+
+-- v is the value of the client with this number
+abbrev pub IsClient : Core → ℕ → Client → Type 0
+IsClient c k v = (0 < k) × (get_elem? c.clients (k - 1) ≡ some v)
+
+-- it is out, and holds no lock
+abbrev pub IsFreeHanded : Client → Type 0
+IsFreeHanded v = (v.spent ≡ false) × (v.held ≡ [])
+
+module _ (lawful : List ℕ → List (ℕ × ℕ) → List (ℕ × ℕ) → Type 0) (lk : ℕ → ℕ) where
+  abbrev pub Allowed : Event → Core → Type 0
+  Allowed (acts k e) c = (v : Client) × IsClient c k v × May lawful lk (bounds_of c) e v
+  Allowed (splits k) c = (v : Client) × IsClient c k v × IsFreeHanded v × (0 < v.grants) × (length c.clients < 2 ^ 32 - 1)
+  Allowed (gathers k j) c = (v : Client) × (w : Client) × IsClient c k v × IsClient c j w × (k ≢ j) × IsFreeHanded v × IsFreeHanded w
+
+abbrev pub client_of : Core → ℕ → Client
+client_of c k = get_or c.clients (k - 1) gone
+
+-- the core after an event
+abbrev pub played : (ℕ → ℕ) → Event → Core → Core
+played lk (acts k e) c = stepped (record { client = k; place = c.events; renewal = c.renewal }) lk e (k - 1) (client_of c k) c
+played lk (splits k) c = divided (k - 1) (client_of c k) c
+played lk (gathers k j) c = gathered (k - 1) (client_of c k) (j - 1) (client_of c j) c
+
+-- the list of events is allowed one by one from the first core on, and leads to the second
+abbrev pub Leads : (List ℕ → List (ℕ × ℕ) → List (ℕ × ℕ) → Type 0) → (ℕ → ℕ) → Core → List Event → Core → Type 0
+Leads lawful lk c [] d = c ≡ d
+Leads lawful lk c (e ∷ es) d = Allowed lawful lk e c × Leads lawful lk (played lk e c) es d
+
+-- a core just opened on an image
+abbrev pub opened : List ℕ → ℕ → ℕ → Core
+opened image last stripes = record { last = last; opening = image; renewal = 0; events = 0; clock = 0; locks = replicate stripes 0; cells = image; clients = opener ∷ [] }

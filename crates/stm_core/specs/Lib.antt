@@ -1,0 +1,17 @@
+pub mod Client
+pub mod Event
+pub mod Core
+pub mod Version
+pub mod Records
+pub mod Invariant
+pub mod History
+pub mod Theorem
+pub mod Tests
+pub mod Seat
+pub mod SeatView
+pub mod Placing
+pub mod Running
+pub mod Played
+pub mod StateView
+pub mod Follows
+pub mod Refusals

@@ -1,0 +1,88 @@
+-- The records of all clients beside the story, which is the list of the writes of the decided writer of each version from 1 on, none where there is none yet.
+use Rattle.std.specs.Prelude.{◌≡◌, ◌≢◌, ℕ, zero, suc, ◌-◌, ◌<◌, Bool, true, false, cond, eqb, List, [], ◌∷◌, length, slice_index}
+use Rattle.stm_words.specs.Image.{In}
+use mathlib.Core.Option.{some}
+use lib.ListN.{get_elem?}
+use Rattle.stm_core.specs.Client.{Client, Record, decided, writes_to, before}
+use Rattle.stm_core.specs.Event.{IsMap}
+use Rattle.stm_core.specs.Version.{At, IsOpen}
+
+-- the value at a, where d stood before the pairs
+abbrev pub over : ℕ → List (ℕ × ℕ) → ℕ → ℕ
+over d [] a = d
+over d (p ∷ ps) a = over (cond (eqb p.0 a) p.1 d) ps a
+
+-- the value at a in the image of a version, where d stood at the opening
+abbrev pub value_in : List (List (ℕ × ℕ)) → ℕ → ℕ → ℕ → ℕ
+value_in [] d b a = d
+value_in (w ∷ ws) d zero a = d
+value_in (w ∷ ws) d (suc b) a = value_in ws (over d w a) b a
+
+abbrev pub value_of : List ℕ → List (List (ℕ × ℕ)) → ℕ → ℕ → ℕ
+value_of image story b a = value_in story (slice_index image a) b a
+
+-- whether the decided writer of a version wrote the address
+abbrev pub wrote_in : List (List (ℕ × ℕ)) → ℕ → ℕ → Bool
+wrote_in ws zero a = false
+wrote_in [] (suc u) a = false
+wrote_in (w ∷ ws) (suc zero) a = writes_to w a
+wrote_in (w ∷ ws) (suc (suc u)) a = wrote_in ws (suc u) a
+
+-- r may stand behind x: not before it by its place, and not a second writer of its version
+abbrev pub Follows : Record → Record → Type 0
+Follows x r = (before r x ≡ false) × (x.writer ≡ true → r.writer ≡ true → x.version ≢ r.version)
+
+-- each record may stand behind all before it
+abbrev pub Ordered : List Record → Type 0
+Ordered [] = Unit {0}
+Ordered (x ∷ xs) = ((r : Record) → In r xs → Follows x r) × Ordered xs
+
+-- each pair's address is an address of the region
+abbrev pub AllInside : ℕ → List (ℕ × ℕ) → Type 0
+AllInside size pairs = (a x : ℕ) → In (a, x) pairs → a < size
+
+-- some client has a record of a writer of this version
+abbrev pub HasWriter : List Client → ℕ → Type 0
+HasWriter cs u = (i : ℕ) × (v : Client) × (r : Record) × At cs i v × In r v.records × (r.writer ≡ true) × (r.version ≡ u)
+
+module _ (lawful : List ℕ → List (ℕ × ℕ) → List (ℕ × ℕ) → Type 0) (size renewal : ℕ) (story : List (List (ℕ × ℕ))) where
+  -- one record beside the story
+  pub record IsTold (r : Record) : Type 0 where
+    -- it is lawful, and of the present renewal
+    pub abides : lawful r.tag r.reads r.writes
+    pub present : r.renewal ≡ renewal
+    -- what it read and wrote is in the region, no written address twice
+    pub reads : AllInside size r.reads
+    pub writes : AllInside size r.writes
+    pub once : IsMap r.writes
+    -- a writer's writes are the story's at its version, and a reader writes nothing
+    pub writer : r.writer ≡ true → (0 < r.version) × (get_elem? story (r.version - 1) ≡ some r.writes)
+    pub reader : r.writer ≡ false → r.writes ≡ []
+
+  -- one client beside the story
+  pub record IsFiled (v : Client) : Type 0 where
+    -- its records stand in order, and each is true
+    pub ordered : Ordered v.records
+    pub told : (r : Record) → In r v.records → IsTold r
+    -- what its attempt read is in the region
+    pub reads : AllInside size v.reads
+    -- with a write version, what it is to write is in the region, no address twice; undecided it is lawful, decided it is the story's at its version
+    pub writes : 0 < v.wv → AllInside size v.writes × IsMap v.writes
+    pub abides : IsOpen v → lawful v.tag v.reads v.writes
+    pub commits : decided v ≡ true → get_elem? story (v.wv - 1) ≡ some v.writes
+    -- spent, it holds and records nothing
+    pub gone : v.spent ≡ true → (v.records ≡ []) × (v.held ≡ [])
+
+  -- the records of all clients beside the story
+  pub record Filed (clock : ℕ) (cs : List Client) : Type 0 where
+    pub filed : (i : ℕ) (v : Client) → At cs i v → IsFiled v
+    -- the story has a place for each version
+    pub versions : length story ≡ clock
+    -- a version of an undecided client is no record's
+    pub unwritten : (i j : ℕ) (v w : Client) (r : Record) → At cs i v → At cs j w → In r v.records → r.writer ≡ true → IsOpen w → r.version ≢ w.wv
+    -- and has written nothing yet
+    pub empty : (i : ℕ) (v : Client) → At cs i v → IsOpen v → get_elem? story (v.wv - 1) ≡ some []
+    -- two clients have no writer of one version
+    pub once : (i j : ℕ) (v w : Client) (r x : Record) → At cs i v → At cs j w → i ≢ j → In r v.records → In x w.records → r.writer ≡ true → x.writer ≡ true → r.version ≢ x.version
+    -- what the story has was written by a record
+    pub complete : (u : ℕ) (ws : List (ℕ × ℕ)) → get_elem? story u ≡ some ws → ws ≢ [] → HasWriter cs (suc u)

@@ -1,0 +1,97 @@
+-- The running core: its state as far as it is kept, and its decided records.
+use Rattle.std.specs.Prelude.{◌≡◌, ℕ, ◌+◌, ◌-◌, ◌^◌, ◌<◌, Bool, true, false, not, ◌&&◌, ◌==◌, nat_lt, cond, eqb, List, [], ◌∷◌, ◌++◌, length, map, slice_set, replicate, ◌≢◌, ◌≤◌, Option, None}
+use Rattle.std.specs.List.{insert}
+use Rattle.stm_words.specs.Image.{In}
+use Rattle.stm_core.specs.Client.{Client, Record, Stamp, found_by, old_version, writes_to, is_committed}
+use Rattle.stm_core.specs.Event.{Action, begin, probe, fetch, check, lock, tick, validate, put, release, give_back, finish, is_empty, versioned, decides_at_once, passes, giving, fresh, taking, gone, opener}
+use Rattle.stm_core.specs.Core.{Core, bounds_of, found, left, written, client_of, Event, acts, splits, gathers}
+use Rattle.stm_core.specs.Theorem.{stripe_of}
+use Rattle.stm_core.specs.Seat.{blank, seat_after, tag_number}
+use Rattle.stm_core.specs.Tests.{may_act}
+use Rattle.stm_core.specs.Placing.{Placed, place_in}
+use Rattle.stm_core.specs.declared.event.Entry.{Entry}
+
+-- the core with its clients' values as far as they are kept, the decided records in the order of their point steps, and these steps' places
+pub record Running : Type 0 where
+  pub core : Core
+  pub order : Placed
+
+abbrev pub stripes_of : Core → ℕ → ℕ
+stripes_of c = stripe_of (length c.locks)
+
+-- a client with this number is out
+abbrev pub is_out : Core → ℕ → Bool
+is_out c k = nat_lt 0 k && nat_lt (k - 1) (length c.clients) && not (client_of c k).spent
+
+abbrev pub may_play : Event → Core → Bool
+may_play (acts k e) c = is_out c k && may_act (bounds_of c) e (client_of c k)
+may_play (splits k) c = is_out c k && is_empty (client_of c k).held && nat_lt 0 (client_of c k).grants && nat_lt (length c.clients) (2 ^ 32 - 1)
+may_play (gathers k j) c = is_out c k && is_out c j && not (k == j) && is_empty (client_of c k).held && is_empty (client_of c j).held
+
+-- the record that a step decides
+abbrev pub decision : Stamp → Action → ℕ → Client → List Record
+decision t begin n v = []
+decision t (probe k) n v = []
+decision t (fetch a) n v = []
+decision t (check a) n v = []
+decision t (lock k) n v = []
+decision t (tick from tag writes) n v =
+    cond (eqb n from) (cond (decides_at_once (versioned t (from + 1) tag writes v)) (record { tag = tag; reads = v.reads; writes = writes; writer = true; version = from + 1; attempt = v.attempt; renewal = t.renewal; point = t.place; client = t.client } ∷ []) []) []
+decision t (validate k) n v =
+    cond (passes k n v) (cond (eqb (v.passed + 1) (length v.reads)) (record { tag = v.tag; reads = v.reads; writes = v.writes; writer = true; version = v.wv; attempt = v.attempt; renewal = t.renewal; point = v.ticked_at; client = t.client } ∷ []) []) []
+decision t (put a x) n v = []
+decision t (release k) n v = []
+decision t (give_back k) n v = []
+decision t (finish tag) n v = record { tag = tag; reads = v.reads; writes = []; writer = false; version = v.rv; attempt = v.attempt; renewal = t.renewal; point = v.began_at; client = t.client } ∷ []
+
+abbrev pub entry_of : Record → Entry
+entry_of r = record { client = r.client; tag = tag_number r.tag; version = r.version; writer = r.writer }
+
+abbrev pub entered : List Record → Running → Running
+entered [] s = s
+entered (r ∷ rs) s = record s { order = record { entries = insert s.order.entries (place_in s.order.points r.point) (entry_of r); points = insert s.order.points (place_in s.order.points r.point) r.point } }
+
+-- the stamp of a client's next step
+abbrev pub stamp_of : Core → ℕ → Stamp
+stamp_of c k = record { client = k; place = c.events; renewal = 0 }
+
+-- the running core after an event
+abbrev pub run_acts : ℕ → Action → Running → Running
+run_acts k e s =
+    let c = s.core in
+    let v = client_of c k in
+    let n = found (stripes_of c) c e in
+    let d = written e (left e n v) c in
+    entered (decision (stamp_of c k) e n v) (record s { core = record d { clients = slice_set c.clients (k - 1) (seat_after c.events e n v); events = c.events + 1 } })
+
+abbrev pub run_played : Event → Running → Running
+run_played (acts k e) s = run_acts k e s
+run_played (splits k) s = let c = s.core in record s { core = record c { clients = slice_set c.clients (k - 1) (blank (giving (client_of c k))) ++ blank (fresh (client_of c k)) ∷ []; events = c.events + 1 } }
+run_played (gathers k j) s = let c = s.core in record s { core = record c { clients = slice_set (slice_set c.clients (k - 1) (blank (taking (client_of c k) (client_of c j)))) (j - 1) gone; events = c.events + 1 } }
+
+-- the running core just opened
+abbrev pub run_opened : List ℕ → ℕ → ℕ → Running
+run_opened image last stripes = record { core = record { last = last; opening = []; renewal = 0; events = 0; clock = 0; locks = replicate stripes 0; cells = image; clients = opener ∷ [] }; order = record { entries = []; points = [] } }
+
+-- the word that the last step of the client with this number found, none where no client has it
+abbrev pub found_of : Core → ℕ → Option ℕ
+found_of c k = cond (nat_lt 0 k && nat_lt (k - 1) (length c.clients)) (found_by (client_of c k)) None
+
+-- the numbers that a step counts on
+pub record IsSane (c : Core) : Type 0 where
+  pub last : c.last < 2 ^ 62
+  pub some : 0 < length c.locks
+  pub held : (k j : ℕ) → writes_to (client_of c k).held j ≡ true → j < length c.locks
+  pub written : (k a x : ℕ) → is_committed (client_of c k).phase ≡ true → In (a, x) (client_of c k).writes → a < length c.cells
+  pub versions : (k : ℕ) → (client_of c k).wv < 2 ^ 62
+  pub old : (k j : ℕ) → old_version (client_of c k).held j < 2 ^ 62
+  pub grants : (k j : ℕ) → k ≢ j → is_out c k ≡ true → is_out c j ≡ true → (client_of c k).grants + (client_of c j).grants + 1 ≤ 63
+
+-- a core as far as it is kept
+abbrev pub shown : Core → Core
+shown c = record c { opening = []; renewal = 0; clients = map blank c.clients }
+
+-- the running core after a list of events
+abbrev pub ran : List Event → Running → Running
+ran [] s = s
+ran (e ∷ es) s = ran es (run_played e s)

@@ -1,0 +1,19 @@
+//! The transaction core of a word-based software transactional memory after TL2 (Dice, Shalev, Shavit, DISC 2006).
+//!
+//! `specs/` has each event of a region as a definition, the version invariant, and what a serial history is. Clauses
+//! here and in the crates above cite them. [`Core`] plays a list of events; no thread runs here.
+#![tactic(auto)]
+
+mod event;
+mod order;
+mod pairs;
+mod replay;
+mod seat;
+mod state;
+#[cfg(test)]
+mod tests;
+mod theorem;
+
+pub use event::{Entry, Event, NotAllowed, Writes};
+pub use replay::Core;
+pub use theorem::{core_theorem, running_theorem};

@@ -1,0 +1,89 @@
+ghost use Rattle.std.specs.Prelude.{◌≡◌, ◌<◌, ◌≤◌, ◌++◌, ◌∷◌, [], length, vec_len, vec_capacity, OnOk, OnErr};
+ghost use Rattle.std.specs.List.{insert};
+ghost use Rattle.stm_core.specs.Placing.{place_in};
+
+use crate::event::Entry;
+use std::alloc::{AllocError, Global};
+use std::marker::Model;
+
+/// The decided records in the order of their point steps, with the places of these steps in the list of events.
+#[derive(Drop)]
+pub(crate) struct Order {
+    entries: Vec<Entry>,
+    points: Vec<usize>,
+}
+
+impl Model for Order {
+    ghost use Rattle.stm_core.specs.Placing.{Placed};
+    ghost use Rattle.std.specs.Prelude.{◌≡◌, length};
+
+    ghost Value = { Placed };
+
+    ghost view = { λ o. record { entries = o.entries.items; points = o.points.items } };
+
+    ghost invariant = { λ o. length o.entries.items ≡ length o.points.items };
+}
+
+impl Order {
+    /// No records.
+    pub(crate) fn new(alloc: Global) -> Order
+        ensures { result ≡ record { entries = []; points = [] } }
+    {
+        Order {
+            entries: Vec::new(alloc),
+            points: Vec::new(alloc),
+        }
+    }
+
+    /// The records.
+    pub(crate) fn entries(&self) -> &[Entry]
+        ensures { result.now ≡ self.now.entries }
+    {
+        &self.entries
+    }
+
+    /// Puts a record at its place.
+    pub(crate) fn enter(&mut self, entry: Entry, point: usize) -> Result<(), AllocError>
+        ensures done { OnOk result (self.new ≡ record { entries = insert self.old.entries (place_in self.old.points point) entry; points = insert self.old.points (place_in self.old.points point) point }) }
+        ensures kept { OnErr result (self.new ≡ self.old) }
+    {
+        self.entries.reserve(1)?;
+        self.points.reserve(1)?;
+        let place = place_in(&self.points, point);
+        insert_in_room(&mut self.entries, place, entry);
+        insert_in_room(&mut self.points, place, point);
+        Ok(())
+    }
+}
+
+/// How many of the points come first, up to the first that is later.
+fn place_in(points: &[usize], point: usize) -> usize
+    ensures place { result ≡ place_in points.now point }
+    ensures within { result ≤ length points.now }
+{
+    match points {
+        [] => 0,
+        [first, rest @ ..] => if point < *first {
+            0
+        } else {
+            place_in(rest, point) + 1
+        },
+    }
+}
+
+/// Puts a value in, where there is room.
+fn insert_in_room<T: Drop>(list: &mut Vec<T>, place: usize, value: T)
+    requires place { place ≤ vec_len list.old }
+    requires room { vec_len list.old < vec_capacity list.old }
+    ensures { list.new.items ≡ insert list.old.items place value }
+{
+    let _ = list.insert(place, value);
+}
+
+/// Puts a number behind the others, where there is room.
+pub(crate) fn push_in_room(list: &mut Vec<u32>, value: u32)
+    requires { vec_len list.old < vec_capacity list.old }
+    ensures { list.new.items ≡ list.old.items ++ value ∷ [] }
+{
+    let _ = list.push(value);
+}

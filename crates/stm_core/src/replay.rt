@@ -1,0 +1,80 @@
+ghost use Rattle.std.specs.Prelude.{◌≡◌, ℕ, ◌<◌, ◌≤◌, ◌^◌, true, false, length, IfOk, IfErr};
+ghost use Rattle.stm_core.specs.Played.{event_of};
+ghost use Rattle.stm_core.specs.Running.{may_play, run_played, run_opened, found_of};
+ghost use Rattle.stm_core.specs.Refusals.{IsRefusal};
+
+use crate::event::{Entry, Event, NotAllowed};
+use crate::state::State;
+use std::alloc::{AllocError, Global};
+use std::marker::Model;
+
+/// A region as running code on one thread, for tests and for replaying a list of events: it plays one event after
+/// another, and refuses those that are not allowed.
+#[derive(Drop)]
+pub struct Core {
+    alloc: Global,
+    state: State,
+}
+
+impl Model for Core {
+    ghost use Rattle.stm_core.specs.Running.{Running};
+
+    ghost Value = { Running };
+
+    ghost use Rattle.stm_core.specs.Follows.{IsReached};
+
+    ghost view = { λ c. c.state };
+
+    ghost invariant = { λ c. IsReached c.state };
+}
+
+impl Core {
+    /// A region just opened on an image: clock 0, every lock free with version 0, and client 1 with 63 grants.
+    ///
+    /// # Errors
+    ///
+    /// Where the memory for it is refused.
+    pub fn start(alloc: Global, image: &[u64], last: u64, stripes: u32) -> Result<Core, AllocError>
+        requires words { (1 ≤ length image.now) × (length image.now ≤ 4_194_304) }
+        requires versions { (1 ≤ last) × (last < 2 ^ 62) }
+        requires locks { (1 ≤ stripes) × (stripes ≤ 1_048_576) }
+        ensures { IfOk result (λ c. c ≡ run_opened image.now last stripes) }
+    {
+        let state = State::open(alloc, image, last, stripes)?;
+        Ok(Core { alloc, state })
+    }
+
+    /// Plays an event.
+    ///
+    /// # Errors
+    ///
+    /// `Event` exactly where the event is not allowed, and `Memory` where it is but memory was refused. The core comes
+    /// back as it was.
+    pub fn play(mut self, event: Event) -> Result<Core, (Core, NotAllowed)>
+        ensures played { IfOk result (λ c. (may_play (event_of event) self.core ≡ true) × (c ≡ run_played (event_of event) self)) }
+        ensures refused { IfErr result (λ e. (e.0 ≡ self) × IsRefusal (may_play (event_of event) self.core) e.1) }
+    {
+        if !self.state.allows(&event) {
+            return Err((self, NotAllowed::Event));
+        }
+        match self.state.make(self.alloc, event) {
+            Ok(()) => Ok(self),
+            Err(_) => Err((self, NotAllowed::Memory)),
+        }
+    }
+
+    /// The word that a client's last step found: none before its first step, and after a put, a release, a give back,
+    /// a split and a gather.
+    pub fn found(&self, client: u32) -> Option<u64>
+        ensures { result ≡ found_of self.now.core client }
+    {
+        self.state.found(client)
+    }
+
+    /// The decided records in the order of their point steps: a writer's won tick, a reader's begin.
+    pub fn order(&self) -> &[Entry]
+        ensures { result.now ≡ self.now.order.entries }
+    {
+        self.state.entries()
+    }
+}

@@ -1,0 +1,379 @@
+ghost use Rattle.std.specs.Prelude.{◌≡◌, ◌<◌, ◌≤◌, ◌^◌, length};
+
+use super::{Core, Entry, Event, NotAllowed, Writes};
+use std::alloc::Global;
+use std::process::Abort;
+
+const LAST: u64 = 100;
+
+fn opened(rt: &impl Abort, alloc: Global, stripes: u32) -> Core
+    requires { (1 ≤ stripes) × (stripes ≤ 32) }
+{
+    match Core::start(alloc, &[0; 32], LAST, stripes) {
+        Ok(core) => core,
+        Err(_) => panic!(rt; "no memory for a core"),
+    }
+}
+
+/// Plays an event that is allowed, and looks at the word found.
+fn played(rt: &impl Abort, core: Core, event: Event, client: u32, found: Option<u64>) -> Core {
+    match core.play(event) {
+        Ok(core) => {
+            assert_eq!(rt; core.found(client), found);
+            core
+        }
+        Err(_) => panic!(rt; "an event was refused"),
+    }
+}
+
+/// Plays an event that is not allowed.
+fn refused(rt: &impl Abort, core: Core, event: Event) -> Core {
+    match core.play(event) {
+        Ok(_) => panic!(rt; "an event was allowed"),
+        Err((core, why)) => {
+            assert_eq!(rt; why, NotAllowed::Event);
+            core
+        }
+    }
+}
+
+fn writes(rt: &impl Abort, alloc: Global, pairs: &[(u32, u64)]) -> Writes {
+    match Writes::of(alloc, pairs) {
+        Ok(writes) => writes,
+        Err(_) => panic!(rt; "no memory for writes"),
+    }
+}
+
+#[test]
+fn reads_and_clients(rt: HostRuntime) {
+    let core = opened(&rt, rt.alloc(), 32);
+    let core = played(&rt, core, Event::Begin { client: 1 }, 1, Some(0));
+    let core = played(&rt, core, Event::Probe { client: 1, lock: 9 }, 1, Some(0));
+    let core = refused(&rt, core, Event::Check { client: 1, addr: 9 });
+    let core = played(&rt, core, Event::Fetch { client: 1, addr: 9 }, 1, Some(0));
+    let core = refused(&rt, core, Event::Fetch { client: 1, addr: 9 });
+    let core = played(&rt, core, Event::Check { client: 1, addr: 9 }, 1, Some(0));
+    assert!(rt; core.order().is_empty());
+    let core = played(&rt, core, Event::Split { client: 1 }, 1, None);
+    let core = refused(&rt, core, Event::Split { client: 2 });
+    let core = played(
+        &rt,
+        core,
+        Event::Gather {
+            client: 1,
+            other: 2,
+        },
+        1,
+        None,
+    );
+    let core = refused(&rt, core, Event::Begin { client: 2 });
+    let core = played(&rt, core, Event::Split { client: 1 }, 3, None);
+    let core = played(&rt, core, Event::Begin { client: 3 }, 3, Some(0));
+    assert!(rt; core.order().is_empty());
+}
+
+#[test]
+fn a_reader_is_in_the_order(rt: HostRuntime) {
+    let core = opened(&rt, rt.alloc(), 32);
+    let core = played(&rt, core, Event::Begin { client: 1 }, 1, Some(0));
+    let core = played(&rt, core, Event::Finish { client: 1, tag: 7 }, 1, Some(0));
+    let want = [Entry {
+        client: 1,
+        tag: 7,
+        version: 0,
+        writer: false,
+    }];
+    assert_eq!(rt; core.order(), want.as_slice());
+    let _ = refused(&rt, core, Event::Probe { client: 1, lock: 9 });
+}
+
+fn two_begun(rt: &impl Abort, alloc: Global) -> Core {
+    let core = opened(rt, alloc, 32);
+    let core = played(rt, core, Event::Split { client: 1 }, 1, None);
+    let core = played(rt, core, Event::Begin { client: 1 }, 1, Some(0));
+    played(rt, core, Event::Begin { client: 2 }, 2, Some(0))
+}
+
+#[test]
+fn a_lock_is_lost(rt: HostRuntime) {
+    let core = two_begun(&rt, rt.alloc());
+    let core = played(&rt, core, Event::Probe { client: 1, lock: 9 }, 1, Some(0));
+    let core = played(&rt, core, Event::Probe { client: 2, lock: 9 }, 2, Some(0));
+    let core = played(&rt, core, Event::Lock { client: 2, lock: 9 }, 2, Some(0));
+    let core = played(&rt, core, Event::Lock { client: 1, lock: 9 }, 1, Some(1));
+    let _ = refused(&rt, core, Event::Finish { client: 1, tag: 1 });
+}
+
+#[test]
+fn a_word_moved_under_a_read(rt: HostRuntime) {
+    let core = two_begun(&rt, rt.alloc());
+    let core = played(&rt, core, Event::Probe { client: 1, lock: 9 }, 1, Some(0));
+    let core = played(&rt, core, Event::Fetch { client: 1, addr: 9 }, 1, Some(0));
+    let core = played(&rt, core, Event::Probe { client: 2, lock: 9 }, 2, Some(0));
+    let core = played(&rt, core, Event::Lock { client: 2, lock: 9 }, 2, Some(0));
+    let core = played(&rt, core, Event::Check { client: 1, addr: 9 }, 1, Some(1));
+    let _ = refused(&rt, core, Event::Probe { client: 1, lock: 9 });
+}
+
+#[test]
+fn a_lock_given_back_under_a_read(rt: HostRuntime) {
+    let core = two_begun(&rt, rt.alloc());
+    let core = played(&rt, core, Event::Probe { client: 1, lock: 9 }, 1, Some(0));
+    let core = played(&rt, core, Event::Probe { client: 2, lock: 9 }, 2, Some(0));
+    let core = played(&rt, core, Event::Lock { client: 2, lock: 9 }, 2, Some(0));
+    let core = played(&rt, core, Event::Fetch { client: 1, addr: 9 }, 1, Some(0));
+    let core = played(&rt, core, Event::GiveBack { client: 2, lock: 9 }, 2, None);
+    let core = played(&rt, core, Event::Check { client: 1, addr: 9 }, 1, Some(0));
+    let core = played(&rt, core, Event::Finish { client: 1, tag: 3 }, 1, Some(0));
+    let want = [Entry {
+        client: 1,
+        tag: 3,
+        version: 0,
+        writer: false,
+    }];
+    assert_eq!(rt; core.order(), want.as_slice());
+}
+
+/// One writer that reads nothing: probe, lock, tick, put, release.
+fn written(
+    rt: &impl Abort,
+    alloc: Global,
+    core: Core,
+    client: u32,
+    addr: u32,
+    from: u64,
+    tag: u64,
+    value: u64,
+) -> Core {
+    let core = played(
+        rt,
+        core,
+        Event::Probe { client, lock: addr },
+        client,
+        Some(0),
+    );
+    let core = played(
+        rt,
+        core,
+        Event::Lock { client, lock: addr },
+        client,
+        Some(0),
+    );
+    let core = played(
+        rt,
+        core,
+        Event::Tick {
+            client,
+            from,
+            tag,
+            writes: writes(rt, alloc, &[(addr, value)]),
+        },
+        client,
+        Some(from),
+    );
+    let core = played(
+        rt,
+        core,
+        Event::Put {
+            client,
+            addr,
+            value,
+        },
+        client,
+        None,
+    );
+    played(
+        rt,
+        core,
+        Event::Release { client, lock: addr },
+        client,
+        None,
+    )
+}
+
+#[test]
+fn a_writer_decided_below_the_clock(rt: HostRuntime) {
+    let core = opened(&rt, rt.alloc(), 32);
+    let core = played(&rt, core, Event::Split { client: 1 }, 1, None);
+    let core = played(&rt, core, Event::Begin { client: 1 }, 1, Some(0));
+    let core = played(&rt, core, Event::Probe { client: 1, lock: 8 }, 1, Some(0));
+    let core = played(&rt, core, Event::Fetch { client: 1, addr: 8 }, 1, Some(0));
+    let core = played(&rt, core, Event::Check { client: 1, addr: 8 }, 1, Some(0));
+    let core = played(&rt, core, Event::Begin { client: 2 }, 2, Some(0));
+    let core = written(&rt, rt.alloc(), core, 2, 20, 0, 1, 6);
+    let core = played(&rt, core, Event::Probe { client: 1, lock: 9 }, 1, Some(0));
+    let core = played(&rt, core, Event::Lock { client: 1, lock: 9 }, 1, Some(0));
+    let core = played(
+        &rt,
+        core,
+        Event::Tick {
+            client: 1,
+            from: 0,
+            tag: 11,
+            writes: writes(&rt, rt.alloc(), &[(9, 5)]),
+        },
+        1,
+        Some(1),
+    );
+    let core = played(
+        &rt,
+        core,
+        Event::Tick {
+            client: 1,
+            from: 1,
+            tag: 11,
+            writes: writes(&rt, rt.alloc(), &[(9, 5)]),
+        },
+        1,
+        Some(1),
+    );
+    let core = refused(
+        &rt,
+        core,
+        Event::Put {
+            client: 1,
+            addr: 9,
+            value: 5,
+        },
+    );
+    let core = played(&rt, core, Event::Begin { client: 2 }, 2, Some(2));
+    let core = played(
+        &rt,
+        core,
+        Event::Probe {
+            client: 2,
+            lock: 10,
+        },
+        2,
+        Some(0),
+    );
+    let core = played(
+        &rt,
+        core,
+        Event::Lock {
+            client: 2,
+            lock: 10,
+        },
+        2,
+        Some(0),
+    );
+    let core = played(
+        &rt,
+        core,
+        Event::Tick {
+            client: 2,
+            from: 2,
+            tag: 12,
+            writes: writes(&rt, rt.alloc(), &[(10, 7)]),
+        },
+        2,
+        Some(2),
+    );
+    let core = played(
+        &rt,
+        core,
+        Event::Validate { client: 1, lock: 8 },
+        1,
+        Some(0),
+    );
+    let want = [
+        Entry {
+            client: 2,
+            tag: 1,
+            version: 1,
+            writer: true,
+        },
+        Entry {
+            client: 1,
+            tag: 11,
+            version: 2,
+            writer: true,
+        },
+        Entry {
+            client: 2,
+            tag: 12,
+            version: 3,
+            writer: true,
+        },
+    ];
+    assert_eq!(rt; core.order(), want.as_slice());
+    let _ = refused(&rt, core, Event::Begin { client: 1 });
+}
+
+#[test]
+fn two_words_of_one_stripe(rt: HostRuntime) {
+    let core = opened(&rt, rt.alloc(), 4);
+    let core = played(&rt, core, Event::Begin { client: 1 }, 1, Some(0));
+    let core = played(&rt, core, Event::Probe { client: 1, lock: 1 }, 1, Some(0));
+    let core = played(&rt, core, Event::Lock { client: 1, lock: 1 }, 1, Some(0));
+    let core = refused(
+        &rt,
+        core,
+        Event::Tick {
+            client: 1,
+            from: 0,
+            tag: 1,
+            writes: writes(&rt, rt.alloc(), &[(9, 1), (10, 2)]),
+        },
+    );
+    let core = played(
+        &rt,
+        core,
+        Event::Tick {
+            client: 1,
+            from: 0,
+            tag: 1,
+            writes: writes(&rt, rt.alloc(), &[(9, 1), (13, 2)]),
+        },
+        1,
+        Some(0),
+    );
+    let core = played(
+        &rt,
+        core,
+        Event::Put {
+            client: 1,
+            addr: 9,
+            value: 1,
+        },
+        1,
+        None,
+    );
+    let core = refused(&rt, core, Event::Release { client: 1, lock: 1 });
+    let core = played(
+        &rt,
+        core,
+        Event::Put {
+            client: 1,
+            addr: 13,
+            value: 2,
+        },
+        1,
+        None,
+    );
+    let core = played(&rt, core, Event::Release { client: 1, lock: 1 }, 1, None);
+    let core = played(&rt, core, Event::Begin { client: 1 }, 1, Some(1));
+    let core = played(&rt, core, Event::Probe { client: 1, lock: 1 }, 1, Some(2));
+    let core = played(
+        &rt,
+        core,
+        Event::Fetch {
+            client: 1,
+            addr: 13,
+        },
+        1,
+        Some(2),
+    );
+    let core = played(
+        &rt,
+        core,
+        Event::Check {
+            client: 1,
+            addr: 13,
+        },
+        1,
+        Some(2),
+    );
+    let core = played(&rt, core, Event::Probe { client: 1, lock: 1 }, 1, Some(2));
+    let _ = played(&rt, core, Event::Fetch { client: 1, addr: 5 }, 1, Some(0));
+}

@@ -1,0 +1,105 @@
+-- The opening meets the rule, and what is known at the end.
+use Rattle.std.proofs.Common.{◌≡◌, ◌≢◌, ℕ, zero, suc, ◌+◌, ◌-◌, ◌%◌, ◌^◌, ◌<◌, ◌≤◌, false, List, [], ◌∷◌, ◌++◌, length, drop, replicate, get_or, slice_index, refl, sym, ap, ◌∙◌, subst, arith}
+use Rattle.std.proofs.lemmas.List.{length-replicate}
+use mathlib.Core.Option.{some}
+use lib.ListN.{get_elem?}
+use Rattle.atomic_table.specs.Table.{State, opening, Final, Seen}
+use Rattle.stm_words.specs.Image.{In}
+use Rattle.stm_core.specs.Client.{Client}
+use Rattle.stm_core.specs.Core.{Core, opened, IsFreeHanded}
+use Rattle.stm_core.specs.Event.{opener}
+use Rattle.stm_core.specs.History.{Serial, image_after}
+use Rattle.stm_core.proofs.Joining.{opening_keeps}
+use Rattle.stm_core.proofs.Facts.{all_lawful, others_spent, alone, alone_serial}
+use Rattle.stm_region.specs.Shown.{Opened, RegionShown, opened_with, stripe_of}
+use Rattle.stm_region.specs.Layout.{padding, first_cell}
+use Rattle.stm_region.specs.Rule.{listed, Holds}
+use Rattle.stm_region.specs.Closed.{Ends}
+
+zeros : (a b : ℕ) (ys : List ℕ) → replicate (a + b) 0 ++ ys ≡ replicate a 0 ++ (replicate b 0 ++ ys)
+zeros zero b ys = rw Rattle.std.proofs.Common.zero-add refl
+zeros (suc a) b ys = rw (Rattle.std.proofs.Common.suc-add a b) (ap (λ xs. 0 ∷ xs) (zeros a b ys))
+
+drop_all : (xs ys : List ℕ) (n : ℕ) → length xs ≡ n → drop n (xs ++ ys) ≡ ys
+drop_all [] ys zero e = refl
+drop_all [] ys (suc n) e = absurd (omega arith)
+drop_all (x ∷ xs) ys zero e = absurd (omega arith)
+drop_all (x ∷ xs) ys (suc n) e = drop_all xs ys n (omega arith)
+
+-- what lies behind the zeros is the image
+image_behind : (image : List ℕ) (stripes : ℕ) → drop (first_cell stripes) (replicate (first_cell stripes) 0 ++ image) ≡ image
+image_behind image stripes = drop_all (replicate (first_cell stripes) 0) image (first_cell stripes) (length-replicate (first_cell stripes) 0)
+
+laid_out : (image : List ℕ) (stripes : ℕ) → replicate (first_cell stripes) 0 ++ image ≡ 0 ∷ (replicate 15 0 ++ (replicate stripes 0 ++ (replicate (padding stripes) 0 ++ image)))
+laid_out image stripes =
+    let e : first_cell stripes ≡ suc (15 + (stripes + padding stripes)) = omega arith in
+    rw e (ap (λ xs. 0 ∷ xs) (zeros 15 (stripes + padding stripes) image ∙ ap (λ xs. replicate 15 0 ++ xs) (zeros stripes (padding stripes) image)))
+
+module _ (fits : List ℕ → Type 0) (lawful : List ℕ → List (ℕ × ℕ) → List (ℕ × ℕ) → Type 0) where
+  opens : {S : Type 0} (image : List ℕ) (last stripes : ℕ) → fits image → last < 2 ^ 62 → 0 < stripes → Holds {S = S} fits lawful record { image = image; last = last; stripes = stripes } (opening (replicate (first_cell stripes) 0 ++ image) [] opener)
+  opens image last stripes f top one = record {
+    core = opened image last stripes;
+    gap = replicate 15 0;
+    pad = replicate (padding stripes) 0;
+    words = laid_out image stripes;
+    views = refl;
+    before_locks = refl;
+    locks = length-replicate stripes 0;
+    before_cells = length-replicate (padding stripes) 0;
+    last = refl;
+    opening = refl;
+    renewal = refl;
+    inv = opening_keeps lawful (stripe_of stripes) image last stripes;
+    fitting = f;
+    bounded = top;
+    some = one;
+  }
+
+  -- a table of these words meets the rule at its opening
+  pub opens_on : {S : Type 0} (image words : List ℕ) (last stripes : ℕ) → fits image → last < 2 ^ 62 → 0 < stripes → words ≡ replicate (first_cell stripes) 0 ++ image
+      → Holds {S = S} fits lawful record { image = drop (first_cell stripes) words; last = last; stripes = stripes } (opening words [] opener)
+  opens_on {S} image words last stripes f top one e =
+      subst (λ ws. Holds {S = S} fits lawful record { image = drop (first_cell stripes) ws; last = last; stripes = stripes } (opening ws [] opener)) (sym e)
+      (subst (λ ys. Holds {S = S} fits lawful record { image = ys; last = last; stripes = stripes } (opening (replicate (first_cell stripes) 0 ++ image) [] opener)) (sym (image_behind image stripes)) (opens image last stripes f top one))
+
+-- the data words, from their place on
+cells_behind : (gap pad : List ℕ) (c : Core) (s : ℕ) → length gap ≡ 15 → length c.locks ≡ s → length pad ≡ padding s → drop (first_cell s) (listed gap pad c) ≡ c.cells
+cells_behind gap pad c s g l p =
+    let e : first_cell s ≡ suc (length gap + (length c.locks + length pad)) = omega arith in
+    rw e (behind gap (c.locks ++ (pad ++ c.cells)) (length c.locks + length pad) ∙ (behind c.locks (pad ++ c.cells) (length pad) ∙ drop_all pad c.cells (length pad) refl))
+  where
+    behind : (xs ys : List ℕ) (n : ℕ) → drop (length xs + n) (xs ++ ys) ≡ drop n ys
+    behind [] ys n = rw Rattle.std.proofs.Common.zero-add refl
+    behind (x ∷ xs) ys n = rw (Rattle.std.proofs.Common.suc-add (length xs) n) (behind xs ys n)
+
+module _ (fits : List ℕ → Type 0) (lawful : List ℕ → List (ℕ × ℕ) → List (ℕ × ℕ) → Type 0) (r : RegionShown) where
+  -- a state that meets the rule, in which the client is the only one out
+  ends : {S : Type 0} (id : ℕ) (v : Client) → IsFreeHanded v → v.grants ≡ 63 → (s : State S Client) → Holds fits lawful (opened_with r) s → get_elem? s.views id ≡ some v → Ends lawful r v (drop (first_cell r.stripes) s.words) (slice_index s.words 0)
+  ends id v free all s h at =
+      let c : Core = h.core in
+      let at' : get_elem? c.clients id ≡ some v = subst (λ vs. get_elem? vs id ≡ some v) h.views at in
+      let only = others_spent lawful (stripe_of r.stripes) c h.inv id v at' free.0 all in
+      let both = alone lawful (stripe_of r.stripes) c h.inv id v at' free only in
+      let cells : c.cells ≡ drop (first_cell r.stripes) s.words = sym (cells_behind h.gap h.pad c r.stripes h.before_locks h.locks h.before_cells) ∙ ap (drop (first_cell r.stripes)) (sym h.words) in
+      record {
+        core = c;
+        inv = h.inv;
+        opening = h.opening;
+        last = h.last;
+        number = id;
+        member = at';
+        clock = sym (ap (λ ws. slice_index ws 0) h.words);
+        cells = cells;
+        abides = λ x m. all_lawful lawful (stripe_of r.stripes) c h.inv x (subst (In x) (sym both.0) m);
+        serial = subst (λ image. Serial image v.records) h.opening (alone_serial lawful (stripe_of r.stripes) c h.inv id v at' free only);
+        newest = sym cells ∙ (both.1 ∙ ap (λ image. image_after image v.records) h.opening);
+      }
+
+  pub ends_with : {S : Type 0} (key : Opened) → key ≡ opened_with r → (id : ℕ) (u v : Client) → u ≡ v → IsFreeHanded v → v.grants ≡ 63 → (ws : List ℕ) (xs : List S) → Final (Seen (Holds fits lawful key) id u) ws xs
+      → (words : List ℕ) (clock : ℕ) → words ≡ drop (first_cell r.stripes) ws → clock ≡ slice_index ws 0 → Ends lawful r v words clock
+  ends_with {S} key e id u v q free all ws xs f words clock is now =
+      rw (is, now) (subst (λ ys. Ends lawful r v (drop (first_cell r.stripes) ys) (slice_index ys 0)) f.2
+      (ends id v free all f.0 (subst (λ k. Holds {S = S} fits lawful k f.0) e f.1.0) (subst (λ w. get_elem? f.0.views id ≡ some w) q f.1.1)))
+
+  pub ends_small : (v : Client) (words : List ℕ) (clock : ℕ) → Ends lawful r v words clock → clock ≤ r.last
+  ends_small v words clock h = let b = h.inv.bounded in let l = h.last in let c = h.clock in omega arith

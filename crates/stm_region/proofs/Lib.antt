@@ -1,0 +1,5 @@
+pub mod Places
+pub mod Moves
+pub mod Ending
+pub mod Laws
+pub mod Testing

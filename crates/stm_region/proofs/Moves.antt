@@ -1,0 +1,291 @@
+-- Each step keeps the rule, and tells what it says.
+use Rattle.std.proofs.Common.{◌≡◌, ◌≢◌, ℕ, zero, suc, ◌+◌, ◌-◌, ◌*◌, ◌/◌, ◌%◌, ◌^◌, ◌≤◌, ◌<◌, min, cond, eq-eqb, ne_eqb, Bool, true, false, List, [], ◌∷◌, length, set, slice_index, refl, sym, ap, ◌∙◌, subst, arith}
+use mathlib.Core.Option.{none, some, some-injective, some-ne-none}
+use mathlib.Core.Logic.{dite}
+use native.Mathlib.Decide.{ℕ_discrete}
+use prog.Atomic.{either}
+use lib.ListN.{get_elem?}
+use Rattle.atomic_table.specs.Table.{State, Me, step, keeps, Allows, Splits, Joins}
+use Rattle.atomic_table.proofs.Lists.{set_else}
+use Rattle.atomic_table.specs.Seated.{TableId}
+use Rattle.stm_words.specs.Image.{In, Agrees, laid}
+use Rattle.stm_core.specs.Client.{Client, old_version}
+use Rattle.stm_core.specs.Core.{Core, bounds_of, found, left, written, stepped, divided, gathered, IsFreeHanded}
+use Rattle.stm_core.specs.Event.{Action, begin, probe, fetch, check, lock, tick, validate, put, release, give_back, finish, Holds as Holding, May, after, giving, fresh, taking, gone}
+use Rattle.stm_core.specs.History.{Serial, SomeFits, all_records}
+use Rattle.stm_core.specs.Invariant.{Inv}
+use Rattle.stm_core.proofs.Steps.{step_keeps}
+use Rattle.stm_core.proofs.Joining.{split_keeps, gather_keeps}
+use Rattle.stm_core.proofs.Facts.{all_shared, some_fits, grants_of_two}
+use Rattle.stm_region.specs.Shown.{Opened, RegionShown, joined, opened_with, bounds, unplaced, stripe_of}
+use Rattle.stm_region.specs.Layout.{place, first_cell, InRange, IsLaid, IsStore}
+use Rattle.stm_region.specs.Told.{IsLockWord, IsVersion, StandsOn, Decides, Told, acting}
+use Rattle.stm_region.specs.Rule.{Holds}
+use Rattle.stm_region.proofs.Places.{Stays, stays, found_there, left_there, in_table}
+
+not_in : {A : Type 0} (x : A) → In x [] → ⊥
+not_in x m = some-ne-none x (sym m.1)
+
+pair_eq : (p : ℕ × ℕ) (k : ℕ) → p.0 ≡ k → p ≡ (k, p.1)
+pair_eq p k e i = (e i, p.1)
+
+-- the old version that is looked up for a lock is listed with it
+old_there : (held : List (ℕ × ℕ)) (k u : ℕ) → In (k, u) held → In (k, old_version held k) held
+old_there [] k u m = absurd (not_in (k, u) m)
+old_there (p ∷ ps) k u (zero, e) = let q : p.0 ≡ k = ap (λ (x : ℕ × ℕ). x.0) (some-injective p (k, u) e) in (zero, rw (eq-eqb p.0 k q) (ap some (pair_eq p k q)))
+old_there (p ∷ ps) k u (suc j, e) = dite (ℕ_discrete p.0 k) (λ q. (zero, rw (eq-eqb p.0 k q) (ap some (pair_eq p k q)))) (λ n. let t = old_there ps k u (j, e) in (suc t.0, rw (ne_eqb p.0 k n) t.1))
+
+abbrev Keeping : (List ℕ → Type 0) → (List ℕ → List (ℕ × ℕ) → List (ℕ × ℕ) → Type 0) → Type 0
+Keeping fits lawful = (tag image : List ℕ) (reads writes : List (ℕ × ℕ)) → fits image → Agrees image reads → lawful tag reads writes → fits (laid image writes)
+
+-- a running region as contracts see it: its table was told what it was opened with
+pub record Runs (words : ℕ) (key : Opened) (r : RegionShown) : Type 0 where
+  pub key_is : key ≡ opened_with r
+  pub size : length r.opening ≡ r.size
+  pub total : words ≡ first_cell r.stripes + r.size
+  pub some : 0 < r.stripes
+  pub top : r.last < 2 ^ 62
+
+pub runs : (words slots : ℕ) (key : Opened) (size last stripes cells : ℕ) → IsLaid words slots key size last stripes cells → (t : TableId) (r : RegionShown) → record { table = t; size = size; last = last; stripes = stripes; opening = key.image } ≡ r → Runs words key r
+runs words slots key size last stripes cells h t r e = subst (λ x. Runs words key x) e record {
+  key_is = (let l = h.last in let s = h.same in λ i. record { image = key.image; last = l i; stripes = s i });
+  size = h.image;
+  total = (let b = h.behind in h.total ∙ ap (λ n. n + size) b);
+  some = h.some;
+  top = h.top;
+}
+
+pub either_is : (b : Bool) (x y : ℕ) → either b x y ≡ cond b x y
+either_is true x y = refl
+either_is false x y = refl
+
+-- a core beside what its region was opened with
+pub record Matches (o : Opened) (c : Core) : Type 0 where
+  pub last : c.last ≡ o.last
+  pub opening : c.opening ≡ o.image
+  pub renewal : c.renewal ≡ 0
+  pub locks : length c.locks ≡ o.stripes
+
+-- the bound on the grants takes none away
+pub joined_all : (lawful : List ℕ → List (ℕ × ℕ) → List (ℕ × ℕ) → Type 0) (l : ℕ → ℕ) (c : Core) → Inv lawful l c → (i j : ℕ) (v w : Client) → i ≢ j → get_elem? c.clients i ≡ some v → get_elem? c.clients j ≡ some w → v.spent ≡ false → w.spent ≡ false → joined v w ≡ taking v w
+joined_all lawful l c inv i j v w ne at to un un' =
+    let n = grants_of_two lawful l c inv i j v w ne at to un un' in
+    let e : min (v.grants + w.grants + 1) 63 ≡ v.grants + w.grants + 1 = omega arith in λ k. record (taking v w) { grants = e k }
+
+module _ (fits : List ℕ → Type 0) (lawful : List ℕ → List (ℕ × ℕ) → List (ℕ × ℕ) → Type 0) (law : Keeping fits lawful) (r : RegionShown) where
+  abbrev lk : ℕ → ℕ
+  lk = stripe_of r.stripes
+
+  abbrev o : Opened
+  o = opened_with r
+
+  decides_of : (c : Core) → Matches o c → fits r.opening → Inv lawful lk c → (i : ℕ) (v : Client) → get_elem? c.clients i ≡ some v → Decides fits lawful r.opening v
+  decides_of c m f inv i v at = record {
+    clients = c.clients;
+    number = i;
+    member = at;
+    fitting = f;
+    abides = (all_shared lawful lk c inv i v at).abides;
+    serial = subst (λ image. Serial image (all_records c.clients)) m.opening (all_shared lawful lk c inv i v at).serial;
+    among = (all_shared lawful lk c inv i v at).among;
+  }
+
+  stands_on : (image : List ℕ) (reads : List (ℕ × ℕ)) → SomeFits fits (length image) reads → StandsOn fits (length image) reads
+  stands_on image reads h = record { image = h.0; length_is = h.2; fitting = h.1; agrees = h.3 }
+
+  stands_of : (c : Core) → Matches o c → length r.opening ≡ r.size → fits r.opening → Inv lawful lk c → (i : ℕ) (v : Client) → get_elem? c.clients i ≡ some v → StandsOn fits r.size v.reads
+  stands_of c m z f inv i v at = subst (λ n. StandsOn fits n v.reads) z (subst (λ image. fits image → StandsOn fits (length image) v.reads) m.opening (λ g. stands_on c.opening v.reads (some_fits lawful lk c inv fits law g i v at)) f)
+
+  lock_word : (c : Core) → Matches o c → r.last < 2 ^ 62 → Inv lawful lk c → (k : ℕ) → IsLockWord r.last (slice_index c.locks k)
+  lock_word c m top inv k =
+      let h = inv.version.versions k in
+      let b = inv.bounded in
+      let e = m.last in
+      let n : ℕ = slice_index c.locks k in
+      let h' : n / 2 ≤ c.clock = h in record { version = omega arith; small = omega arith }
+
+  clock : (c : Core) → Matches o c → r.last < 2 ^ 62 → Inv lawful lk c → IsVersion r.last c.clock
+  clock c m top inv = let b = inv.bounded in let e = m.last in record { known = omega arith; small = omega arith }
+
+  opening_stands : length r.opening ≡ r.size → fits r.opening → StandsOn fits r.size []
+  opening_stands z f = record { image = r.opening; length_is = z; fitting = f; agrees = λ a x m. absurd (not_in (a, x) m) }
+
+  later : (c : Core) → Inv lawful lk c → (i : ℕ) (v : Client) → get_elem? c.clients i ≡ some v → 0 < v.wv → v.rv < v.wv
+  later c inv i v at = (inv.books.booked i v at).later
+
+  -- what a step tells, of the core before it and of the one after it
+  told_of : (c d : Core) → Matches o c → Matches o d → length r.opening ≡ r.size → r.last < 2 ^ 62 → fits r.opening → Inv lawful lk c → Inv lawful lk d → (i : ℕ) (v w : Client) → get_elem? c.clients i ≡ some v → get_elem? d.clients i ≡ some w → (e : Action)
+      → Told fits lawful r e (found lk c e) v w
+  told_of c d m m' z top f inv inv' i v w was at begin = (clock c m top inv, (inv.version.sound i v was).floor, opening_stands z f)
+  told_of c d m m' z top f inv inv' i v w was at (probe k) = lock_word c m top inv k
+  told_of c d m m' z top f inv inv' i v w was at (fetch a) = tt
+  told_of c d m m' z top f inv inv' i v w was at (check a) = (lock_word c m top inv (lk a), stands_of d m' z f inv' i w at)
+  told_of c d m m' z top f inv inv' i v w was at (lock k) = lock_word c m top inv k
+  told_of c d m m' z top f inv inv' i v w was at (tick from tag writes) = (clock c m top inv, later d inv' i w at, λ s. decides_of d m' f inv' i w at)
+  told_of c d m m' z top f inv inv' i v w was at (validate k) = (lock_word c m top inv k, λ s. decides_of d m' f inv' i w at)
+  told_of c d m m' z top f inv inv' i v w was at (put a x) = tt
+  told_of c d m m' z top f inv inv' i v w was at (release k) = tt
+  told_of c d m m' z top f inv inv' i v w was at (give_back k) = tt
+  told_of c d m m' z top f inv inv' i v w was at (finish tag) = decides_of d m' f inv' i w at
+
+  in_clients : (cs : List Client) (i : ℕ) (v w : Client) → get_elem? cs i ≡ some v → get_elem? (set cs i w) i ≡ some w
+  in_clients [] i v w e = absurd (some-ne-none v (sym e))
+  in_clients (x ∷ xs) zero v w e = refl
+  in_clients (x ∷ xs) (suc i) v w e = in_clients xs i v w e
+
+  -- a held lock word less 1 is the free word of its old version
+  less_one : (c : Core) (id k : ℕ) (v : Client) → Inv lawful lk c → get_elem? c.clients id ≡ some v → Holding v.held k → slice_index c.locks k < 18446744073709551616
+      → (slice_index c.locks k + (18446744073709551616 - 1)) % 18446744073709551616 ≡ 2 * old_version v.held k
+  less_one c id k v inv at w lt =
+      let e = (inv.books.booked id v at).listed k (old_version v.held k) (old_there v.held k w.0 w.1) in
+      let n : ℕ = slice_index c.locks k in
+      let u : ℕ = old_version v.held k in
+      let e' : n ≡ 2 * u + 1 = e in omega arith
+
+  module _ {S : Type 0} where
+    abbrev Rule : State S Client → Type 0
+    Rule s = Holds fits lawful o s
+
+    pub matches : (s : State S Client) (h : Rule s) → Matches o h.core
+    matches s h = record { last = h.last; opening = h.opening; renewal = h.renewal; locks = h.locks }
+
+    -- a step at its place, whose word becomes f of what it was
+    acts_allowed : (slots id : ℕ) (me : Me S Client) (e : Action) (word : ℕ) (f : ℕ → ℕ) (told : ℕ → Me S Client → Type 0)
+        → length r.opening ≡ r.size → word ≡ place r.stripes e → InRange r.stripes r.size e → May lawful lk (bounds r) e me.0
+        → ((c : Core) → Inv lawful lk c → get_elem? c.clients id ≡ some me.0 → found lk c e < 18446744073709551616 → f (found lk c e) ≡ left e (found lk c e) me.0)
+        → ((n : ℕ) → Told fits lawful r e n me.0 (after unplaced lk e n me.0) → told n (after unplaced lk e n me.0, me.1))
+        → Allows Rule slots id me word f told
+    acts_allowed slots id me e word f told z is range may does tells s h len at lt =
+        let v : Client = me.0 in
+        let c : Core = h.core in
+        let there : slice_index s.words word ≡ found lk c e = rw (is, h.words) (found_there h.gap h.pad c r.stripes h.before_locks h.locks h.before_cells e h.some r.size range) in
+        let at' : get_elem? c.clients id ≡ some v = subst (λ vs. get_elem? vs id ≡ some v) h.views at in
+        let same : bounds_of c ≡ bounds r = (let l = h.last in let k = h.locks in let w = h.inv.size ∙ (ap length h.opening ∙ z) in λ i. record { last = l i; stripes = k i; size = w i }) in
+        let may' : May lawful lk (bounds_of c) e v = subst (λ b. May lawful lk b e v) (sym same) may in
+        let inv' : Inv lawful lk (stepped unplaced lk e id v c) = step_keeps lawful lk unplaced c e id v (sym h.renewal) h.inv at' may' in
+        let st : Stays c (written e (left e (found lk c e) v) c) = stays c e (left e (found lk c e) v) in
+        let m' : Matches o (stepped unplaced lk e id v c) = record { last = st.last ∙ h.last; opening = st.opening ∙ h.opening; renewal = st.renewal ∙ h.renewal; locks = st.locks ∙ h.locks } in
+        let here : get_elem? (stepped unplaced lk e id v c).clients id ≡ some (after unplaced lk e (found lk c e) v) = in_clients c.clients id v _ at' in
+        let does' : f (slice_index s.words word) ≡ left e (found lk c e) v = ap f there ∙ does c h.inv at' (subst (λ n. n < 18446744073709551616) there lt) in (
+          after unplaced lk e (slice_index s.words word) v,
+          keeps,
+          tt,
+          record {
+            core = stepped unplaced lk e id v c;
+            gap = h.gap;
+            pad = h.pad;
+            words = rw (does', h.words, is) (left_there h.gap h.pad c r.stripes h.before_locks h.locks h.before_cells e h.some r.size range v);
+            views = rw (h.views, there) refl;
+            before_locks = h.before_locks;
+            locks = m'.locks;
+            before_cells = h.before_cells;
+            last = m'.last;
+            opening = m'.opening;
+            renewal = m'.renewal;
+            inv = inv';
+            fitting = h.fitting;
+            bounded = h.bounded;
+            some = h.some;
+          },
+          tells (slice_index s.words word) (rw there (told_of c (stepped unplaced lk e id v c) (matches s h) m' z h.bounded h.fitting h.inv inv' id v (after unplaced lk e (found lk c e) v) at' here e)),
+        )
+
+    -- the same at a table that was told what the region was opened with
+    acts_in : (words : ℕ) (key : Opened) → Runs words key r → (slots id : ℕ) (me : Me S Client) (e : Action) (word : ℕ) (f : ℕ → ℕ) (told : ℕ → Me S Client → Type 0)
+        → word ≡ place r.stripes e → InRange r.stripes r.size e → May lawful lk (bounds r) e me.0
+        → ((c : Core) → Inv lawful lk c → get_elem? c.clients id ≡ some me.0 → found lk c e < 18446744073709551616 → f (found lk c e) ≡ left e (found lk c e) me.0)
+        → ((n : ℕ) → Told fits lawful r e n me.0 (after unplaced lk e n me.0) → told n (after unplaced lk e n me.0, me.1))
+        → (word < words) × Allows (Holds fits lawful key) slots id me word f told
+    acts_in words key run slots id me e word f told is range may does tells = (
+      subst (λ n. n < words) (sym is) (in_table r.stripes r.size words e run.total run.some range),
+      subst (λ k. Allows (Holds fits lawful k) slots id me word f told) (sym run.key_is) (acts_allowed slots id me e word f told run.size is range may does tells),
+    )
+
+    -- a load or an exchange
+    pub acts_here : (words : ℕ) (key : Opened) → Runs words key r → (t : RegionShown) → t ≡ r → (slots id : ℕ) (me : Me S Client) (e : Action) (word : ℕ) (f : ℕ → ℕ)
+        → word ≡ place r.stripes e → InRange r.stripes r.size e → May lawful lk (bounds r) e me.0 → ((n : ℕ) → left e n me.0 ≡ f n)
+        → (word < words) × Allows (Holds fits lawful key) slots id me word f (acting fits lawful t e (step 0 0 0 0 none) me)
+    acts_here words key run t q slots id me e word f is range may does = subst (λ x. (word < words) × Allows (Holds fits lawful key) slots id me word f (acting fits lawful x e (step 0 0 0 0 none) me)) (sym q)
+        (acts_in words key run slots id me e word f (acting fits lawful r e (step 0 0 0 0 none) me) is range may (λ c i a l. sym (does (found lk c e))) (λ n t. (refl, t)))
+
+    -- a store, whose effect does not depend on the word found
+    stored : (me : Me S Client) (e : Action) → IsStore e → (n new : ℕ) → Told fits lawful r e n me.0 (after unplaced lk e n me.0) → acting fits lawful r e (step 0 0 0 0 none) me new (after unplaced lk e n me.0, me.1)
+    stored me begin s n new t = absurd s
+    stored me (probe k) s n new t = absurd s
+    stored me (fetch a) s n new t = absurd s
+    stored me (check a) s n new t = absurd s
+    stored me (lock k) s n new t = absurd s
+    stored me (tick from tag writes) s n new t = absurd s
+    stored me (validate k) s n new t = absurd s
+    stored me (put a x) s n new t = (refl, tt)
+    stored me (release k) s n new t = (refl, tt)
+    stored me (give_back k) s n new t = absurd s
+    stored me (finish tag) s n new t = absurd s
+
+    pub stores_here : (words : ℕ) (key : Opened) → Runs words key r → (t : RegionShown) → t ≡ r → (slots id : ℕ) (me : Me S Client) (e : Action) (word new : ℕ)
+        → word ≡ place r.stripes e → InRange r.stripes r.size e → May lawful lk (bounds r) e me.0 → IsStore e → ((n : ℕ) → left e n me.0 ≡ new)
+        → (word < words) × Allows (Holds fits lawful key) slots id me word (λ _. new) (λ _. acting fits lawful t e (step 0 0 0 0 none) me new)
+    stores_here words key run t q slots id me e word new is range may s does =
+        subst (λ x. (word < words) × Allows (Holds fits lawful key) slots id me word (λ _. new) (λ _. acting fits lawful x e (step 0 0 0 0 none) me new)) (sym q)
+        (acts_in words key run slots id me e word (λ _. new) (λ _. acting fits lawful r e (step 0 0 0 0 none) me new) is range may (λ c i a l. sym (does (found lk c e))) (λ n t. stored me e s n new t))
+
+    pub subtracts_here : (words : ℕ) (key : Opened) → Runs words key r → (t : RegionShown) → t ≡ r → (slots id : ℕ) (me : Me S Client) (e : Action) (k word : ℕ)
+        → e ≡ give_back k → word ≡ 16 + k → k < r.stripes → May lawful lk (bounds r) (give_back k) me.0
+        → (word < words) × Allows (Holds fits lawful key) slots id me word (λ n. (n + (18446744073709551616 - 1)) % 18446744073709551616) (acting fits lawful t e (step 0 0 0 0 none) me)
+    subtracts_here words key run t q slots id me e k word gives is range may =
+        subst (λ x. (word < words) × Allows (Holds fits lawful key) slots id me word (λ n. (n + (18446744073709551616 - 1)) % 18446744073709551616) (acting fits lawful t x (step 0 0 0 0 none) me)) (sym gives)
+        (subst (λ x. (word < words) × Allows (Holds fits lawful key) slots id me word (λ n. (n + (18446744073709551616 - 1)) % 18446744073709551616) (acting fits lawful x (give_back k) (step 0 0 0 0 none) me)) (sym q)
+        (acts_in words key run slots id me (give_back k) word (λ n. (n + (18446744073709551616 - 1)) % 18446744073709551616) (acting fits lawful r (give_back k) (step 0 0 0 0 none) me) is range may
+        (λ c i a l. less_one c id k me.0 i a may.1.1 l) (λ n t. (refl, t))))
+
+    -- a client splits off another
+    split_allowed : (id : ℕ) (v : Client) → IsFreeHanded v → 0 < v.grants → Splits Rule id v (giving v) (fresh v)
+    split_allowed id v free gr s h at =
+        let at' : get_elem? h.core.clients id ≡ some v = subst (λ vs. get_elem? vs id ≡ some v) h.views at in record {
+          core = divided id v h.core;
+          gap = h.gap;
+          pad = h.pad;
+          words = h.words;
+          views = rw h.views refl;
+          before_locks = h.before_locks;
+          locks = h.locks;
+          before_cells = h.before_cells;
+          last = h.last;
+          opening = h.opening;
+          renewal = h.renewal;
+          inv = split_keeps lawful lk h.core id v h.inv at' free gr;
+          fitting = h.fitting;
+          bounded = h.bounded;
+          some = h.some;
+        }
+
+    pub splits_here : (words : ℕ) (key : Opened) → Runs words key r → (id : ℕ) (v : Client) → IsFreeHanded v → 0 < v.grants → (0 < words) × Splits (Holds {S = S} fits lawful key) id v (giving v) (fresh v)
+    splits_here words key run id v free gr = (let t = run.total in omega arith, subst (λ k. Splits (Holds {S = S} fits lawful k) id v (giving v) (fresh v)) (sym run.key_is) (split_allowed id v free gr))
+
+    -- a client takes in another
+    join_allowed : (id : ℕ) (v : Client) (other : ℕ) (w : Client) → IsFreeHanded v → IsFreeHanded w → Joins Rule id v other w (joined v w) gone
+    join_allowed id v other w free free' s h at ne to =
+        let at' : get_elem? h.core.clients id ≡ some v = subst (λ vs. get_elem? vs id ≡ some v) h.views at in
+        let to' : get_elem? (set h.core.clients id (joined v w)) other ≡ some w = subst (λ vs. get_elem? (set vs id (joined v w)) other ≡ some w) h.views to in
+        let was : get_elem? h.core.clients other ≡ some w = sym (set_else h.core.clients id other (joined v w) ne) ∙ to' in
+        let all : joined v w ≡ taking v w = joined_all lawful lk h.core h.inv id other v w (λ e. ne (sym e)) at' was free.0 free'.0 in record {
+          core = gathered id v other w h.core;
+          gap = h.gap;
+          pad = h.pad;
+          words = h.words;
+          views = rw (h.views, all) refl;
+          before_locks = h.before_locks;
+          locks = h.locks;
+          before_cells = h.before_cells;
+          last = h.last;
+          opening = h.opening;
+          renewal = h.renewal;
+          inv = gather_keeps lawful lk h.core id v h.inv at' other w was (λ e. ne (sym e)) free free';
+          fitting = h.fitting;
+          bounded = h.bounded;
+          some = h.some;
+        }
+
+    pub joins_here : (words : ℕ) (key : Opened) → Runs words key r → (id : ℕ) (v : Client) (other : ℕ) (w : Client) → IsFreeHanded v → IsFreeHanded w → (0 < words) × Joins (Holds {S = S} fits lawful key) id v other w (joined v w) gone
+    joins_here words key run id v other w free free' =
+        (let t = run.total in omega arith, subst (λ k. Joins (Holds {S = S} fits lawful k) id v other w (joined v w) gone) (sym run.key_is) (join_allowed id v other w free free'))

@@ -1,0 +1,24 @@
+-- What is known of the words and the records once a region was closed.
+use Rattle.std.specs.Prelude.{◌≡◌, ℕ, List}
+use mathlib.Core.Option.{some}
+use lib.ListN.{get_elem?}
+use Rattle.stm_words.specs.Image.{In}
+use Rattle.stm_core.specs.Client.{Client, Record}
+use Rattle.stm_core.specs.Core.{Core}
+use Rattle.stm_core.specs.Invariant.{Inv}
+use Rattle.stm_core.specs.History.{Serial, image_after}
+use Rattle.stm_region.specs.Shown.{RegionShown, stripe_of}
+
+-- the words and the version are those of a last core state, in which the closing client had this value, and its records are all there are: lawful, and serial from the opening image to the words
+pub record Ends (lawful : List ℕ → List (ℕ × ℕ) → List (ℕ × ℕ) → Type 0) (region : RegionShown) (v : Client) (words : List ℕ) (version : ℕ) : Type 0 where
+  pub core : Core
+  pub inv : Inv lawful (stripe_of region.stripes) core
+  pub opening : core.opening ≡ region.opening
+  pub last : core.last ≡ region.last
+  pub number : ℕ
+  pub member : get_elem? core.clients number ≡ some v
+  pub clock : core.clock ≡ version
+  pub cells : core.cells ≡ words
+  pub abides : (r : Record) → In r v.records → lawful r.tag r.reads r.writes
+  pub serial : Serial region.opening v.records
+  pub newest : words ≡ image_after region.opening v.records

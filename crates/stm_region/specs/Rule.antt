@@ -1,0 +1,30 @@
+-- What holds of a region's table between any two steps of any threads.
+use Rattle.std.specs.Prelude.{◌≡◌, ℕ, ◌<◌, ◌^◌, List, ◌∷◌, ◌++◌, length}
+use Rattle.atomic_table.specs.Table.{State}
+use Rattle.stm_core.specs.Client.{Client}
+use Rattle.stm_core.specs.Core.{Core}
+use Rattle.stm_core.specs.Invariant.{Inv}
+use Rattle.stm_region.specs.Shown.{Opened, stripe_of}
+use Rattle.stm_region.specs.Layout.{padding}
+
+-- the words of a core as those of a table: the clock, a gap, the lock words, a pad and the data words
+abbrev pub listed : List ℕ → List ℕ → Core → List ℕ
+listed gap pad c = c.clock ∷ (gap ++ (c.locks ++ (pad ++ c.cells)))
+
+-- the table's words and all clients' values are a core state that meets the version invariant
+pub record Holds {S : Type 0} (fits : List ℕ → Type 0) (lawful : List ℕ → List (ℕ × ℕ) → List (ℕ × ℕ) → Type 0) (o : Opened) (s : State S Client) : Type 0 where
+  pub core : Core
+  pub gap : List ℕ
+  pub pad : List ℕ
+  pub words : s.words ≡ listed gap pad core
+  pub views : s.views ≡ core.clients
+  pub before_locks : length gap ≡ 15
+  pub locks : length core.locks ≡ o.stripes
+  pub before_cells : length pad ≡ padding o.stripes
+  pub last : core.last ≡ o.last
+  pub opening : core.opening ≡ o.image
+  pub renewal : core.renewal ≡ 0
+  pub inv : Inv lawful (stripe_of o.stripes) core
+  pub fitting : fits o.image
+  pub bounded : o.last < 2 ^ 62
+  pub some : 0 < o.stripes

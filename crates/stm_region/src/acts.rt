@@ -1,0 +1,148 @@
+//! The three kinds of atomic step, whose event the proof picks.
+ghost use Rattle.std.specs.Prelude.{◌≡◌, ◌≢◌, ℕ, ◌+◌, ◌-◌, ◌*◌, ◌/◌, ◌<◌, ◌≤◌, ◌^◌, ◌==◌};
+ghost use Rattle.stm_core.specs.Core.{left};
+ghost use Rattle.stm_core.specs.Client.{word_before};
+ghost use Rattle.stm_core.specs.Event.{Action, May, after, lock as locks, tick as ticks, give_back as gives_back, finish as finishes};
+ghost use Rattle.stm_logs.specs.Log.{log_pairs};
+ghost use Rattle.stm_region.specs.Shown.{bounds, stripe_of, unplaced};
+ghost use Rattle.stm_region.specs.Layout.{place, InRange, Exchanges, Stores};
+ghost use Rattle.stm_region.specs.Told.{Told};
+
+use crate::plays::{Acting, Acts};
+use crate::region::Region;
+use crate::view::View;
+use atomic_table::Seat;
+use std::alloc::Allocator;
+use stm_logs::WriteLog;
+use stm_words::{Law, Tag};
+
+impl<L: Law, A: Allocator> Region<L, A> {
+    // A load. The number, a lock or an address, is for the proof alone.
+    #[inline]
+    pub(crate) fn load_as<T: Acting>(
+        &self,
+        seat: &mut Seat<(), View>,
+        word: usize,
+        number: u32,
+    ) -> u64
+        requires told { T.region ≡ self.now }
+        requires own { seat.old.table_id ≡ self.now.table }
+        requires range { InRange self.now.stripes self.now.size T.action }
+        requires place { word ≡ place self.now.stripes T.action }
+        requires allowed { May L.lawful (stripe_of self.now.stripes) (bounds self.now) T.action seat.old.me.0 }
+        requires loads { (n : ℕ) → left T.action n seat.old.me.0 ≡ n }
+        ensures table { seat.new.table_id ≡ seat.old.table_id }
+        ensures me { seat.new.me ≡ (after unplaced (stripe_of self.now.stripes) T.action result seat.old.me.0, seat.old.me.1) }
+        ensures told { Told L.fits L.lawful self.now T.action result seat.old.me.0 seat.new.me.0 }
+    {
+        let _ = number;
+        self.table.shared.load::<Acts<L, T>>(seat, word)
+    }
+
+    // A compare-and-exchange from a word to the next.
+    #[inline]
+    pub(crate) fn exchange_as<T: Acting>(
+        &self,
+        seat: &mut Seat<(), View>,
+        word: usize,
+        from: u64,
+        number: u32,
+    ) -> u64
+        requires told { T.region ≡ self.now }
+        requires own { seat.old.table_id ≡ self.now.table }
+        requires room { from + 1 < 2 ^ 64 }
+        requires range { InRange self.now.stripes self.now.size T.action }
+        requires place { word ≡ place self.now.stripes T.action }
+        requires allowed { May L.lawful (stripe_of self.now.stripes) (bounds self.now) T.action seat.old.me.0 }
+        requires exchanges { Exchanges T.action from seat.old.me.0 }
+        ensures table { seat.new.table_id ≡ seat.old.table_id }
+        ensures me { seat.new.me ≡ (after unplaced (stripe_of self.now.stripes) T.action result seat.old.me.0, seat.old.me.1) }
+        ensures told { Told L.fits L.lawful self.now T.action result seat.old.me.0 seat.new.me.0 }
+    {
+        let _ = number;
+        self.table
+            .shared
+            .compare_exchange::<Acts<L, T>>(seat, word, from, from + 1)
+    }
+
+    // A store.
+    #[inline]
+    pub(crate) fn store_as<T: Acting>(
+        &self,
+        seat: &mut Seat<(), View>,
+        word: usize,
+        new: u64,
+        number: u32,
+    )
+        requires told { T.region ≡ self.now }
+        requires own { seat.old.table_id ≡ self.now.table }
+        requires range { InRange self.now.stripes self.now.size T.action }
+        requires place { word ≡ place self.now.stripes T.action }
+        requires allowed { May L.lawful (stripe_of self.now.stripes) (bounds self.now) T.action seat.old.me.0 }
+        requires stores { Stores T.action new seat.old.me.0 }
+        ensures table { seat.new.table_id ≡ seat.old.table_id }
+        ensures me { seat.new.me ≡ (after unplaced (stripe_of self.now.stripes) T.action new seat.old.me.0, seat.old.me.1) }
+    {
+        let _ = number;
+        self.table.shared.store::<Acts<L, T>>(seat, word, new)
+    }
+
+    // A held lock word less 1 is the free word of its version.
+    #[inline]
+    pub(crate) fn give_back_as<T: Acting>(
+        &self,
+        seat: &mut Seat<(), View>,
+        word: usize,
+        number: u32,
+    )
+        requires told { T.region ≡ self.now }
+        requires gives { T.action ≡ gives_back number }
+        requires own { seat.old.table_id ≡ self.now.table }
+        requires range { number < self.now.stripes }
+        requires place { word ≡ 16 + number }
+        requires allowed { May L.lawful (stripe_of self.now.stripes) (bounds self.now) (gives_back number) seat.old.me.0 }
+        ensures table { seat.new.table_id ≡ seat.old.table_id }
+        ensures me { seat.new.me ≡ (after unplaced (stripe_of self.now.stripes) (gives_back number) 0 seat.old.me.0, seat.old.me.1) }
+    {
+        let _ = number;
+        self.table.shared.fetch_sub::<Acts<L, T>>(seat, word, 1);
+    }
+
+    // The tick of a record with this tag and these writes.
+    #[inline]
+    pub(crate) fn tick_as<S: Acting, T: Tag, B: Allocator + Copy>(
+        &self,
+        seat: &mut Seat<(), View>,
+        from: u64,
+        tag: &T,
+        writes: &WriteLog<B>,
+    ) -> u64
+        requires told { S.region ≡ self.now }
+        requires ticks { S.action ≡ ticks from (T.numbers tag.now) (log_pairs writes.now) }
+        requires own { seat.old.table_id ≡ self.now.table }
+        requires room { from + 1 < 2 ^ 64 }
+        requires allowed { May L.lawful (stripe_of self.now.stripes) (bounds self.now) S.action seat.old.me.0 }
+        ensures table { seat.new.table_id ≡ seat.old.table_id }
+        ensures me { seat.new.me ≡ (after unplaced (stripe_of self.now.stripes) S.action result seat.old.me.0, seat.old.me.1) }
+        ensures told { Told L.fits L.lawful self.now S.action result seat.old.me.0 seat.new.me.0 }
+    {
+        let _ = tag;
+        let _ = writes;
+        self.exchange_as::<S>(seat, 0, from, 0)
+    }
+
+    // The load that ends an attempt with this tag.
+    #[inline]
+    pub(crate) fn finish_as<S: Acting, T: Tag>(&self, seat: &mut Seat<(), View>, tag: &T) -> u64
+        requires told { S.region ≡ self.now }
+        requires finishes { S.action ≡ finishes (T.numbers tag.now) }
+        requires own { seat.old.table_id ≡ self.now.table }
+        requires allowed { May L.lawful (stripe_of self.now.stripes) (bounds self.now) S.action seat.old.me.0 }
+        ensures table { seat.new.table_id ≡ seat.old.table_id }
+        ensures me { seat.new.me ≡ (after unplaced (stripe_of self.now.stripes) S.action result seat.old.me.0, seat.old.me.1) }
+        ensures told { Told L.fits L.lawful self.now S.action result seat.old.me.0 seat.new.me.0 }
+    {
+        let _ = tag;
+        self.load_as::<S>(seat, 0, 0)
+    }
+}

@@ -1,0 +1,59 @@
+ghost use Rattle.std.specs.Prelude.{◌≡◌, ◌≤◌, []};
+
+use crate::view::View;
+use atomic_table::Seat;
+use std::marker::{Model, PhantomData};
+use stm_words::Law;
+
+/// A client of a region: the right to make its steps. Contracts see which table it belongs to and
+/// its value: its running attempt, the locks that it holds and the records of its commits.
+pub struct Client<L: Law> {
+    pub(crate) seat: Seat<(), View>,
+    pub(crate) grants: u64,
+    // The word that its last probe found.
+    pub(crate) probed: u64,
+    // Its write version, 0 for none.
+    pub(crate) version: u64,
+    pub(crate) law: PhantomData<L>,
+}
+
+impl<L: Law> Model for Client<L> {
+    ghost use Rattle.std.specs.Prelude.{◌≡◌, ◌≤◌, ◌<◌, ◌^◌, []};
+    ghost use Rattle.stm_region.specs.Shown.{ClientShown, KeepsProbe};
+
+    ghost Value = { ClientShown };
+
+    ghost view = { λ c. record { table = c.seat.table_id; value = c.seat.me.0 } };
+
+    ghost invariant = { λ c. (c.seat.me.1 ≡ []) × (c.grants ≡ c.seat.me.0.grants) × (c.grants ≤ 63) × (c.version ≡ c.seat.me.0.wv) × (c.version < 2 ^ 62) × KeepsProbe c.probed c.seat.me.0.last };
+}
+
+impl<L: Law> Client<L> {
+    // The seat, and the number of grants.
+    pub(crate) fn into_parts(self) -> (Seat<(), View>, u64)
+        ensures seat { (result.0.table_id ≡ self.table) × (result.0.me ≡ (self.value, [])) }
+        ensures grants { (result.1 ≡ self.value.grants) × (result.1 ≤ 63) }
+    {
+        let Self {
+            seat,
+            grants,
+            probed: _,
+            version: _,
+            law: _,
+        } = self;
+        (seat, grants)
+    }
+}
+
+impl<L: Law> Drop for Client<L> {
+    fn drop(self) {
+        let Self {
+            seat,
+            grants: _,
+            probed: _,
+            version: _,
+            law: _,
+        } = self;
+        drop(seat);
+    }
+}

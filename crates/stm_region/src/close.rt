@@ -1,0 +1,81 @@
+//! The end of a region.
+ghost use Rattle.std.specs.Prelude.{◌≡◌, ◌≢◌, ◌+◌, ◌≤◌, ◌<◌, ◌++◌, ◌∷◌, [], drop, length, slice_index, vec_len, vec_capacity, IfOk, IfErr};
+ghost use Rattle.std.specs.Slots.{slots_items, slots_len, IsFull};
+ghost use Rattle.stm_core.specs.Core.{IsFreeHanded};
+ghost use Rattle.stm_region.specs.Closed.{Ends};
+ghost use Rattle.stm_region.specs.Refused.{ClosesNot};
+
+use crate::client::Client;
+use crate::fault::RegionFault;
+use crate::region::Region;
+use atomic_table::Closed;
+use std::alloc::Allocator;
+use stm_words::{Law, Version};
+
+// There is room.
+fn push<A: Allocator>(words: &mut Vec<u64, A>, word: u64)
+    requires { vec_len words.old < vec_capacity words.old }
+    ensures items { words.new.items ≡ words.old.items ++ word ∷ [] }
+    ensures room { vec_capacity words.old ≤ vec_capacity words.new }
+{
+    if words.push(word).is_err() {
+        unreachable!();
+    }
+}
+
+// The clock, and the words from a place on.
+fn unload<A: Allocator, B: Allocator>(
+    closed: &Closed<(), A>,
+    from: usize,
+    size: usize,
+    words: &mut Vec<u64, B>,
+) -> u64
+    requires full { IsFull closed.now.words }
+    requires range { (from + size ≡ slots_len closed.now.words) × (from ≢ 0) × (slots_len closed.now.words ≡ length (slots_items closed.now.words)) }
+    requires room { (words.old.items ≡ []) × (size ≤ vec_capacity words.old) }
+    ensures words { words.new.items ≡ drop from (slots_items closed.now.words) }
+    ensures clock { result ≡ slice_index (slots_items closed.now.words) 0 }
+{
+    for k in 0..size {
+        push(words, closed.word(from + k));
+    }
+    closed.word(0)
+}
+
+/// A region that was not closed, with its client and the reason.
+type Kept<L, A> = (Region<L, A>, Client<L>, RegionFault);
+
+impl<L: Law, A: Allocator> Region<L, A> {
+    /// Ends the region: its data words and its clock, once every other client was gathered. A
+    /// refusal gives the region and the client back as they were.
+    pub fn close<B: Allocator>(
+        self,
+        alloc: B,
+        client: Client<L>,
+    ) -> Result<(Vec<u64, B>, Version), Kept<L, A>>
+        requires own { client.table ≡ self.table }
+        requires free_handed { IsFreeHanded client.value }
+        ensures ends { IfOk result (λ r. Ends L.lawful self client.value r.0.items r.1) }
+        ensures all { IfOk result (λ _. client.value.grants ≡ 63) }
+        ensures kept { IfErr result (λ r. (r.0 ≡ self) × (r.1 ≡ client) × ClosesNot client.value.grants r.2) }
+    {
+        if client.grants != 63 {
+            let out = 63 - client.grants;
+            return Err((self, client, RegionFault::StillOut { out }));
+        }
+        let Ok(mut words) = Vec::with_capacity(alloc, self.size) else {
+            return Err((self, client, RegionFault::Memory));
+        };
+        let size = self.size;
+        let cells = self.cells;
+        let table = self.into_table();
+        let (seat, _) = client.into_parts();
+        let closed = table.close_with(seat);
+        let clock = unload(&closed, cells, size, &mut words);
+        closed.free();
+        let Some(version) = Version::new(clock) else {
+            unreachable!()
+        };
+        Ok((words, version))
+    }
+}

@@ -1,0 +1,36 @@
+ghost use Rattle.std.specs.Prelude.{◌≡◌};
+ghost use Rattle.stm_region.specs.declared.fault.RegionFault.TheVariants.{Memory};
+
+use std::alloc::{AllocError, AllocFailed};
+use thiserror::Error;
+
+/// Why a region could not be opened, split or closed.
+#[derive(Clone, Copy, Debug, PartialEq, Eq, Error, Drop)]
+pub enum RegionFault {
+    /// A region has 1 to 4,194,304 data words.
+    #[error("the number of data words is not 1 to 4194304")]
+    Size,
+    /// The last version is 1 to 2^62 - 1.
+    #[error("the last version is not 1 to 2^62 - 1")]
+    Last,
+    /// There was no memory.
+    #[error("out of memory")]
+    Memory,
+    /// The client may split off no more clients.
+    #[error("this client has no grant left")]
+    Clients,
+    /// This many other clients are out.
+    #[error("{out} other clients are out")]
+    StillOut { out: u64 },
+    /// A region has 1 to 1,048,576 lock words.
+    #[error("the number of lock words is not 1 to 1048576")]
+    Stripes,
+}
+
+impl From<AllocError> for RegionFault {
+    ghost from_gives = { λ _ e. e ≡ Memory };
+
+    fn from(_e: AllocError) -> RegionFault {
+        RegionFault::Memory
+    }
+}

@@ -1,0 +1,27 @@
+//! The shared words of a transactional memory: a version clock, versioned lock words and data
+//! words, which many clients step on one atomic step at a time.
+//!
+//! The steps are those of Transactional Locking II (Dice, Shalev, Shavit, DISC 2006). Between any
+//! two steps of any threads the words and the clients' values meet the version invariant of
+//! `stm_core`.
+#![tactic(auto)]
+
+mod acts;
+mod client;
+mod close;
+mod fault;
+mod lay;
+mod opening;
+mod plays;
+mod region;
+mod rule;
+mod steps;
+mod view;
+
+pub use client::Client;
+pub use fault::RegionFault;
+pub use region::Region;
+pub use rule::{gathering_keeps_all_grants, reads_are_of_one_version, records_are_serial};
+
+#[cfg(test)]
+mod tests;

@@ -1,0 +1,39 @@
+ghost use Rattle.stm_core.specs.Event.{opener};
+ghost use Rattle.stm_region.specs.Rule.{Holds};
+
+use crate::view::View;
+use atomic_table::TableRule;
+use std::alloc::{Allocator, Global};
+use std::marker::{Model, PhantomData};
+use std::snapshot::Snapshot;
+use stm_words::Law;
+
+/// What the rule of a region's table is told once: the words at the opening, the last version and
+/// how many lock words there are.
+#[derive(Drop)]
+pub struct Opening<A: Allocator = Global> {
+    pub(crate) words: Snapshot<Vec<u64, A>>,
+    pub(crate) last: u64,
+    pub(crate) stripes: u32,
+}
+
+impl<A: Allocator> Model for Opening<A> {
+    ghost use Rattle.std.specs.Prelude.{drop};
+    ghost use Rattle.stm_region.specs.Shown.{Opened};
+    ghost use Rattle.stm_region.specs.Layout.{first_cell};
+
+    ghost Value = { Opened };
+
+    ghost view = { λ o. record { image = drop (first_cell o.stripes) o.words.value.items; last = o.last; stripes = o.stripes } };
+}
+
+/// The table's words and the clients' values are a core state that meets the version invariant.
+pub struct RegionRule<L> {
+    of: PhantomData<L>,
+}
+
+impl<L: Law, A: Allocator> TableRule<(), View, Opening<A>> for RegionRule<L> {
+    ghost holds = { λ o s. Holds L.fits L.lawful o s };
+
+    ghost first = { λ _. opener };
+}

@@ -1,0 +1,49 @@
+// What the steps on the table tell. These types are for the proofs alone.
+ghost use Rattle.stm_core.specs.Event.{Action, begin, giving, fresh, gone};
+ghost use Rattle.stm_region.specs.Shown.{RegionShown, joined, nowhere};
+ghost use Rattle.stm_region.specs.Told.{acting};
+
+use crate::view::View;
+use atomic_table::{Join, Play, Split};
+use std::marker::{Brand, PhantomData};
+use stm_words::Law;
+
+/// Which step it is, and of which region.
+pub trait Acting {
+    ghost action: { Action };
+
+    ghost region: { RegionShown };
+}
+
+impl Acting for Brand {
+    ghost action = { begin };
+
+    ghost region = { nowhere };
+}
+
+/// The step has the event's effect on the client's value.
+pub struct Acts<L, T> {
+    of: PhantomData<(L, T)>,
+}
+
+impl<L: Law, T: Acting> Play<(), View> for Acts<L, T> {
+    ghost then = { λ s m n w. acting L.fits L.lawful T.region T.action s m n w };
+}
+
+/// A grant goes to a new client.
+pub struct Gives;
+
+impl Split<View> for Gives {
+    ghost left = { giving };
+
+    ghost right = { fresh };
+}
+
+/// The second client's records and grants go to the first.
+pub struct Takes;
+
+impl Join<View> for Takes {
+    ghost both = { joined };
+
+    ghost spent = { gone };
+}

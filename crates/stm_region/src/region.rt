@@ -1,0 +1,181 @@
+//! The region: its opening, and the splitting and gathering of its clients.
+ghost use Rattle.std.specs.Prelude.{◌≡◌, ◌+◌, ◌<◌, ◌≤◌, ◌^◌, length, IfOk, IfErr};
+ghost use Rattle.stm_region.specs.declared.fault.RegionFault.TheVariants.{Clients};
+ghost use Rattle.stm_core.specs.Core.{IsFreeHanded};
+ghost use Rattle.stm_core.specs.Event.{opener, giving, fresh};
+ghost use Rattle.stm_region.specs.Shown.{joined, opened_with, stripe_of};
+ghost use Rattle.stm_region.specs.Layout.{first_cell};
+ghost use Rattle.stm_region.specs.Refused.{IsSize, IsLast, IsStripes, OpensNot};
+
+use crate::client::Client;
+use crate::fault::RegionFault;
+use crate::lay::{lay, padding};
+use crate::opening::{Opening, RegionRule};
+use crate::plays::{Gives, Takes};
+use crate::view::View;
+use atomic_table::Table;
+use std::alloc::{Allocator, Global};
+use std::marker::{Model, PhantomData};
+use std::snapshot::Snapshot;
+use stm_words::{Addr, Law};
+
+/// The place of the first lock word. Those before it leave the clock alone on its cache lines.
+pub(crate) const FIRST_LOCK: usize = 16;
+
+/// The shared words of a transactional memory. Contracts see which table it is, its size, and the
+/// image, the last version and the number of lock words that it was opened with.
+pub struct Region<L: Law, A: Allocator = Global> {
+    pub(crate) table: Table<(), View, Opening<A>, RegionRule<L>, A>,
+    pub(crate) size: usize,
+    pub(crate) last: u64,
+    pub(crate) stripes: u32,
+    // The place of the first data word.
+    pub(crate) cells: usize,
+}
+
+impl<L: Law, A: Allocator> Model for Region<L, A> {
+    ghost use Rattle.stm_region.specs.Shown.{RegionShown};
+    ghost use Rattle.stm_region.specs.Layout.{IsLaid};
+
+    ghost Value = { RegionShown };
+
+    ghost view = { λ r. record { table = r.table.shared.table_id; size = r.size; last = r.last; stripes = r.stripes; opening = r.table.shared.key.image } };
+
+    ghost invariant = { λ r. IsLaid r.table.shared.table_id.words r.table.shared.table_id.slots r.table.shared.key r.size r.last r.stripes r.cells };
+}
+
+impl<L: Law, A: Allocator> Region<L, A> {
+    pub(crate) fn into_table(self) -> Table<(), View, Opening<A>, RegionRule<L>, A>
+        ensures table { result.shared.table_id ≡ self.table }
+        ensures counts { (result.shared.table_id.words ≡ first_cell self.stripes + self.size) × (result.shared.table_id.slots ≡ 0) }
+        ensures key { result.shared.key ≡ opened_with self }
+    {
+        let Self {
+            table,
+            size: _,
+            last: _,
+            stripes: _,
+            cells: _,
+        } = self;
+        table
+    }
+}
+
+impl<L: Law, A: Allocator> Drop for Region<L, A> {
+    fn drop(self) {
+        let Self {
+            table,
+            size: _,
+            last: _,
+            stripes: _,
+            cells: _,
+        } = self;
+        drop(table);
+    }
+}
+
+impl<L: Law, A: Allocator + Copy> Region<L, A> {
+    /// Opens a region on an image, and gives its first client. The clock and all lock words are 0.
+    pub fn new(
+        alloc: A,
+        image: &[u64],
+        last: u64,
+        stripes: u32,
+    ) -> Result<(Region<L, A>, Client<L>), RegionFault>
+        requires { L.fits image.now }
+        ensures region { IfOk result (λ r. r.0 ≡ record { table = r.0.table; size = length image.now; last = last; stripes = stripes; opening = image.now }) }
+        ensures client { IfOk result (λ r. r.1 ≡ record { table = r.0.table; value = opener }) }
+        ensures ranges { IfOk result (λ r. IsSize (length image.now) × IsLast last × IsStripes stripes) }
+        ensures refused { IfErr result (λ fault. OpensNot (length image.now) last stripes fault) }
+    {
+        if image.is_empty() || image.len() > 4_194_304 {
+            return Err(RegionFault::Size);
+        }
+        if last == 0 || last >= 1 << 62 {
+            return Err(RegionFault::Last);
+        }
+        if stripes == 0 || stripes > 1_048_576 {
+            return Err(RegionFault::Stripes);
+        }
+        let words = lay(alloc, image, stripes)?;
+        let opening = Opening {
+            words: Snapshot::of(&words),
+            last,
+            stripes,
+        };
+        let (table, seat) = Table::of_words(alloc, words.as_slice(), &opening)?;
+        let region = Region {
+            table,
+            size: image.len(),
+            last,
+            stripes,
+            cells: FIRST_LOCK + stripes as usize + padding(stripes),
+        };
+        let client = Client {
+            seat,
+            grants: 63,
+            probed: 0,
+            version: 0,
+            law: PhantomData,
+        };
+        Ok((region, client))
+    }
+}
+
+impl<L: Law, A: Allocator> Region<L, A> {
+    /// The last version that the clock may reach.
+    #[inline]
+    pub fn last(&self) -> u64
+        ensures value { result ≡ self.now.last }
+        ensures small { result < 2 ^ 62 }
+    {
+        self.last
+    }
+
+    /// The number of the lock of an address.
+    #[inline]
+    pub fn lock_of(&self, addr: Addr) -> u32
+        requires { addr.0 < self.now.size }
+        ensures value { result ≡ stripe_of self.now.stripes addr.0 }
+        ensures range { result < self.now.stripes }
+    {
+        let stripes = self.stripes;
+        if addr.0 < stripes {
+            addr.0
+        } else {
+            addr.0 % stripes
+        }
+    }
+
+    /// Splits off a new client, which costs a grant.
+    pub fn split(&self, client: &mut Client<L>) -> Result<Client<L>, RegionFault>
+        requires own { client.old.table ≡ self.now.table }
+        requires free_handed { IsFreeHanded client.old.value }
+        ensures ok { IfOk result (λ other. (0 < client.old.value.grants) × (client.new ≡ record client.old { value = giving client.old.value }) × (other ≡ record client.old { value = fresh client.old.value })) }
+        ensures refused { IfErr result (λ fault. (fault ≡ Clients) × (client.old.value.grants ≡ 0) × (client.new ≡ client.old)) }
+    {
+        if client.grants == 0 {
+            return Err(RegionFault::Clients);
+        }
+        let seat = self.table.shared.split_seat::<Gives>(&mut client.seat);
+        client.grants -= 1;
+        Ok(Client {
+            seat,
+            grants: 0,
+            probed: 0,
+            version: 0,
+            law: PhantomData,
+        })
+    }
+
+    /// Takes in another client: its records, its grants and one grant more.
+    pub fn gather(&self, client: &mut Client<L>, other: Client<L>)
+        requires own { (client.old.table ≡ self.now.table) × (other.table ≡ self.now.table) }
+        requires free_handed { IsFreeHanded client.old.value × IsFreeHanded other.value }
+        ensures { client.new ≡ record client.old { value = joined client.old.value other.value } }
+    {
+        let (seat, grants) = other.into_parts();
+        self.table.shared.join_seat::<Takes>(&mut client.seat, seat);
+        client.grants = (client.grants + grants + 1).min(63);
+    }
+}

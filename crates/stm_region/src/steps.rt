@@ -1,0 +1,183 @@
+//! The steps: each is one atomic step on one word, and one event of the core.
+ghost use Rattle.std.specs.Prelude.{◌≡◌, ◌≢◌, ℕ, ◌+◌, ◌*◌, ◌/◌, ◌<◌, ◌≤◌, ◌^◌, ◌==◌, true, [], MatchResult};
+ghost use Rattle.stm_core.specs.Client.{word_before, decided};
+ghost use Rattle.stm_core.specs.Event.{begin as begins, probe as probes, fetch as fetches, check as checks, lock as locks, tick as ticks, validate as validates, put as puts, release as releases, give_back as gives_back, finish as finishes};
+ghost use Rattle.stm_logs.specs.Log.{log_pairs};
+ghost use Rattle.stm_region.specs.Shown.{IsAllowed, acted};
+ghost use Rattle.stm_region.specs.Told.{IsLockWord, StandsOn, Decides};
+
+use crate::client::Client;
+use crate::region::{FIRST_LOCK, Region};
+use std::alloc::Allocator;
+use std::marker::Brand;
+use stm_logs::WriteLog;
+use stm_words::{Addr, Law, Tag, Version};
+
+impl<L: Law, A: Allocator> Region<L, A> {
+    /// Begins an attempt: one load of the clock, which is the read version.
+    #[inline]
+    pub fn begin(&self, client: &mut Client<L>) -> Version
+        requires own { client.old.table ≡ self.now.table }
+        requires allowed { IsAllowed L.lawful self.now begins client.old }
+        ensures client { client.new ≡ acted self.now begins result client.old }
+        ensures version { result ≤ self.now.last }
+        ensures floor { client.old.value.floor ≤ result }
+        ensures stands { StandsOn L.fits self.now.size [] }
+    {
+        let found = self.load_as::<Brand>(&mut client.seat, 0, 0);
+        client.version = 0;
+        let Some(version) = Version::new(found) else {
+            unreachable!()
+        };
+        version
+    }
+
+    /// Loads a lock word.
+    #[inline]
+    pub fn probe(&self, client: &mut Client<L>, lock: u32) -> u64
+        requires own { client.old.table ≡ self.now.table }
+        requires allowed { IsAllowed L.lawful self.now (probes lock) client.old }
+        ensures client { client.new ≡ acted self.now (probes lock) result client.old }
+        ensures word { IsLockWord self.now.last result }
+    {
+        let found = self.load_as::<Brand>(&mut client.seat, FIRST_LOCK + lock as usize, lock);
+        client.probed = found;
+        found
+    }
+
+    /// Loads the data word of an address, whose lock was found free.
+    #[inline]
+    pub fn fetch(&self, client: &mut Client<L>, addr: Addr) -> u64
+        requires own { client.old.table ≡ self.now.table }
+        requires allowed { IsAllowed L.lawful self.now (fetches addr.0) client.old }
+        ensures { client.new ≡ acted self.now (fetches addr.0) result client.old }
+    {
+        self.load_as::<Brand>(&mut client.seat, self.cells + addr.0 as usize, addr.0)
+    }
+
+    /// Loads the lock word of an address again. Where it is as it was, the value fetched enters
+    /// the reads.
+    #[inline]
+    pub fn check(&self, client: &mut Client<L>, addr: Addr) -> u64
+        requires own { client.old.table ≡ self.now.table }
+        requires allowed { IsAllowed L.lawful self.now (checks addr.0) client.old }
+        ensures client { client.new ≡ acted self.now (checks addr.0) result client.old }
+        ensures word { IsLockWord self.now.last result }
+        ensures stands { StandsOn L.fits self.now.size client.new.value.reads }
+    {
+        let lock = self.lock_of(addr);
+        self.load_as::<Brand>(&mut client.seat, FIRST_LOCK + lock as usize, addr.0)
+    }
+
+    /// Takes a lock that the last step, a probe, found free: one compare-and-exchange. Where it
+    /// loses, the answer has the word found.
+    #[inline]
+    pub fn lock(&self, client: &mut Client<L>, lock: u32) -> Result<(), u64>
+        requires own { client.old.table ≡ self.now.table }
+        requires allowed { IsAllowed L.lawful self.now (locks lock) client.old }
+        ensures client { MatchResult result (λ _. client.new ≡ acted self.now (locks lock) (word_before client.old.value.last) client.old) (λ found. (found ≢ word_before client.old.value.last) × (client.new ≡ acted self.now (locks lock) found client.old)) }
+        ensures word { MatchResult result (λ _. IsLockWord self.now.last (word_before client.old.value.last)) (λ found. IsLockWord self.now.last found) }
+    {
+        let word = client.probed;
+        let found = self.exchange_as::<Brand>(
+            &mut client.seat,
+            FIRST_LOCK + lock as usize,
+            word,
+            lock,
+        );
+        if found == word { Ok(()) } else { Err(found) }
+    }
+
+    /// Ticks the clock from this version to the next, which becomes the write version: one
+    /// compare-and-exchange. Tag and writes are those of the attempt's record. Where nothing was
+    /// read, or the write version is the next after the read version, the attempt is decided.
+    /// Where the exchange loses, the answer has the version found.
+    #[inline]
+    pub fn tick<T: Tag, B: Allocator + Copy>(
+        &self,
+        client: &mut Client<L>,
+        from: u64,
+        tag: &T,
+        writes: &WriteLog<B>,
+    ) -> Result<(), u64>
+        requires own { client.old.table ≡ self.now.table }
+        requires allowed { IsAllowed L.lawful self.now (ticks from (T.numbers tag.now) (log_pairs writes.now)) client.old }
+        ensures client { MatchResult result (λ _. client.new ≡ acted self.now (ticks from (T.numbers tag.now) (log_pairs writes.now)) from client.old) (λ found. (found ≢ from) × (client.new ≡ acted self.now (ticks from (T.numbers tag.now) (log_pairs writes.now)) found client.old)) }
+        ensures version { MatchResult result (λ _. from + 1 ≤ self.now.last) (λ found. found ≤ self.now.last) }
+        ensures later { 0 < client.new.value.wv → client.new.value.rv < client.new.value.wv }
+        ensures decides { decided client.new.value ≡ true → Decides L.fits L.lawful self.now.opening client.new.value }
+    {
+        prove!(from < self.last);
+        let found = self.tick_as::<Brand, T, B>(&mut client.seat, from, tag, writes);
+        if found == from {
+            client.version = from + 1;
+            Ok(())
+        } else {
+            Err(found)
+        }
+    }
+
+    /// Looks at the lock word of the next read. The last look that passes decides the attempt.
+    #[inline]
+    pub fn validate(&self, client: &mut Client<L>, lock: u32) -> u64
+        requires own { client.old.table ≡ self.now.table }
+        requires allowed { IsAllowed L.lawful self.now (validates lock) client.old }
+        ensures client { client.new ≡ acted self.now (validates lock) result client.old }
+        ensures word { IsLockWord self.now.last result }
+        ensures decides { decided client.new.value ≡ true → Decides L.fits L.lawful self.now.opening client.new.value }
+    {
+        prove!(lock < self.stripes);
+        self.load_as::<Brand>(&mut client.seat, FIRST_LOCK + lock as usize, lock)
+    }
+
+    /// Stores a written value.
+    #[inline]
+    pub fn put(&self, client: &mut Client<L>, addr: Addr, value: u64)
+        requires own { client.old.table ≡ self.now.table }
+        requires range { addr.0 < self.now.size }
+        requires allowed { IsAllowed L.lawful self.now (puts addr.0 value) client.old }
+        ensures { client.new ≡ acted self.now (puts addr.0 value) 0 client.old }
+    {
+        self.store_as::<Brand>(
+            &mut client.seat,
+            self.cells + addr.0 as usize,
+            value,
+            addr.0,
+        );
+    }
+
+    /// Releases a lock with the write version.
+    #[inline]
+    pub fn release(&self, client: &mut Client<L>, lock: u32)
+        requires own { client.old.table ≡ self.now.table }
+        requires range { lock < self.now.stripes }
+        requires allowed { IsAllowed L.lawful self.now (releases lock) client.old }
+        ensures { client.new ≡ acted self.now (releases lock) 0 client.old }
+    {
+        let word = 2 * client.version;
+        self.store_as::<Brand>(&mut client.seat, FIRST_LOCK + lock as usize, word, lock);
+    }
+
+    /// Gives a lock back with its old version. The attempt can only end.
+    #[inline]
+    pub fn give_back(&self, client: &mut Client<L>, lock: u32)
+        requires own { client.old.table ≡ self.now.table }
+        requires range { lock < self.now.stripes }
+        requires allowed { IsAllowed L.lawful self.now (gives_back lock) client.old }
+        ensures { client.new ≡ acted self.now (gives_back lock) 0 client.old }
+    {
+        self.give_back_as::<Brand>(&mut client.seat, FIRST_LOCK + lock as usize, lock);
+        client.version = 0;
+    }
+
+    /// Ends an attempt that wrote nothing, with one more load of the clock.
+    #[inline]
+    pub fn finish<T: Tag>(&self, client: &mut Client<L>, tag: &T)
+        requires own { client.old.table ≡ self.now.table }
+        requires allowed { IsAllowed L.lawful self.now (finishes (T.numbers tag.now)) client.old }
+        ensures client { (found : ℕ) × (client.new ≡ acted self.now (finishes (T.numbers tag.now)) found client.old) }
+        ensures decides { Decides L.fits L.lawful self.now.opening client.new.value }
+    {
+        self.finish_as::<Brand, T>(&mut client.seat, tag);
+    }
+}

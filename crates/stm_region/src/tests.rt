@@ -1,0 +1,191 @@
+ghost use Rattle.std.specs.Prelude.{◌≡◌, ℕ, ◌<◌, IfOk, false, []};
+ghost use Rattle.stm_core.specs.Core.{IsFreeHanded};
+
+use super::{
+    Client, Region, RegionFault, gathering_keeps_all_grants, reads_are_of_one_version,
+    records_are_serial,
+};
+use std::alloc::{AllocError, Global};
+use std::test::Fail;
+use std::thread;
+use stm_logs::WriteLog;
+use stm_words::{Addr, FreeLaw};
+
+// What a read finds at an address, where no lock stops it.
+fn read_at(region: &Region<FreeLaw>, client: &mut Client<FreeLaw>, addr: Addr) -> Option<u64>
+    requires own { client.old.table ≡ region.now.table }
+    requires free { IsFreeHanded client.old.value }
+    requires range { addr.0 < region.now.size }
+    ensures own { client.new.table ≡ client.old.table }
+    ensures free { IsFreeHanded client.new.value }
+{
+    let version = region.begin(client);
+    let lock = region.lock_of(addr);
+    let word = region.probe(client, lock);
+    if word % 2 == 1 || word / 2 > version.get() {
+        return None;
+    }
+    let value = region.fetch(client, addr);
+    if region.check(client, addr) != word {
+        return None;
+    }
+    region.finish(client, &7u64);
+    Some(value)
+}
+
+// Writes a word without reading any, by one try. Answers whether it committed.
+fn write_at(
+    alloc: Global,
+    region: &Region<FreeLaw>,
+    client: &mut Client<FreeLaw>,
+    addr: Addr,
+    value: u64,
+) -> Result<bool, AllocError>
+    requires own { client.old.table ≡ region.now.table }
+    requires free { IsFreeHanded client.old.value }
+    requires range { addr.0 < region.now.size }
+    ensures own { client.new.table ≡ client.old.table }
+    ensures free { IsFreeHanded client.new.value }
+{
+    let lock = region.lock_of(addr);
+    let mut log = WriteLog::new(alloc);
+    log.put(addr, lock, value)?;
+    let from = region.begin(client).get();
+    let word = region.probe(client, lock);
+    if word % 2 == 1 {
+        return Ok(false);
+    }
+    let Ok(()) = region.lock(client, lock) else {
+        return Ok(false);
+    };
+    if from == region.last() {
+        region.give_back(client, lock);
+        return Ok(false);
+    }
+    let Ok(()) = region.tick(client, from, &1u64, &log) else {
+        region.give_back(client, lock);
+        return Ok(false);
+    };
+    region.put(client, addr, value);
+    region.release(client, lock);
+    Ok(true)
+}
+
+#[test]
+fn refuses_an_opening_in_order(rt: HostRuntime) -> Result<(), Fail> {
+    let zeros = [0u64; 32];
+    for (words, last, stripes, want) in [
+        (0, 0, 0, RegionFault::Size),
+        (32, 0, 0, RegionFault::Last),
+        (32, 1 << 62, 0, RegionFault::Last),
+        (32, 100, 0, RegionFault::Stripes),
+        (32, 100, 1_048_577, RegionFault::Stripes),
+    ] {
+        match Region::<FreeLaw>::new(rt.alloc(), &zeros[..words], last, stripes) {
+            Ok(_) => panic!(rt; "it opened"),
+            Err(fault) => assert_eq!(rt; fault, want),
+        }
+    }
+    Ok(())
+}
+
+#[test]
+fn sixty_three_clients_split_off(rt: HostRuntime) -> Result<(), Fail> {
+    let (region, mut client) = Region::<FreeLaw>::new(rt.alloc(), &[0; 32], 100, 32)?;
+    for _ in 0..63 {
+        assert!(rt; region.split(&mut client).is_ok());
+    }
+    assert!(rt; matches!(region.split(&mut client), Err(RegionFault::Clients)));
+    let Err((_, _, fault)) = region.close(rt.alloc(), client) else {
+        panic!(rt; "it closed with clients out")
+    };
+    assert_eq!(rt; fault, RegionFault::StillOut { out: 63 });
+    Ok(())
+}
+
+#[test]
+fn closes_once_all_are_gathered(rt: HostRuntime) -> Result<(), Fail> {
+    records_are_serial::<FreeLaw>();
+    reads_are_of_one_version::<FreeLaw>();
+    gathering_keeps_all_grants::<FreeLaw>();
+    let (region, mut client) = Region::<FreeLaw>::new(rt.alloc(), &[0; 32], 100, 32)?;
+    assert_eq!(rt; region.last(), 100);
+    assert_eq!(rt; region.lock_of(Addr(9)), 9);
+    assert_eq!(rt; read_at(&region, &mut client, Addr(9)), Some(0));
+    let other = region.split(&mut client)?;
+    let Err((region, mut client, fault)) = region.close(rt.alloc(), client) else {
+        panic!(rt; "it closed with a client out")
+    };
+    assert_eq!(rt; fault, RegionFault::StillOut { out: 1 });
+    region.gather(&mut client, other);
+    assert_eq!(rt; read_at(&region, &mut client, Addr(31)), Some(0));
+    let Ok((words, version)) = region.close(rt.alloc(), client) else {
+        panic!(rt; "it stayed open")
+    };
+    assert_eq!(rt; words.as_slice(), [0u64; 32].as_slice());
+    assert_eq!(rt; version.get(), 0);
+    Ok(())
+}
+
+#[test]
+fn a_spent_clock_ticks_no_more(rt: HostRuntime) -> Result<(), Fail> {
+    let (region, mut client) = Region::<FreeLaw>::new(rt.alloc(), &[0; 32], 1, 32)?;
+    assert!(rt; write_at(rt.alloc(), &region, &mut client, Addr(9), 5)?);
+    assert_eq!(rt; region.begin(&mut client).get(), region.last());
+    assert_eq!(rt; read_at(&region, &mut client, Addr(9)), Some(5));
+    assert!(rt; !write_at(rt.alloc(), &region, &mut client, Addr(9), 6)?);
+    let Ok((words, version)) = region.close(rt.alloc(), client) else {
+        panic!(rt; "it stayed open")
+    };
+    assert_eq!(rt; words.as_slice()[9], 5);
+    assert_eq!(rt; version.get(), 1);
+    Ok(())
+}
+
+// Writes the address as long as no try commits.
+fn write_until_done(
+    alloc: Global,
+    region: &Region<FreeLaw>,
+    mut client: Client<FreeLaw>,
+    addr: Addr,
+    value: u64,
+) -> Result<Client<FreeLaw>, AllocError>
+    requires own { client.table ≡ region.now.table }
+    requires free { IsFreeHanded client.value }
+    requires range { addr.0 < region.now.size }
+    ensures { IfOk result (λ c. (c.table ≡ region.now.table) × IsFreeHanded c.value) }
+{
+    for _ in 0..100_000_000 {
+        if write_at(alloc, region, &mut client, addr, value)? {
+            return Ok(client);
+        }
+    }
+    Ok(client)
+}
+
+#[test]
+fn two_threads_write_one_memory(rt: HostRuntime) -> Result<(), Fail> {
+    let alloc = rt.alloc();
+    let (region, mut client) = Region::<FreeLaw>::new(alloc, &[0; 8], 100, 4)?;
+    let other = region.split(&mut client)?;
+    let shared = &region;
+    let (first, second) = thread::join(
+        &rt,
+        move || -> Result<Client<FreeLaw>, AllocError>
+            requires { (client.table ≡ shared.now.table) × IsFreeHanded client.value × (5 < shared.now.size) }
+            ensures { IfOk result (λ c. (c.table ≡ shared.entry.now.table) × IsFreeHanded c.value) }
+        { write_until_done(alloc, shared, client, Addr(5), 50) },
+        move || -> Result<Client<FreeLaw>, AllocError>
+            requires { (other.table ≡ shared.now.table) × IsFreeHanded other.value × (1 < shared.now.size) }
+            ensures { IfOk result (λ c. (c.table ≡ shared.entry.now.table) × IsFreeHanded c.value) }
+        { write_until_done(alloc, shared, other, Addr(1), 10) },
+    );
+    let mut client = first?;
+    region.gather(&mut client, second?);
+    let Ok((words, version)) = region.close(alloc, client) else {
+        panic!(rt; "it stayed open")
+    };
+    assert_eq!(rt; words.as_slice(), [0u64, 10, 0, 0, 0, 50, 0, 0].as_slice());
+    assert_eq!(rt; version.get(), 2);
+    Ok(())
+}

@@ -1,0 +1,5 @@
+pub mod Lines
+pub mod Words
+pub mod LineTable
+pub mod Text
+pub mod Script

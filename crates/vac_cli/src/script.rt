@@ -1,0 +1,298 @@
+//! Running a script: lines in, output lines out.
+
+ghost use Rattle.std.specs.Prelude.{◌≡◌, ◌≤◌, ℕ, List, [], ◌++◌, OnOk, OnErr, IfOk, true, length, take};
+ghost use Rattle.std.specs.Io.KnownBytes.{Appends};
+ghost use Rattle.vac_model.specs.State.{empty_state};
+ghost use Rattle.vac_model.specs.Ranges.{is_task};
+ghost use Rattle.vac_manager.specs.FirstPath.{IsFirstPath, is_block_count};
+ghost use Rattle.vac_cli.specs.LineTable.{line_task};
+ghost use Rattle.vac_cli.specs.Text.{Extends};
+ghost use Rattle.vac_cli.specs.Script.{answer_of, state_after, pending, HasNoEnd, HasBegun, AppendsFront, WroteAll, WroteFront};
+
+use crate::line::{LINE_BYTES, LineFault, cut_at, read_line};
+use crate::reply::{print_fault, print_reply};
+use std::alloc::{AllocError, Global};
+use std::io::{ErrorKind, Read, Write};
+use thiserror::Error;
+use vac_manager::FlatManager;
+use vac_model::Task;
+
+/// The most reads of a script, but for one: the read after these is the last.
+const MOST_READS: u64 = 4_294_967_296;
+
+/// The bytes that are asked for by one read.
+const CHUNK_BYTES: usize = 65_536;
+
+/// How much is kept of a line that has not ended: enough to see that it is too long.
+const KEPT_BYTES: usize = LINE_BYTES + 1;
+
+/// Why a script did not run to its end. The numbers are those of the protocol.
+#[derive(Clone, Copy, Debug, PartialEq, Eq, Error)]
+pub enum RunFault {
+    /// The input could not be read.
+    #[error("the input could not be read")]
+    Read = 1,
+    /// The output could not be written, or a write took nothing.
+    #[error("the output could not be written")]
+    Write = 2,
+    /// There was no memory.
+    #[error("out of memory")]
+    Memory = 3,
+    /// More than 4,294,967,296 reads were made.
+    #[error("the input takes too many reads")]
+    Bound = 6,
+}
+
+impl From<AllocError> for RunFault {
+    ghost use Rattle.vac_cli.specs.declared.script.RunFault.TheVariants.{Memory};
+
+    ghost from_gives = { λ _ fault. fault ≡ Memory };
+
+    fn from(_error: AllocError) -> RunFault {
+        RunFault::Memory
+    }
+}
+
+/// A script that runs.
+#[derive(Drop)]
+struct Script {
+    manager: FlatManager,
+    /// The line that has begun, up to [`KEPT_BYTES`] of it.
+    line: Vec<u8>,
+    /// The output lines that are not yet written.
+    out: Vec<u8>,
+}
+
+/// Prints the output line of a line that was read.
+fn print_answer(
+    manager: &mut FlatManager,
+    read: Result<Task, LineFault>,
+    out: &mut Vec<u8>,
+) -> Result<(), AllocError>
+    requires { IfOk read (λ task. IsFirstPath task × (is_task task ≡ true)) }
+    ensures text { OnOk result (out.new.items ≡ out.old.items ++ answer_of manager.old read) }
+    ensures state { OnOk result (manager.new ≡ state_after manager.old read) }
+    ensures err { OnErr result (Extends out.new.items (out.old.items ++ answer_of manager.old read)) }
+{
+    match read {
+        Ok(task) => {
+            let Ok(reply) = manager.apply(&task) else {
+                unreachable!()
+            };
+            print_reply(&reply, out)?;
+        }
+        Err(fault) => print_fault(fault, out)?,
+    }
+    out.extend_from_slice(b"\n")
+}
+
+/// Reads and runs a line, and prints its output line.
+fn answer(
+    alloc: Global,
+    manager: &mut FlatManager,
+    line: &[u8],
+    out: &mut Vec<u8>,
+) -> Result<(), RunFault>
+    ensures text { OnOk result (out.new.items ≡ out.old.items ++ answer_of manager.old (line_task line.now)) }
+    ensures state { OnOk result (manager.new ≡ state_after manager.old (line_task line.now)) }
+    ensures err { OnErr result (Extends out.new.items (out.old.items ++ answer_of manager.old (line_task line.now))) }
+{
+    let read = read_line(alloc, line);
+    if matches!(read, Err(LineFault::Memory)) {
+        return Err(RunFault::Memory);
+    }
+    print_answer(manager, read, out)?;
+    Ok(())
+}
+
+/// Writes the text. A write that fails, and one that takes nothing, ends it.
+fn write_all<W: Write>(output: &mut W, text: &[u8]) -> Result<(), RunFault>
+    ensures ok { OnOk result (Appends (W.contents output.old) (W.contents output.new) text.now) }
+    ensures err { OnErr result (AppendsFront (W.contents output.old) (W.contents output.new) text.now) }
+{
+    let mut sent = 0;
+    'writes: for _ in 0..u64::MAX {
+        if sent >= text.len() {
+            return Ok(());
+        }
+        match output.write(&text[sent..]) {
+            Ok(0) => return Err(RunFault::Write),
+            Ok(taken) => sent += taken,
+            Err(error) => {
+                if error.kind() != ErrorKind::Interrupted {
+                    return Err(RunFault::Write);
+                }
+            }
+        }
+    }
+    Err(RunFault::Write)
+}
+
+impl Script {
+    /// A script of which nothing was read.
+    fn new(alloc: Global, blocks: u32) -> Result<Script, RunFault>
+        requires { is_block_count blocks ≡ true }
+        ensures state { IfOk result (λ script. script.manager ≡ empty_state blocks) }
+        ensures line { IfOk result (λ script. script.line.items ≡ []) }
+        ensures out { IfOk result (λ script. script.out.items ≡ []) }
+    {
+        let Ok(manager) = FlatManager::new(alloc, blocks) else {
+            return Err(RunFault::Memory);
+        };
+        let line = Vec::with_capacity(alloc, KEPT_BYTES)?;
+        let out = Vec::with_capacity(alloc, CHUNK_BYTES)?;
+        Ok(Script { manager, line, out })
+    }
+
+    /// Keeps what follows of the line that has begun, as far as there is need.
+    #[tactic(auto, using(crate::proofs::Cutting::kept_front))]
+    fn keep(&mut self, more: &[u8]) -> Result<(), AllocError>
+        requires { length self.old.line.items ≤ 1025 }
+        ensures line { OnOk result (self.new.line.items ≡ take 1025 (self.old.line.items ++ more.now)) }
+        ensures others { self.new ≡ record self.old { line = self.new.line } }
+    {
+        let room = KEPT_BYTES - self.line.len();
+        let kept = room.min(more.len());
+        self.line.extend_from_slice(&more[..kept])
+    }
+
+    /// Runs the line that has begun, of which this is the rest.
+    fn end_line(&mut self, alloc: Global, rest: &[u8]) -> Result<(), RunFault>
+        requires { length self.old.line.items ≤ 1025 }
+        ensures text { OnOk result (self.new.out.items
+            ≡ self.old.out.items ++ answer_of self.old.manager (line_task (self.old.line.items ++ rest.now))) }
+        ensures state { OnOk result (self.new.manager
+            ≡ state_after self.old.manager (line_task (self.old.line.items ++ rest.now))) }
+        ensures line { OnOk result (self.new.line.items ≡ []) }
+        ensures err { OnErr result (Extends self.new.out.items
+            (self.old.out.items ++ answer_of self.old.manager (line_task (self.old.line.items ++ rest.now)))) }
+    {
+        if self.line.is_empty() {
+            return answer(alloc, &mut self.manager, rest, &mut self.out);
+        }
+        self.keep(rest)?;
+        answer(
+            alloc,
+            &mut self.manager,
+            self.line.as_slice(),
+            &mut self.out,
+        )?;
+        self.line.clear();
+        Ok(())
+    }
+
+    /// Runs the lines that end in a chunk of the input, and keeps what follows them.
+    fn feed(&mut self, alloc: Global, chunk: &[u8]) -> Result<(), RunFault>
+        requires { HasBegun self.old.line.items }
+        ensures begun { OnOk result (HasBegun self.new.line.items) }
+        ensures ok { OnOk result ((x : List ℕ) →
+            self.old.out.items ++ pending self.old.manager self.old.line.items (chunk.now ++ x)
+            ≡ self.new.out.items ++ pending self.new.manager self.new.line.items x) }
+        ensures err { OnErr result ((x : List ℕ) → Extends self.new.out.items
+            (self.old.out.items ++ pending self.old.manager self.old.line.items (chunk.now ++ x))) }
+    {
+        let mut rest = chunk;
+        while let Some((line, behind)) = cut_at(b'\n', rest) {
+            self.end_line(alloc, line)?;
+            rest = behind;
+        }
+        self.keep(rest)?;
+        Ok(())
+    }
+
+    /// Runs the last line, where it has begun and has no end.
+    fn finish(&mut self, alloc: Global) -> Result<(), RunFault>
+        requires { HasBegun self.old.line.items }
+        ensures ok { OnOk result (self.new.out.items
+            ≡ self.old.out.items ++ pending self.old.manager self.old.line.items []) }
+        ensures err { OnErr result (Extends self.new.out.items
+            (self.old.out.items ++ pending self.old.manager self.old.line.items [])) }
+    {
+        if self.line.is_empty() {
+            return Ok(());
+        }
+        self.end_line(alloc, &[])
+    }
+
+    /// Writes the output lines that are not yet written.
+    fn write_out<W: Write>(&mut self, output: &mut W) -> Result<(), RunFault>
+        ensures ok { OnOk result (Appends (W.contents output.old) (W.contents output.new) self.old.out.items) }
+        ensures empty { OnOk result (self.new.out.items ≡ []) }
+        ensures others { self.new ≡ record self.old { out = self.new.out } }
+        ensures err { OnErr result (AppendsFront (W.contents output.old) (W.contents output.new) self.old.out.items) }
+    {
+        write_all(output, self.out.as_slice())?;
+        self.out.clear();
+        Ok(())
+    }
+
+    /// Runs a chunk of the input, and writes the output lines of the lines that end in it.
+    fn run_chunk<W: Write>(
+        &mut self,
+        alloc: Global,
+        chunk: &[u8],
+        output: &mut W,
+    ) -> Result<(), RunFault>
+        requires begun { HasBegun self.old.line.items }
+        requires empty { self.old.out.items ≡ [] }
+        ensures begun { OnOk result (HasBegun self.new.line.items) }
+        ensures empty { OnOk result (self.new.out.items ≡ []) }
+        ensures ok { OnOk result ((text : List ℕ) × Appends (W.contents output.old) (W.contents output.new) text
+            × ((x : List ℕ) → pending self.old.manager self.old.line.items (chunk.now ++ x)
+            ≡ text ++ pending self.new.manager self.new.line.items x)) }
+        ensures err { OnErr result ((text : List ℕ) × Appends (W.contents output.old) (W.contents output.new) text
+            × ((x : List ℕ) → Extends text (pending self.old.manager self.old.line.items (chunk.now ++ x)))) }
+    {
+        let fed = self.feed(alloc, chunk);
+        self.write_out(output)?;
+        fed
+    }
+
+    /// Runs the end of the input, and writes the rest of the output.
+    fn run_end<W: Write>(&mut self, alloc: Global, output: &mut W) -> Result<(), RunFault>
+        requires begun { HasBegun self.old.line.items }
+        requires empty { self.old.out.items ≡ [] }
+        ensures ok { OnOk result (Appends (W.contents output.old) (W.contents output.new)
+            (pending self.old.manager self.old.line.items [])) }
+        ensures err { OnErr result ((text : List ℕ) × Appends (W.contents output.old) (W.contents output.new) text
+            × Extends text (pending self.old.manager self.old.line.items [])) }
+    {
+        let finished = self.finish(alloc);
+        self.write_out(output)?;
+        finished?;
+        output.flush().map_err(|_| RunFault::Write)
+    }
+}
+
+/// Runs a script for a system of so many blocks: reads its lines to the end of the input and
+/// writes an output line for each.
+///
+/// After a fault, what was written is a front of the whole output.
+pub fn run_script<R: Read, W: Write>(
+    alloc: Global,
+    blocks: u32,
+    input: &mut R,
+    output: &mut W,
+) -> Result<(), RunFault>
+    requires { is_block_count blocks ≡ true }
+    ensures ok { OnOk result (WroteAll blocks (R.remaining input.old) (R.remaining input.new)
+        (W.contents output.old) (W.contents output.new)) }
+    ensures err { OnErr result (WroteFront blocks (R.remaining input.old) (R.remaining input.new)
+        (W.contents output.old) (W.contents output.new)) }
+{
+    let mut script = Script::new(alloc, blocks)?;
+    let mut buffer = vec![in alloc; 0; CHUNK_BYTES]?;
+    let chunk = buffer.as_mut_slice();
+    'reads: for _ in 0..=MOST_READS {
+        match input.read(chunk) {
+            Ok(0) => return script.run_end(alloc, output),
+            Ok(count) => script.run_chunk(alloc, &chunk[..count], output)?,
+            Err(error) => {
+                if error.kind() != ErrorKind::Interrupted {
+                    return Err(RunFault::Read);
+                }
+            }
+        }
+    }
+    Err(RunFault::Bound)
+}

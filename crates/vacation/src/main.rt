@@ -1,0 +1,28 @@
+//! A reservation system after the program Vacation of the STAMP benchmarks: `vacation run` reads
+//! commands from standard input, one a line, and writes a line for each to standard output.
+#![tactic(auto)]
+
+use std::process::ExitCode;
+use std::{env, io};
+use vac_cli::run_words;
+
+/// The words of the command line.
+fn words(rt: &HostRuntime) -> io::Result<Vec<String>> {
+    let words = env::args(rt)?.collect(rt.alloc())?;
+    Ok(words)
+}
+
+fn main(rt: HostRuntime) -> ExitCode {
+    let Ok(words) = words(&rt) else {
+        let _ = println!(rt; "fault memory");
+        return ExitCode::FAILURE;
+    };
+    let status = run_words(
+        rt.alloc(),
+        words.as_slice(),
+        &mut rt.stdin(),
+        &mut rt.stdout(),
+        &mut rt.stderr(),
+    );
+    ExitCode::from(status)
+}
