@@ -211,8 +211,8 @@ fn each_growth_of_the_read_log_is_refused(rt: HostRuntime) -> Result<(), Fail> {
         (1_000, 0),
         (5_000, 1_024),
         (10_000, 2_048),
-        (16_700, 4_096),
-        (18_000, 4_096),
+        (20_800, 4_096),
+        (21_000, 5_000),
         (100_000, 5_000),
     ] {
         let heap = LocalHeap::new(rt.alloc(), size)?;
