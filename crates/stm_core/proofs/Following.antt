@@ -7,18 +7,19 @@ use Rattle.stm_words.specs.Image.{In}
 use Rattle.stm_core.specs.Client.{Client, Record, Stamp, checked, locked, ticked, looked, version_of, word_before, value_fetched, writes_to, old_version, is_committed}
 use Rattle.stm_core.specs.Event.{Action, begin, probe, fetch, check, lock, tick, validate, put, release, give_back, finish, is_empty, committed_by, stepping, failing, read_too, holding, versioned, decides_at_once, won, passes, passing, after, giving, fresh, taking, gone}
 use Rattle.stm_core.specs.Core.{Core, bounds_of, found, left, written, Event, acts, splits, gathers, IsClient, Allowed, client_of, played, Leads, opened}
-use Rattle.stm_core.specs.Theorem.{stripe_of, free_law}
+use Rattle.stm_core.specs.Theorem.{stripe_of, free_law, IsHistory}
 use Rattle.stm_core.specs.Invariant.{Inv}
 use Rattle.stm_core.specs.Seat.{blank, seat_after}
 use Rattle.stm_core.specs.Tests.{may_act}
-use Rattle.stm_core.specs.Running.{Running, IsSane, stripes_of, is_out, may_play, decision, entered, stamp_of, run_acts, run_played, run_opened, shown, ran}
-use Rattle.stm_core.specs.Follows.{IsReached, RunningFollows}
+use Rattle.stm_core.specs.Running.{Running, IsSane, stripes_of, is_out, may_play, decision, entered, stamp_of, run_acts, run_played, run_opened, found_of, shown, ran}
+use Rattle.stm_core.specs.Placing.{Placed}
+use Rattle.stm_core.specs.Follows.{IsOrderOf, IsReached, FollowsCore, RunningFollows}
 use Rattle.stm_core.proofs.Lists.{clash, nothing_in, by_bool, in_range}
 use Rattle.stm_core.proofs.Steps.{by_case, word_inside}
 use Rattle.stm_core.proofs.Held.{old_in}
 use Rattle.stm_core.proofs.Simulating.{act_is, is_act, left_of, right_of, both, not_of, empty_is}
-use Rattle.stm_core.proofs.Playing.{get_is, event_keeps}
-use Rattle.stm_core.proofs.Joining.{opening_keeps}
+use Rattle.stm_core.proofs.Playing.{get_is, filed, history_after, IsDatedBy, event_dates, opening_dates, every_list_stands}
+use Rattle.stm_core.proofs.Placing.{order_of, as_kept, decision_shown, entered_order, one_history}
 use Rattle.stm_core.proofs.Facts.{grants_of_two}
 
 get_map : (l : List Client) (i : ℕ) → get_or (map blank l) i gone ≡ blank (get_or l i gone)
@@ -127,6 +128,16 @@ play_shown (gathers k j) c s same =
     subst (λ d. (run_played (gathers k j) (record s { core = d })).core ≡ shown (played (stripes_of c) (gathers k j) c)) (sym same)
     (rw (client_shown c k, client_shown c j) (λ i. record (shown c) { clients = sym (map_set (set c.clients (k - 1) (taking (client_of c k) (client_of c j))) (j - 1) gone ∙ ap (λ l. set l (j - 1) gone) (map_set c.clients (k - 1) (taking (client_of c k) (client_of c j)))) i; events = c.events + 1 }))
 
+-- an event brings what it decides to its place in the order
+play_order : (e : Event) (c : Core) (s : Running) (h : List Record) → s.core ≡ shown c → s.order ≡ order_of h → (run_played e s).order ≡ order_of (history_after (stripes_of c) e c h)
+play_order (acts k e) c s h same o =
+    let t : Stamp = record { client = k; place = c.events; renewal = c.renewal } in
+    let rs = decision t e (found (stripes_of c) c e) (client_of c k) in
+    let kept : decision (stamp_of (shown c) k) e (found (stripes_of c) (shown c) e) (client_of (shown c) k) ≡ map as_kept rs = rw (found_shown (stripes_of c) c e, client_shown c k) (decision_shown t e (found (stripes_of c) c e) (client_of c k)) in
+    subst (λ d. (run_acts k e (record s { core = d })).order ≡ order_of (filed rs h)) (sym same) (entered_order _ rs kept _ h o)
+play_order (splits k) c s h same o = o
+play_order (gathers k j) c s h same o = o
+
 at_of : (l : List Client) (i : ℕ) → i < length l → get_elem? l i ≡ some (get_or l i gone)
 at_of [] i h = absurd (omega arith)
 at_of (x ∷ l) zero h = refl
@@ -134,6 +145,9 @@ at_of (x ∷ l) (suc i) h = at_of l i (omega arith)
 
 out_shown : (c : Core) (k : ℕ) → is_out (shown c) k ≡ is_out c k
 out_shown c k = rw (map_length c.clients, client_shown c k) refl
+
+last_found_shown : (c : Core) (k : ℕ) → found_of (shown c) k ≡ found_of c k
+last_found_shown c k = rw (map_length c.clients, client_shown c k) refl
 
 may_shown : (e : Event) (c : Core) → may_play e (shown c) ≡ may_play e c
 may_shown (acts k e) c = rw (out_shown c k, client_shown c k) (ap (λ b. is_out c k && b) (same e))
@@ -220,21 +234,6 @@ replicated : (n : ℕ) → length (replicate n (let z : ℕ = 0 in z)) ≡ n
 replicated zero = refl
 replicated (suc n) = ap suc (replicated n)
 
-pub reached_opening : (image : List ℕ) (last stripes : ℕ) → last < 2 ^ 62 → 0 < stripes → IsReached (run_opened image last stripes)
-reached_opening image last stripes l s = (opened image last stripes, opening_keeps free_law (stripes_of (opened image last stripes)) image last stripes, l, rw (replicated stripes) s, refl)
-
-pub reached_next : (e : Event) (s : Running) → IsReached s → may_play e s.core ≡ true → IsReached (run_played e s)
-reached_next e s h may =
-    let c = h.0 in
-    let ok : may_play e c ≡ true = sym (may_shown e c) ∙ (ap (may_play e) (sym h.4) ∙ may) in
-    let q = last_stays (stripes_of c) e c in (
-      played (stripes_of c) e c,
-      subst (λ n. Inv free_law (stripe_of n) (played (stripes_of c) e c)) (sym q.1) (event_keeps free_law (stripes_of c) c e h.1 (may_is e c ok)),
-      rw q.0 h.2,
-      rw q.1 h.3,
-      play_shown e c s h.4,
-    )
-
 client_cases : (c : Core) (k : ℕ) → (get_elem? c.clients (k - 1) ≡ some (client_of c k)) ⊎ (client_of c k ≡ gone)
 client_cases c k = go c.clients (k - 1)
   where
@@ -285,23 +284,86 @@ module _ (c : Core) (h : Inv free_law (stripes_of c) c) (low : c.last < 2 ^ 62) 
     grants = λ k j n o p. rw (client_shown c k, client_shown c j) (few_grants k j n (sym (out_shown c k) ∙ o) (sym (out_shown c j) ∙ p));
   }
 
--- a reached core is sane
-pub reached_sane : (s : Running) → IsReached s → IsSane s.core
-reached_sane s h = subst IsSane (sym h.4) (sane_shown h.0 h.1 h.2 h.3)
+-- the numbers that no event changes
+leads_stays : (lk : ℕ → ℕ) (es : List Event) (c d : Core) → Leads free_law lk c es d → (d.last ≡ c.last) × (length d.locks ≡ length c.locks)
+leads_stays lk [] c d e = (ap (λ (x : Core). x.last) (sym e), ap (λ (x : Core). length x.locks) (sym e))
+leads_stays lk (a ∷ es) c d e = let q = leads_stays lk es (played lk a c) d e.1 in let r = last_stays lk a c in (q.0 ∙ r.0, q.1 ∙ r.1)
 
-ran_shows : (es : List Event) (c d : Core) (s : Running) → s.core ≡ shown c → Leads free_law (stripe_of (length c.locks)) c es d → ((ran es s).core ≡ shown d) × (length d.locks ≡ length c.locks)
-ran_shows [] c d s same e = (same ∙ ap shown e, ap (λ (x : Core). length x.locks) (sym e))
-ran_shows (a ∷ es) c d s same e =
+-- the running core beside the core and its history
+record Beside (h : List Record) (s : Running) (c : Core) : Type 0 where
+  shows : s.core ≡ shown c
+  orders : s.order ≡ order_of h
+  dated : IsDatedBy h c
+
+beside_next : (e : Event) (h : List Record) (s : Running) (c : Core) → Beside h s c → Allowed free_law (stripes_of c) e c → Beside (history_after (stripes_of c) e c h) (run_played e s) (played (stripes_of c) e c)
+beside_next e h s c b may = record {
+  shows = play_shown e c s b.shows;
+  orders = play_order e c s h b.shows b.orders;
+  dated = event_dates free_law (stripes_of c) c e h b.dated may;
+}
+
+ran_beside : (es : List Event) (h : List Record) (s : Running) (c d : Core) → Beside h s c → Leads free_law (stripes_of c) c es d → (g : List Record) × Beside g (ran es s) d
+ran_beside [] h s c d b e = (h, subst (Beside h s) e b)
+ran_beside (a ∷ es) h s c d b e =
     let n = (last_stays (stripes_of c) a c).1 in
-    let q = ran_shows es (played (stripes_of c) a c) d (run_played a s) (play_shown a c s same) (subst (λ m. Leads free_law (stripe_of m) (played (stripes_of c) a c) es d) (sym n) e.1) in (q.0, q.1 ∙ n)
+    ran_beside es (history_after (stripes_of c) a c h) (run_played a s) (played (stripes_of c) a c) d (beside_next a h s c b e.0) (subst (λ m. Leads free_law (stripe_of m) (played (stripes_of c) a c) es d) (sym n) e.1)
+
+-- what stands beside a history has it for its order
+order_beside : (h : List Record) (s : Running) (c : Core) → Beside h s c → IsOrderOf c s.order.entries s.order.points
+order_beside h s c b =
+    let own : IsHistory c h = record { ascending = b.dated.ascending; every = b.dated.every; only = b.dated.only } in
+    record { history = h; is_history = own; only = λ rs i. one_history c rs h i own; listed = ap (λ (o : Placed). o.entries) b.orders; dated = ap (λ (o : Placed). o.points) b.orders }
 
 pub running_follows : RunningFollows
 running_follows image last stripes es c leads =
     let n = replicated stripes in
-    let q = ran_shows es (opened image last stripes) c (run_opened image last stripes) refl (subst (λ m. Leads free_law (stripe_of m) (opened image last stripes) es c) (sym n) leads) in (
-      q.0,
-      λ e. (
-        (λ t. subst (λ m. Allowed free_law (stripe_of m) e c) (q.1 ∙ n) (may_is e c (sym (may_shown e c) ∙ (ap (may_play e) (sym q.0) ∙ t)))),
-        (λ a. ap (may_play e) q.0 ∙ (may_shown e c ∙ is_may e c (subst (λ m. Allowed free_law (stripe_of m) e c) (sym (q.1 ∙ n)) a))),
-      ),
-    )
+    let m : length c.locks ≡ stripes = (leads_stays (stripe_of stripes) es (opened image last stripes) c leads).1 ∙ n in
+    let q = ran_beside es [] (run_opened image last stripes) (opened image last stripes) c (record { shows = refl; orders = refl; dated = opening_dates free_law (stripe_of stripes) image last stripes }) (subst (λ k. Leads free_law (stripe_of k) (opened image last stripes) es c) (sym n) leads) in
+    let same = q.1.shows in record {
+      shows = same;
+      finds = λ k. ap (λ x. found_of x k) same ∙ last_found_shown c k;
+      order = order_beside q.0 (ran es (run_opened image last stripes)) c q.1;
+      allows = λ e. (
+        (λ t. subst (λ k. Allowed free_law (stripe_of k) e c) m (may_is e c (sym (may_shown e c) ∙ (ap (may_play e) (sym same) ∙ t)))),
+        (λ a. ap (may_play e) same ∙ (may_shown e c ∙ is_may e c (subst (λ k. Allowed free_law (stripe_of k) e c) (sym m) a))),
+      );
+    }
+
+pub reached_opening : (image : List ℕ) (last stripes : ℕ) → last < 2 ^ 62 → 0 < stripes → IsReached (run_opened image last stripes)
+reached_opening image last stripes l s = record { image = image; last = last; stripes = stripes; events = []; core = opened image last stripes; leads = refl; versions = l; locks = s; plays = refl }
+
+reached_follows : (s : Running) (r : IsReached s) → FollowsCore (stripe_of r.stripes) s r.core
+reached_follows s r = subst (λ x. FollowsCore (stripe_of r.stripes) x r.core) (sym r.plays) (running_follows r.image r.last r.stripes r.events r.core r.leads)
+
+-- however the running core was reached, its order is the history of the core that the events lead to
+pub reached_order : (s : Running) (r : IsReached s) → IsOrderOf r.core s.order.entries s.order.points
+reached_order s r = (reached_follows s r).order
+
+leads_snoc : (lk : ℕ → ℕ) (es : List Event) (e : Event) (c d : Core) → Leads free_law lk c es d → Allowed free_law lk e d → Leads free_law lk c (es ++ e ∷ []) (played lk e d)
+leads_snoc lk [] e c d same may = subst (λ x. Leads free_law lk x (e ∷ []) (played lk e d)) (sym same) (may, refl)
+leads_snoc lk (a ∷ es) e c d leads may = (leads.0, leads_snoc lk es e (played lk a c) d leads.1 may)
+
+ran_snoc : (es : List Event) (e : Event) (s : Running) → ran (es ++ e ∷ []) s ≡ run_played e (ran es s)
+ran_snoc [] e s = refl
+ran_snoc (a ∷ es) e s = ran_snoc es e (run_played a s)
+
+pub reached_next : (e : Event) (s : Running) → IsReached s → may_play e s.core ≡ true → IsReached (run_played e s)
+reached_next e s r may = record {
+  image = r.image;
+  last = r.last;
+  stripes = r.stripes;
+  events = r.events ++ e ∷ [];
+  core = played (stripe_of r.stripes) e r.core;
+  leads = leads_snoc (stripe_of r.stripes) r.events e (opened r.image r.last r.stripes) r.core r.leads (((reached_follows s r).allows e).0 may);
+  versions = r.versions;
+  locks = r.locks;
+  plays = ap (run_played e) r.plays ∙ sym (ran_snoc r.events e (run_opened r.image r.last r.stripes));
+}
+
+-- a reached core is sane
+pub reached_sane : (s : Running) → IsReached s → IsSane s.core
+reached_sane s r =
+    let q = leads_stays (stripe_of r.stripes) r.events (opened r.image r.last r.stripes) r.core r.leads in
+    let n : length r.core.locks ≡ r.stripes = q.1 ∙ replicated r.stripes in
+    let h : Inv free_law (stripes_of r.core) r.core = subst (λ m. Inv free_law (stripe_of m) r.core) (sym n) (every_list_stands r.image r.last r.stripes r.events r.core r.leads).invariant in
+    subst IsSane (sym (reached_follows s r).shows) (sane_shown r.core h (rw q.0 r.versions) (rw n r.locks))

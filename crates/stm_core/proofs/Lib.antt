@@ -22,5 +22,9 @@ pub mod Dating
 pub mod Playing
 pub mod Meanings
 pub mod Simulating
+pub mod Placing
 pub mod Following
 pub mod Making
+pub mod Numbering
+pub mod Tagging
+pub mod Replaying

@@ -1,15 +1,40 @@
--- The running core follows the core.
-use Rattle.std.specs.Prelude.{◌≡◌, ℕ, ◌<◌, ◌^◌, ◌↔◌, true, length, List}
+-- The running core follows the core, and its order is the core's history.
+use Rattle.std.specs.Prelude.{◌≡◌, ℕ, ◌<◌, ◌^◌, ◌↔◌, true, List, map}
+use Rattle.stm_core.specs.Client.{Record}
 use Rattle.stm_core.specs.Core.{Core, Event, Allowed, Leads, opened}
-use Rattle.stm_core.specs.Theorem.{stripe_of, free_law}
-use Rattle.stm_core.specs.Invariant.{Inv}
-use Rattle.stm_core.specs.Running.{Running, stripes_of, may_play, shown, run_opened, ran}
+use Rattle.stm_core.specs.Theorem.{stripe_of, free_law, IsHistory}
+use Rattle.stm_core.specs.Running.{Running, entry_of, may_play, shown, run_opened, found_of, ran}
+use Rattle.stm_core.specs.declared.event.Entry.{Entry}
 
--- a list of allowed events leads to a core that the running one shows
-abbrev pub IsReached : Running → Type 0
-IsReached s = (c : Core) × Inv free_law (stripes_of c) c × (c.last < 2 ^ 62) × (0 < length c.locks) × (s.core ≡ shown c)
+-- the core has one history, and these are the entries and the points of its records, in its order
+pub record IsOrderOf (c : Core) (entries : List Entry) (points : List ℕ) : Type 0 where
+  pub history : List Record
+  pub is_history : IsHistory c history
+  pub only : (rs : List Record) → IsHistory c rs → rs ≡ history
+  pub listed : entries ≡ map entry_of history
+  pub dated : points ≡ map (λ r. r.point) history
 
--- whatever allowed events are played, the running core shows the core that they lead to, and it allows just the events that are allowed there
+-- a list of allowed events leads from an opening to a core, and the running core is what the same list makes of the running core just opened
+pub record IsReached (s : Running) : Type 0 where
+  pub image : List ℕ
+  pub last : ℕ
+  pub stripes : ℕ
+  pub events : List Event
+  pub core : Core
+  pub leads : Leads free_law (stripe_of stripes) (opened image last stripes) events core
+  pub versions : last < 2 ^ 62
+  pub locks : 0 < stripes
+  pub plays : s ≡ ran events (run_opened image last stripes)
+
+-- the running core shows the core, and its order is the core's history
+pub record FollowsCore (lk : ℕ → ℕ) (s : Running) (c : Core) : Type 0 where
+  pub shows : s.core ≡ shown c
+  pub order : IsOrderOf c s.order.entries s.order.points
+  -- the last step of each client found the same word
+  pub finds : (client : ℕ) → found_of s.core client ≡ found_of c client
+  -- it allows just the events that are allowed in the core
+  pub allows : (e : Event) → (may_play e s.core ≡ true) ↔ Allowed free_law lk e c
+
+-- whatever allowed events are played, the running core follows the core that they lead to
 abbrev pub RunningFollows : Type 0
-RunningFollows = (image : List ℕ) (last stripes : ℕ) (events : List Event) (c : Core) → Leads free_law (stripe_of stripes) (opened image last stripes) events c
-    → ((ran events (run_opened image last stripes)).core ≡ shown c) × ((e : Event) → (may_play e (ran events (run_opened image last stripes)).core ≡ true) ↔ Allowed free_law (stripe_of stripes) e c)
+RunningFollows = (image : List ℕ) (last stripes : ℕ) (events : List Event) (c : Core) → Leads free_law (stripe_of stripes) (opened image last stripes) events c → FollowsCore (stripe_of stripes) (ran events (run_opened image last stripes)) c

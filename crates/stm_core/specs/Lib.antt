@@ -15,3 +15,4 @@ pub mod Played
 pub mod StateView
 pub mod Follows
 pub mod Refusals
+pub mod Numbered

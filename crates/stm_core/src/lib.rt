@@ -16,4 +16,4 @@ mod theorem;
 
 pub use event::{Entry, Event, NotAllowed, Writes};
 pub use replay::Core;
-pub use theorem::{core_theorem, running_theorem};
+pub use theorem::{core_theorem, law_theorem, running_theorem};

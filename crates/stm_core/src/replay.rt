@@ -2,6 +2,7 @@ ghost use Rattle.std.specs.Prelude.{◌≡◌, ℕ, ◌<◌, ◌≤◌, ◌^◌,
 ghost use Rattle.stm_core.specs.Played.{event_of};
 ghost use Rattle.stm_core.specs.Running.{may_play, run_played, run_opened, found_of};
 ghost use Rattle.stm_core.specs.Refusals.{IsRefusal};
+ghost use Rattle.stm_core.specs.Follows.{IsReached, IsOrderOf};
 
 use crate::event::{Entry, Event, NotAllowed};
 use crate::state::State;
@@ -73,7 +74,9 @@ impl Core {
 
     /// The decided records in the order of their point steps: a writer's won tick, a reader's begin.
     pub fn order(&self) -> &[Entry]
-        ensures { result.now ≡ self.now.order.entries }
+        ensures entries { result.now ≡ self.now.order.entries }
+        ensures reached { IsReached self.now }
+        ensures history { (r : IsReached self.now) → IsOrderOf r.core result.now self.now.order.points }
     {
         self.state.entries()
     }

@@ -1,8 +1,14 @@
 ghost use Rattle.std.specs.Prelude.{◌≡◌, ◌<◌, ◌≤◌, ◌^◌, length};
 
-use super::{Core, Entry, Event, NotAllowed, Writes};
+mod history;
+mod moves;
+mod player;
+mod random;
+
+use super::{Core, Entry, Event, NotAllowed, Writes, core_theorem, law_theorem, running_theorem};
 use std::alloc::Global;
 use std::process::Abort;
+use stm_words::FreeLaw;
 
 const LAST: u64 = 100;
 
@@ -134,6 +140,39 @@ fn a_lock_given_back_under_a_read(rt: HostRuntime) {
     assert_eq!(rt; core.order(), want.as_slice());
 }
 
+/// Takes a lock that is free at version 0.
+fn locked(rt: &impl Abort, core: Core, client: u32, lock: u32) -> Core {
+    let core = played(rt, core, Event::Probe { client, lock }, client, Some(0));
+    played(rt, core, Event::Lock { client, lock }, client, Some(0))
+}
+
+/// Ticks from a value, and finds the clock at another or the same.
+fn ticked(
+    rt: &impl Abort,
+    core: Core,
+    client: u32,
+    from: u64,
+    tag: u64,
+    writes: Writes,
+    found: u64,
+) -> Core {
+    let tick = Event::Tick {
+        client,
+        from,
+        tag,
+        writes,
+    };
+    played(rt, core, tick, client, Some(found))
+}
+
+fn put(client: u32, addr: u32, value: u64) -> Event {
+    Event::Put {
+        client,
+        addr,
+        value,
+    }
+}
+
 /// One writer that reads nothing: probe, lock, tick, put, release.
 fn written(
     rt: &impl Abort,
@@ -145,43 +184,10 @@ fn written(
     tag: u64,
     value: u64,
 ) -> Core {
-    let core = played(
-        rt,
-        core,
-        Event::Probe { client, lock: addr },
-        client,
-        Some(0),
-    );
-    let core = played(
-        rt,
-        core,
-        Event::Lock { client, lock: addr },
-        client,
-        Some(0),
-    );
-    let core = played(
-        rt,
-        core,
-        Event::Tick {
-            client,
-            from,
-            tag,
-            writes: writes(rt, alloc, &[(addr, value)]),
-        },
-        client,
-        Some(from),
-    );
-    let core = played(
-        rt,
-        core,
-        Event::Put {
-            client,
-            addr,
-            value,
-        },
-        client,
-        None,
-    );
+    let core = locked(rt, core, client, addr);
+    let pairs = writes(rt, alloc, &[(addr, value)]);
+    let core = ticked(rt, core, client, from, tag, pairs, from);
+    let core = played(rt, core, put(client, addr, value), client, None);
     played(
         rt,
         core,
@@ -191,84 +197,32 @@ fn written(
     )
 }
 
+fn writer(client: u32, tag: u64, version: u64) -> Entry {
+    Entry {
+        client,
+        tag,
+        version,
+        writer: true,
+    }
+}
+
 #[test]
 fn a_writer_decided_below_the_clock(rt: HostRuntime) {
-    let core = opened(&rt, rt.alloc(), 32);
-    let core = played(&rt, core, Event::Split { client: 1 }, 1, None);
-    let core = played(&rt, core, Event::Begin { client: 1 }, 1, Some(0));
+    let core = two_begun(&rt, rt.alloc());
     let core = played(&rt, core, Event::Probe { client: 1, lock: 8 }, 1, Some(0));
     let core = played(&rt, core, Event::Fetch { client: 1, addr: 8 }, 1, Some(0));
     let core = played(&rt, core, Event::Check { client: 1, addr: 8 }, 1, Some(0));
-    let core = played(&rt, core, Event::Begin { client: 2 }, 2, Some(0));
     let core = written(&rt, rt.alloc(), core, 2, 20, 0, 1, 6);
-    let core = played(&rt, core, Event::Probe { client: 1, lock: 9 }, 1, Some(0));
-    let core = played(&rt, core, Event::Lock { client: 1, lock: 9 }, 1, Some(0));
-    let core = played(
-        &rt,
-        core,
-        Event::Tick {
-            client: 1,
-            from: 0,
-            tag: 11,
-            writes: writes(&rt, rt.alloc(), &[(9, 5)]),
-        },
-        1,
-        Some(1),
-    );
-    let core = played(
-        &rt,
-        core,
-        Event::Tick {
-            client: 1,
-            from: 1,
-            tag: 11,
-            writes: writes(&rt, rt.alloc(), &[(9, 5)]),
-        },
-        1,
-        Some(1),
-    );
-    let core = refused(
-        &rt,
-        core,
-        Event::Put {
-            client: 1,
-            addr: 9,
-            value: 5,
-        },
-    );
+    let core = locked(&rt, core, 1, 9);
+    let pairs = writes(&rt, rt.alloc(), &[(9, 5)]);
+    let core = ticked(&rt, core, 1, 0, 11, pairs, 1);
+    let pairs = writes(&rt, rt.alloc(), &[(9, 5)]);
+    let core = ticked(&rt, core, 1, 1, 11, pairs, 1);
+    let core = refused(&rt, core, put(1, 9, 5));
     let core = played(&rt, core, Event::Begin { client: 2 }, 2, Some(2));
-    let core = played(
-        &rt,
-        core,
-        Event::Probe {
-            client: 2,
-            lock: 10,
-        },
-        2,
-        Some(0),
-    );
-    let core = played(
-        &rt,
-        core,
-        Event::Lock {
-            client: 2,
-            lock: 10,
-        },
-        2,
-        Some(0),
-    );
-    let core = played(
-        &rt,
-        core,
-        Event::Tick {
-            client: 2,
-            from: 2,
-            tag: 12,
-            writes: writes(&rt, rt.alloc(), &[(10, 7)]),
-        },
-        2,
-        Some(2),
-    );
+    let core = locked(&rt, core, 2, 10);
+    let pairs = writes(&rt, rt.alloc(), &[(10, 7)]);
+    let core = ticked(&rt, core, 2, 2, 12, pairs, 2);
     let core = played(
         &rt,
         core,
@@ -276,104 +230,53 @@ fn a_writer_decided_below_the_clock(rt: HostRuntime) {
         1,
         Some(0),
     );
-    let want = [
-        Entry {
-            client: 2,
-            tag: 1,
-            version: 1,
-            writer: true,
-        },
-        Entry {
-            client: 1,
-            tag: 11,
-            version: 2,
-            writer: true,
-        },
-        Entry {
-            client: 2,
-            tag: 12,
-            version: 3,
-            writer: true,
-        },
-    ];
+    let want = [writer(2, 1, 1), writer(1, 11, 2), writer(2, 12, 3)];
     assert_eq!(rt; core.order(), want.as_slice());
     let _ = refused(&rt, core, Event::Begin { client: 1 });
 }
 
+/// A writer that has stored two words of a stripe and released it.
+fn two_words_written(rt: &impl Abort, alloc: Global) -> Core {
+    let core = opened(rt, alloc, 4);
+    let core = played(rt, core, Event::Begin { client: 1 }, 1, Some(0));
+    let core = locked(rt, core, 1, 1);
+    let tick = Event::Tick {
+        client: 1,
+        from: 0,
+        tag: 1,
+        writes: writes(rt, alloc, &[(9, 1), (10, 2)]),
+    };
+    let core = refused(rt, core, tick);
+    let pairs = writes(rt, alloc, &[(9, 1), (13, 2)]);
+    let core = ticked(rt, core, 1, 0, 1, pairs, 0);
+    let core = played(rt, core, put(1, 9, 1), 1, None);
+    let core = refused(rt, core, Event::Release { client: 1, lock: 1 });
+    let core = played(rt, core, put(1, 13, 2), 1, None);
+    played(rt, core, Event::Release { client: 1, lock: 1 }, 1, None)
+}
+
 #[test]
 fn two_words_of_one_stripe(rt: HostRuntime) {
-    let core = opened(&rt, rt.alloc(), 4);
-    let core = played(&rt, core, Event::Begin { client: 1 }, 1, Some(0));
-    let core = played(&rt, core, Event::Probe { client: 1, lock: 1 }, 1, Some(0));
-    let core = played(&rt, core, Event::Lock { client: 1, lock: 1 }, 1, Some(0));
-    let core = refused(
-        &rt,
-        core,
-        Event::Tick {
-            client: 1,
-            from: 0,
-            tag: 1,
-            writes: writes(&rt, rt.alloc(), &[(9, 1), (10, 2)]),
-        },
-    );
-    let core = played(
-        &rt,
-        core,
-        Event::Tick {
-            client: 1,
-            from: 0,
-            tag: 1,
-            writes: writes(&rt, rt.alloc(), &[(9, 1), (13, 2)]),
-        },
-        1,
-        Some(0),
-    );
-    let core = played(
-        &rt,
-        core,
-        Event::Put {
-            client: 1,
-            addr: 9,
-            value: 1,
-        },
-        1,
-        None,
-    );
-    let core = refused(&rt, core, Event::Release { client: 1, lock: 1 });
-    let core = played(
-        &rt,
-        core,
-        Event::Put {
-            client: 1,
-            addr: 13,
-            value: 2,
-        },
-        1,
-        None,
-    );
-    let core = played(&rt, core, Event::Release { client: 1, lock: 1 }, 1, None);
+    let core = two_words_written(&rt, rt.alloc());
     let core = played(&rt, core, Event::Begin { client: 1 }, 1, Some(1));
     let core = played(&rt, core, Event::Probe { client: 1, lock: 1 }, 1, Some(2));
-    let core = played(
-        &rt,
-        core,
-        Event::Fetch {
-            client: 1,
-            addr: 13,
-        },
-        1,
-        Some(2),
-    );
-    let core = played(
-        &rt,
-        core,
-        Event::Check {
-            client: 1,
-            addr: 13,
-        },
-        1,
-        Some(2),
-    );
+    let fetch = Event::Fetch {
+        client: 1,
+        addr: 13,
+    };
+    let core = played(&rt, core, fetch, 1, Some(2));
+    let check = Event::Check {
+        client: 1,
+        addr: 13,
+    };
+    let core = played(&rt, core, check, 1, Some(2));
     let core = played(&rt, core, Event::Probe { client: 1, lock: 1 }, 1, Some(2));
     let _ = played(&rt, core, Event::Fetch { client: 1, addr: 5 }, 1, Some(0));
+}
+
+#[test]
+fn theorems(_rt: HostRuntime) {
+    core_theorem();
+    running_theorem();
+    law_theorem::<FreeLaw>();
 }

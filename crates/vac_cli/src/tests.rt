@@ -2,6 +2,7 @@ use super::*;
 use std::alloc::{AllocError, Global};
 use std::io;
 use std::io::{ErrorKind, Read, Write};
+use std::process::Abort;
 use std::test::Fail;
 use vac_model::{Command, Joined, Kind, Pick, Reply, Report, Task, TripReply, UpdateReply, Why};
 
@@ -214,15 +215,18 @@ fn tasks_of_lines(rt: HostRuntime) -> Result<(), Fail> {
     Ok(())
 }
 
+/// Prints each reply behind what stands there already.
+fn print_all(rt: &impl Abort, alloc: Global, rows: &[(Reply, &[u8])]) -> Result<(), AllocError> {
+    for (reply, text) in rows {
+        let mut out = Vec::from_slice(alloc, b"> ")?;
+        print_reply(reply, &mut out)?;
+        assert_eq!(rt; out.as_slice().strip_prefix(b"> ".as_slice()), Some(*text));
+    }
+    Ok(())
+}
+
 #[test]
 fn texts_of_replies(rt: HostRuntime) -> Result<(), Fail> {
-    let pick = |id: u32, refused: Option<Why>| {
-        Some(Pick {
-            id,
-            price: 50,
-            refused,
-        })
-    };
     let mut refused = [None; 32];
     refused[1] = Some(Why::NotFree);
     refused[2] = Some(Why::UnitLimit);
@@ -237,7 +241,7 @@ fn texts_of_replies(rt: HostRuntime) -> Result<(), Fail> {
         total: 18_446_744_073_709_551_615,
         billed: 0,
     };
-    let rows: [(Reply, &[u8]); 9] = [
+    let rows: [(Reply, &[u8]); 6] = [
         (Reply::Done, b"true"),
         (Reply::Number(Some(50)), b"50"),
         (Reply::Number(None), b"-1"),
@@ -246,6 +250,25 @@ fn texts_of_replies(rt: HostRuntime) -> Result<(), Fail> {
             Reply::Report(report),
             b"cars=1 flights=2 rooms=3 customers=4 bookings=5 used=6 free=7 total=18446744073709551615 billed=0",
         ),
+        (
+            Reply::Update(UpdateReply { len: 3, refused }),
+            b"update true not-free unit-limit",
+        ),
+    ];
+    print_all(&rt, rt.alloc(), &rows)?;
+    Ok(())
+}
+
+#[test]
+fn texts_of_trips(rt: HostRuntime) -> Result<(), Fail> {
+    let pick = |id: u32, refused: Option<Why>| {
+        Some(Pick {
+            id,
+            price: 50,
+            refused,
+        })
+    };
+    let rows: [(Reply, &[u8]); 3] = [
         (
             Reply::Trip(TripReply {
                 joined: Joined::NotAsked,
@@ -267,16 +290,8 @@ fn texts_of_replies(rt: HostRuntime) -> Result<(), Fail> {
             }),
             b"trip cust=exists car=- flight=4294967295:full room=-",
         ),
-        (
-            Reply::Update(UpdateReply { len: 3, refused }),
-            b"update true not-free unit-limit",
-        ),
     ];
-    for (reply, text) in rows {
-        let mut out = Vec::from_slice(rt.alloc(), b"> ")?;
-        print_reply(&reply, &mut out)?;
-        assert_eq!(rt; out.as_slice().strip_prefix(b"> ".as_slice()), Some(text));
-    }
+    print_all(&rt, rt.alloc(), &rows)?;
     Ok(())
 }
 

@@ -267,11 +267,11 @@ fn booked(joined: Joined, car: Option<Pick>) -> Reply {
     })
 }
 
-#[test]
-fn tasks(rt: HostRuntime) {
-    let mut manager = manager(&rt, rt.alloc(), 1024);
+/// A manager with five units each of cars 1, 2 and 3, of which the third costs less.
+fn with_three_cars(rt: &impl Abort, alloc: Global) -> Sequential {
+    let mut manager = manager(rt, alloc, 1024);
     play(
-        &rt,
+        rt,
         &mut manager,
         &[
             (add(Car, 1, 5, Some(50)), Done),
@@ -279,6 +279,27 @@ fn tasks(rt: HostRuntime) {
             (add(Car, 3, 5, Some(40)), Done),
         ],
     );
+    manager
+}
+
+/// A report of three cars and some rooms, of which nothing is booked.
+fn unbooked(rooms: u64, units: u64) -> Report {
+    Report {
+        cars: 3,
+        flights: 0,
+        rooms,
+        customers: 0,
+        bookings: 0,
+        used: 0,
+        free: units,
+        total: units,
+        billed: 0,
+    }
+}
+
+#[test]
+fn trips_and_leaves(rt: HostRuntime) {
+    let mut manager = with_three_cars(&rt, rt.alloc());
     let first = Some(Pick {
         id: 1,
         price: 50,
@@ -298,6 +319,12 @@ fn tasks(rt: HostRuntime) {
     let leave = Task::Leave { customer: 3 };
     assert_eq!(rt; answer(&rt, &mut manager, &leave), Number(Some(100)));
     assert_eq!(rt; answer(&rt, &mut manager, &leave), Number(None));
+    assert_eq!(rt; manager.report(), unbooked(0, 15));
+}
+
+#[test]
+fn updates_and_reports(rt: HostRuntime) {
+    let mut manager = with_three_cars(&rt, rt.alloc());
     let changes = [
         add(Room, 9, 2, Some(70)),
         delete(Car, 3, 6),
@@ -309,17 +336,7 @@ fn tasks(rt: HostRuntime) {
     refused[2] = Some(NoItem);
     let want = Reply::Update(UpdateReply { len: 3, refused });
     assert_eq!(rt; answer(&rt, &mut manager, &update), want);
-    let report = Report {
-        cars: 3,
-        flights: 0,
-        rooms: 1,
-        customers: 0,
-        bookings: 0,
-        used: 0,
-        free: 17,
-        total: 17,
-        billed: 0,
-    };
+    let report = unbooked(1, 17);
     assert_eq!(rt; manager.report(), report);
     play(
         &rt,

@@ -1,0 +1,88 @@
+-- The order of the running core beside the core's history: a record comes to the same place in both, and a core has one history.
+use Rattle.std.proofs.Common.{◌≡◌, ℕ, suc, ◌+◌, ⊎_elim, true, cond, eqb, ltb, List, [], ◌∷◌, length, map, refl, sym, ap, ◌∙◌, subst, arith, add-one}
+use Rattle.std.specs.List.{insert}
+use Rattle.stm_words.specs.Image.{In}
+use Rattle.stm_core.specs.Client.{Client, Record, Stamp}
+use Rattle.stm_core.specs.Event.{Action, begin, probe, fetch, check, lock, tick, validate, put, release, give_back, finish, versioned, decides_at_once, passes}
+use Rattle.stm_core.specs.Core.{Core}
+use Rattle.stm_core.specs.History.{ByPoint}
+use Rattle.stm_core.specs.Theorem.{IsHistory}
+use Rattle.stm_core.specs.Seat.{blank}
+use Rattle.stm_core.specs.Placing.{Placed, place_in}
+use Rattle.stm_core.specs.Running.{Running, decision, entry_of, entered}
+use Rattle.stm_core.proofs.Lists.{nothing_in}
+use Rattle.stm_core.proofs.Orders.{in_cons}
+use Rattle.stm_core.proofs.Steps.{by_case}
+use Rattle.stm_core.proofs.Dating.{placed}
+use Rattle.stm_core.proofs.Playing.{filed}
+
+abbrev pub points_of : List Record → List ℕ
+points_of h = map (λ (r : Record). r.point) h
+
+-- the order of a history
+abbrev pub order_of : List Record → Placed
+order_of h = record { entries = map entry_of h; points = points_of h }
+
+-- a record placed by its point is an insertion at the place among the points
+placed_map : {X : Type 0} (f : Record → X) (r : Record) (h : List Record) → map f (placed r h) ≡ insert (map f h) (place_in (points_of h) r.point) (f r)
+placed_map f r [] = refl
+placed_map f r (x ∷ h) = by_case (λ b. map f (cond b (r ∷ x ∷ h) (x ∷ placed r h)) ≡ insert (f x ∷ map f h) (cond b 0 (place_in (points_of h) r.point + 1)) (f r)) (ltb r.point x.point)
+    (λ e. refl)
+    (λ e. rw (add-one (place_in (points_of h) r.point)) (ap (λ l. f x ∷ l) (placed_map f r h)))
+
+-- a record without what the running core does not keep
+abbrev pub as_kept : Record → Record
+as_kept r = record r { attempt = 0; renewal = 0 }
+
+-- a client as far as it is kept decides the same record as far as it is kept
+pub decision_shown : (t : Stamp) (e : Action) (n : ℕ) (v : Client) → decision (record t { renewal = 0 }) e n (blank v) ≡ map as_kept (decision t e n v)
+decision_shown t begin n v = refl
+decision_shown t (probe k) n v = refl
+decision_shown t (fetch a) n v = refl
+decision_shown t (check a) n v = refl
+decision_shown t (lock k) n v = refl
+decision_shown t (tick from tag writes) n v =
+    let r : Record = record { tag = tag; reads = v.reads; writes = writes; writer = true; version = from + 1; attempt = v.attempt; renewal = t.renewal; point = t.place; client = t.client } in
+    by_case (λ b. cond b (cond (decides_at_once (versioned t (from + 1) tag writes v)) (as_kept r ∷ []) []) [] ≡ map as_kept (cond b (cond (decides_at_once (versioned t (from + 1) tag writes v)) (r ∷ []) []) [])) (eqb n from)
+    (λ e. by_case (λ b. cond b (as_kept r ∷ []) [] ≡ map as_kept (cond b (r ∷ []) [])) (decides_at_once (versioned t (from + 1) tag writes v)) (λ z. refl) (λ z. refl))
+    (λ e. refl)
+decision_shown t (validate k) n v =
+    let r : Record = record { tag = v.tag; reads = v.reads; writes = v.writes; writer = true; version = v.wv; attempt = v.attempt; renewal = t.renewal; point = v.ticked_at; client = t.client } in
+    by_case (λ b. cond b (cond (eqb (v.passed + 1) (length v.reads)) (as_kept r ∷ []) []) [] ≡ map as_kept (cond b (cond (eqb (v.passed + 1) (length v.reads)) (r ∷ []) []) [])) (passes k n v)
+    (λ e. by_case (λ b. cond b (as_kept r ∷ []) [] ≡ map as_kept (cond b (r ∷ []) [])) (eqb (v.passed + 1) (length v.reads)) (λ z. refl) (λ z. refl))
+    (λ e. refl)
+decision_shown t (put a x) n v = refl
+decision_shown t (release k) n v = refl
+decision_shown t (give_back k) n v = refl
+decision_shown t (finish tag) n v = refl
+
+-- what is decided comes to its place in the order as in the history
+pub entered_order : (kept rs : List Record) → kept ≡ map as_kept rs → (s : Running) (h : List Record) → s.order ≡ order_of h → (entered kept s).order ≡ order_of (filed rs h)
+entered_order kept rs same s h o = subst (λ l. (entered l s).order ≡ order_of (filed rs h)) (sym same) (go rs)
+  where
+    go : (l : List Record) → (entered (map as_kept l) s).order ≡ order_of (filed l h)
+    go [] = o
+    go (r ∷ l) = ap (λ (p : Placed). put_in p r) o ∙ (λ i. record { entries = sym (placed_map entry_of r h) i; points = sym (placed_map (λ (x : Record). x.point) r h) i })
+      where
+        put_in : Placed → Record → Placed
+        put_in p x = record { entries = insert p.entries (place_in p.points x.point) (entry_of x); points = insert p.points (place_in p.points x.point) x.point }
+
+-- the same records stand behind the first ones of two lists by point steps
+behind_first : (x y : Record) (h g : List Record) → x ≡ y → ByPoint (x ∷ h) → ((r : Record) → In r (x ∷ h) → In r (y ∷ g)) → (r : Record) → In r h → In r g
+behind_first x y h g same o f r i = ⊎_elim (λ e. absurd (let a = o.0 r i in let c : x.point ≡ r.point = ap (λ (z : Record). z.point) (same ∙ e) in omega arith)) (λ j. j) (in_cons y r g (f r (suc i.0, i.1)))
+
+-- two lists by point steps with the same records are the same list
+one_list : (h g : List Record) → ByPoint h → ByPoint g → ((r : Record) → In r h → In r g) → ((r : Record) → In r g → In r h) → h ≡ g
+one_list [] [] o p f b = refl
+one_list [] (y ∷ g) o p f b = absurd (nothing_in y (b y (0, refl)))
+one_list (x ∷ h) [] o p f b = absurd (nothing_in x (f x (0, refl)))
+one_list (x ∷ h) (y ∷ g) o p f b =
+    let rest : h ≡ g = one_list h g o.1 p.1 (behind_first x y h g same o f) (behind_first y x g h (sym same) p b) in
+    λ i. same i ∷ rest i
+  where
+    same : x ≡ y
+    same = ⊎_elim (λ e. sym e) (λ j. ⊎_elim (λ e. e) (λ k. absurd (let a = p.0 x j in let c = o.0 y k in omega arith)) (in_cons x y h (b y (0, refl)))) (in_cons y x g (f x (0, refl)))
+
+-- a core has one history
+pub one_history : (c : Core) (h g : List Record) → IsHistory c h → IsHistory c g → h ≡ g
+one_history c h g a b = one_list h g a.ascending b.ascending (λ r i. let q = a.only r i in b.every q.0 q.1 r q.2 q.3) (λ r i. let q = b.only r i in a.every q.0 q.1 r q.2 q.3)

@@ -1,0 +1,322 @@
+//! The history of a random list, worked out anew from who was allowed what, and held against what the core shows.
+
+use super::moves::{Kind, Move, Shape, below};
+use super::player::{Player, Stage};
+use crate::{Core, Entry, Event};
+use rand_pcg::Pcg32;
+use std::alloc::{AllocError, Global};
+use std::process::Abort;
+
+/// A decided attempt: its point is the place of a writer's won tick, or of a reader's begin, among the events.
+#[derive(Drop)]
+struct Decided {
+    entry: Entry,
+    point: u64,
+    reads: Vec<(u32, u64)>,
+    writes: Vec<(u32, u64)>,
+}
+
+#[derive(Drop)]
+pub(super) struct History {
+    pub shape: Shape,
+    opening: Vec<u64>,
+    clock: u64,
+    events: u64,
+    values: u64,
+    decided: Vec<Decided>,
+    pub players: Vec<Player>,
+}
+
+impl History {
+    pub(super) fn new(
+        alloc: Global,
+        shape: Shape,
+        opening: Vec<u64>,
+    ) -> Result<History, AllocError> {
+        let mut players = Vec::new(alloc);
+        players.push(Player::new(alloc, 63))?;
+        Ok(History {
+            shape,
+            opening,
+            clock: 0,
+            events: 0,
+            values: 100,
+            decided: Vec::new(alloc),
+            players,
+        })
+    }
+
+    /// Whether the clock is at the last version.
+    pub(super) fn is_spent(&self) -> bool {
+        self.clock == self.shape.last
+    }
+
+    /// The event of a move; a tick has what its client is going to write.
+    pub(super) fn event(&self, alloc: Global, turn: &Move, tag: u64) -> Result<Event, AllocError> {
+        match self.player(turn.client) {
+            Some(player) => turn.event(alloc, tag, &player.goal),
+            None => turn.event(alloc, tag, &[]),
+        }
+    }
+
+    /// What is known of a client.
+    pub(super) fn player(&self, client: u32) -> Option<&Player> {
+        self.players.get(client.wrapping_sub(1) as usize)
+    }
+
+    /// The value of an address in the image of a version.
+    fn value_at(&self, version: u64, addr: u32) -> u64 {
+        let mut newest = 0;
+        let mut value = self.opening.get(addr as usize).map_or(0, |word| *word);
+        for attempt in self.decided.iter() {
+            if newest < attempt.entry.version && attempt.entry.version <= version {
+                if let Some(pair) = attempt.writes.iter().find(|pair| pair.0 == addr) {
+                    newest = attempt.entry.version;
+                    value = pair.1;
+                }
+            }
+        }
+        value
+    }
+
+    /// The data word of an address: the newest value, but for one that a decided writer has not stored yet.
+    fn cell(&self, addr: u32) -> u64 {
+        let owed = self.players.iter().find(|player| player.owes(addr));
+        let version = owed.map_or(u64::MAX, |player| player.wv.wrapping_sub(1));
+        self.value_at(version, addr)
+    }
+
+    /// The word of a lock: held or not, with the version of the newest decided writer that does not hold it still.
+    fn lock_word(&self, lock: u32) -> u64 {
+        let mut version = 0;
+        for attempt in self.decided.iter() {
+            let there = attempt
+                .writes
+                .iter()
+                .any(|pair| self.shape.lock_of(pair.0) == lock);
+            if there
+                && version < attempt.entry.version
+                && !self.is_kept(attempt.entry.version, lock)
+            {
+                version = attempt.entry.version;
+            }
+        }
+        let held = self.players.iter().any(|player| player.holds(lock));
+        version.wrapping_mul(2).wrapping_add(u64::from(held))
+    }
+
+    /// Whether the writer of a version holds a lock still.
+    fn is_kept(&self, version: u64, lock: u32) -> bool {
+        self.players
+            .iter()
+            .any(|player| player.wv == version && player.holds(lock))
+    }
+
+    /// The word that an event will find.
+    pub(super) fn expected(&self, turn: &Move) -> Option<u64> {
+        match turn.kind {
+            Kind::Begin | Kind::Finish | Kind::Tick => Some(self.clock),
+            Kind::Probe | Kind::Lock | Kind::Validate => Some(self.lock_word(turn.place)),
+            Kind::Check => Some(self.lock_word(self.shape.lock_of(turn.place))),
+            Kind::Fetch => Some(self.cell(turn.place)),
+            Kind::Put | Kind::Release | Kind::GiveBack | Kind::Split | Kind::Gather => None,
+        }
+    }
+
+    /// Whether the rules allow an event.
+    pub(super) fn allows(&self, turn: &Move) -> bool {
+        let Some(player) = self.player(turn.client).filter(|player| player.out) else {
+            return false;
+        };
+        let other = self.player(turn.place).filter(|other| other.out);
+        player.may(turn, &self.shape)
+            && (turn.kind != Kind::Gather
+                || (turn.client != turn.place && other.is_some_and(|other| other.held.is_empty())))
+    }
+
+    /// Takes an event that was allowed. True where it decides.
+    pub(super) fn takes(
+        &mut self,
+        rt: &impl Abort,
+        alloc: Global,
+        turn: &Move,
+        tag: u64,
+        found: Option<u64>,
+    ) -> Result<bool, AllocError> {
+        let place = self.events;
+        self.events = place.wrapping_add(1);
+        if turn.kind == Kind::Tick && found == Some(turn.number) {
+            self.clock = self.clock.wrapping_add(1);
+        }
+        let grants = self.comes_and_goes(alloc, turn)?;
+        let Some(player) = self.players.get_mut(turn.client.wrapping_sub(1) as usize) else {
+            panic!(rt; "an event of nobody was allowed");
+        };
+        player.seen = found;
+        player.grants = player.grants.wrapping_add(grants);
+        let decides = player.moves(turn, tag, place, found.unwrap_or(0))?;
+        if decides {
+            let attempt = Decided::of(alloc, turn.client, player)?;
+            self.decided.push(attempt)?;
+        }
+        Ok(decides)
+    }
+
+    /// A client that is split off comes, and one that is gathered goes and leaves its grants and one more.
+    fn comes_and_goes(&mut self, alloc: Global, turn: &Move) -> Result<u32, AllocError> {
+        if turn.kind == Kind::Split {
+            self.players.push(Player::new(alloc, 0))?;
+        }
+        if turn.kind != Kind::Gather {
+            return Ok(0);
+        }
+        match self.players.get_mut(turn.place.wrapping_sub(1) as usize) {
+            Some(other) => {
+                other.leaves();
+                Ok(other.grants.wrapping_add(1))
+            }
+            None => Ok(0),
+        }
+    }
+
+    /// A client drops its plan to write where a lock or a tick was refused.
+    pub(super) fn drops(&mut self, turn: &Move) {
+        if matches!(turn.kind, Kind::Lock | Kind::Tick) {
+            if let Some(player) = self.players.get_mut(turn.client.wrapping_sub(1) as usize) {
+                player.goal.clear();
+            }
+        }
+    }
+
+    /// Plans what a client reads and writes in the attempt that it begins, and what it reads next. Now and then the
+    /// writes are none that can be ticked, an address twice or one outside, or the locks come in the wrong order.
+    pub(super) fn plans(&mut self, rng: &mut Pcg32, turn: &Move) -> Result<(), AllocError> {
+        let words = self.shape.words;
+        let aim = below(rng, words);
+        let first = if below(rng, 32) == 0 {
+            words
+        } else {
+            below(rng, words)
+        };
+        let second = below(rng, words);
+        let twice = below(rng, 16) == 0;
+        let falls = below(rng, 16) == 0;
+        let many = below(rng, 3);
+        let wanted = below(rng, 3) as usize;
+        let value = self.values;
+        self.values = value.wrapping_add(2);
+        let Some(player) = self.players.get_mut(turn.client.wrapping_sub(1) as usize) else {
+            return Ok(());
+        };
+        player.aim = aim;
+        if turn.kind == Kind::Begin {
+            player.wanted = wanted;
+            player.falls = falls;
+            player.goal.clear();
+            if 0 < many {
+                player.goal.push((first, value))?;
+            }
+            if 1 < many && (twice || first != second) {
+                player.goal.push((second, value.wrapping_add(1)))?;
+            }
+        }
+        Ok(())
+    }
+
+    /// Holds the words found and the length of the order against the history.
+    pub(super) fn fits(&self, rt: &impl Abort, core: &Core) {
+        let mut client = 0;
+        assert_eq!(rt; core.found(client), None);
+        for player in self.players.iter() {
+            client = client.wrapping_add(1);
+            assert_eq!(rt; core.found(client), player.seen);
+        }
+        assert_eq!(rt; core.found(client.wrapping_add(1)), None);
+        assert_eq!(rt; core.order().len(), self.decided.len());
+    }
+
+    /// Holds the order, and all that was read, against the history.
+    pub(super) fn fits_whole(
+        &self,
+        rt: &impl Abort,
+        alloc: Global,
+        core: &Core,
+    ) -> Result<(), AllocError> {
+        for player in self.players.iter() {
+            self.reads_of_one_version(rt, player);
+        }
+        self.is_serial(rt, alloc, core.order())
+    }
+
+    /// What an attempt has read stood in the image of its read version.
+    fn reads_of_one_version(&self, rt: &impl Abort, player: &Player) {
+        if player.out && player.stage != Stage::Resting {
+            for (addr, value) in player.reads.iter() {
+                assert_eq!(rt; self.value_at(player.rv, *addr), *value);
+            }
+        }
+    }
+
+    /// Played one by one in the order, from the opening image on, each decided attempt reads what stands there, and
+    /// the last leaves the newest image. The points rise, so that no attempt is there twice, and so do the versions.
+    fn is_serial(&self, rt: &impl Abort, alloc: Global, order: &[Entry]) -> Result<(), AllocError> {
+        let mut image = Vec::from_slice(alloc, &self.opening)?;
+        let mut version = 0;
+        let mut point = None;
+        for entry in order {
+            let Some(attempt) = self.decided.iter().find(|attempt| attempt.entry == *entry) else {
+                panic!(rt; "an entry of no attempt");
+            };
+            assert!(rt; point < Some(attempt.point));
+            assert!(rt; version < entry.version || (!entry.writer && version == entry.version));
+            point = Some(attempt.point);
+            version = entry.version;
+            attempt.plays(rt, &mut image);
+        }
+        self.is_newest(rt, &image);
+        Ok(())
+    }
+
+    /// An image has the newest values.
+    fn is_newest(&self, rt: &impl Abort, image: &[u64]) {
+        let mut addr = 0;
+        for value in image {
+            assert_eq!(rt; self.value_at(u64::MAX, addr), *value);
+            addr = addr.wrapping_add(1);
+        }
+    }
+}
+
+impl Decided {
+    /// What a client decides now.
+    fn of(alloc: Global, client: u32, player: &Player) -> Result<Decided, AllocError> {
+        let writer = player.stage == Stage::Committed;
+        Ok(Decided {
+            entry: Entry {
+                client,
+                tag: player.tag,
+                version: if writer { player.wv } else { player.rv },
+                writer,
+            },
+            point: if writer { player.ticked } else { player.began },
+            reads: Vec::from_slice(alloc, &player.reads)?,
+            writes: Vec::from_slice(alloc, &player.writes)?,
+        })
+    }
+
+    /// Reads and writes an image at one go.
+    fn plays(&self, rt: &impl Abort, image: &mut [u64]) {
+        for (addr, value) in self.reads.iter() {
+            assert_eq!(rt; image.get(*addr as usize), Some(value));
+        }
+        lay(image, &self.writes);
+    }
+}
+
+fn lay(image: &mut [u64], writes: &[(u32, u64)]) {
+    for (addr, value) in writes {
+        if let Some(word) = image.get_mut(*addr as usize) {
+            *word = *value;
+        }
+    }
+}

@@ -1,0 +1,141 @@
+//! What a client of a random list may ask for next, as plain numbers.
+
+ghost use Rattle.std.specs.Prelude.{◌<◌, ◌≤◌};
+
+use crate::{Event, Writes};
+use rand_core::utils::NextWord;
+use rand_pcg::Pcg32;
+use std::alloc::{AllocError, Global};
+
+/// How many words and stripes a region has, and its last version.
+#[derive(Clone, Copy, Debug)]
+pub(super) struct Shape {
+    pub words: u32,
+    pub stripes: u32,
+    pub last: u64,
+    ghost small: { (1 ≤ words) × (words ≤ 8) × (1 ≤ stripes) × (stripes ≤ 8) × (1 ≤ last) × (last ≤ 16) },
+}
+
+impl Shape {
+    /// A few words and stripes, so that clients meet, and a last version that is often reached.
+    pub(super) fn drawn(rng: &mut Pcg32) -> Shape {
+        Shape {
+            words: 1 + below(rng, 5),
+            stripes: 1 + below(rng, 4),
+            last: 1 + u64::from(below(rng, 16)),
+        }
+    }
+
+    /// The lock of an address.
+    pub(super) fn lock_of(&self, addr: u32) -> u32 {
+        addr % self.stripes
+    }
+}
+
+/// A number below a bound.
+pub(super) fn below(rng: &mut Pcg32, bound: u32) -> u32
+    requires { 0 < bound }
+    ensures { result < bound }
+{
+    rng.next_word() % bound
+}
+
+#[derive(Clone, Copy, Debug, PartialEq, Eq)]
+pub(super) enum Kind {
+    Begin,
+    Probe,
+    Fetch,
+    Check,
+    Lock,
+    Tick,
+    Validate,
+    Put,
+    Release,
+    GiveBack,
+    Finish,
+    Split,
+    Gather,
+}
+
+impl Kind {
+    /// Any kind.
+    pub(super) fn drawn(rng: &mut Pcg32) -> Kind {
+        match below(rng, 13) {
+            0 => Kind::Begin,
+            1 => Kind::Probe,
+            2 => Kind::Fetch,
+            3 => Kind::Check,
+            4 => Kind::Lock,
+            5 => Kind::Tick,
+            6 => Kind::Validate,
+            7 => Kind::Put,
+            8 => Kind::Release,
+            9 => Kind::GiveBack,
+            10 => Kind::Finish,
+            11 => Kind::Split,
+            _ => Kind::Gather,
+        }
+    }
+}
+
+/// An event but for its tag and its writes.
+#[derive(Clone, Copy, Debug)]
+pub(super) struct Move {
+    pub kind: Kind,
+    pub client: u32,
+    /// The lock, the address or the other client.
+    pub place: u32,
+    /// The value to store, or the clock's value to tick from.
+    pub number: u64,
+}
+
+impl Move {
+    /// A move without a number.
+    pub(super) fn of(kind: Kind, client: u32, place: u32) -> Move {
+        Move {
+            kind,
+            client,
+            place,
+            number: 0,
+        }
+    }
+
+    /// The event with this tag and these writes.
+    pub(super) fn event(
+        &self,
+        alloc: Global,
+        tag: u64,
+        writes: &[(u32, u64)],
+    ) -> Result<Event, AllocError> {
+        let client = self.client;
+        let lock = self.place;
+        let addr = self.place;
+        Ok(match self.kind {
+            Kind::Begin => Event::Begin { client },
+            Kind::Probe => Event::Probe { client, lock },
+            Kind::Fetch => Event::Fetch { client, addr },
+            Kind::Check => Event::Check { client, addr },
+            Kind::Lock => Event::Lock { client, lock },
+            Kind::Tick => Event::Tick {
+                client,
+                from: self.number,
+                tag,
+                writes: Writes::of(alloc, writes)?,
+            },
+            Kind::Validate => Event::Validate { client, lock },
+            Kind::Put => Event::Put {
+                client,
+                addr,
+                value: self.number,
+            },
+            Kind::Release => Event::Release { client, lock },
+            Kind::GiveBack => Event::GiveBack { client, lock },
+            Kind::Finish => Event::Finish { client, tag },
+            Kind::Split => Event::Split { client },
+            Kind::Gather => Event::Gather {
+                client,
+                other: self.place,
+            },
+        })
+    }
+}

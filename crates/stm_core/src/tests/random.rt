@@ -1,0 +1,296 @@
+//! Random lists of events by fixed seeds, most of them by the rules of an attempt.
+
+use super::history::History;
+use super::moves::{Kind, Move, Shape, below};
+use super::player::Stage;
+use crate::{Core, NotAllowed};
+use rand_pcg::Pcg32;
+use std::alloc::{AllocError, Global};
+use std::process::Abort;
+use std::test::Fail;
+
+const LISTS: u64 = 2500;
+
+const EVENTS: u32 = 64;
+
+/// What has happened in all lists.
+#[derive(Clone, Copy, Debug)]
+struct Tally {
+    refused: u64,
+    readers: u64,
+    writers: u64,
+    /// Writers that their last look decided.
+    looked: u64,
+    lost_locks: u64,
+    lost_ticks: u64,
+    lost_looks: u64,
+    lost_checks: u64,
+    spent: u64,
+    gathered: u64,
+}
+
+fn add(count: &mut u64, happens: bool) {
+    *count = count.wrapping_add(u64::from(happens));
+}
+
+impl Tally {
+    fn none() -> Tally {
+        Tally {
+            refused: 0,
+            readers: 0,
+            writers: 0,
+            looked: 0,
+            lost_locks: 0,
+            lost_ticks: 0,
+            lost_looks: 0,
+            lost_checks: 0,
+            spent: 0,
+            gathered: 0,
+        }
+    }
+
+    fn all(&self) -> [u64; 10] {
+        [
+            self.refused,
+            self.readers,
+            self.writers,
+            self.looked,
+            self.lost_locks,
+            self.lost_ticks,
+            self.lost_looks,
+            self.lost_checks,
+            self.spent,
+            self.gathered,
+        ]
+    }
+
+    /// Counts an event that was allowed.
+    fn counts(&mut self, history: &History, turn: &Move, decides: bool, found: Option<u64>) {
+        let Some(player) = history.player(turn.client) else {
+            return;
+        };
+        let ends = player.stage == Stage::Ending;
+        let kind = turn.kind;
+        add(&mut self.readers, kind == Kind::Finish);
+        add(&mut self.writers, decides && kind != Kind::Finish);
+        add(&mut self.looked, decides && kind == Kind::Validate);
+        add(&mut self.lost_locks, ends && kind == Kind::Lock);
+        add(&mut self.lost_looks, ends && kind == Kind::Validate);
+        add(&mut self.lost_checks, ends && kind == Kind::Check);
+        add(
+            &mut self.lost_ticks,
+            kind == Kind::Tick && found != Some(turn.number),
+        );
+        add(&mut self.gathered, kind == Kind::Gather);
+    }
+}
+
+fn started(rt: &impl Abort, alloc: Global, image: &[u64], shape: &Shape) -> Core {
+    assert!(rt; 1 <= image.len() && image.len() <= 8);
+    match Core::start(alloc, image, shape.last, shape.stripes) {
+        Ok(core) => core,
+        Err(_) => panic!(rt; "no memory for a core"),
+    }
+}
+
+fn opening(rng: &mut Pcg32, alloc: Global, shape: &Shape) -> Result<Vec<u64>, AllocError> {
+    let mut image = Vec::new(alloc);
+    for _ in 0..shape.words {
+        image.push(u64::from(below(rng, 50)))?;
+    }
+    Ok(image)
+}
+
+/// A move of some client: mostly the next by the rules, now and then any other.
+fn drawn(rng: &mut Pcg32, history: &History) -> Move {
+    let known = history.players.len().min(8) as u32;
+    let client = if below(rng, 20) == 0 {
+        below(rng, 10)
+    } else {
+        1 + below(rng, known.max(1))
+    };
+    let turn = match history.player(client) {
+        Some(player) => player.next(client, &history.shape),
+        None => Move::of(Kind::Begin, client, 0),
+    };
+    if below(rng, 8) == 0 {
+        stray(rng, turn)
+    } else {
+        turn
+    }
+}
+
+/// Another kind of move, or another place or number.
+fn stray(rng: &mut Pcg32, turn: Move) -> Move {
+    let place = below(rng, 6);
+    let number = u64::from(below(rng, 12));
+    Move {
+        kind: Kind::drawn(rng),
+        client: turn.client,
+        place: if below(rng, 2) == 0 {
+            turn.place
+        } else {
+            place
+        },
+        number: if below(rng, 2) == 0 {
+            turn.number
+        } else {
+            number
+        },
+    }
+}
+
+/// A list under way, beside its core.
+#[derive(Drop)]
+struct Trial {
+    list: u64,
+    alloc: Global,
+    rng: Pcg32,
+    history: History,
+    tally: Tally,
+    tag: u64,
+}
+
+impl Trial {
+    /// Plays a move, and holds what the core shows then against the history.
+    fn plays(&mut self, rt: &impl Abort, core: Core, turn: Move) -> Result<Core, AllocError> {
+        self.tag = self.tag.wrapping_add(1);
+        let list = self.list;
+        let allowed = self.history.allows(&turn);
+        let expected = self.history.expected(&turn);
+        let event = self.history.event(self.alloc, &turn, self.tag)?;
+        let core = match core.play(event) {
+            Ok(core) => {
+                assert!(rt; allowed, "list {list}: {turn:?} was allowed");
+                let found = core.found(turn.client);
+                assert_eq!(rt; found, expected, "list {list}: {turn:?}");
+                if self.takes(rt, &turn, found)? {
+                    self.history.fits_whole(rt, self.alloc, &core)?;
+                }
+                core
+            }
+            Err((core, why)) => {
+                assert_eq!(rt; why, NotAllowed::Event);
+                assert!(rt; !allowed, "list {list}: {turn:?} was refused");
+                self.history.drops(&turn);
+                add(&mut self.tally.refused, true);
+                core
+            }
+        };
+        self.history.fits(rt, &core);
+        Ok(core)
+    }
+
+    /// Plays a move that has to be allowed.
+    fn must_play(&mut self, rt: &impl Abort, core: Core, turn: Move) -> Result<Core, AllocError> {
+        assert!(rt; self.history.allows(&turn));
+        self.plays(rt, core, turn)
+    }
+
+    /// Takes an event that was allowed. True where it decides or reads.
+    fn takes(
+        &mut self,
+        rt: &impl Abort,
+        turn: &Move,
+        found: Option<u64>,
+    ) -> Result<bool, AllocError> {
+        let decides = self.history.takes(rt, self.alloc, turn, self.tag, found)?;
+        self.tally.counts(&self.history, turn, decides, found);
+        if matches!(turn.kind, Kind::Begin | Kind::Check) {
+            self.history.plans(&mut self.rng, turn)?;
+        }
+        Ok(decides || turn.kind == Kind::Check)
+    }
+
+    /// Splits clients off the first.
+    fn splits(&mut self, rt: &impl Abort, core: Core, many: u32) -> Result<Core, AllocError> {
+        let mut core = core;
+        for _ in 0..many {
+            core = self.must_play(rt, core, Move::of(Kind::Split, 1, 0))?;
+        }
+        Ok(core)
+    }
+
+    /// Lets a client store and release what it has decided, or give back what it holds.
+    fn settles(&mut self, rt: &impl Abort, core: Core, client: u32) -> Result<Core, AllocError> {
+        let mut core = core;
+        for _ in 0..16 {
+            let Some(turn) = self
+                .history
+                .player(client)
+                .and_then(|player| player.rests(client))
+            else {
+                return Ok(core);
+            };
+            core = self.must_play(rt, core, turn)?;
+        }
+        panic!(rt; "a client does not come to rest")
+    }
+
+    /// Reads every word in one attempt of a client.
+    fn sweeps(&mut self, rt: &impl Abort, core: Core, client: u32) -> Result<Core, AllocError> {
+        let mut core = self.must_play(rt, core, Move::of(Kind::Begin, client, 0))?;
+        for addr in 0..self.history.shape.words {
+            let lock = self.history.shape.lock_of(addr);
+            core = self.must_play(rt, core, Move::of(Kind::Probe, client, lock))?;
+            core = self.must_play(rt, core, Move::of(Kind::Fetch, client, addr))?;
+            core = self.must_play(rt, core, Move::of(Kind::Check, client, addr))?;
+        }
+        self.must_play(rt, core, Move::of(Kind::Finish, client, 0))
+    }
+
+    /// Brings all clients to rest, and reads every word.
+    fn ends(&mut self, rt: &impl Abort, core: Core) -> Result<(), AllocError> {
+        let mut core = core;
+        let mut reader = 0;
+        for client in 1..=9 {
+            if self.history.player(client).is_some_and(|player| player.out) {
+                core = self.settles(rt, core, client)?;
+                reader = client;
+            }
+        }
+        let _ = self.sweeps(rt, core, reader)?;
+        add(&mut self.tally.spent, self.history.is_spent());
+        Ok(())
+    }
+}
+
+/// Plays one list. In some of them the first client splits off as many as it may.
+fn one_list(rt: &impl Abort, alloc: Global, list: u64, tally: Tally) -> Result<Tally, AllocError> {
+    let mut rng = Pcg32::new(list, 54);
+    let shape = Shape::drawn(&mut rng);
+    let image = opening(&mut rng, alloc, &shape)?;
+    let core = started(rt, alloc, &image, &shape);
+    let many = if list % 32 == 0 {
+        63
+    } else {
+        1 + below(&mut rng, 4)
+    };
+    let mut trial = Trial {
+        list,
+        alloc,
+        rng,
+        history: History::new(alloc, shape, image)?,
+        tally,
+        tag: 0,
+    };
+    let mut core = trial.splits(rt, core, many)?;
+    for _ in 0..EVENTS {
+        let turn = drawn(&mut trial.rng, &trial.history);
+        core = trial.plays(rt, core, turn)?;
+    }
+    trial.ends(rt, core)?;
+    Ok(trial.tally)
+}
+
+#[test]
+fn random_lists_beside_a_naive_history(rt: HostRuntime) -> Result<(), Fail> {
+    let mut tally = Tally::none();
+    for list in 0..LISTS {
+        tally = one_list(&rt, rt.alloc(), list, tally)?;
+    }
+    for count in tally.all() {
+        assert!(rt; LISTS / 50 < count, "{tally:?}");
+    }
+    Ok(())
+}
