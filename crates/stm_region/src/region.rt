@@ -123,6 +123,14 @@ impl<L: Law, A: Allocator + Copy> Region<L, A> {
 }
 
 impl<L: Law, A: Allocator> Region<L, A> {
+    /// How many data words it has.
+    #[inline]
+    pub fn size(&self) -> usize
+        ensures { result ≡ self.now.size }
+    {
+        self.size
+    }
+
     /// The last version that the clock may reach.
     #[inline]
     pub fn last(&self) -> u64

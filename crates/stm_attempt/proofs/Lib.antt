@@ -1,0 +1,13 @@
+pub mod Parity
+pub mod Entering
+pub mod Climbing
+pub mod Locks
+pub mod Returning
+pub mod Releasing
+pub mod Counting
+pub mod StoredPairs
+pub mod Ticks
+pub mod Writing
+pub mod Validating
+pub mod Looks
+pub mod Parts

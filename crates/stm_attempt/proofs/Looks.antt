@@ -1,0 +1,76 @@
+-- Looks at the locks of the words that were read.
+use Rattle.std.proofs.Common.{◌≡◌, inl, inr, sym, ap, ◌∙◌, ℕ, ◌*◌, ◌/◌, ◌<◌, ◌≤◌, Bool, true, false, ◌||◌, ◌&&◌, eq-eqb, List, Some, cond, arith}
+use Rattle.std.proofs.lemmas.Bool.{ne_eqb, le-leb, lt-leb}
+use Rattle.std.proofs.Math.Bool.{or-true}
+use Rattle.std.specs.Prelude.{◌↔◌, IsTrue, leb}
+use Rattle.std.specs.FinMap.{get}
+use Rattle.stm_words.specs.LockWord.{free_word, held_word}
+use Rattle.stm_logs.specs.Log.{LogValue, log_locks}
+use Rattle.stm_logs.proofs.TableLemmas.{true_false}
+use Rattle.stm_core.specs.Client.{Client, looked, version_of, is_free, writes_to}
+use Rattle.stm_core.specs.Event.{validate, after, passing, failing, stepping}
+use Rattle.stm_region.specs.Shown.{RegionShown, ClientShown, acted, stripe_of, unplaced}
+use Rattle.stm_attempt.specs.Running.{addresses}
+use Rattle.stm_attempt.specs.Shown.{IsCommitConflict}
+use Rattle.stm_attempt.specs.Looks.{HasLookedAt}
+use Rattle.stm_attempt.specs.declared.conflict.Conflict.TheVariants.{Held, Newer}
+use Rattle.stm_attempt.proofs.Parity.{parity, says_held}
+use Rattle.stm_attempt.proofs.Writing.{own_lock}
+
+-- what the client is after a look, by whether it passed
+pub by_look : (lk : ℕ → ℕ) (lock : ℕ) (passed : Bool) (v v' : Client) (look : HasLookedAt lk lock passed v v') → v' ≡ record (stepping (looked lock look.0) (cond passed (passing unplaced v) (failing v))) { mine = writes_to v.held lock }
+by_look lk lock passed v v' look = look.1 ∙ ap (λ (t : Bool). record (stepping (looked lock look.0) (cond t (passing unplaced v) (failing v))) { mine = writes_to v.held lock }) look.2
+
+-- the word is free, or held by the client itself
+pub own_look : (word : ℕ) (held : List (ℕ × ℕ)) (lock : ℕ) (w : LogValue) → addresses held ≡ log_locks w → (has : Bool) → IsTrue has ↔ ((a : ℕ) × (get w.locks a ≡ Some lock)) → has ≡ true → (is_free word || writes_to held lock) ≡ true
+own_look word held lock w held_are has told there = ap (λ (t : Bool). is_free word || t) (own_lock w held lock held_are has told ∙ there) ∙ or-true (is_free word)
+
+-- what a decoded word says
+module _ (word version : ℕ) (held : Bool) (free : (u : ℕ) → word ≡ free_word u → (version ≡ u) × (held ≡ false)) (is_held : (u : ℕ) → word ≡ held_word u → (version ≡ u) × (held ≡ true)) where
+  version_said : version ≡ version_of word
+  version_said = elim (parity word) [ inl even ↦ (free (word / 2) even).0 | inr odd ↦ (is_held (word / 2) odd).0 ]
+
+  free_said : held ≡ false → is_free word ≡ true
+  free_said f = elim (parity word) [ inl even ↦ eq-eqb word (2 * (word / 2)) even | inr odd ↦ absurd (true_false held (is_held (word / 2) odd).1 f) ]
+
+  held_said : held ≡ true → is_free word ≡ false
+  held_said t = elim (parity word) [ inl even ↦ absurd (true_false held t (free (word / 2) even).1) | inr odd ↦ ne_eqb word (2 * (word / 2)) (λ e. absurd (omega arith)) ]
+
+  pub free_look : (locks : List (ℕ × ℕ)) (lock : ℕ) → held ≡ false → (is_free word || writes_to locks lock) ≡ true
+  free_look locks lock is = ap (λ (t : Bool). t || writes_to locks lock) (free_said is)
+
+  module _ (region : RegionShown) (c c' : ClientShown) (lock : ℕ) (stepped : c' ≡ acted region (validate lock) word c) (w : LogValue) (held_are : addresses c.value.held ≡ log_locks w) where
+    abbrev Looks : Bool → Type 0
+    Looks passed = HasLookedAt (stripe_of region.stripes) lock passed c.value c'.value
+
+    value_is : c'.value ≡ after unplaced (stripe_of region.stripes) (validate lock) word c.value
+    value_is = ap (λ (x : ClientShown). x.value) stepped
+
+    mine : c'.value.mine ≡ writes_to c.value.held lock
+    mine = ap (λ (x : Client). x.mine) value_is
+
+    last : c'.value.last ≡ looked lock word
+    last = ap (λ (x : Client). x.last) value_is
+
+    -- the word is held, and not by the client itself
+    module _ (is : held ≡ true) (has : Bool) (told : IsTrue has ↔ ((a : ℕ) × (get w.locks a ≡ Some lock))) (none : has ≡ false) where
+      other : writes_to c.value.held lock ≡ false
+      other = own_lock w c.value.held lock held_are has told ∙ none
+
+      pub refused_held : Looks false
+      refused_held = (word, value_is, ap (λ (t : Bool). (t || writes_to c.value.held lock) && leb (version_of word) c.value.rv) (held_said is) ∙ ap (λ (t : Bool). t && leb (version_of word) c.value.rv) other)
+
+      pub shown_held : IsCommitConflict (Held lock word) c'.value
+      shown_held = (inr last, says_held word version held free is, mine ∙ other)
+
+    module _ (ours : (is_free word || writes_to c.value.held lock) ≡ true) (rv : ℕ) (from : c.value.rv ≡ rv) where
+      pub refused_newer : rv < version → Looks false
+      refused_newer newer = (word, value_is, ap (λ (t : Bool). t && leb (version_of word) c.value.rv) ours ∙ lt-leb (version_of word) c.value.rv (omega (arith, version_said)))
+
+      pub shown_newer : rv < version → IsCommitConflict (Newer lock version rv) c'.value
+      shown_newer newer =
+          let same : c'.value.rv ≡ c.value.rv = ap (λ (x : Client). x.rv) (by_look (stripe_of region.stripes) lock false c.value c'.value (refused_newer newer)) in
+          (word, last, ap (λ (t : Bool). is_free word || t) mine ∙ ours, version_said, sym from ∙ sym same, newer)
+
+      pub has_passed : version ≤ rv → Looks true
+      has_passed old = (word, value_is, ap (λ (t : Bool). t && leb (version_of word) c.value.rv) ours ∙ le-leb (version_of word) c.value.rv (omega (arith, version_said)))

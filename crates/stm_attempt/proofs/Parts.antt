@@ -1,0 +1,192 @@
+-- The parts of a commit put together.
+use Rattle.std.proofs.Common.{◌≡◌, ◌≢◌, refl, sym, ap, subst, ◌∙◌, ℕ, zero, suc, ◌+◌, ◌*◌, ◌<◌, ◌≤◌, Bool, true, false, ◌||◌, cond, eqb, List, [], ◌∷◌, length, Result, Ok, Err, IfOk, IfErr, take, arith}
+use Rattle.std.specs.FinMap.{len, len-entries}
+use Rattle.std.proofs.lemmas.Bool.{ne_eqb}
+use Rattle.std.specs.Result.{is_ok}
+use Rattle.stm_words.specs.Image.{In}
+use Rattle.stm_core.specs.Client.{Client, Record, inserted, committed, running}
+use Rattle.stm_core.specs.Event.{is_empty, after, finish}
+use Rattle.stm_logs.specs.Log.{LogValue, SameAddresses, log_pairs, log_locks}
+use Rattle.stm_logs.proofs.LockLemmas.{locks_few}
+use Rattle.stm_region.specs.Told.{StandsOn}
+use Rattle.stm_region.specs.Shown.{unplaced}
+use Rattle.stm_attempt.specs.Running.{addresses, IsBegun}
+use Rattle.stm_attempt.specs.Shown.{IsCommitConflict}
+use Rattle.stm_attempt.specs.Committing.{unheld, returned, aside, apart, AreInside, is_at_once, writer_record, commit_record, IsCommitVersion, IsCommitStop, HasFailedLocking, HasFailedDeciding, HasTicked, HasLooked, IsDecided, HasSettled, HasCommitted, HasStopped}
+use Rattle.stm_attempt.specs.declared.conflict.Conflict.{Conflict}
+use Rattle.stm_attempt.specs.declared.conflict.Conflict.TheVariants.{Held, Newer, Moved, LostLock, LostTick}
+use Rattle.stm_attempt.specs.declared.conflict.Stop.{Stop}
+use Rattle.stm_attempt.specs.declared.conflict.Stop.TheVariants.{Memory, Spent, Conflict as Conflicting}
+use Rattle.stm_attempt.proofs.Counting.{count_pairs, count_addresses}
+
+-- what was read from an image of the size is inside it
+pub inside_of : (fits : List ℕ → Type 0) (size : ℕ) (reads : List (ℕ × ℕ)) → StandsOn fits size reads → AreInside size reads
+inside_of fits size reads s = λ a x i. subst (λ (n : ℕ). a < n) s.length_is (s.agrees a x i).0
+
+pub inside_same : (size : ℕ) (reads reads' : List (ℕ × ℕ)) → reads' ≡ reads → AreInside size reads → AreInside size reads'
+inside_same size reads reads' e inside = λ a x i. inside a x (subst (λ (rs : List (ℕ × ℕ)). In (a, x) rs) e i)
+
+none_read : (reads : List (ℕ × ℕ)) → eqb (length (addresses reads)) 0 ≡ is_empty reads
+none_read [] = refl
+none_read (p ∷ ps) = ne_eqb (length (addresses (p ∷ ps))) 0 (λ e. absurd (omega arith))
+
+-- the code's test is whether the tick decides
+pub once_is : (v : Client) (logged : List ℕ) (n rv version : ℕ) → n ≡ length logged → logged ≡ addresses v.reads → v.rv ≡ rv → (eqb n 0 || eqb version (rv + 1)) ≡ is_at_once v version
+once_is v logged n rv version e l r =
+    let count : eqb n 0 ≡ is_empty v.reads = ap (λ (k : ℕ). eqb k 0) (e ∙ ap length l) ∙ none_read v.reads in
+    rw (count, r) refl
+
+module _ (tag : List ℕ) (writes : List (ℕ × ℕ)) (v t : Client) (version : ℕ) (ticked : HasTicked tag writes v t version) (later : v.rv < version) (few : t.steps ≤ v.steps + 16) where
+  pub decided_at_once : is_at_once v version ≡ true → IsDecided tag writes v t version
+  decided_at_once once = record {
+    same = ticked.same;
+    held = ticked.held;
+    writing = ticked.writing;
+    known = ticked.known;
+    unstored = ticked.unstored;
+    phase = ticked.phase ∙ ap (λ (b : Bool). cond b committed running) once;
+    records = ticked.records ∙ ap (λ (b : Bool). cond b (inserted (writer_record tag v writes version) v.records) v.records) once;
+    later = later;
+    steps = omega (arith, few);
+  }
+
+  module _ (d : Client) (looked : HasLooked t d) (not_once : is_at_once v version ≡ false) where
+    reads_same : t.reads ≡ v.reads
+    reads_same = ap (λ (x : Client). x.reads) ticked.same
+
+    attempt_same : t.attempt ≡ v.attempt
+    attempt_same = ap (λ (x : Client). x.attempt) ticked.same
+
+    old_records : t.records ≡ v.records
+    old_records = ticked.records ∙ ap (λ (b : Bool). cond b (inserted (writer_record tag v writes version) v.records) v.records) not_once
+
+    same_record : writer_record t.tag t t.writes t.wv ≡ writer_record tag v writes version
+    same_record = rw (ticked.tagged, ticked.writing, ticked.versioned, reads_same, attempt_same) refl
+
+    pub decided_after_looks : IsDecided tag writes v d version
+    decided_after_looks = record {
+      same = looked.same ∙ ticked.same;
+      held = looked.held ∙ ticked.held;
+      writing = looked.writing ∙ ticked.writing;
+      known = looked.known ∙ ticked.known;
+      unstored = looked.unstored;
+      phase = looked.phase;
+      records = looked.records ∙ ap (λ (r : Record). inserted r t.records) same_record ∙ ap (inserted (writer_record tag v writes version)) old_records;
+      later = later;
+      steps = let n : length t.reads ≡ length v.reads = ap length reads_same in omega (arith, few, looked.steps, n);
+    }
+
+no_length : {A : Type 0} (xs : List A) → length xs ≡ 0 → xs ≡ []
+no_length [] e = refl
+no_length (x ∷ xs) e = absurd (omega (arith, e))
+
+-- an empty map has no entries, and only that
+pub no_pairs : (w : LogValue) → len w.words ≡ 0 → log_pairs w ≡ []
+no_pairs w e = no_length (log_pairs w) (sym (len-entries w.words) ∙ e)
+
+pub some_pairs : (w : LogValue) → len w.words ≢ 0 → log_pairs w ≢ []
+some_pairs w some e = some (len-entries w.words ∙ ap length e)
+
+pub ok_of : {X E : Type 0} (r : Result X E) (P : X → Type 0) → is_ok r ≡ true → IfOk r P → (x : X) × (r ≡ Ok x) × P x
+ok_of (Ok x) P is holds = (x, refl, holds)
+ok_of (Err e) P is holds = cc
+
+pub err_of : {X E : Type 0} (r : Result X E) (P : E → Type 0) → is_ok r ≡ false → IfErr r P → (e : E) × P e
+err_of (Ok x) P is holds = cc
+err_of (Err e) P is holds = (e, holds)
+
+pub map_ok : {X E : Type 0} (r : Result X E) (P Q : X → Type 0) → ((x : X) → P x → Q x) → IfOk r P → IfOk r Q
+map_ok (Ok x) P Q f holds = f x holds
+map_ok (Err e) P Q f holds = tt
+
+pub map_err : {X E : Type 0} (r : Result X E) (P Q : E → Type 0) → ((e : E) → P e → Q e) → IfErr r P → IfErr r Q
+map_err (Ok x) P Q f holds = tt
+map_err (Err e) P Q f holds = f e holds
+
+pub err_not_ok : {X E A : Type 0} (r : Result X E) (e : E) → r ≡ Err e → is_ok r ≡ true → A
+err_not_ok (Ok x) e same is = cc
+err_not_ok (Err f) e same is = cc
+
+record_of_writer : (tag : List ℕ) (v : Client) (writes : List (ℕ × ℕ)) (version : ℕ) → writes ≢ [] → writer_record tag v writes version ≡ commit_record tag v writes version
+record_of_writer tag v [] version some = absurd (some refl)
+record_of_writer tag v (p ∷ ps) version some = refl
+
+version_of_writer : (v : Client) (writes : List (ℕ × ℕ)) (version : ℕ) → writes ≢ [] → v.rv < version → IsCommitVersion v writes version
+version_of_writer v [] version some later = absurd (some refl)
+version_of_writer v (p ∷ ps) version some later = later
+
+short : (n : ℕ) (xs : List ℕ) → length (take n xs) ≤ length xs
+short zero xs = omega arith
+short (suc n) [] = omega arith
+short (suc n) (x ∷ xs) = let l = short n xs in omega (arith, l)
+
+-- the first of the parts left the client as it was but for its locks
+module _ (tag : List ℕ) (writes : List (ℕ × ℕ)) (v l d e : Client) (version : ℕ) (locked : unheld l ≡ unheld v) (decided : IsDecided tag writes l d version) (settled : HasSettled d e) (some : writes ≢ []) where
+  record_same : writer_record tag l writes version ≡ commit_record tag v writes version
+  record_same =
+      let reads : l.reads ≡ v.reads = ap (λ (x : Client). x.reads) locked in
+      let attempt : l.attempt ≡ v.attempt = ap (λ (x : Client). x.attempt) locked in
+      let same : writer_record tag l writes version ≡ writer_record tag v writes version = rw (reads, attempt) refl in
+      same ∙ record_of_writer tag v writes version some
+
+  pub has_committed : HasCommitted tag writes v e version
+  has_committed = record {
+    records = ap (λ (x : Client). x.records) settled.same ∙ decided.records ∙ ap (λ (r : Record). inserted r l.records) record_same ∙ ap (λ (x : Client). inserted (commit_record tag v writes version) x.records) locked;
+    versioned = version_of_writer v writes version some (subst (λ (n : ℕ). n < version) (ap (λ (x : Client). x.rv) locked) decided.later);
+    known = ap (λ (x : Client). x.floor) settled.same ∙ decided.known;
+    free = settled.free;
+    same = ap apart settled.same ∙ decided.same ∙ ap apart locked;
+  }
+
+  module _ (w : LogValue) (taken : ℕ) (pairs : writes ≡ log_pairs w) (addressed : SameAddresses w) (holds : addresses l.held ≡ take taken (log_locks w)) (all : taken ≡ length (log_locks w)) (stepped : l.steps ≡ v.steps + 2 * taken) where
+    pub steps_committed : e.steps ≤ v.steps + length v.reads + 4 * len w.words + 16
+    steps_committed =
+        let few = locks_few w addressed in
+        let words : length d.writes ≡ len w.words = ap length (decided.writing ∙ pairs) ∙ count_pairs w in
+        let locks : length d.held ≤ length (log_locks w) = subst (λ (n : ℕ). n ≤ length (log_locks w)) (sym (ap length holds) ∙ count_addresses l.held ∙ ap length (sym decided.held)) (short taken (log_locks w)) in
+        let reads : length l.reads ≡ length v.reads = ap (λ (x : Client). length x.reads) locked in
+        omega (arith, few, words, locks, reads, settled.steps, decided.steps, stepped, all)
+
+-- a conflict stays shown where locks are given back
+conflict_kept : (c : Conflict) (l g : Client) → returned g ≡ returned l → IsCommitConflict c l → IsCommitConflict c g
+conflict_kept (Held lock word) l g e i = subst (λ (x : Client). IsCommitConflict (Held lock word) x) (sym e) i
+conflict_kept (Newer lock version rv) l g e i = subst (λ (x : Client). IsCommitConflict (Newer lock version rv) x) (sym e) i
+conflict_kept (Moved lock first second) l g e i = absurd i
+conflict_kept (LostLock lock found) l g e i = subst (λ (x : Client). IsCommitConflict (LostLock lock found) x) (sym e) i
+conflict_kept (LostTick found) l g e i = subst (λ (x : Client). IsCommitConflict (LostTick found) x) (sym e) i
+
+stop_kept : (last : ℕ) (stop : Stop) (l g : Client) → returned g ≡ returned l → IsCommitStop last stop l → IsCommitStop last stop g
+stop_kept last Memory l g e i = absurd i
+stop_kept last (Conflicting c) l g e i = conflict_kept c l g e i
+stop_kept last (Spent version) l g e i = (i.0, ap (λ (x : Client). x.next_from) e ∙ i.1)
+
+-- a lock was not taken, and all others were given back
+pub stopped_locking : (last : ℕ) (c : Conflict) (writes : List (ℕ × ℕ)) (v l g : Client) (taken : ℕ) → HasFailedLocking v l taken → IsCommitConflict c l → returned g ≡ returned l → g.held ≡ [] → writes ≢ [] → HasStopped last (Conflicting c) writes v g
+stopped_locking last c writes v l g taken failed shown back free some = record {
+  written = some;
+  shown = conflict_kept c l g back shown;
+  free = free;
+  floor = let a : g.floor ≡ l.floor = ap (λ (x : Client). x.floor) back in omega (arith, a, failed.floor);
+  same = ap aside back ∙ failed.same;
+}
+
+-- the attempt was not decided, and all locks were given back
+pub stopped_deciding : (last : ℕ) (stop : Stop) (writes : List (ℕ × ℕ)) (v l f g : Client) → unheld l ≡ unheld v → HasFailedDeciding last stop l f → returned g ≡ returned f → g.held ≡ [] → writes ≢ [] → HasStopped last stop writes v g
+stopped_deciding last stop writes v l f g locked failed back free some = record {
+  written = some;
+  shown = stop_kept last stop f g back failed.shown;
+  free = free;
+  floor = let a : g.floor ≡ f.floor = ap (λ (x : Client). x.floor) back in let b : l.floor ≡ v.floor = ap (λ (x : Client). x.floor) locked in omega (arith, a, b, failed.floor);
+  same = ap aside back ∙ failed.same ∙ ap aside locked;
+}
+
+-- an attempt that wrote nothing is finished as a reader
+pub has_finished : (tag : List ℕ) (writes : List (ℕ × ℕ)) (v e : Client) (rv found : ℕ) (lk : ℕ → ℕ) → writes ≡ [] → IsBegun v rv → e ≡ after unplaced lk (finish tag) found v → HasCommitted tag writes v e rv
+has_finished tag [] v e rv found lk none begun is = record {
+  records = ap (λ (x : Client). x.records) is;
+  versioned = sym begun.begun_at;
+  known = ap (λ (x : Client). x.floor) is ∙ begun.known;
+  free = ap (λ (x : Client). x.held) is ∙ begun.free;
+  same = ap apart is;
+}
+has_finished tag (p ∷ ps) v e rv found lk none begun is = cc

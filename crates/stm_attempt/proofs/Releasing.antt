@@ -1,0 +1,61 @@
+-- Locks that are released after the stores.
+use Rattle.std.proofs.Common.{◌≡◌, false, sym, ap, subst, ◌∙◌, ℕ, suc, ◌+◌, ◌-◌, List, [], ◌∷◌, ◌++◌, append_assoc, length, take, arith, Some}
+use Rattle.std.proofs.Math.Seq.{take-length}
+use Rattle.std.specs.FinMap.{get}
+use Rattle.stm_words.specs.Image.{In}
+use Rattle.stm_core.specs.Client.{Client, Stamp, without, writes_to, committed}
+use Rattle.stm_core.specs.Event.{release, after, May, Bounds, Holds}
+use Rattle.stm_logs.specs.Log.{LogValue, log_locks}
+use Rattle.stm_logs.proofs.RisingLemmas.{Rising, In as Among}
+use Rattle.stm_attempt.specs.Running.{addresses}
+use Rattle.stm_attempt.specs.Committing.{unreleasing, IsAllStored}
+use Rattle.stm_logs.proofs.LockLemmas.{locks_rise, locks_in}
+use Rattle.stm_attempt.proofs.Locks.{rising_behind, gives_first, among_middle}
+
+-- the locks of the rest are still to be released, after those that are gone
+pub record IsReleasing (v v' : Client) (rest all : List ℕ) : Type 0 where
+  pub gone : List ℕ
+  pub order : gone ++ rest ≡ all
+  pub same : unreleasing v' ≡ unreleasing v
+  pub held : addresses v'.held ≡ rest
+  pub steps : v'.steps + length rest ≡ v.steps + length v.held
+
+module _ (lawful : List ℕ → List (ℕ × ℕ) → List (ℕ × ℕ) → Type 0) (t : Stamp) (lk : ℕ → ℕ) (b : Bounds) (w : LogValue) (v0 v : Client) (k : ℕ) (now rest : List ℕ) (releasing : IsReleasing v0 v now (log_locks w)) (next : now ≡ k ∷ rest) where
+  order : releasing.gone ++ k ∷ rest ≡ log_locks w
+  order = ap (λ (xs : List ℕ). releasing.gone ++ xs) (sym next) ∙ releasing.order
+
+  rises : Rising (λ (x : ℕ). x) (k ∷ rest)
+  rises = rising_behind releasing.gone (k ∷ rest) (subst (λ (xs : List ℕ). Rising (λ (x : ℕ). x) xs) (sym order) (locks_rise w))
+
+  first : Holds v.held k × (addresses (without v.held k) ≡ rest)
+  first =
+      let given = gives_first v.held k (suc (length rest)) rest (λ e. absurd (omega arith)) (releasing.held ∙ next ∙ ap (λ (xs : List ℕ). k ∷ xs) (sym (take-length rest))) rises in
+      let one : suc (length rest) - 1 ≡ length rest = omega arith in
+      (given.0, given.1 ∙ ap (λ (n : ℕ). take n rest) one ∙ take-length rest)
+
+  pub release_logged : (a : ℕ) × (get w.locks a ≡ Some k)
+  release_logged = locks_in w k (subst (λ (xs : List ℕ). Among k xs) order (among_middle releasing.gone k rest))
+
+  pub may_release : (v0.spent ≡ false) × (v0.phase ≡ committed) → IsAllStored v0 → May lawful lk b (release k) v
+  may_release decided stored =
+      let writes : v.writes ≡ v0.writes = ap (λ (x : Client). x.writes) releasing.same in
+      let kept : v.stored ≡ v0.stored = ap (λ (x : Client). x.stored) releasing.same in (
+        ap (λ (x : Client). x.spent) releasing.same ∙ decided.0,
+        (
+          ap (λ (x : Client). x.phase) releasing.same ∙ decided.1,
+          first.0,
+          λ a is written. subst (In a) (sym kept) (stored a (ap (λ (ps : List (ℕ × ℕ)). writes_to ps a) (sym writes) ∙ written)),
+        ),
+      )
+
+  pub released_one : (v' : Client) → v' ≡ after t lk (release k) 0 v → IsReleasing v0 v' rest (log_locks w)
+  released_one v' e = record {
+    gone = releasing.gone ++ k ∷ [];
+    order = append_assoc releasing.gone (k ∷ []) rest ∙ order;
+    same = ap unreleasing e ∙ releasing.same;
+    held = ap (λ (x : Client). addresses x.held) e ∙ first.1;
+    steps =
+        let s : v'.steps ≡ v.steps + 1 = ap (λ (x : Client). x.steps) e in
+        let n : length now ≡ suc (length rest) = ap length next in
+        omega (arith, releasing.steps);
+  }

@@ -1,0 +1,38 @@
+-- Locks that are given back.
+use Rattle.std.proofs.Common.{◌≡◌, ◌≢◌, inr, sym, ap, subst, ◌∙◌, ℕ, ◌+◌, ◌-◌, List, [], ◌∷◌, ◌++◌, append_assoc, take, arith}
+use Rattle.std.proofs.Common.{Some}
+use Rattle.std.specs.FinMap.{get}
+use Rattle.stm_core.specs.Client.{Client, Stamp, without}
+use Rattle.stm_core.specs.Event.{give_back, after, May, Bounds, Holds}
+use Rattle.stm_logs.specs.Log.{LogValue, log_locks}
+use Rattle.stm_logs.proofs.RisingLemmas.{Rising, In as Among}
+use Rattle.stm_attempt.specs.Running.{addresses}
+use Rattle.stm_attempt.specs.Committing.{returned, IsReturning}
+use Rattle.stm_logs.proofs.LockLemmas.{locks_rise, locks_in}
+use Rattle.stm_attempt.proofs.Locks.{rising_behind, gives_first, among_middle}
+
+module _ (lawful : List ℕ → List (ℕ × ℕ) → List (ℕ × ℕ) → Type 0) (t : Stamp) (lk : ℕ → ℕ) (b : Bounds) (w : LogValue) (v0 v : Client) (count left k : ℕ) (now rest : List ℕ) (returning : IsReturning v0 v count left now (log_locks w)) (next : now ≡ k ∷ rest) (some_left : left ≢ 0) where
+  order : returning.gone ++ k ∷ rest ≡ log_locks w
+  order = ap (λ (xs : List ℕ). returning.gone ++ xs) (sym next) ∙ returning.order
+
+  rises : Rising (λ (x : ℕ). x) (k ∷ rest)
+  rises = rising_behind returning.gone (k ∷ rest) (subst (λ (xs : List ℕ). Rising (λ (x : ℕ). x) xs) (sym order) (locks_rise w))
+
+  first : Holds v.held k × (addresses (without v.held k) ≡ take (left - 1) rest)
+  first = gives_first v.held k left rest some_left (returning.held ∙ ap (take left) next) rises
+
+  pub return_logged : (a : ℕ) × (get w.locks a ≡ Some k)
+  return_logged = locks_in w k (subst (λ (xs : List ℕ). Among k xs) order (among_middle returning.gone k rest))
+
+  pub may_return : May lawful lk b (give_back k) v
+  may_return = (returning.able.0, (returning.able.1, first.0))
+
+  pub returned_one : (v' : Client) → v' ≡ after t lk (give_back k) 0 v → IsReturning v0 v' count (left - 1) rest (log_locks w)
+  returned_one v' e = record {
+    gone = returning.gone ++ k ∷ [];
+    order = append_assoc returning.gone (k ∷ []) rest ∙ order;
+    same = ap returned e ∙ returning.same;
+    able = (ap (λ (x : Client). x.spent) e ∙ returning.able.0, inr (ap (λ (x : Client). x.phase) e));
+    held = ap (λ (x : Client). addresses x.held) e ∙ first.1;
+    steps = let s : v'.steps ≡ v.steps + 1 = ap (λ (x : Client). x.steps) e in omega (arith, returning.steps);
+  }

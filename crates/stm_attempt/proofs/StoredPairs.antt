@@ -1,0 +1,211 @@
+-- Values that are stored lock by lock.
+use Rattle.std.proofs.Common.{◌≡◌, ◌⊎◌, inl, inr, refl, sym, ap, subst, ◌∙◌, ℕ, zero, suc, ◌+◌, ◌<◌, Bool, true, false, List, [], ◌∷◌, ◌++◌, append_assoc, length, length-append, Option, Some, None, arith}
+use Rattle.std.proofs.lemmas.Bool.{eqb-true, eq-eqb}
+use Rattle.std.proofs.lemmas.List.{append-nil, map-append}
+use Rattle.std.proofs.lemmas.Grind.{flat_map-append}
+use Rattle.std.specs.FinMap.{get}
+use Rattle.std.specs.List.{flat_map}
+use mathlib.Core.Option.{some}
+use Rattle.stm_words.specs.Image.{In}
+use Rattle.stm_words.proofs.Paired.{in_later}
+use Rattle.stm_core.specs.Client.{Client, Stamp, committed, writes_to, old_version}
+use Rattle.stm_core.specs.Event.{put, after, May, Holds}
+use Rattle.stm_core.proofs.Held.{old_in}
+use Rattle.stm_logs.specs.Log.{LogValue, log_pairs, log_locks, is_number, pairs_of, SameAddresses}
+use Rattle.stm_logs.proofs.LockLemmas.{in_locks, locks_rise}
+use Rattle.stm_logs.proofs.RisingLemmas.{Rising, rising_entries, rising_map, rising_filter, filter_in, in_filter, in_get, get_in, in_map, map_in, In as Among}
+use Rattle.stm_region.specs.Shown.{RegionShown, stripe_of, bounds}
+use Rattle.stm_attempt.specs.Running.{addresses, address_of, IsPlaced}
+use Rattle.stm_attempt.specs.Committing.{unstoring, IsAllStored, HasStored}
+use Rattle.stm_attempt.specs.StoredPairs.{IsUnstored, HasStoredPairs}
+use Rattle.stm_attempt.proofs.Locks.{among_held, rising_before, among_middle, among_front}
+use Rattle.stm_attempt.proofs.Counting.{count_shares, one_kept}
+
+pub among_in : {X : Type 0} (x : X) (xs : List X) → Among x xs → In x xs
+among_in x [] i = absurd i
+among_in x (y ∷ ys) (inl e) = (zero, ap some (sym e))
+among_in x (y ∷ ys) (inr i) = in_later _ _ _ (among_in x ys i)
+
+pub in_among : {X : Type 0} (x : X) (xs : List X) → In x xs → Among x xs
+in_among x [] (zero, e) = cc
+in_among x [] (suc n, e) = cc
+in_among x (y ∷ ys) (zero, e) = inl (let q : x ≡ y = cc in q)
+in_among x (y ∷ ys) (suc n, e) = inr (in_among x ys (n, e))
+
+among_either : {X : Type 0} (xs ys : List X) (x : X) → Among x (xs ++ ys) → Among x xs ⊎ Among x ys
+among_either [] ys x i = inr i
+among_either (z ∷ xs) ys x (inl e) = inl (inl e)
+among_either (z ∷ xs) ys x (inr i) = elim (among_either xs ys x i) [ inl l ↦ inl (inr l) | inr r ↦ inr r ]
+
+among_back : {X : Type 0} (xs ys : List X) (x : X) → Among x ys → Among x (xs ++ ys)
+among_back [] ys x i = i
+among_back (z ∷ xs) ys x i = inr (among_back xs ys x i)
+
+number_is : (o : Option ℕ) (k : ℕ) → is_number o k ≡ true → o ≡ Some k
+number_is None k e = cc
+number_is (Some j) k e = ap Some (eqb-true j k e)
+
+is_its_number : (k : ℕ) → is_number (Some k) k ≡ true
+is_its_number k = eq-eqb k k refl
+
+module _ (w : LogValue) where
+  -- the pair has this lock
+  abbrev pub has_lock : ℕ × ℕ → ℕ → Bool
+  has_lock p k = is_number (get w.locks p.0) k
+
+  pub pair_logged : (k a x : ℕ) → Among (a, x) (pairs_of w k) → (get w.words a ≡ Some x) × (get w.locks a ≡ Some k)
+  pair_logged k a x i =
+      let s = filter_in (λ (p : ℕ × ℕ). has_lock p k) (log_pairs w) (a, x) i in
+      (in_get w.words a x s.0, number_is (get w.locks a) k s.1)
+
+  pub pair_stands : (k a x : ℕ) → Among (a, x) (log_pairs w) → get w.locks a ≡ Some k → Among (a, x) (pairs_of w k)
+  pair_stands k a x i is =
+      in_filter (λ (p : ℕ × ℕ). has_lock p k) (log_pairs w) (a, x) i (ap (λ (o : Option ℕ). is_number o k) is ∙ is_its_number k)
+
+  pub rising_pairs : (k : ℕ) → Rising (λ (x : ℕ). x) (addresses (pairs_of w k))
+  rising_pairs k =
+      rising_map address_of address_of (λ (x : ℕ). x) (λ _. refl) (pairs_of w k) (rising_filter address_of (λ (p : ℕ × ℕ). has_lock p k) (log_pairs w) (rising_entries w.words))
+
+  pub lock_of_pair : SameAddresses w → (p : ℕ × ℕ) → Among p (log_pairs w) → (k : ℕ) × (get w.locks p.0 ≡ Some k)
+  lock_of_pair same p i = there (get w.locks p.0) refl
+    where
+      there : (o : Option ℕ) → get w.locks p.0 ≡ o → (k : ℕ) × (get w.locks p.0 ≡ Some k)
+      there None e = (let none = (same p.0).1 e in let some_is = in_get w.words p.0 p.1 i in absurd (let q : Some p.1 ≡ None = sym some_is ∙ none in cc))
+      there (Some k) e = (k, e)
+
+  -- each pair has one lock, so the pairs of all locks are as many as all
+  pub pairs_counted : SameAddresses w → length (flat_map (pairs_of w) (log_locks w)) ≡ length (log_pairs w)
+  pairs_counted same = count_shares has_lock (log_pairs w) (log_locks w) (λ p i.
+      let lock = lock_of_pair same p i in
+      one_kept (has_lock p) (log_locks w) lock.0 (locks_rise w) (in_locks w p.0 lock.0 lock.1) (ap (λ (o : Option ℕ). is_number o lock.0) lock.1 ∙ is_its_number lock.0) (λ j t.
+      let both : Some j ≡ Some lock.0 = sym (number_is (get w.locks p.0) j t) ∙ lock.1 in
+      let q : j ≡ lock.0 = cc in q))
+
+  among_flat : (ks : List ℕ) (k : ℕ) (p : ℕ × ℕ) → Among k ks → Among p (pairs_of w k) → Among p (flat_map (pairs_of w) ks)
+  among_flat [] k p i m = absurd i
+  among_flat (j ∷ ks) k p (inl e) m = among_front (pairs_of w j) _ p (subst (λ (l : ℕ). Among p (pairs_of w l)) e m)
+  among_flat (j ∷ ks) k p (inr i) m = among_back (pairs_of w j) _ p (among_flat ks k p i m)
+
+  flat_among : (ks : List ℕ) (p : ℕ × ℕ) → Among p (flat_map (pairs_of w) ks) → (k : ℕ) × (Among k ks × Among p (pairs_of w k))
+  flat_among [] p i = absurd i
+  flat_among (j ∷ ks) p i = elim (among_either (pairs_of w j) (flat_map (pairs_of w) ks) p i) [
+    | inl l ↦ (j, (inl refl, l))
+    | inr r ↦ (let s = flat_among ks p r in (s.0, (inr s.1.0, s.1.1)))
+  ]
+
+-- the pairs of the rest are still to be stored
+pub record IsStoring (v v' : Client) (pairs rest : List (ℕ × ℕ)) : Type 0 where
+  pub done : List (ℕ × ℕ)
+  pub order : done ++ rest ≡ pairs
+  pub has : HasStoredPairs v v' done
+
+has_more : (v u v' : Client) (xs ys : List (ℕ × ℕ)) → HasStoredPairs v u xs → HasStoredPairs u v' ys → HasStoredPairs v v' (xs ++ ys)
+has_more v u v' xs ys first next = record {
+  same = next.same ∙ first.same;
+  stored = next.stored ∙ ap (λ (zs : List ℕ). zs ++ addresses ys) first.stored ∙ append_assoc v.stored (addresses xs) (addresses ys) ∙ ap (λ (zs : List ℕ). v.stored ++ zs) (sym (map-append address_of xs ys));
+  steps = omega (arith, first.steps, next.steps, length-append xs ys);
+}
+
+module _ (lawful : List ℕ → List (ℕ × ℕ) → List (ℕ × ℕ) → Type 0) (t : Stamp) (region : RegionShown) (w : LogValue) (lock : ℕ) (v0 v : Client) (a x : ℕ) (now rest : List (ℕ × ℕ)) (storing : IsStoring v0 v (pairs_of w lock) now) (next : now ≡ (a, x) ∷ rest) (placed : IsPlaced region w) where
+  order : storing.done ++ (a, x) ∷ rest ≡ pairs_of w lock
+  order = ap (λ (ps : List (ℕ × ℕ)). storing.done ++ ps) (sym next) ∙ storing.order
+
+  here : Among (a, x) (pairs_of w lock)
+  here = subst (λ (ps : List (ℕ × ℕ)). Among (a, x) ps) order (among_middle storing.done (a, x) rest)
+
+  later : Among a (addresses storing.done) → ⊥
+  later i =
+      let both : addresses storing.done ++ a ∷ addresses rest ≡ addresses (pairs_of w lock) = sym (map-append address_of storing.done ((a, x) ∷ rest)) ∙ ap addresses order in
+      let less : a < a = rising_before (addresses storing.done) a (addresses rest) a (subst (λ (zs : List ℕ). Rising (λ (y : ℕ). y) zs) (sym both) (rising_pairs w lock)) i in
+      absurd (omega arith)
+
+  pub put_inside : a < region.size
+  put_inside = placed.inside a lock (pair_logged w lock a x here).1
+
+  pub may_put : (v0.spent ≡ false) × (v0.phase ≡ committed) → v0.writes ≡ log_pairs w → Holds v0.held lock → IsUnstored (pairs_of w lock) v0.stored → May lawful (stripe_of region.stripes) (bounds region) (put a x) v
+  may_put decided writes holds unstored =
+      let got = pair_logged w lock a x here in
+      let same_writes : log_pairs w ≡ v.writes = sym (ap (λ (c : Client). c.writes) storing.has.same ∙ writes) in
+      let same_held : v0.held ≡ v.held = sym (ap (λ (c : Client). c.held) storing.has.same) in
+      let held_here : Holds v.held lock = subst (λ (h : List (ℕ × ℕ)). Holds h lock) same_held holds in (
+        ap (λ (c : Client). c.spent) storing.has.same ∙ decided.0,
+        (
+          ap (λ (c : Client). c.phase) storing.has.same ∙ decided.1,
+          subst (In (a, x)) same_writes (among_in (a, x) (log_pairs w) (get_in w.words a x got.0)),
+          subst (Holds v.held) (placed.lock a lock got.1) held_here,
+          λ i. elim (among_either v0.stored (addresses storing.done) a (in_among a _ (subst (In a) storing.has.stored i))) [
+            | inl before ↦ unstored a x (among_in (a, x) (pairs_of w lock) here) (among_in a v0.stored before)
+            | inr since ↦ later since
+          ],
+        ),
+      )
+
+  pub stored_one : (v' : Client) → v' ≡ after t (stripe_of region.stripes) (put a x) 0 v → IsStoring v0 v' (pairs_of w lock) rest
+  stored_one v' e = record {
+    done = storing.done ++ (a, x) ∷ [];
+    order = append_assoc storing.done ((a, x) ∷ []) rest ∙ order;
+    has = has_more v0 v v' storing.done ((a, x) ∷ []) storing.has (record {
+      same = ap unstoring e;
+      stored = ap (λ (c : Client). c.stored) e;
+      steps = ap (λ (c : Client). c.steps) e;
+    });
+  }
+
+-- the pairs of the locks that are done are stored, and those of the rest are left
+pub record IsStoringAll (w : LogValue) (v v' : Client) (rest : List ℕ) : Type 0 where
+  pub done : List ℕ
+  pub order : done ++ rest ≡ log_locks w
+  pub has : HasStoredPairs v v' (flat_map (pairs_of w) done)
+
+module _ (w : LogValue) (v0 v : Client) (k : ℕ) (now rest : List ℕ) (storing : IsStoringAll w v0 v now) (next : now ≡ k ∷ rest) where
+  all_order : storing.done ++ k ∷ rest ≡ log_locks w
+  all_order = ap (λ (ks : List ℕ). storing.done ++ ks) (sym next) ∙ storing.order
+
+  pub next_held : addresses v0.held ≡ log_locks w → Holds v.held k
+  next_held held =
+      let same_held : v0.held ≡ v.held = sym (ap (λ (c : Client). c.held) storing.has.same) in
+      subst (λ (h : List (ℕ × ℕ)). Holds h k) same_held (among_held v0.held k (subst (Among k) (all_order ∙ sym held) (among_middle storing.done k rest)))
+
+  pub next_unstored : v0.stored ≡ [] → IsUnstored (pairs_of w k) v.stored
+  next_unstored none a x i m =
+      let stored : v.stored ≡ addresses (flat_map (pairs_of w) storing.done) = storing.has.stored ∙ ap (λ (zs : List ℕ). zs ++ addresses (flat_map (pairs_of w) storing.done)) none in
+      let s = map_in address_of (flat_map (pairs_of w) storing.done) a (in_among a _ (subst (In a) stored m)) in
+      let f = flat_among w storing.done s.0 s.1.0 in
+      let less : f.0 < k = rising_before storing.done k rest f.0 (subst (λ (ks : List ℕ). Rising (λ (y : ℕ). y) ks) (sym all_order) (locks_rise w)) f.1.0 in
+      let before = (pair_logged w f.0 s.0.0 s.0.1 f.1.1).1 in
+      let now_is = (pair_logged w k a x (in_among (a, x) (pairs_of w k) i)).1 in
+      let both : Some f.0 ≡ Some k = sym before ∙ ap (get w.locks) (sym s.1.1) ∙ now_is in
+      let same : f.0 ≡ k = cc in
+      absurd (omega (arith, less, same))
+
+  pub stored_lock : (v' : Client) → HasStoredPairs v v' (pairs_of w k) → IsStoringAll w v0 v' rest
+  stored_lock v' has = record {
+    done = storing.done ++ k ∷ [];
+    order = append_assoc storing.done (k ∷ []) rest ∙ all_order;
+    has = subst (HasStoredPairs v0 v') (ap (λ (ps : List (ℕ × ℕ)). flat_map (pairs_of w) storing.done ++ ps) (sym (append-nil (pairs_of w k))) ∙ sym (flat_map-append (pairs_of w) storing.done (k ∷ []))) (has_more v0 v v' _ _ storing.has has);
+  }
+
+module _ (w : LogValue) (v0 v : Client) (now : List ℕ) (storing : IsStoringAll w v0 v now) (none_left : now ≡ []) (same_addresses : SameAddresses w) (writes : v0.writes ≡ log_pairs w) where
+  all_done : storing.done ≡ log_locks w
+  all_done = sym (append-nil storing.done) ∙ ap (λ (ks : List ℕ). storing.done ++ ks) (sym none_left) ∙ storing.order
+
+  all_has : HasStoredPairs v0 v (flat_map (pairs_of w) (log_locks w))
+  all_has = subst (λ (ks : List ℕ). HasStoredPairs v0 v (flat_map (pairs_of w) ks)) all_done storing.has
+
+  all_stored : IsAllStored v
+  all_stored a written =
+      let same_writes : v.writes ≡ log_pairs w = ap (λ (c : Client). c.writes) all_has.same ∙ writes in
+      let logged : writes_to (log_pairs w) a ≡ true = subst (λ (ps : List (ℕ × ℕ)). writes_to ps a ≡ true) same_writes written in
+      let x : ℕ = old_version (log_pairs w) a in
+      let pair : Among (a, x) (log_pairs w) = in_among (a, x) _ (old_in (log_pairs w) a logged) in
+      let lock = lock_of_pair w same_addresses (a, x) pair in
+      let stands = pair_stands w lock.0 a x pair lock.1 in
+      let flat = among_flat w (log_locks w) lock.0 (a, x) (in_locks w a lock.0 lock.1) stands in
+      subst (In a) (sym all_has.stored) (among_in a _ (among_back v0.stored _ a (in_map address_of _ (a, x) flat)))
+
+  pub has_stored : HasStored v0 v
+  has_stored = record {
+    same = all_has.same;
+    every = all_stored;
+    steps = all_has.steps ∙ ap (λ (n : ℕ). v0.steps + n) (pairs_counted w same_addresses ∙ ap length (sym writes));
+  }

@@ -1,0 +1,93 @@
+-- The looks of a commit, one after the other.
+use Rattle.std.proofs.Common.{◌≡◌, refl, sym, ap, ◌∙◌, ℕ, zero, suc, ◌+◌, ◌<◌, Bool, true, false, cond, eqb, eqb-true, List, [], ◌∷◌, length, slice_index, arith}
+use Rattle.std.proofs.lemmas.Bool.{eqb-false}
+use Rattle.std.proofs.lemmas.List.{length-map}
+use mathlib.Core.Option.{some}
+use lib.ListN.{get_elem?}
+use Rattle.stm_core.specs.Client.{Client, Record, running, nothing, looked, inserted, writes_to}
+use Rattle.stm_core.specs.Event.{Bounds, May, validate, committed_by, stepping}
+use Rattle.stm_region.specs.Shown.{unplaced}
+use Rattle.stm_attempt.specs.Running.{addresses, address_of}
+use Rattle.stm_attempt.specs.Committing.{HasLooked, AreInside, aside, apart, writer_record}
+use Rattle.stm_attempt.specs.Looks.{HasLookedAt}
+use Rattle.stm_attempt.proofs.Looks.{by_look}
+
+-- the client's value without what a look changes that passes
+abbrev pub unlooked : Client → Client
+unlooked v = record v { phase = running; last = nothing; gave_back = false; mine = false; passed = 0; stored = []; steps = 0; records = [] }
+
+-- the record of an attempt, for a tick at this place
+abbrev pub recorded : Client → ℕ → Record
+recorded v place = record (writer_record v.tag v v.writes v.wv) { point = place }
+
+-- so many looks were made, and all passed; the last of all decided the attempt
+pub record IsLooking (v v' : Client) (count : ℕ) : Type 0 where
+  pub same : unlooked v' ≡ unlooked v
+  pub passed : v'.passed ≡ count
+  pub steps : v'.steps ≡ v.steps + count
+  pub runs : count < length v.reads → (v'.phase ≡ running) × (aside v' ≡ aside v)
+  pub done : count ≡ length v.reads → HasLooked v v'
+
+pub next_less : (log : List ℕ) (reads : List (ℕ × ℕ)) (i : ℕ) → log ≡ addresses reads → i < length log → i < length reads
+next_less log reads i logged less = omega (arith, ap length logged, length-map reads address_of)
+
+pub address_at : (log : List ℕ) (reads : List (ℕ × ℕ)) (i a : ℕ) → log ≡ addresses reads → a ≡ slice_index log i → a ≡ slice_index (addresses reads) i
+address_at log reads i a logged at = at ∙ ap (λ (l : List ℕ). slice_index l i) logged
+
+-- the read at a place, with its address
+pub read_at : (reads : List (ℕ × ℕ)) (i : ℕ) → i < length reads → (x : ℕ) × (get_elem? reads i ≡ some (slice_index (addresses reads) i, x))
+read_at [] i l = absurd (omega arith)
+read_at (p ∷ ps) zero l = (p.1, refl)
+read_at (p ∷ ps) (suc i) l = read_at ps i (omega arith)
+
+pub read_inside : (size : ℕ) (reads : List (ℕ × ℕ)) (i : ℕ) → AreInside size reads → i < length reads → slice_index (addresses reads) i < size
+read_inside size reads i inside l = let at = read_at reads i l in inside (slice_index (addresses reads) i) at.0 (i, at.1)
+
+module _ (v w : Client) (count : ℕ) (looking : IsLooking v w count) (less : count < length v.reads) where
+  -- the next look may be made
+  pub may_look : (lawful : List ℕ → List (ℕ × ℕ) → List (ℕ × ℕ) → Type 0) (lk : ℕ → ℕ) (b : Bounds) → v.spent ≡ false → 0 < v.wv → (a k : ℕ) → a ≡ slice_index (addresses v.reads) count → k ≡ lk a → May lawful lk b (validate k) w
+  may_look lawful lk b unspent versioned a k address lock =
+      let at = read_at v.reads count less in
+      let here : get_elem? w.reads w.passed ≡ some (a, at.0) =
+      ap (λ (x : Client). get_elem? x.reads w.passed) looking.same ∙ ap (get_elem? v.reads) looking.passed ∙ at.1 ∙ ap (λ (n : ℕ). some (n, at.0)) (sym address) in
+      let version : w.wv ≡ v.wv = ap (λ (x : Client). x.wv) looking.same in
+      (ap (λ (x : Client). x.spent) looking.same ∙ unspent, ((looking.runs less).0, omega (arith, version), (a, at.0, here, sym lock)))
+
+  -- one look more passed, by whether it was the last of all
+  looked_by : (d : Bool) (w' : Client) (lock word : ℕ) → w' ≡ record (stepping (looked lock word) (let x = record w { passed = w.passed + 1 } in cond d (committed_by unplaced x) x)) { mine = writes_to w.held lock } → eqb (count + 1) (length v.reads) ≡ d → v.ticked_at ≡ 0 → IsLooking v w' (count + 1)
+  looked_by true w' lock word stepped last at_zero =
+      let all : count + 1 ≡ length v.reads = eqb-true (count + 1) (length v.reads) last in
+      let records_were : w.records ≡ v.records = ap (λ (x : Client). x.records) (looking.runs less).1 in
+      let steps : w'.steps ≡ w.steps + 1 = ap (λ (x : Client). x.steps) stepped in
+      record {
+        same = ap unlooked stepped ∙ looking.same;
+        passed = ap (λ (x : Client). x.passed) stepped ∙ ap (λ (n : ℕ). n + 1) looking.passed;
+        steps = omega (arith, looking.steps);
+        runs = λ l. absurd (omega arith);
+        done = λ _. record {
+          same = ap apart stepped ∙ ap apart looking.same;
+          held = ap (λ (x : Client). x.held) stepped ∙ ap (λ (x : Client). x.held) looking.same;
+          versioned = ap (λ (x : Client). x.wv) stepped ∙ ap (λ (x : Client). x.wv) looking.same;
+          writing = ap (λ (x : Client). x.writes) stepped ∙ ap (λ (x : Client). x.writes) looking.same;
+          known = ap (λ (x : Client). x.floor) stepped ∙ ap (λ (x : Client). x.floor) looking.same;
+          unstored = ap (λ (x : Client). x.stored) stepped;
+          phase = ap (λ (x : Client). x.phase) stepped;
+          records = ap (λ (x : Client). x.records) stepped ∙ ap (λ (x : Client). inserted (recorded x x.ticked_at) w.records) looking.same ∙ ap (λ (n : ℕ). inserted (recorded v n) w.records) at_zero ∙ ap (inserted (recorded v 0)) records_were;
+          steps = omega (arith, looking.steps);
+        };
+      }
+  looked_by false w' lock word stepped more at_zero =
+      let some_left : (count + 1 ≡ length v.reads) → ⊥ = eqb-false (count + 1) (length v.reads) more in
+      let steps : w'.steps ≡ w.steps + 1 = ap (λ (x : Client). x.steps) stepped in
+      record {
+        same = ap unlooked stepped ∙ looking.same;
+        passed = ap (λ (x : Client). x.passed) stepped ∙ ap (λ (n : ℕ). n + 1) looking.passed;
+        steps = omega (arith, looking.steps);
+        runs = λ _. (ap (λ (x : Client). x.phase) stepped ∙ (looking.runs less).0, ap aside stepped ∙ (looking.runs less).1);
+        done = λ all. absurd (some_left all);
+      }
+
+  pub looked_on : (lk : ℕ → ℕ) (lock : ℕ) (w' : Client) → HasLookedAt lk lock true w w' → v.ticked_at ≡ 0 → IsLooking v w' (count + 1)
+  looked_on lk lock w' look at_zero =
+      let test : eqb (w.passed + 1) (length w.reads) ≡ eqb (count + 1) (length v.reads) = ap (λ (x : Client). eqb (w.passed + 1) (length x.reads)) looking.same ∙ ap (λ (n : ℕ). eqb (n + 1) (length v.reads)) looking.passed in
+      looked_by (eqb (w.passed + 1) (length w.reads)) w' lock look.0 (by_look lk lock true w w' look) (sym test) at_zero

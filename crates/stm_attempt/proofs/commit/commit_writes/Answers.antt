@@ -1,0 +1,79 @@
+use Rattle.std.proofs.Common.{◌≡◌, refl, sym, ap, subst, ◌∙◌, arith, length, IfOk, IfErr}
+use Rattle.std.specs.Result.{is_ok}
+use Rattle.stm_core.specs.Client.{Client}
+use Rattle.stm_logs.specs.Log.{log_pairs}
+use Rattle.stm_logs.proofs.LockLemmas.{locks_few}
+use Rattle.stm_region.specs.Shown.{ClientShown}
+use Rattle.stm_attempt.specs.Committing.{IsDecided, HasSettled, HasCommitted, HasStopped, HasFailedDeciding, returned}
+use Rattle.stm_attempt.proofs.Parts.{inside_same, some_pairs, map_ok, map_err, ok_of, err_of, has_committed, steps_committed, stopped_locking, stopped_deciding, err_not_ok}
+use Rattle.stm_attempt.proofs.commit.commit_writes.Goals as goal
+use Rattle.stm_attempt.proofs.commit.commit_writes.Goals.{in-Ok, in-Err}
+
+pub decide-answer-requires-clause-inside : goal.decide-answer-requires-clause-inside
+decide-answer-requires-clause-inside g c =
+    inside_same _ c.args.client.now.value.reads c.lock_all.new.client.value.reads (ap (λ (x : Client). x.reads) c.in-Ok.ensures.all.0) c.requires.inside
+
+pub returns-then-is_ok-clause-ok : goal.returns-then-is_ok-clause-ok
+returns-then-is_ok-clause-ok g c =
+    let tag = g.T.Tag.numbers c.args.tag.now in
+    let pairs = log_pairs c.args.logs.now.writes in
+    let v = c.args.client.now.value in
+    let l = c.lock_all.new.client.value in
+    let e = c.settle.new.client.value in
+    let some = some_pairs c.args.logs.now.writes c.requires.written in
+    elim c.match-lock_all.branch [
+      | in-Ok w ↦ subst (λ r. IfOk r (λ version. HasCommitted tag pairs v e version)) (sym w.answer-is)
+          (map_ok w.decide-answer.result (λ version. IsDecided tag pairs l w.decide-answer.new.client.value version) (λ version. HasCommitted tag pairs v e version)
+          (λ version decided. has_committed tag pairs v l w.decide-answer.new.client.value e version w.in-Ok.ensures.all.0 decided (subst (λ (s : ClientShown). HasSettled s.value e) w.client-is c.settle.ensures.settled) some)
+          w.decide-answer.ensures.ok)
+      | in-Err w ↦ subst (λ r. IfOk r (λ version. HasCommitted tag pairs v e version)) (sym w.answer-is) tt
+    ]
+
+pub returns-then-is_ok-clause-steps : goal.returns-then-is_ok-clause-steps
+returns-then-is_ok-clause-steps g c =
+    let tag = g.T.Tag.numbers c.args.tag.now in
+    let pairs = log_pairs c.args.logs.now.writes in
+    let v = c.args.client.now.value in
+    let l = c.lock_all.new.client.value in
+    let e = c.settle.new.client.value in
+    let some = some_pairs c.args.logs.now.writes c.requires.written in
+    elim c.match-lock_all.branch [
+      | in-Ok w ↦
+          (let ok = ok_of w.decide-answer.result (λ version. IsDecided tag pairs l w.decide-answer.new.client.value version) (ap is_ok (sym w.answer-is) ∙ sym c.if-is_ok.ensures.value) w.decide-answer.ensures.ok in
+          steps_committed tag pairs v l w.decide-answer.new.client.value e ok.0 w.in-Ok.ensures.all.0 ok.2 (subst (λ (s : ClientShown). HasSettled s.value e) w.client-is c.settle.ensures.settled) some
+          c.args.logs.now.writes c.lock_all.new.taken refl c.same_addresses.ensures w.in-Ok.ensures.held w.in-Ok.ensures.all.1 w.in-Ok.ensures.all.2)
+      | in-Err w ↦ err_not_ok c.match-lock_all.answer _ w.answer-is (sym c.if-is_ok.ensures.value)
+    ]
+
+pub returns-else-is_ok-clause-stopped : goal.returns-else-is_ok-clause-stopped
+returns-else-is_ok-clause-stopped g c =
+    let last = c.args.region.now.last in
+    let pairs = log_pairs c.args.logs.now.writes in
+    let v = c.args.client.now.value in
+    let l = c.lock_all.new.client.value in
+    let e = c.give_back_first.new.client.value in
+    let some = some_pairs c.args.logs.now.writes c.requires.written in
+    elim c.match-lock_all.branch [
+      | in-Ok w ↦ subst (λ r. IfErr r (λ stop. HasStopped last stop pairs v e)) (sym w.answer-is)
+          (map_err w.decide-answer.result (λ stop. HasFailedDeciding last stop l w.decide-answer.new.client.value) (λ stop. HasStopped last stop pairs v e)
+          (λ stop failed. stopped_deciding last stop pairs v l w.decide-answer.new.client.value e w.in-Ok.ensures.all.0 failed (subst (λ (s : ClientShown). returned e ≡ returned s.value) w.client-is c.give_back_first.ensures.same) c.give_back_first.ensures.free some)
+          w.decide-answer.ensures.failed)
+      | in-Err w ↦ subst (λ r. IfErr r (λ stop. HasStopped last stop pairs v e)) (sym w.answer-is)
+          (stopped_locking last _ pairs v l e c.lock_all.new.taken w.in-Err.ensures.failed w.in-Err.ensures.shown (subst (λ (s : ClientShown). returned e ≡ returned s.value) w.client-is c.give_back_first.ensures.same) c.give_back_first.ensures.free some)
+    ]
+
+pub returns-else-is_ok-clause-steps : goal.returns-else-is_ok-clause-steps
+returns-else-is_ok-clause-steps g c =
+    let v = c.args.client.now.value in
+    let l = c.lock_all.new.client.value in
+    let few = locks_few c.args.logs.now.writes c.same_addresses.ensures in
+    elim c.match-lock_all.branch [
+      | in-Ok w ↦
+          (let failed = err_of w.decide-answer.result (λ stop. HasFailedDeciding c.args.region.now.last stop l w.decide-answer.new.client.value) (ap is_ok (sym w.answer-is) ∙ sym c.if-is_ok.ensures.value) w.decide-answer.ensures.failed in
+          let at = ap (λ (s : ClientShown). s.value.steps) w.client-is in
+          let reads = ap (λ (x : Client). length x.reads) w.in-Ok.ensures.all.0 in
+          omega (arith, few, failed.1.steps, at, reads, w.in-Ok.ensures.all.1, w.in-Ok.ensures.all.2, c.give_back_first.ensures.steps))
+      | in-Err w ↦
+          (let at = ap (λ (s : ClientShown). s.value.steps) w.client-is in
+          omega (arith, few, w.in-Err.ensures.failed.steps, w.in-Err.ensures.few, at, c.give_back_first.ensures.steps))
+    ]

@@ -1,0 +1,14 @@
+use Rattle.std.proofs.Common.{arith}
+use Rattle.stm_attempt.proofs.Locks.{next_above, next_logged, room}
+use Rattle.stm_attempt.proofs.locking.lock_all.Goals as goal
+
+pub lock_one-requires-clause-range : goal.lock_one-requires-clause-range
+lock_one-requires-clause-range g c =
+    let at = next_logged c.args.writes.now c.loop-lock.client.value.held _ _ _ c.loop-lock.invariant.3.held c.in-Some.ensures.steps in
+    c.requires.placed.range at.0 _ at.1
+
+pub lock_one-requires-clause-above : goal.lock_one-requires-clause-above
+lock_one-requires-clause-above g c = next_above c.args.writes.now c.loop-lock.client.value.held _ _ _ c.loop-lock.invariant.3.held c.in-Some.ensures.steps
+
+pub prove-unreachable-requires : goal.prove-unreachable-requires
+prove-unreachable-requires g c = omega (arith, room c.args.writes.now c.loop-lock.client.value.held _ _ _ c.loop-lock.invariant.3.held c.in-Some.ensures.steps, c.lock_count-count.ensures, c.loop-lock.invariant.3.count)

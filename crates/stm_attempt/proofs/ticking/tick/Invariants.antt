@@ -1,0 +1,9 @@
+use Rattle.std.proofs.Common.{◌≡◌, ◌≤◌}
+use Rattle.stm_attempt.proofs.Ticks.{IsTicking}
+use Rattle.stm_attempt.proofs.ticking.tick.Given as goal
+
+abbrev pub invariant-loop : goal.invariant-loop
+invariant-loop g l =
+    (l.client.table ≡ l.initial.client.table) ×
+    (l.from ≤ l.region.last) ×
+    IsTicking l.initial.client.value l.client.value l.counter l.from

@@ -1,0 +1,7 @@
+pub mod Running
+pub mod Shown
+pub mod Seen
+pub mod Answers
+pub mod Committing
+pub mod Looks
+pub mod StoredPairs

@@ -1,0 +1,47 @@
+-- What a running attempt is, in terms of its client's value.
+use Rattle.std.specs.Prelude.{◌≡◌, ℕ, ◌+◌, ◌<◌, Bool, List, [], ◌∷◌, ◌++◌, map, true, false, Some}
+use Rattle.std.specs.FinMap.{get}
+use Rattle.stm_core.specs.Client.{Client, Phase, idle, running, ending, committed, finished, nothing}
+use Rattle.stm_logs.specs.Log.{LogValue}
+use Rattle.stm_region.specs.Shown.{RegionShown, stripe_of}
+
+-- the client's value without what a read changes
+abbrev pub still : Client → Client
+still v = record v { phase = running; reads = []; last = nothing; gave_back = false; mine = false; steps = 0 }
+
+-- the client's attempt began with the read version rv, and has done nothing but read
+pub record IsBegun (v : Client) (rv : ℕ) : Type 0 where
+  pub unspent : v.spent ≡ false
+  pub begun_at : v.rv ≡ rv
+  pub known : v.floor ≡ rv
+  pub free : v.held ≡ []
+  pub unversioned : v.wv ≡ 0
+  pub unticked : v.ticks ≡ 0
+  pub from : v.next_from ≡ rv
+
+-- the value is as before, but that x was read at the address, in three steps
+pub record HasReadWord (v v' : Client) (address x : ℕ) : Type 0 where
+  pub reads : v'.reads ≡ v.reads ++ (address, x) ∷ []
+  pub runs : v'.phase ≡ running
+  pub steps : v'.steps ≡ v.steps + 3
+
+abbrev pub address_of : ℕ × ℕ → ℕ
+address_of p = p.0
+
+-- the addresses of a list of reads
+abbrev pub addresses : List (ℕ × ℕ) → List ℕ
+addresses reads = map address_of reads
+
+-- each logged write has an address of the region, and the number of its lock
+pub record IsPlaced (region : RegionShown) (writes : LogValue) : Type 0 where
+  pub lock : (address number : ℕ) → get writes.locks address ≡ Some number → number ≡ stripe_of region.stripes address
+  pub inside : (address number : ℕ) → get writes.locks address ≡ Some number → address < region.size
+  pub range : (address number : ℕ) → get writes.locks address ≡ Some number → number < region.stripes
+
+-- the attempt was not finished as a reader
+abbrev pub is_unfinished : Phase → Bool
+is_unfinished idle = true
+is_unfinished running = true
+is_unfinished ending = true
+is_unfinished committed = true
+is_unfinished finished = false

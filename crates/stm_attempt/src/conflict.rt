@@ -1,0 +1,56 @@
+//! Why a transaction stopped.
+ghost use Rattle.std.specs.Prelude.{◌≡◌};
+ghost use Rattle.stm_attempt.specs.declared.conflict.Stop.TheVariants.{Memory};
+
+use std::alloc::AllocError;
+use stm_words::Version;
+
+/// A conflict with another client, with the word that one of the attempt's own steps found.
+#[derive(Clone, Copy, Debug, PartialEq, Eq)]
+pub enum Conflict {
+    /// The lock word was held by another client.
+    Held {
+        lock: u32,
+        word: u64,
+    },
+    /// The lock word had a version above the read version.
+    Newer {
+        lock: u32,
+        version: Version,
+        rv: Version,
+    },
+    /// The lock word changed while the data word was read.
+    Moved {
+        lock: u32,
+        first: u64,
+        second: u64,
+    },
+    /// The exchange that takes the lock lost.
+    LostLock {
+        lock: u32,
+        found: u64,
+    },
+    /// The last tick that is tried lost.
+    LostTick {
+        found: u64,
+    },
+}
+
+/// Why a read, a write or a commit was refused.
+#[derive(Clone, Copy, Debug, PartialEq, Eq)]
+pub enum Stop {
+    /// A log could not grow. The attempt is as it was, and may go on.
+    Memory,
+    /// The attempt met a conflict, and can only end.
+    Conflict(Conflict),
+    /// The clock is at the last version, so that nothing more can be written.
+    Spent { version: Version },
+}
+
+impl From<AllocError> for Stop {
+    ghost from_gives = { λ _ stop. stop ≡ Memory };
+
+    fn from(_error: AllocError) -> Stop {
+        Stop::Memory
+    }
+}

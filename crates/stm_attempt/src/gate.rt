@@ -1,0 +1,33 @@
+//! Places at which a commit tells how far it is.
+
+/// How far a commit is.
+#[derive(Clone, Copy, Debug, PartialEq, Eq)]
+pub enum Point {
+    /// All reads and writes were made. Told before the first lock is taken.
+    ReadsDone,
+    /// All locks are held.
+    Locked,
+    /// The clock was ticked, and the commit has its write version.
+    Ticked,
+    /// Nothing can stop the commit any more.
+    Decided,
+    /// All values are stored. Told before the first lock is released.
+    Written,
+    /// The answer was given. A commit never tells it: it is for callers.
+    Answered,
+}
+
+/// What is called at each point of a commit. A gate may use other clients of the region.
+pub trait Gate {
+    /// Called once at each point that the commit comes to.
+    fn at(&mut self, point: Point);
+}
+
+/// The gate that does nothing.
+#[derive(Drop)]
+pub struct NoGate;
+
+impl Gate for NoGate {
+    #[inline]
+    fn at(&mut self, _point: Point) {}
+}

@@ -1,0 +1,28 @@
+//! A running transaction over a region, as Transactional Locking II has it (Dice, Shalev, Shavit,
+//! DISC 2006).
+//!
+//! An `Attempt` is a memory of `stm_words`: it reads words of the region that are all of one
+//! version, and keeps its writes to itself. A `ReadAttempt` only reads, and keeps no log.
+#![tactic(auto)]
+
+mod attempt;
+mod commit;
+mod conflict;
+mod gate;
+mod locking;
+mod logs;
+mod looking;
+mod read_attempt;
+mod reading;
+mod standing;
+mod storing;
+mod ticking;
+
+pub use attempt::Attempt;
+pub use conflict::{Conflict, Stop};
+pub use gate::{Gate, NoGate, Point};
+pub use logs::Logs;
+pub use read_attempt::ReadAttempt;
+
+#[cfg(test)]
+mod tests;

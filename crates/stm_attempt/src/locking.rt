@@ -1,0 +1,94 @@
+//! The locks of a commit: taken in ascending order, and given back.
+ghost use Rattle.std.specs.Prelude.{◌≡◌, ◌+◌, ◌<◌, ◌≤◌, ◌*◌, ◌⊎◌, [], true, false, length, take, IfOk, IfErr};
+ghost use Rattle.stm_core.specs.Event.{IsReading};
+ghost use Rattle.stm_logs.specs.Log.{log_locks};
+ghost use Rattle.stm_attempt.specs.Running.{IsPlaced, addresses};
+ghost use Rattle.stm_attempt.specs.Shown.{IsCommitConflict};
+ghost use Rattle.stm_attempt.specs.Committing.{unheld, aside, returned, IsAbove, HasTaken, CanGiveBack, HasFailed, HasFailedLocking};
+
+use crate::conflict::Conflict;
+use crate::reading::free_version;
+use std::alloc::Allocator;
+use stm_logs::WriteLog;
+use stm_region::{Client, Region};
+use stm_words::Law;
+
+// Takes a lock above all that the client holds, by one load and one exchange.
+#[inline]
+fn lock_one<L: Law, R: Allocator>(
+    region: &Region<L, R>,
+    client: &mut Client<L>,
+    lock: u32,
+) -> Result<(), Conflict>
+    requires own { client.old.table ≡ region.now.table }
+    requires ready { (client.old.value.spent ≡ false) × IsReading client.old.value }
+    requires range { lock < region.now.stripes }
+    requires above { IsAbove client.old.value lock }
+    ensures own { client.new.table ≡ client.old.table }
+    ensures taken { IfOk result (λ _. HasTaken client.old.value client.new.value lock) }
+    ensures failed { IfErr result (λ _. HasFailed client.old.value client.new.value) }
+    ensures shown { IfErr result (λ conflict. IsCommitConflict conflict client.new.value) }
+    ensures steps { IfErr result (λ _. client.new.value.steps ≤ client.old.value.steps + 2) }
+{
+    let word = region.probe(client, lock);
+    let Some(_version) = free_version(word) else {
+        return Err(Conflict::Held { lock, word });
+    };
+    match region.lock(client, lock) {
+        Ok(()) => Ok(()),
+        Err(found) => Err(Conflict::LostLock { lock, found }),
+    }
+}
+
+// Takes the locks of all written words in ascending order. `taken` counts those that are held.
+pub(crate) fn lock_all<L: Law, R: Allocator, A: Allocator + Copy>(
+    region: &Region<L, R>,
+    client: &mut Client<L>,
+    writes: &WriteLog<A>,
+    taken: &mut usize,
+) -> Result<(), Conflict>
+    requires own { client.old.table ≡ region.now.table }
+    requires ready { (client.old.value.spent ≡ false) × IsReading client.old.value }
+    requires none { (client.old.value.held ≡ []) × (taken.old ≡ 0) }
+    requires placed { IsPlaced region.now writes.now }
+    ensures own { client.new.table ≡ client.old.table }
+    ensures held { addresses client.new.value.held ≡ take taken.new (log_locks writes.now) }
+    ensures all { IfOk result (λ _. (unheld client.new.value ≡ unheld client.old.value) × (taken.new ≡ length (log_locks writes.now)) × (client.new.value.steps ≡ client.old.value.steps + 2 * taken.new)) }
+    ensures failed { IfErr result (λ _. HasFailedLocking client.old.value client.new.value taken.new) }
+    ensures few { IfErr result (λ _. taken.new < length (log_locks writes.now)) }
+    ensures shown { IfErr result (λ conflict. IsCommitConflict conflict client.new.value) }
+{
+    let count = writes.lock_count();
+    for lock in writes.locks() {
+        lock_one(region, client, lock)?;
+        prove!(*taken < count);
+        *taken += 1;
+    }
+    Ok(())
+}
+
+// Gives back the first locks of the log, so many.
+pub(crate) fn give_back_first<L: Law, R: Allocator, A: Allocator + Copy>(
+    region: &Region<L, R>,
+    client: &mut Client<L>,
+    writes: &WriteLog<A>,
+    count: usize,
+)
+    requires own { client.old.table ≡ region.now.table }
+    requires able { CanGiveBack client.old.value }
+    requires held { addresses client.old.value.held ≡ take count (log_locks writes.now) }
+    requires placed { IsPlaced region.now writes.now }
+    ensures own { client.new.table ≡ client.old.table }
+    ensures free { client.new.value.held ≡ [] }
+    ensures same { returned client.new.value ≡ returned client.old.value }
+    ensures steps { client.new.value.steps ≤ client.old.value.steps + count }
+{
+    let mut left = count;
+    for lock in writes.locks() {
+        if left == 0 {
+            break;
+        }
+        region.give_back(client, lock);
+        left -= 1;
+    }
+}

@@ -1,0 +1,35 @@
+//! What an attempt keeps to itself.
+ghost use Rattle.std.specs.Prelude.{◌≡◌, [], false};
+ghost use Rattle.stm_logs.specs.Log.{empty_log};
+
+use std::alloc::{Allocator, Global};
+use stm_logs::{ReadLog, WriteLog};
+
+/// A read log and a write log, which one attempt after the other uses.
+#[derive(Drop)]
+pub struct Logs<A: Allocator + Copy = Global> {
+    pub(crate) reads: ReadLog<A>,
+    pub(crate) writes: WriteLog<A>,
+    // An attempt runs that has not come to its commit.
+    pub(crate) in_use: bool,
+}
+
+impl<A: Allocator + Copy> Logs<A> {
+    /// Empty logs. They take memory as an attempt reads and writes, and keep it.
+    pub fn new(alloc: A) -> Logs<A>
+        ensures { (result.reads ≡ []) × (result.writes ≡ empty_log) × (result.in_use ≡ false) }
+    {
+        Logs {
+            reads: ReadLog::new(alloc),
+            writes: WriteLog::new(alloc),
+            in_use: false,
+        }
+    }
+
+    pub(crate) fn clear(&mut self)
+        ensures { (self.new.reads ≡ []) × (self.new.writes ≡ empty_log) × (self.new.in_use ≡ self.old.in_use) }
+    {
+        self.reads.clear();
+        self.writes.clear();
+    }
+}

@@ -1,0 +1,75 @@
+//! The looks of a commit at the locks of the words that it read.
+ghost use Rattle.std.specs.Prelude.{◌≡◌, ◌≢◌, ◌<◌, ◌≤◌, true, false, [], IfOk, IfErr};
+ghost use Rattle.stm_core.specs.Client.{running, decided};
+ghost use Rattle.stm_core.specs.Event.{validate as validates};
+ghost use Rattle.stm_logs.specs.Log.{log_locks};
+ghost use Rattle.stm_region.specs.Shown.{IsAllowed, stripe_of};
+ghost use Rattle.stm_region.specs.Told.{Decides};
+ghost use Rattle.stm_attempt.specs.Running.{addresses};
+ghost use Rattle.stm_attempt.specs.Shown.{IsCommitConflict};
+ghost use Rattle.stm_attempt.specs.Committing.{HasLooked, HasFailedLooking, AreInside};
+ghost use Rattle.stm_attempt.specs.Looks.{HasLookedAt};
+
+use crate::conflict::Conflict;
+use crate::logs::Logs;
+use std::alloc::Allocator;
+use stm_logs::WriteLog;
+use stm_region::{Client, Region};
+use stm_words::{Law, LockWord, Version};
+
+// Looks at the lock of a read word: it must be free or the client's own, with a version of at most
+// the read version.
+fn look_at<L: Law, R: Allocator, A: Allocator + Copy>(
+    region: &Region<L, R>,
+    client: &mut Client<L>,
+    rv: Version,
+    lock: u32,
+    writes: &WriteLog<A>,
+) -> Result<(), Conflict>
+    requires own { client.old.table ≡ region.now.table }
+    requires allowed { IsAllowed L.lawful region.now (validates lock) client.old }
+    requires version { client.old.value.rv ≡ rv }
+    requires held { addresses client.old.value.held ≡ log_locks writes.now }
+    ensures own { client.new.table ≡ client.old.table }
+    ensures passed { IfOk result (λ _. HasLookedAt (stripe_of region.now.stripes) lock true client.old.value client.new.value) }
+    ensures decides { IfOk result (λ _. decided client.new.value ≡ true → Decides L.fits L.lawful region.now.opening client.new.value) }
+    ensures failed { IfErr result (λ _. HasLookedAt (stripe_of region.now.stripes) lock false client.old.value client.new.value) }
+    ensures shown { IfErr result (λ conflict. IsCommitConflict conflict client.new.value) }
+{
+    let word = region.validate(client, lock);
+    let (version, held) = LockWord::decode(word);
+    if held && !writes.has_lock(lock) {
+        return Err(Conflict::Held { lock, word });
+    }
+    if version > rv {
+        return Err(Conflict::Newer { lock, version, rv });
+    }
+    Ok(())
+}
+
+// Looks at the lock of each read word. The last look decides the attempt.
+pub(crate) fn look_at_reads<L: Law, R: Allocator, A: Allocator + Copy>(
+    region: &Region<L, R>,
+    client: &mut Client<L>,
+    rv: Version,
+    logs: &Logs<A>,
+) -> Result<(), Conflict>
+    requires own { client.old.table ≡ region.now.table }
+    requires ready { (client.old.value.spent ≡ false) × (client.old.value.phase ≡ running) × (0 < client.old.value.wv) × (client.old.value.passed ≡ 0) × (client.old.value.ticked_at ≡ 0) }
+    requires some { client.old.value.reads ≢ [] }
+    requires version { client.old.value.rv ≡ rv }
+    requires logged { logs.now.reads ≡ addresses client.old.value.reads }
+    requires inside { AreInside region.now.size client.old.value.reads }
+    requires held { addresses client.old.value.held ≡ log_locks logs.now.writes }
+    ensures own { client.new.table ≡ client.old.table }
+    ensures ok { IfOk result (λ _. HasLooked client.old.value client.new.value) }
+    ensures decides { IfOk result (λ _. Decides L.fits L.lawful region.now.opening client.new.value) }
+    ensures failed { IfErr result (λ _. HasFailedLooking client.old.value client.new.value) }
+    ensures shown { IfErr result (λ conflict. IsCommitConflict conflict client.new.value) }
+{
+    for i in 0..logs.reads.len() {
+        let lock = region.lock_of(logs.reads.get(i));
+        look_at(region, client, rv, lock, &logs.writes)?;
+    }
+    Ok(())
+}

@@ -1,0 +1,66 @@
+//! One read of a word of the region.
+ghost use Rattle.std.specs.Prelude.{◌≡◌, ◌+◌, ◌<◌, ◌≤◌, ◌^◌, IfOk, IfErr, IfSome, IfNone, true};
+ghost use Rattle.stm_words.specs.LockWord.{free_word};
+ghost use Rattle.stm_core.specs.Client.{running};
+ghost use Rattle.stm_region.specs.Shown.{stripe_of};
+ghost use Rattle.stm_region.specs.Told.{StandsOn};
+ghost use Rattle.stm_attempt.specs.Running.{still, IsBegun, HasReadWord, is_unfinished};
+ghost use Rattle.stm_attempt.specs.Shown.{IsHeld, IsReadConflict};
+
+use crate::conflict::Conflict;
+use std::alloc::Allocator;
+use stm_region::{Client, Region};
+use stm_words::{Addr, Law, LockWord, Version};
+
+// The version of a free lock's word, or `None` for a held lock.
+#[inline]
+pub(crate) fn free_version(word: u64) -> Option<Version>
+    requires { word < 2 ^ 63 }
+    ensures free { IfSome result (λ v. word ≡ free_word v) }
+    ensures held { IfNone result (IsHeld word) }
+{
+    let (version, held) = LockWord::decode(word);
+    if held { None } else { Some(version) }
+}
+
+// Reads a word between two looks at its lock, which must find the same free lock word, of a version
+// of at most the read version.
+#[inline]
+pub(crate) fn read_word<L: Law, R: Allocator>(
+    region: &Region<L, R>,
+    client: &mut Client<L>,
+    rv: Version,
+    addr: Addr,
+) -> Result<u64, Conflict>
+    requires own { client.old.table ≡ region.now.table }
+    requires begun { IsBegun client.old.value rv }
+    requires runs { client.old.value.phase ≡ running }
+    requires range { addr.0 < region.now.size }
+    ensures own { client.new.table ≡ client.old.table }
+    ensures same { still client.new.value ≡ still client.old.value }
+    ensures unfinished { is_unfinished client.new.value.phase ≡ true }
+    ensures ok { IfOk result (λ x. HasReadWord client.old.value client.new.value addr.0 x) }
+    ensures stands { IfOk result (λ _. StandsOn L.fits region.now.size client.new.value.reads) }
+    ensures conflict { IfErr result (λ conflict. IsReadConflict (stripe_of region.now.stripes) addr.0 conflict client.new.value) }
+    ensures reads { IfErr result (λ _. client.new.value.reads ≡ client.old.value.reads) }
+    ensures steps { IfErr result (λ _. client.new.value.steps ≤ client.old.value.steps + 3) }
+{
+    let lock = region.lock_of(addr);
+    let first = region.probe(client, lock);
+    let Some(version) = free_version(first) else {
+        return Err(Conflict::Held { lock, word: first });
+    };
+    if version > rv {
+        return Err(Conflict::Newer { lock, version, rv });
+    }
+    let value = region.fetch(client, addr);
+    let second = region.check(client, addr);
+    if second != first {
+        return Err(Conflict::Moved {
+            lock,
+            first,
+            second,
+        });
+    }
+    Ok(value)
+}

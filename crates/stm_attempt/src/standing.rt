@@ -1,0 +1,31 @@
+//! What the proof keeps of an attempt's reads.
+ghost use Rattle.std.specs.Prelude.{◌≡◌};
+ghost use Rattle.stm_region.specs.Told.{StandsOn};
+
+use std::alloc::Allocator;
+use std::snapshot::Snapshot;
+use stm_region::{Client, Region};
+use stm_words::Law;
+
+// Some fitting image of this size agrees with what the client had read. It has no bytes: a ghost
+// field of the attempt itself cannot speak of the law, since the attempt refers to a region.
+#[derive(Drop)]
+pub(crate) struct Standing<L: Law> {
+    pub(crate) size: Snapshot<usize>,
+    pub(crate) client: Snapshot<Client<L>>,
+    ghost stands: { ∥ StandsOn L.fits size.value client.value.value.reads ∥₁ },
+}
+
+impl<L: Law> Standing<L> {
+    #[inline]
+    pub(crate) fn of<R: Allocator>(region: &Region<L, R>, client: &Client<L>) -> Standing<L>
+        requires { StandsOn L.fits region.now.size client.now.value.reads }
+        ensures size { result.size.value ≡ region.now.size }
+        ensures client { result.client.value ≡ client.now }
+    {
+        Standing {
+            size: Snapshot::of(&region.size()),
+            client: Snapshot::of(client),
+        }
+    }
+}

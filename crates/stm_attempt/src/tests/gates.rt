@@ -1,0 +1,195 @@
+//! What the gate of a commit is told, and what other clients meet there.
+ghost use Rattle.std.specs.Prelude.{◌≡◌, ◌<◌, true};
+ghost use Rattle.stm_core.specs.Core.{IsFreeHanded};
+
+use super::{read_one, version, write_one};
+use crate::{Attempt, Conflict, Gate, Logs, NoGate, Point, Stop};
+use std::test::Fail;
+use stm_region::{Client, Region};
+use stm_words::{Addr, FreeLaw, TxMem, TxRead, Version};
+
+// Keeps the points that it is told.
+#[derive(Drop)]
+struct Told {
+    points: [Option<Point>; 6],
+    told: usize,
+}
+
+impl Gate for Told {
+    fn at(&mut self, point: Point) {
+        if self.told < 6 {
+            self.points[self.told] = Some(point);
+            self.told += 1;
+        }
+    }
+}
+
+const ALL_POINTS: [Option<Point>; 5] = [
+    Some(Point::ReadsDone),
+    Some(Point::Locked),
+    Some(Point::Ticked),
+    Some(Point::Decided),
+    Some(Point::Written),
+];
+
+#[test]
+fn gates_are_told_each_point(rt: HostRuntime) -> Result<(), Fail> {
+    let alloc = rt.alloc();
+    let (region, mut a) = Region::<FreeLaw>::new(alloc, &[0; 32], 100, 4)?;
+    let mut b = region.split(&mut a)?;
+    let mut logs_a = Logs::new(alloc);
+    let mut logs_b = Logs::new(alloc);
+    let mut told = Told {
+        points: [None; 6],
+        told: 0,
+    };
+    let mut attempt = Attempt::begin(&region, &mut a, &mut logs_a);
+    let written = attempt.write(Addr(9), 1);
+    let committed = attempt.commit(&1u64, &mut told);
+    written?;
+    assert_eq!(rt; committed?, version(1)?);
+    assert!(rt; &told.points[..5] == ALL_POINTS.as_slice() && told.points[5].is_none());
+    let mut reads_alone = Told {
+        points: [None; 6],
+        told: 0,
+    };
+    let attempt = Attempt::begin(&region, &mut a, &mut logs_a);
+    assert_eq!(rt; attempt.commit(&2u64, &mut reads_alone)?, version(1)?);
+    assert!(rt; reads_alone.points == [Some(Point::ReadsDone), None, None, None, None, None]);
+    // A commit that looks at its reads, since another one came between.
+    let mut looking = Told {
+        points: [None; 6],
+        told: 0,
+    };
+    let mut attempt = Attempt::begin(&region, &mut a, &mut logs_a);
+    let read = attempt.read(Addr(9));
+    let written = attempt.write(Addr(9), 3);
+    let between = write_one(&region, &mut b, &mut logs_b, Addr(10), 2);
+    let committed = attempt.commit(&3u64, &mut looking);
+    assert_eq!(rt; read?, 1);
+    written?;
+    assert_eq!(rt; between?, version(2)?);
+    assert_eq!(rt; committed?, version(3)?);
+    assert!(rt; &looking.points[..5] == ALL_POINTS.as_slice() && looking.points[5].is_none());
+    Ok(())
+}
+
+struct Running<'b> {
+    attempt: Attempt<'b, FreeLaw>,
+    ghost runs: { attempt.logs.now.in_use ≡ true },
+}
+
+// Commits another client's attempt at one point.
+struct Meanwhile<'a, 'b> {
+    other: Option<Running<'b>>,
+    when: Point,
+    answer: &'a mut Option<Result<Version, Stop>>,
+}
+
+impl<'a, 'b> Gate for Meanwhile<'a, 'b> {
+    fn at(&mut self, point: Point) {
+        if point == self.when
+            && let Some(Running { attempt }) = self.other.take()
+        {
+            *self.answer = Some(attempt.commit(&12u64, &mut NoGate));
+        }
+    }
+}
+
+type Answer = Result<Version, Stop>;
+
+// Writes 1 to word 9 under the gate.
+fn write_under(
+    region: &Region<FreeLaw>,
+    client: &mut Client<FreeLaw>,
+    logs: &mut Logs,
+    gate: &mut Meanwhile<'_, '_>,
+) -> Answer
+    requires own { client.old.table ≡ region.now.table }
+    requires free { IsFreeHanded client.old.value }
+    requires range { 9 < region.now.size }
+    ensures own { client.new.table ≡ client.old.table }
+    ensures free { IsFreeHanded client.new.value }
+{
+    let mut attempt = Attempt::begin(region, client, logs);
+    match attempt.write(Addr(9), 1) {
+        Ok(()) => attempt.commit(&1u64, gate),
+        Err(stop) => {
+            attempt.drop_it();
+            Err(stop)
+        }
+    }
+}
+
+// Its tick comes between the locks and the tick of the other one, and is the first after its read
+// version: it decides, though the word that it has read is locked.
+#[test]
+fn a_commit_at_locked_decides_by_its_tick(rt: HostRuntime) -> Result<(), Fail> {
+    let alloc = rt.alloc();
+    let (region, mut a) = Region::<FreeLaw>::new(alloc, &[0; 32], 100, 32)?;
+    let mut b = region.split(&mut a)?;
+    let mut logs_a = Logs::new(alloc);
+    let mut logs_b = Logs::new(alloc);
+    let mut other = Attempt::begin(&region, &mut b, &mut logs_b);
+    let read = other.read(Addr(9));
+    let written = other.write(Addr(10), 7);
+    let mut answer = None;
+    let mut gate = Meanwhile {
+        other: Some(Running { attempt: other }),
+        when: Point::Locked,
+        answer: &mut answer,
+    };
+    let committed = write_under(&region, &mut a, &mut logs_a, &mut gate);
+    let Meanwhile {
+        other,
+        when: _,
+        answer: _,
+    } = gate;
+    if let Some(Running { attempt }) = other {
+        attempt.drop_it();
+    }
+    assert_eq!(rt; read?, 0);
+    written?;
+    assert_eq!(rt; committed?, version(2)?);
+    assert_eq!(rt; answer, Some(Ok(version(1)?)));
+    Ok(())
+}
+
+// Another commit came before, so that it must look at the word that it has read, and finds it
+// held.
+#[test]
+fn a_commit_at_locked_meets_a_held_lock(rt: HostRuntime) -> Result<(), Fail> {
+    let alloc = rt.alloc();
+    let (region, mut a) = Region::<FreeLaw>::new(alloc, &[0; 32], 100, 32)?;
+    let mut b = region.split(&mut a)?;
+    let mut logs_a = Logs::new(alloc);
+    let mut logs_b = Logs::new(alloc);
+    let mut other = Attempt::begin(&region, &mut b, &mut logs_b);
+    let read = other.read(Addr(9));
+    let written = other.write(Addr(10), 7);
+    let before = write_one(&region, &mut a, &mut logs_a, Addr(20), 1);
+    let mut answer = None;
+    let mut gate = Meanwhile {
+        other: Some(Running { attempt: other }),
+        when: Point::Locked,
+        answer: &mut answer,
+    };
+    let committed = write_under(&region, &mut a, &mut logs_a, &mut gate);
+    let Meanwhile {
+        other,
+        when: _,
+        answer: _,
+    } = gate;
+    if let Some(Running { attempt }) = other {
+        attempt.drop_it();
+    }
+    assert_eq!(rt; read?, 0);
+    written?;
+    assert_eq!(rt; before?, version(1)?);
+    assert_eq!(rt; committed?, version(3)?);
+    let held = Conflict::Held { lock: 9, word: 1 };
+    assert_eq!(rt; answer, Some(Err(Stop::Conflict(held))));
+    assert_eq!(rt; read_one(&region, &mut a, &mut logs_a, Addr(9))?, 1);
+    assert_eq!(rt; read_one(&region, &mut a, &mut logs_a, Addr(10))?, 0);
+    Ok(())
+}

@@ -1,0 +1,65 @@
+//! The tick of a commit.
+ghost use Rattle.std.specs.Prelude.{◌≡◌, ◌+◌, ◌<◌, ◌≤◌, ◌^◌, true, false, IfOk, IfErr};
+ghost use Rattle.stm_core.specs.Client.{decided};
+ghost use Rattle.stm_core.specs.Event.{IsReading, MayWrite};
+ghost use Rattle.stm_logs.specs.Log.{log_pairs};
+ghost use Rattle.stm_region.specs.Shown.{stripe_of};
+ghost use Rattle.stm_region.specs.Told.{Decides};
+ghost use Rattle.stm_attempt.specs.Committing.{HasTicked, HasFailed, IsCommitStop};
+
+use crate::conflict::{Conflict, Stop};
+use std::alloc::Allocator;
+use stm_logs::WriteLog;
+use stm_region::{Client, Region};
+use stm_words::{Law, Tag, Version};
+
+// How often a commit tries to tick the clock.
+const TICKS: u32 = 16;
+
+#[inline]
+fn as_version(number: u64) -> Version
+    requires { number < 2 ^ 62 }
+    ensures { result ≡ number }
+{
+    let Some(version) = Version::new(number) else {
+        unreachable!()
+    };
+    version
+}
+
+// Ticks the clock from the read version, and after each loss from the version found.
+pub(crate) fn tick<L: Law, R: Allocator, A: Allocator + Copy, T: Tag>(
+    region: &Region<L, R>,
+    client: &mut Client<L>,
+    rv: Version,
+    tag: &T,
+    writes: &WriteLog<A>,
+) -> Result<Version, Stop>
+    requires own { client.old.table ≡ region.now.table }
+    requires ready { (client.old.value.spent ≡ false) × IsReading client.old.value × (client.old.value.ticks ≡ 0) × (client.old.value.next_from ≡ rv) }
+    requires version { (client.old.value.rv ≡ rv) × (rv ≤ region.now.last) }
+    requires writes { MayWrite (stripe_of region.now.stripes) region.now.size client.old.value.held (log_pairs writes.now) }
+    requires lawful { L.lawful (T.numbers tag.now) client.old.value.reads (log_pairs writes.now) }
+    ensures own { client.new.table ≡ client.old.table }
+    ensures won { IfOk result (λ version. HasTicked (T.numbers tag.now) (log_pairs writes.now) client.old.value client.new.value version) }
+    ensures version { IfOk result (λ version. (rv < version) × (version ≤ region.now.last)) }
+    ensures decides { IfOk result (λ _. decided client.new.value ≡ true → Decides L.fits L.lawful region.now.opening client.new.value) }
+    ensures failed { IfErr result (λ _. HasFailed client.old.value client.new.value) }
+    ensures shown { IfErr result (λ stop. IsCommitStop region.now.last stop client.new.value) }
+    ensures steps { client.new.value.steps ≤ client.old.value.steps + 16 }
+{
+    let last = region.last();
+    let mut from = rv.get();
+    for _ in 0..TICKS {
+        if from == last {
+            return Err(Stop::Spent {
+                version: as_version(from),
+            });
+        }
+        match region.tick(client, from, tag, writes) {
+            Ok(()) => return Ok(as_version(from + 1)),
+            Err(found) => from = found,
+        }
+    }
+    Err(Stop::Conflict(Conflict::LostTick { found: from }))
+}
