@@ -123,14 +123,14 @@ impl<'a, L: Law, R: Allocator> TxRead for ReadAttempt<'a, L, R> {
 
     ghost Origin = { Origin };
 
-    ghost origin = { λ s. origin_of true s.region.now s.client.ghost_name 0 s.client.now };
+    ghost origin = { λ s. origin_of (is_unfinished s.client.now.value.phase) s.region.now s.client.ghost_name 0 s.client.now };
 
     /// A value that two equal looks at its lock enclose, and which enters the reads. The first
     /// look answers `Held` before `Newer`, the second `Moved` where it differs.
     #[inline]
     fn read(&mut self, addr: Addr) -> Result<u64, Conflict>
         requires { addr.0 < (memory_of (is_unfinished self.old.client.now.value.phase) self.old.region.now L.fits self.old.client.now.value empty_log).size }
-        ensures origin { origin_of true self.new.region.now self.new.client.ghost_name 0 self.new.client.now ≡ origin_of true self.old.region.now self.old.client.ghost_name 0 self.old.client.now }
+        ensures origin { origin_of (is_unfinished self.new.client.now.value.phase) self.new.region.now self.new.client.ghost_name 0 self.new.client.now ≡ origin_of (is_unfinished self.old.client.now.value.phase) self.old.region.now self.old.client.ghost_name 0 self.old.client.now }
         ensures frame { SameFrame (memory_of (is_unfinished self.old.client.now.value.phase) self.old.region.now L.fits self.old.client.now.value empty_log) (memory_of (is_unfinished self.new.client.now.value.phase) self.new.region.now L.fits self.new.client.now.value empty_log) }
         ensures writes { (memory_of (is_unfinished self.new.client.now.value.phase) self.new.region.now L.fits self.new.client.now.value empty_log).writes ≡ (memory_of (is_unfinished self.old.client.now.value.phase) self.old.region.now L.fits self.old.client.now.value empty_log).writes }
         ensures answer { MatchResult result (λ v. HasRead (memory_of (is_unfinished self.old.client.now.value.phase) self.old.region.now L.fits self.old.client.now.value empty_log) (memory_of (is_unfinished self.new.client.now.value.phase) self.new.region.now L.fits self.new.client.now.value empty_log) addr.0 v) (λ _. (memory_of (is_unfinished self.new.client.now.value.phase) self.new.region.now L.fits self.new.client.now.value empty_log).reads ≡ (memory_of (is_unfinished self.old.client.now.value.phase) self.old.region.now L.fits self.old.client.now.value empty_log).reads) }

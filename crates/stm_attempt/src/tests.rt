@@ -57,6 +57,14 @@ fn read_one(
     value
 }
 
+// The sum of two words.
+fn sum_of<M: TxRead>(memory: &mut M, first: Addr, second: Addr) -> Result<u64, M::Stop>
+    requires inside { (first.0 < (M.view memory.old).size) × (second.0 < (M.view memory.old).size) }
+    ensures origin { M.origin memory.new ≡ M.origin memory.old }
+{
+    Ok(memory.read(first)?.wrapping_add(memory.read(second)?))
+}
+
 #[test]
 fn own_writes_are_read_and_dropped(rt: HostRuntime) -> Result<(), Fail> {
     let alloc = rt.alloc();
@@ -216,5 +224,22 @@ fn three_hundred_writes_in_one_commit(rt: HostRuntime) -> Result<(), Fail> {
         assert_eq!(rt; *word, expected as u64);
     }
     assert_eq!(rt; last, version(1)?);
+    Ok(())
+}
+
+#[test]
+fn both_kinds_of_attempt_read_alike(rt: HostRuntime) -> Result<(), Fail> {
+    let alloc = rt.alloc();
+    let (region, mut client) = Region::<FreeLaw>::new(alloc, &[7; 32], 100, 4)?;
+    let mut logs = Logs::new(alloc);
+    write_one(&region, &mut client, &mut logs, Addr(9), 5)?;
+    let mut attempt = Attempt::begin(&region, &mut client, &mut logs);
+    let sum = sum_of(&mut attempt, Addr(9), Addr(13));
+    attempt.drop_it();
+    assert_eq!(rt; sum?, 12);
+    let mut reader = ReadAttempt::begin(&region, &mut client);
+    let sum = sum_of(&mut reader, Addr(9), Addr(13));
+    reader.drop_it();
+    assert_eq!(rt; sum, Ok(12));
     Ok(())
 }
