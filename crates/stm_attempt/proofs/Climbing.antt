@@ -1,10 +1,10 @@
 -- Locks that are taken in ascending order.
-use Rattle.std.proofs.Common.{◌≡◌, ◌⊎◌, inl, refl, sym, ap, subst, ◌∙◌, ℕ, zero, ◌<◌, false, eqb, List, [], ◌∷◌, arith}
+use Rattle.std.proofs.Common.{◌≡◌, refl, sym, ap, subst, ◌∙◌, ℕ, zero, ◌<◌, false, eqb, List, [], ◌∷◌, arith}
 use Rattle.std.proofs.lemmas.Bool.{ne_eqb}
 use Rattle.stm_words.specs.Image.{In}
 use Rattle.stm_words.specs.LockWord.{free_word}
 use Rattle.stm_words.proofs.Paired.{in_later}
-use Rattle.stm_core.specs.Client.{Client, Step, probed, looked, writes_to, IsFree, Stamp}
+use Rattle.stm_core.specs.Client.{Client, Step, probed, writes_to, IsFree, Stamp}
 use Rattle.stm_core.specs.Event.{probe, lock, after, May, Bounds, IsReading, HasFoundFree}
 use Rattle.stm_attempt.specs.Shown.{IsHeld}
 use Rattle.stm_attempt.specs.Committing.{IsAbove}
@@ -17,8 +17,8 @@ not_mine (p ∷ ps) k above =
     rw other (not_mine ps k (λ j u i. above j u (in_later _ _ _ i)))
 
 module _ (lawful : List ℕ → List (ℕ × ℕ) → List (ℕ × ℕ) → Type 0) (t : Stamp) (lk : ℕ → ℕ) (b : Bounds) (v w : Client) (k n : ℕ) (stepped : w ≡ after t lk (probe k) n v) (above : IsAbove v k) where
-  pub held_shown : IsHeld n → ((w.last ≡ probed k n) ⊎ (w.last ≡ looked k n)) × IsHeld n × (w.mine ≡ false)
-  held_shown h = (inl (ap (λ (x : Client). x.last) stepped), h, ap (λ (x : Client). x.mine) stepped ∙ not_mine v.held k above)
+  pub held_shown : IsHeld n → (k ≡ k) × (w.last ≡ probed k n) × IsHeld n × (w.mine ≡ false)
+  held_shown h = (refl, ap (λ (x : Client). x.last) stepped, h, ap (λ (x : Client). x.mine) stepped ∙ not_mine v.held k above)
 
   pub may_lock : v.spent ≡ false → IsReading v → k < b.stripes → (u : ℕ) → n ≡ free_word u → May lawful lk b (lock k) w
   may_lock unspent reading range u free =

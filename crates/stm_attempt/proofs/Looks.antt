@@ -1,5 +1,5 @@
 -- Looks at the locks of the words that were read.
-use Rattle.std.proofs.Common.{◌≡◌, inl, inr, sym, ap, ◌∙◌, ℕ, ◌*◌, ◌/◌, ◌<◌, ◌≤◌, Bool, true, false, ◌||◌, ◌&&◌, eq-eqb, List, Some, cond, arith}
+use Rattle.std.proofs.Common.{◌≡◌, inl, inr, refl, sym, ap, ◌∙◌, ℕ, ◌*◌, ◌/◌, ◌<◌, ◌≤◌, Bool, true, false, ◌||◌, ◌&&◌, eq-eqb, List, Some, cond, arith}
 use Rattle.std.proofs.lemmas.Bool.{ne_eqb, le-leb, lt-leb}
 use Rattle.std.proofs.Math.Bool.{or-true}
 use Rattle.std.specs.Prelude.{◌↔◌, IsTrue, leb}
@@ -11,7 +11,7 @@ use Rattle.stm_core.specs.Client.{Client, looked, version_of, is_free, writes_to
 use Rattle.stm_core.specs.Event.{validate, after, passing, failing, stepping}
 use Rattle.stm_region.specs.Shown.{RegionShown, ClientShown, acted, stripe_of, unplaced}
 use Rattle.stm_attempt.specs.Running.{addresses}
-use Rattle.stm_attempt.specs.Shown.{IsCommitConflict}
+use Rattle.stm_attempt.specs.Shown.{IsLookConflict}
 use Rattle.stm_attempt.specs.Looks.{HasLookedAt}
 use Rattle.stm_attempt.specs.declared.conflict.Conflict.TheVariants.{Held, Newer}
 use Rattle.stm_attempt.proofs.Parity.{parity, says_held}
@@ -60,17 +60,17 @@ module _ (word version : ℕ) (held : Bool) (free : (u : ℕ) → word ≡ free_
       pub refused_held : Looks false
       refused_held = (word, value_is, ap (λ (t : Bool). (t || writes_to c.value.held lock) && leb (version_of word) c.value.rv) (held_said is) ∙ ap (λ (t : Bool). t && leb (version_of word) c.value.rv) other)
 
-      pub shown_held : IsCommitConflict (Held lock word) c'.value
-      shown_held = (inr last, says_held word version held free is, mine ∙ other)
+      pub shown_held : IsLookConflict lock (Held lock word) c'.value
+      shown_held = (refl, last, says_held word version held free is, mine ∙ other)
 
     module _ (ours : (is_free word || writes_to c.value.held lock) ≡ true) (rv : ℕ) (from : c.value.rv ≡ rv) where
       pub refused_newer : rv < version → Looks false
       refused_newer newer = (word, value_is, ap (λ (t : Bool). t && leb (version_of word) c.value.rv) ours ∙ lt-leb (version_of word) c.value.rv (omega (arith, version_said)))
 
-      pub shown_newer : rv < version → IsCommitConflict (Newer lock version rv) c'.value
+      pub shown_newer : rv < version → IsLookConflict lock (Newer lock version rv) c'.value
       shown_newer newer =
           let same : c'.value.rv ≡ c.value.rv = ap (λ (x : Client). x.rv) (by_look (stripe_of region.stripes) lock false c.value c'.value (refused_newer newer)) in
-          (word, last, ap (λ (t : Bool). is_free word || t) mine ∙ ours, version_said, sym from ∙ sym same, newer)
+          (refl, (word, last, ap (λ (t : Bool). is_free word || t) mine ∙ ours, version_said, sym from ∙ sym same, newer))
 
       pub has_passed : version ≤ rv → Looks true
       has_passed old = (word, value_is, ap (λ (t : Bool). t && leb (version_of word) c.value.rv) ours ∙ le-leb (version_of word) c.value.rv (omega (arith, version_said)))

@@ -1,7 +1,8 @@
 -- The parts of a commit put together.
-use Rattle.std.proofs.Common.{◌≡◌, ◌≢◌, refl, sym, ap, subst, ◌∙◌, ℕ, zero, suc, ◌+◌, ◌*◌, ◌<◌, ◌≤◌, Bool, true, false, ◌||◌, cond, eqb, List, [], ◌∷◌, length, Result, Ok, Err, IfOk, IfErr, take, arith}
+use Rattle.std.proofs.Common.{◌≡◌, ◌≢◌, inl, inr, refl, sym, ap, subst, ◌∙◌, ℕ, zero, suc, ◌+◌, ◌*◌, ◌<◌, ◌≤◌, Bool, true, false, ◌||◌, cond, eqb, List, [], ◌∷◌, length, Result, Ok, Err, IfOk, IfErr, take, arith}
 use Rattle.std.specs.FinMap.{len, len-entries}
 use Rattle.std.proofs.lemmas.Bool.{ne_eqb}
+use Rattle.core.specs.Result.{IsErrAnd}
 use Rattle.std.specs.Result.{is_ok}
 use Rattle.stm_words.specs.Image.{In}
 use Rattle.stm_core.specs.Client.{Client, Record, inserted, committed, running}
@@ -9,10 +10,10 @@ use Rattle.stm_core.specs.Event.{is_empty, after, finish}
 use Rattle.stm_logs.specs.Log.{LogValue, SameAddresses, log_pairs, log_locks}
 use Rattle.stm_logs.proofs.LockLemmas.{locks_few}
 use Rattle.stm_region.specs.Told.{StandsOn}
-use Rattle.stm_region.specs.Shown.{unplaced}
+use Rattle.stm_region.specs.Shown.{RegionShown, stripe_of, unplaced}
 use Rattle.stm_attempt.specs.Running.{addresses, IsBegun}
-use Rattle.stm_attempt.specs.Shown.{IsCommitConflict}
-use Rattle.stm_attempt.specs.Committing.{unheld, returned, aside, apart, AreInside, is_at_once, writer_record, commit_record, IsCommitVersion, IsCommitStop, HasFailedLocking, HasFailedDeciding, HasTicked, HasLooked, IsDecided, HasSettled, HasCommitted, HasStopped}
+use Rattle.stm_attempt.specs.Shown.{IsLockConflict, IsLookConflict, IsTickConflict, IsReadLock, IsCommitConflict}
+use Rattle.stm_attempt.specs.Committing.{unheld, returned, aside, apart, AreInside, is_at_once, writer_record, commit_record, IsCommitVersion, IsCommitStop, IsCounted, HasFailedLocking, HasFailedDeciding, HasTicked, HasLooked, IsDecided, HasSettled, HasCommitted, HasStopped}
 use Rattle.stm_attempt.specs.declared.conflict.Conflict.{Conflict}
 use Rattle.stm_attempt.specs.declared.conflict.Conflict.TheVariants.{Held, Newer, Moved, LostLock, LostTick}
 use Rattle.stm_attempt.specs.declared.conflict.Stop.{Stop}
@@ -103,6 +104,11 @@ pub map_err : {X E : Type 0} (r : Result X E) (P Q : E → Type 0) → ((e : E) 
 map_err (Ok x) P Q f holds = tt
 map_err (Err e) P Q f holds = f e holds
 
+-- an error that is handed on as it is
+pub handed_on : {X E : Type 0} (r : Result X E) (e : E) (P : E → Type 0) → IsErrAnd r (λ f. f ≡ e) → P e → IfErr r P
+handed_on (Ok x) e P is holds = tt
+handed_on (Err f) e P is holds = subst P (sym is) holds
+
 pub err_not_ok : {X E A : Type 0} (r : Result X E) (e : E) → r ≡ Err e → is_ok r ≡ true → A
 err_not_ok (Ok x) e same is = cc
 err_not_ok (Err f) e same is = cc
@@ -148,37 +154,65 @@ module _ (tag : List ℕ) (writes : List (ℕ × ℕ)) (v l d e : Client) (versi
         omega (arith, few, words, locks, reads, settled.steps, decided.steps, stepped, all)
 
 -- a conflict stays shown where locks are given back
-conflict_kept : (c : Conflict) (l g : Client) → returned g ≡ returned l → IsCommitConflict c l → IsCommitConflict c g
-conflict_kept (Held lock word) l g e i = subst (λ (x : Client). IsCommitConflict (Held lock word) x) (sym e) i
-conflict_kept (Newer lock version rv) l g e i = subst (λ (x : Client). IsCommitConflict (Newer lock version rv) x) (sym e) i
-conflict_kept (Moved lock first second) l g e i = absurd i
-conflict_kept (LostLock lock found) l g e i = subst (λ (x : Client). IsCommitConflict (LostLock lock found) x) (sym e) i
-conflict_kept (LostTick found) l g e i = subst (λ (x : Client). IsCommitConflict (LostTick found) x) (sym e) i
+lock_kept : (k : ℕ) (c : Conflict) (l g : Client) → returned g ≡ returned l → IsLockConflict k c l → IsLockConflict k c g
+lock_kept k (Held lock word) l g e i = subst (λ (x : Client). IsLockConflict k (Held lock word) x) (sym e) i
+lock_kept k (Newer lock version rv) l g e i = absurd i
+lock_kept k (Moved lock first second) l g e i = absurd i
+lock_kept k (LostLock lock found) l g e i = subst (λ (x : Client). IsLockConflict k (LostLock lock found) x) (sym e) i
+lock_kept k (LostTick found) l g e i = absurd i
 
-stop_kept : (last : ℕ) (stop : Stop) (l g : Client) → returned g ≡ returned l → IsCommitStop last stop l → IsCommitStop last stop g
-stop_kept last Memory l g e i = absurd i
-stop_kept last (Conflicting c) l g e i = conflict_kept c l g e i
-stop_kept last (Spent version) l g e i = (i.0, ap (λ (x : Client). x.next_from) e ∙ i.1)
+look_kept : (k : ℕ) (c : Conflict) (l g : Client) → returned g ≡ returned l → IsLookConflict k c l → IsLookConflict k c g
+look_kept k (Held lock word) l g e i = subst (λ (x : Client). IsLookConflict k (Held lock word) x) (sym e) i
+look_kept k (Newer lock version rv) l g e i = subst (λ (x : Client). IsLookConflict k (Newer lock version rv) x) (sym e) i
+look_kept k (Moved lock first second) l g e i = absurd i
+look_kept k (LostLock lock found) l g e i = absurd i
+look_kept k (LostTick found) l g e i = absurd i
 
--- a lock was not taken, and all others were given back
-pub stopped_locking : (last : ℕ) (c : Conflict) (writes : List (ℕ × ℕ)) (v l g : Client) (taken : ℕ) → HasFailedLocking v l taken → IsCommitConflict c l → returned g ≡ returned l → g.held ≡ [] → writes ≢ [] → HasStopped last (Conflicting c) writes v g
-stopped_locking last c writes v l g taken failed shown back free some = record {
-  written = some;
-  shown = conflict_kept c l g back shown;
-  free = free;
-  floor = let a : g.floor ≡ l.floor = ap (λ (x : Client). x.floor) back in omega (arith, a, failed.floor);
-  same = ap aside back ∙ failed.same;
-}
+tick_kept : (c : Conflict) (l g : Client) → returned g ≡ returned l → IsTickConflict c l → IsTickConflict c g
+tick_kept (Held lock word) l g e i = absurd i
+tick_kept (Newer lock version rv) l g e i = absurd i
+tick_kept (Moved lock first second) l g e i = absurd i
+tick_kept (LostLock lock found) l g e i = absurd i
+tick_kept (LostTick found) l g e i = subst (λ (x : Client). IsTickConflict (LostTick found) x) (sym e) i
 
--- the attempt was not decided, and all locks were given back
-pub stopped_deciding : (last : ℕ) (stop : Stop) (writes : List (ℕ × ℕ)) (v l f g : Client) → unheld l ≡ unheld v → HasFailedDeciding last stop l f → returned g ≡ returned f → g.held ≡ [] → writes ≢ [] → HasStopped last stop writes v g
-stopped_deciding last stop writes v l f g locked failed back free some = record {
-  written = some;
-  shown = stop_kept last stop f g back failed.shown;
-  free = free;
-  floor = let a : g.floor ≡ f.floor = ap (λ (x : Client). x.floor) back in let b : l.floor ≡ v.floor = ap (λ (x : Client). x.floor) locked in omega (arith, a, b, failed.floor);
-  same = ap aside back ∙ failed.same ∙ ap aside locked;
-}
+conflict_kept : (lk : ℕ → ℕ) (log : LogValue) (c : Conflict) (l g : Client) → returned g ≡ returned l → IsCommitConflict lk log c l → IsCommitConflict lk log c g
+conflict_kept lk log c l g e (inl (k, own, i)) = inl (k, own, lock_kept k c l g e i)
+conflict_kept lk log c l g e (inr (inl (k, own, i))) = inr (inl (k, subst (λ (x : Client). IsReadLock lk x.reads k) (sym e) own, look_kept k c l g e i))
+conflict_kept lk log c l g e (inr (inr i)) = inr (inr (tick_kept c l g e i))
+
+stop_kept : (region : RegionShown) (log : LogValue) (stop : Stop) (l g : Client) → returned g ≡ returned l → IsCommitStop region log stop l → IsCommitStop region log stop g
+stop_kept region log Memory l g e i = absurd i
+stop_kept region log (Conflicting c) l g e i = conflict_kept (stripe_of region.stripes) log c l g e i
+stop_kept region log (Spent version) l g e i = (i.0, ap (λ (x : Client). x.next_from) e ∙ i.1, subst (λ (n : ℕ). n < 16) (sym (ap (λ (x : Client). x.ticks) e)) i.2)
+
+-- the steps of a spent clock are counted on where so many locks are given back
+counted_kept : (stop : Stop) (locks : ℕ) (v l f g : Client) → l.steps ≡ v.steps + 2 * locks → returned g ≡ returned f → g.steps ≡ f.steps + locks → IsCounted stop l.steps f → IsCounted stop (v.steps + 3 * locks) g
+counted_kept Memory locks v l f g up back down i = tt
+counted_kept (Conflicting c) locks v l f g up back down i = tt
+counted_kept (Spent version) locks v l f g up back down i = let ticks : g.ticks ≡ f.ticks = ap (λ (x : Client). x.ticks) back in omega (arith, up, down, ticks, i)
+
+module _ (region : RegionShown) (log : LogValue) (v l : Client) (some : log_pairs log ≢ []) where
+  -- a lock was not taken, and all others were given back
+  pub stopped_locking : (c : Conflict) (g : Client) (taken : ℕ) → HasFailedLocking v l taken → IsCommitConflict (stripe_of region.stripes) log c l → returned g ≡ returned l → g.held ≡ [] → HasStopped region log (Conflicting c) v g
+  stopped_locking c g taken failed shown back free = record {
+    written = some;
+    shown = conflict_kept (stripe_of region.stripes) log c l g back shown;
+    counted = tt;
+    free = free;
+    floor = let a : g.floor ≡ l.floor = ap (λ (x : Client). x.floor) back in omega (arith, a, failed.floor);
+    same = ap aside back ∙ failed.same;
+  }
+
+  -- the attempt was not decided, and all locks were given back
+  pub stopped_deciding : (stop : Stop) (f g : Client) → unheld l ≡ unheld v → l.steps ≡ v.steps + 2 * length (log_locks log) → HasFailedDeciding region log stop l f → returned g ≡ returned f → g.steps ≡ f.steps + length (log_locks log) → g.held ≡ [] → HasStopped region log stop v g
+  stopped_deciding stop f g locked up failed back down free = record {
+    written = some;
+    shown = stop_kept region log stop f g back failed.shown;
+    counted = counted_kept stop (length (log_locks log)) v l f g up back down failed.counted;
+    free = free;
+    floor = let a : g.floor ≡ f.floor = ap (λ (x : Client). x.floor) back in let b : l.floor ≡ v.floor = ap (λ (x : Client). x.floor) locked in omega (arith, a, b, failed.floor);
+    same = ap aside back ∙ failed.same ∙ ap aside locked;
+  }
 
 -- an attempt that wrote nothing is finished as a reader
 pub has_finished : (tag : List ℕ) (writes : List (ℕ × ℕ)) (v e : Client) (rv found : ℕ) (lk : ℕ → ℕ) → writes ≡ [] → IsBegun v rv → e ≡ after unplaced lk (finish tag) found v → HasCommitted tag writes v e rv

@@ -1,5 +1,5 @@
 -- Locks that are given back.
-use Rattle.std.proofs.Common.{◌≡◌, ◌≢◌, inr, sym, ap, subst, ◌∙◌, ℕ, ◌+◌, ◌-◌, List, [], ◌∷◌, ◌++◌, append_assoc, take, arith}
+use Rattle.std.proofs.Common.{◌≡◌, ◌≢◌, inr, sym, ap, subst, ◌∙◌, ℕ, suc, ◌+◌, ◌-◌, List, [], ◌∷◌, ◌++◌, append_assoc, length, take, arith}
 use Rattle.std.proofs.Common.{Some}
 use Rattle.std.specs.FinMap.{get}
 use Rattle.stm_core.specs.Client.{Client, Stamp, without}
@@ -34,5 +34,6 @@ module _ (lawful : List ℕ → List (ℕ × ℕ) → List (ℕ × ℕ) → Type
     same = ap returned e ∙ returning.same;
     able = (ap (λ (x : Client). x.spent) e ∙ returning.able.0, inr (ap (λ (x : Client). x.phase) e));
     held = ap (λ (x : Client). addresses x.held) e ∙ first.1;
-    steps = let s : v'.steps ≡ v.steps + 1 = ap (λ (x : Client). x.steps) e in omega (arith, returning.steps);
+    few = let l : length now ≡ suc (length rest) = ap length next in omega (arith, l, returning.few, some_left);
+    steps = let s : v'.steps ≡ v.steps + 1 = ap (λ (x : Client). x.steps) e in omega (arith, s, some_left, returning.steps);
   }

@@ -9,6 +9,7 @@ use Rattle.stm_core.specs.Event.{Bounds, May, validate, committed_by, stepping}
 use Rattle.stm_region.specs.Shown.{unplaced}
 use Rattle.stm_attempt.specs.Running.{addresses, address_of}
 use Rattle.stm_attempt.specs.Committing.{HasLooked, AreInside, aside, apart, writer_record}
+use Rattle.stm_attempt.specs.Shown.{IsReadLock}
 use Rattle.stm_attempt.specs.Looks.{HasLookedAt}
 use Rattle.stm_attempt.proofs.Looks.{by_look}
 
@@ -91,3 +92,10 @@ module _ (v w : Client) (count : ℕ) (looking : IsLooking v w count) (less : co
   looked_on lk lock w' look at_zero =
       let test : eqb (w.passed + 1) (length w.reads) ≡ eqb (count + 1) (length v.reads) = ap (λ (x : Client). eqb (w.passed + 1) (length x.reads)) looking.same ∙ ap (λ (n : ℕ). eqb (n + 1) (length v.reads)) looking.passed in
       looked_by (eqb (w.passed + 1) (length w.reads)) w' lock look.0 (by_look lk lock true w w' look) (sym test) at_zero
+
+  -- a look that failed was at the lock of a read
+  pub looked_at_read : (lk : ℕ → ℕ) (a k : ℕ) → a ≡ slice_index (addresses v.reads) count → k ≡ lk a → (w' : Client) → HasLookedAt lk k false w w' → IsReadLock lk w'.reads k
+  looked_at_read lk a k address lock w' look =
+      let at = read_at v.reads count less in
+      let same : w'.reads ≡ v.reads = ap (λ (x : Client). x.reads) (by_look lk k false w w' look) ∙ ap (λ (x : Client). x.reads) looking.same in
+      (a, at.0, (count, ap (λ (rs : List (ℕ × ℕ)). get_elem? rs count) same ∙ at.1 ∙ ap (λ (n : ℕ). some (n, at.0)) (sym address)), lock)

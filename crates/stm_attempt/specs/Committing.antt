@@ -3,6 +3,8 @@ use Rattle.std.specs.Prelude.{◌≡◌, ◌≢◌, ◌⊎◌, ℕ, ◌+◌, ◌
 use Rattle.stm_words.specs.Image.{In}
 use Rattle.stm_core.specs.Client.{Client, Record, running, ending, committed, nothing, inserted, writes_to}
 use Rattle.stm_core.specs.Event.{is_empty}
+use Rattle.stm_logs.specs.Log.{LogValue, log_pairs, log_locks}
+use Rattle.stm_region.specs.Shown.{RegionShown, stripe_of}
 use Rattle.stm_region.specs.Told.{Decides}
 use Rattle.stm_attempt.specs.Running.{addresses}
 use Rattle.stm_attempt.specs.Shown.{IsCommitConflict}
@@ -65,7 +67,8 @@ pub record IsReturning (v v' : Client) (count left : ℕ) (rest all : List ℕ) 
   pub same : returned v' ≡ returned v
   pub able : CanGiveBack v'
   pub held : addresses v'.held ≡ take left rest
-  pub steps : v'.steps + left ≤ v.steps + count
+  pub few : left ≤ length rest
+  pub steps : v'.steps + left ≡ v.steps + count
 
 -- the record of a writer, and that of an attempt that wrote nothing
 abbrev pub writer_record : List ℕ → Client → List (ℕ × ℕ) → ℕ → Record
@@ -96,11 +99,17 @@ pub record HasTicked (tag : List ℕ) (writes : List (ℕ × ℕ)) (v v' : Clien
   pub phase : v'.phase ≡ cond (is_at_once v version) committed running
   pub records : v'.records ≡ cond (is_at_once v version) (inserted (writer_record tag v writes version) v.records) v.records
 
--- why a commit stopped: a conflict that is shown, or a clock that was found at the last version, so that no tick is made from it
-abbrev pub IsCommitStop : ℕ → Stop → Client → Type 0
-IsCommitStop last Memory v = ⊥
-IsCommitStop last (Conflicting conflict) v = IsCommitConflict conflict v
-IsCommitStop last (Spent version) v = (version ≡ last) × (v.next_from ≡ last)
+-- why a commit stopped: a conflict that is shown, or a clock that was found at the last version while ticks were left, so that no tick is made from it
+abbrev pub IsCommitStop : RegionShown → LogValue → Stop → Client → Type 0
+IsCommitStop region log Memory v = ⊥
+IsCommitStop region log (Conflicting conflict) v = IsCommitConflict (stripe_of region.stripes) log conflict v
+IsCommitStop region log (Spent version) v = (version ≡ region.last) × (v.next_from ≡ region.last) × (v.ticks < 16)
+
+-- a spent clock was found after these steps and the lost ticks alone
+abbrev pub IsCounted : Stop → ℕ → Client → Type 0
+IsCounted Memory steps v = Unit {0}
+IsCounted (Conflicting conflict) steps v = Unit {0}
+IsCounted (Spent version) steps v = v.steps ≡ steps + v.ticks
 
 -- the locks of all reads were looked at, and the last look decided the attempt
 pub record HasLooked (v v' : Client) : Type 0 where
@@ -163,12 +172,13 @@ pub record IsDecided (tag : List ℕ) (writes : List (ℕ × ℕ)) (v v' : Clien
   pub steps : v'.steps ≤ v.steps + length v.reads + 16
 
 -- the attempt could not be decided: it can only give back what it holds
-pub record HasFailedDeciding (last : ℕ) (stop : Stop) (v v' : Client) : Type 0 where
+pub record HasFailedDeciding (region : RegionShown) (log : LogValue) (stop : Stop) (v v' : Client) : Type 0 where
   pub same : aside v' ≡ aside v
   pub held : v'.held ≡ v.held
   pub floor : v.floor ≤ v'.floor
   pub able : CanGiveBack v'
-  pub shown : IsCommitStop last stop v'
+  pub shown : IsCommitStop region log stop v'
+  pub counted : IsCounted stop v.steps v'
   pub steps : v'.steps ≤ v.steps + length v.reads + 16
 
 -- the client's value without what storing and releasing change
@@ -199,10 +209,11 @@ pub record HasCommitted (tag : List ℕ) (writes : List (ℕ × ℕ)) (v v' : Cl
   pub free : v'.held ≡ []
   pub same : apart v' ≡ apart v
 
--- the commit was refused: it added no record, and no lock is held. Something was written
-pub record HasStopped (last : ℕ) (stop : Stop) (writes : List (ℕ × ℕ)) (v v' : Client) : Type 0 where
-  pub written : writes ≢ []
-  pub shown : IsCommitStop last stop v'
+-- the commit was refused: it added no record, and no lock is held. Something was written. A spent clock was found with all locks taken: two steps for each, and one more to give it back
+pub record HasStopped (region : RegionShown) (log : LogValue) (stop : Stop) (v v' : Client) : Type 0 where
+  pub written : log_pairs log ≢ []
+  pub shown : IsCommitStop region log stop v'
+  pub counted : IsCounted stop (v.steps + 3 * length (log_locks log)) v'
   pub free : v'.held ≡ []
   pub floor : v.floor ≤ v'.floor
   pub same : aside v' ≡ aside v

@@ -1,7 +1,10 @@
 -- When a conflict is shown: the word that it carries is what the client's last step found, a give back apart.
-use Rattle.std.specs.Prelude.{◌≡◌, ◌≢◌, ℕ, ◌+◌, ◌*◌, ◌<◌, ◌⊎◌, true, false, ◌||◌, Option, Some, None}
+use Rattle.std.specs.Prelude.{◌≡◌, ◌≢◌, ℕ, ◌+◌, ◌*◌, ◌<◌, ◌⊎◌, List, true, false, ◌||◌, Option, Some, None}
+use Rattle.std.specs.FinMap.{get}
+use Rattle.stm_words.specs.Image.{In}
 use Rattle.stm_words.specs.LockWord.{free_word, held_word}
 use Rattle.stm_core.specs.Client.{Client, probed, checked, locked, ticked, looked, version_of, is_free}
+use Rattle.stm_logs.specs.Log.{LogValue}
 use Rattle.stm_attempt.specs.declared.conflict.Conflict.{Conflict}
 use Rattle.stm_attempt.specs.declared.conflict.Conflict.TheVariants.{Held, Newer, Moved, LostLock, LostTick}
 
@@ -17,13 +20,41 @@ IsReadConflict lk address (Moved lock first second) v = (lock ≡ lk address) ×
 IsReadConflict lk address (LostLock lock found) v = ⊥
 IsReadConflict lk address (LostTick found) v = ⊥
 
--- a conflict of a commit: the look at a lock before its exchange, or at a read word's lock, found it held by another; the look at a read word's lock found it free, or the client's own, with a version above the read version; the exchange of a lock lost; or the sixteenth tick did
-abbrev pub IsCommitConflict : Conflict → Client → Type 0
-IsCommitConflict (Held lock word) v = ((v.last ≡ probed lock word) ⊎ (v.last ≡ looked lock word)) × IsHeld word × (v.mine ≡ false)
-IsCommitConflict (Newer lock version rv) v = (word : ℕ) × (v.last ≡ looked lock word) × ((is_free word || v.mine) ≡ true) × (version ≡ version_of word) × (rv ≡ v.rv) × (rv < version)
-IsCommitConflict (Moved lock first second) v = ⊥
-IsCommitConflict (LostLock lock found) v = (word : ℕ) × (v.last ≡ locked lock word found) × (word ≢ found)
-IsCommitConflict (LostTick found) v = (from : ℕ) × (v.last ≡ ticked from found) × (from ≢ found) × (v.ticks ≡ 16)
+-- a conflict over a lock that is to be taken: the load before its exchange found it held, and not by the client itself, or the exchange lost
+abbrev pub IsLockConflict : ℕ → Conflict → Client → Type 0
+IsLockConflict wanted (Held lock word) v = (lock ≡ wanted) × (v.last ≡ probed lock word) × IsHeld word × (v.mine ≡ false)
+IsLockConflict wanted (Newer lock version rv) v = ⊥
+IsLockConflict wanted (Moved lock first second) v = ⊥
+IsLockConflict wanted (LostLock lock found) v = (lock ≡ wanted) × ((word : ℕ) × (v.last ≡ locked lock word found) × (word ≢ found))
+IsLockConflict wanted (LostTick found) v = ⊥
+
+-- a conflict of a look at the lock of a read word: it was held by another, or it was free, or the client's own, with a version above the read version
+abbrev pub IsLookConflict : ℕ → Conflict → Client → Type 0
+IsLookConflict wanted (Held lock word) v = (lock ≡ wanted) × (v.last ≡ looked lock word) × IsHeld word × (v.mine ≡ false)
+IsLookConflict wanted (Newer lock version rv) v = (lock ≡ wanted) × ((word : ℕ) × (v.last ≡ looked lock word) × ((is_free word || v.mine) ≡ true) × (version ≡ version_of word) × (rv ≡ v.rv) × (rv < version))
+IsLookConflict wanted (Moved lock first second) v = ⊥
+IsLookConflict wanted (LostLock lock found) v = ⊥
+IsLookConflict wanted (LostTick found) v = ⊥
+
+-- a conflict over the clock: the sixteenth tick lost
+abbrev pub IsTickConflict : Conflict → Client → Type 0
+IsTickConflict (Held lock word) v = ⊥
+IsTickConflict (Newer lock version rv) v = ⊥
+IsTickConflict (Moved lock first second) v = ⊥
+IsTickConflict (LostLock lock found) v = ⊥
+IsTickConflict (LostTick found) v = (from : ℕ) × (v.last ≡ ticked from found) × (from ≢ found) × (v.ticks ≡ 16)
+
+-- it is the lock of an address that is written
+abbrev pub IsWriteLock : LogValue → ℕ → Type 0
+IsWriteLock log lock = (address : ℕ) × (get log.locks address ≡ Some lock)
+
+-- it is the lock of an address that was read
+abbrev pub IsReadLock : (ℕ → ℕ) → List (ℕ × ℕ) → ℕ → Type 0
+IsReadLock lk reads lock = (address x : ℕ) × In (address, x) reads × (lock ≡ lk address)
+
+-- a conflict of a commit: over the lock of an address that it writes, of one that it has read, or over the clock
+abbrev pub IsCommitConflict : (ℕ → ℕ) → LogValue → Conflict → Client → Type 0
+IsCommitConflict lk log conflict v = ((lock : ℕ) × IsWriteLock log lock × IsLockConflict lock conflict v) ⊎ (((lock : ℕ) × IsReadLock lk v.reads lock × IsLookConflict lock conflict v) ⊎ IsTickConflict conflict v)
 
 -- how many reads a conflict ended: one, where there is one
 abbrev pub refused : Option Conflict → ℕ

@@ -57,7 +57,7 @@ fn decide<L: Law, R: Allocator, A: Allocator + Copy, T: Tag, G: Gate>(
     ensures ok { IfOk result (λ version. IsDecided (T.numbers tag.now) (log_pairs logs.now.writes) client.old.value client.new.value version) }
     ensures version { IfOk result (λ version. version ≤ region.now.last) }
     ensures decides { IfOk result (λ _. Decides L.fits L.lawful region.now.opening client.new.value) }
-    ensures failed { IfErr result (λ stop. HasFailedDeciding region.now.last stop client.old.value client.new.value) }
+    ensures failed { IfErr result (λ stop. HasFailedDeciding region.now logs.now.writes stop client.old.value client.new.value) }
 {
     gate.at(Point::Locked);
     let version = tick(region, client, rv, tag, &logs.writes)?;
@@ -112,7 +112,7 @@ fn commit_writes<L: Law, R: Allocator, A: Allocator + Copy, T: Tag, G: Gate>(
     ensures ok { IfOk result (λ version. HasCommitted (T.numbers tag.now) (log_pairs logs.now.writes) client.old.value client.new.value version) }
     ensures version { IfOk result (λ version. version ≤ region.now.last) }
     ensures decides { IfOk result (λ _. WasDecided L.fits L.lawful region.now.opening client.new.value) }
-    ensures stopped { IfErr result (λ stop. HasStopped region.now.last stop (log_pairs logs.now.writes) client.old.value client.new.value) }
+    ensures stopped { IfErr result (λ stop. HasStopped region.now logs.now.writes stop client.old.value client.new.value) }
     ensures steps { client.new.value.steps ≤ client.old.value.steps + length client.old.value.reads + 4 * len logs.now.writes.words + 16 }
 {
     logs.writes.same_addresses();
@@ -154,7 +154,7 @@ fn end<L: Law, R: Allocator, A: Allocator + Copy, T: Tag, G: Gate>(
     ensures ok { IfOk result (λ version. HasCommitted (T.numbers tag.now) (log_pairs logs.old.writes) client.old.value client.new.value version) }
     ensures version { IfOk result (λ version. version ≤ region.now.last) }
     ensures decides { IfOk result (λ _. WasDecided L.fits L.lawful region.now.opening client.new.value) }
-    ensures refused { stopped ≡ None → IfErr result (λ stop. HasStopped region.now.last stop (log_pairs logs.old.writes) client.old.value client.new.value) }
+    ensures refused { stopped ≡ None → IfErr result (λ stop. HasStopped region.now logs.old.writes stop client.old.value client.new.value) }
     ensures logs { IfErr result (λ _. (logs.new.reads ≡ []) × (logs.new.writes ≡ empty_log)) }
     ensures steps { client.new.value.steps ≤ client.old.value.steps + length client.old.value.reads + 4 * len logs.old.writes.words + 16 }
 {
@@ -190,7 +190,7 @@ impl<'a, L: Law, R: Allocator, A: Allocator + Copy> Attempt<'a, L, R, A> {
         ensures ok { IfOk result (λ version. HasCommitted (T.numbers tag.now) (log_pairs self.entry.logs.now.writes) self.entry.client.now.value self.exit.1.0.now.value version) }
         ensures version { IfOk result (λ version. version ≤ self.entry.region.now.last) }
         ensures decides { IfOk result (λ _. WasDecided L.fits L.lawful self.entry.region.now.opening self.exit.1.0.now.value) }
-        ensures refused { self.entry.stopped ≡ None → IfErr result (λ stop. HasStopped self.entry.region.now.last stop (log_pairs self.entry.logs.now.writes) self.entry.client.now.value self.exit.1.0.now.value) }
+        ensures refused { self.entry.stopped ≡ None → IfErr result (λ stop. HasStopped self.entry.region.now self.entry.logs.now.writes stop self.entry.client.now.value self.exit.1.0.now.value) }
         ensures logs { IfErr result (λ _. (self.exit.1.1.0.now.reads ≡ []) × (self.exit.1.1.0.now.writes ≡ empty_log)) }
         ensures steps { self.exit.1.0.now.value.steps ≤ most_steps (length self.entry.client.now.value.reads + refused self.entry.stopped) (len self.entry.logs.now.writes.words) }
     {

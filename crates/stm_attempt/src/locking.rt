@@ -2,8 +2,9 @@
 ghost use Rattle.std.specs.Prelude.{◌≡◌, ◌+◌, ◌<◌, ◌≤◌, ◌*◌, ◌⊎◌, [], true, false, length, take, IfOk, IfErr};
 ghost use Rattle.stm_core.specs.Event.{IsReading};
 ghost use Rattle.stm_logs.specs.Log.{log_locks};
+ghost use Rattle.stm_region.specs.Shown.{stripe_of};
 ghost use Rattle.stm_attempt.specs.Running.{IsPlaced, addresses};
-ghost use Rattle.stm_attempt.specs.Shown.{IsCommitConflict};
+ghost use Rattle.stm_attempt.specs.Shown.{IsLockConflict, IsCommitConflict};
 ghost use Rattle.stm_attempt.specs.Committing.{unheld, aside, returned, IsAbove, HasTaken, CanGiveBack, HasFailed, HasFailedLocking};
 
 use crate::conflict::Conflict;
@@ -27,7 +28,7 @@ fn lock_one<L: Law, R: Allocator>(
     ensures own { client.new.table ≡ client.old.table }
     ensures taken { IfOk result (λ _. HasTaken client.old.value client.new.value lock) }
     ensures failed { IfErr result (λ _. HasFailed client.old.value client.new.value) }
-    ensures shown { IfErr result (λ conflict. IsCommitConflict conflict client.new.value) }
+    ensures shown { IfErr result (λ conflict. IsLockConflict lock conflict client.new.value) }
     ensures steps { IfErr result (λ _. client.new.value.steps ≤ client.old.value.steps + 2) }
 {
     let word = region.probe(client, lock);
@@ -56,7 +57,7 @@ pub(crate) fn lock_all<L: Law, R: Allocator, A: Allocator + Copy>(
     ensures all { IfOk result (λ _. (unheld client.new.value ≡ unheld client.old.value) × (taken.new ≡ length (log_locks writes.now)) × (client.new.value.steps ≡ client.old.value.steps + 2 * taken.new)) }
     ensures failed { IfErr result (λ _. HasFailedLocking client.old.value client.new.value taken.new) }
     ensures few { IfErr result (λ _. taken.new < length (log_locks writes.now)) }
-    ensures shown { IfErr result (λ conflict. IsCommitConflict conflict client.new.value) }
+    ensures shown { IfErr result (λ conflict. IsCommitConflict (stripe_of region.now.stripes) writes.now conflict client.new.value) }
 {
     let count = writes.lock_count();
     for lock in writes.locks() {
@@ -77,11 +78,12 @@ pub(crate) fn give_back_first<L: Law, R: Allocator, A: Allocator + Copy>(
     requires own { client.old.table ≡ region.now.table }
     requires able { CanGiveBack client.old.value }
     requires held { addresses client.old.value.held ≡ take count (log_locks writes.now) }
+    requires few { count ≤ length (log_locks writes.now) }
     requires placed { IsPlaced region.now writes.now }
     ensures own { client.new.table ≡ client.old.table }
     ensures free { client.new.value.held ≡ [] }
     ensures same { returned client.new.value ≡ returned client.old.value }
-    ensures steps { client.new.value.steps ≤ client.old.value.steps + count }
+    ensures steps { client.new.value.steps ≡ client.old.value.steps + count }
 {
     let mut left = count;
     for lock in writes.locks() {

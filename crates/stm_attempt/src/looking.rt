@@ -1,12 +1,12 @@
 //! The looks of a commit at the locks of the words that it read.
-ghost use Rattle.std.specs.Prelude.{◌≡◌, ◌≢◌, ◌<◌, ◌≤◌, true, false, [], IfOk, IfErr};
+ghost use Rattle.std.specs.Prelude.{◌≡◌, ◌≢◌, ℕ, ◌<◌, ◌≤◌, true, false, [], IfOk, IfErr};
 ghost use Rattle.stm_core.specs.Client.{running, decided};
 ghost use Rattle.stm_core.specs.Event.{validate as validates};
 ghost use Rattle.stm_logs.specs.Log.{log_locks};
 ghost use Rattle.stm_region.specs.Shown.{IsAllowed, stripe_of};
 ghost use Rattle.stm_region.specs.Told.{Decides};
 ghost use Rattle.stm_attempt.specs.Running.{addresses};
-ghost use Rattle.stm_attempt.specs.Shown.{IsCommitConflict};
+ghost use Rattle.stm_attempt.specs.Shown.{IsLookConflict, IsReadLock};
 ghost use Rattle.stm_attempt.specs.Committing.{HasLooked, HasFailedLooking, AreInside};
 ghost use Rattle.stm_attempt.specs.Looks.{HasLookedAt};
 
@@ -34,7 +34,7 @@ fn look_at<L: Law, R: Allocator, A: Allocator + Copy>(
     ensures passed { IfOk result (λ _. HasLookedAt (stripe_of region.now.stripes) lock true client.old.value client.new.value) }
     ensures decides { IfOk result (λ _. decided client.new.value ≡ true → Decides L.fits L.lawful region.now.opening client.new.value) }
     ensures failed { IfErr result (λ _. HasLookedAt (stripe_of region.now.stripes) lock false client.old.value client.new.value) }
-    ensures shown { IfErr result (λ conflict. IsCommitConflict conflict client.new.value) }
+    ensures shown { IfErr result (λ conflict. IsLookConflict lock conflict client.new.value) }
 {
     let word = region.validate(client, lock);
     let (version, held) = LockWord::decode(word);
@@ -65,7 +65,7 @@ pub(crate) fn look_at_reads<L: Law, R: Allocator, A: Allocator + Copy>(
     ensures ok { IfOk result (λ _. HasLooked client.old.value client.new.value) }
     ensures decides { IfOk result (λ _. Decides L.fits L.lawful region.now.opening client.new.value) }
     ensures failed { IfErr result (λ _. HasFailedLooking client.old.value client.new.value) }
-    ensures shown { IfErr result (λ conflict. IsCommitConflict conflict client.new.value) }
+    ensures shown { IfErr result (λ conflict. (lock : ℕ) × IsReadLock (stripe_of region.now.stripes) client.new.value.reads lock × IsLookConflict lock conflict client.new.value) }
 {
     for i in 0..logs.reads.len() {
         let lock = region.lock_of(logs.reads.get(i));

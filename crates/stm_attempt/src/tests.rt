@@ -6,6 +6,7 @@ use std::test::Fail;
 use stm_region::{Client, Region};
 use stm_words::{Addr, FreeLaw, TxMem, TxRead, Version};
 
+mod conflicts;
 mod gates;
 mod memory;
 mod threads;

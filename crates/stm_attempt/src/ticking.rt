@@ -5,7 +5,7 @@ ghost use Rattle.stm_core.specs.Event.{IsReading, MayWrite};
 ghost use Rattle.stm_logs.specs.Log.{log_pairs};
 ghost use Rattle.stm_region.specs.Shown.{stripe_of};
 ghost use Rattle.stm_region.specs.Told.{Decides};
-ghost use Rattle.stm_attempt.specs.Committing.{HasTicked, HasFailed, IsCommitStop};
+ghost use Rattle.stm_attempt.specs.Committing.{HasTicked, HasFailed, IsCommitStop, IsCounted};
 
 use crate::conflict::{Conflict, Stop};
 use std::alloc::Allocator;
@@ -45,7 +45,8 @@ pub(crate) fn tick<L: Law, R: Allocator, A: Allocator + Copy, T: Tag>(
     ensures version { IfOk result (λ version. (rv < version) × (version ≤ region.now.last)) }
     ensures decides { IfOk result (λ _. decided client.new.value ≡ true → Decides L.fits L.lawful region.now.opening client.new.value) }
     ensures failed { IfErr result (λ _. HasFailed client.old.value client.new.value) }
-    ensures shown { IfErr result (λ stop. IsCommitStop region.now.last stop client.new.value) }
+    ensures shown { IfErr result (λ stop. IsCommitStop region.now writes.now stop client.new.value) }
+    ensures counted { IfErr result (λ stop. IsCounted stop client.old.value.steps client.new.value) }
     ensures steps { client.new.value.steps ≤ client.old.value.steps + 16 }
 {
     let last = region.last();

@@ -193,3 +193,39 @@ fn a_commit_at_locked_meets_a_held_lock(rt: HostRuntime) -> Result<(), Fail> {
     assert_eq!(rt; read_one(&region, &mut a, &mut logs_a, Addr(10))?, 0);
     Ok(())
 }
+
+// It writes the same word, so that it finds the lock held before it takes any.
+#[test]
+fn a_commit_at_locked_finds_its_own_lock_held(rt: HostRuntime) -> Result<(), Fail> {
+    let alloc = rt.alloc();
+    let (region, mut a) = Region::<FreeLaw>::new(alloc, &[0; 32], 100, 32)?;
+    let mut b = region.split(&mut a)?;
+    let mut logs_a = Logs::new(alloc);
+    let mut logs_b = Logs::new(alloc);
+    let mut other = Attempt::begin(&region, &mut b, &mut logs_b);
+    let written = other.write(Addr(8), 6);
+    let same = other.write(Addr(9), 7);
+    let mut answer = None;
+    let mut gate = Meanwhile {
+        other: Some(Running { attempt: other }),
+        when: Point::Locked,
+        answer: &mut answer,
+    };
+    let committed = write_under(&region, &mut a, &mut logs_a, &mut gate);
+    let Meanwhile {
+        other,
+        when: _,
+        answer: _,
+    } = gate;
+    if let Some(Running { attempt }) = other {
+        attempt.drop_it();
+    }
+    written?;
+    same?;
+    assert_eq!(rt; committed?, version(1)?);
+    let held = Conflict::Held { lock: 9, word: 1 };
+    assert_eq!(rt; answer, Some(Err(Stop::Conflict(held))));
+    assert_eq!(rt; read_one(&region, &mut a, &mut logs_a, Addr(8))?, 0);
+    assert_eq!(rt; read_one(&region, &mut a, &mut logs_a, Addr(9))?, 1);
+    Ok(())
+}

@@ -1,4 +1,4 @@
-use Rattle.std.proofs.Common.{◌≡◌, refl, sym, ap, subst, ◌∙◌, arith, length, IfOk, IfErr}
+use Rattle.std.proofs.Common.{◌≡◌, refl, sym, ap, subst, ◌∙◌, ◌+◌, ◌*◌, arith, length, IfOk, IfErr}
 use Rattle.std.specs.Result.{is_ok}
 use Rattle.stm_core.specs.Client.{Client}
 use Rattle.stm_logs.specs.Log.{log_pairs}
@@ -47,19 +47,23 @@ returns-then-is_ok-clause-steps g c =
 
 pub returns-else-is_ok-clause-stopped : goal.returns-else-is_ok-clause-stopped
 returns-else-is_ok-clause-stopped g c =
-    let last = c.args.region.now.last in
-    let pairs = log_pairs c.args.logs.now.writes in
+    let region = c.args.region.now in
+    let log = c.args.logs.now.writes in
     let v = c.args.client.now.value in
     let l = c.lock_all.new.client.value in
     let e = c.give_back_first.new.client.value in
-    let some = some_pairs c.args.logs.now.writes c.requires.written in
+    let some = some_pairs log c.requires.written in
     elim c.match-lock_all.branch [
-      | in-Ok w ↦ subst (λ r. IfErr r (λ stop. HasStopped last stop pairs v e)) (sym w.answer-is)
-          (map_err w.decide-answer.result (λ stop. HasFailedDeciding last stop l w.decide-answer.new.client.value) (λ stop. HasStopped last stop pairs v e)
-          (λ stop failed. stopped_deciding last stop pairs v l w.decide-answer.new.client.value e w.in-Ok.ensures.all.0 failed (subst (λ (s : ClientShown). returned e ≡ returned s.value) w.client-is c.give_back_first.ensures.same) c.give_back_first.ensures.free some)
+      | in-Ok w ↦ subst (λ r. IfErr r (λ stop. HasStopped region log stop v e)) (sym w.answer-is)
+          (map_err w.decide-answer.result (λ stop. HasFailedDeciding region log stop l w.decide-answer.new.client.value) (λ stop. HasStopped region log stop v e)
+          (λ stop failed. stopped_deciding region log v l some stop w.decide-answer.new.client.value e w.in-Ok.ensures.all.0
+          (w.in-Ok.ensures.all.2 ∙ ap (λ n. v.steps + 2 * n) w.in-Ok.ensures.all.1) failed
+          (subst (λ (s : ClientShown). returned e ≡ returned s.value) w.client-is c.give_back_first.ensures.same)
+          (c.give_back_first.ensures.steps ∙ ap (λ (s : ClientShown). s.value.steps + c.lock_all.new.taken) w.client-is ∙ ap (λ n. w.decide-answer.new.client.value.steps + n) w.in-Ok.ensures.all.1)
+          c.give_back_first.ensures.free)
           w.decide-answer.ensures.failed)
-      | in-Err w ↦ subst (λ r. IfErr r (λ stop. HasStopped last stop pairs v e)) (sym w.answer-is)
-          (stopped_locking last _ pairs v l e c.lock_all.new.taken w.in-Err.ensures.failed w.in-Err.ensures.shown (subst (λ (s : ClientShown). returned e ≡ returned s.value) w.client-is c.give_back_first.ensures.same) c.give_back_first.ensures.free some)
+      | in-Err w ↦ subst (λ r. IfErr r (λ stop. HasStopped region log stop v e)) (sym w.answer-is)
+          (stopped_locking region log v l some _ e c.lock_all.new.taken w.in-Err.ensures.failed w.in-Err.ensures.shown (subst (λ (s : ClientShown). returned e ≡ returned s.value) w.client-is c.give_back_first.ensures.same) c.give_back_first.ensures.free)
     ]
 
 pub returns-else-is_ok-clause-steps : goal.returns-else-is_ok-clause-steps
@@ -69,7 +73,7 @@ returns-else-is_ok-clause-steps g c =
     let few = locks_few c.args.logs.now.writes c.same_addresses.ensures in
     elim c.match-lock_all.branch [
       | in-Ok w ↦
-          (let failed = err_of w.decide-answer.result (λ stop. HasFailedDeciding c.args.region.now.last stop l w.decide-answer.new.client.value) (ap is_ok (sym w.answer-is) ∙ sym c.if-is_ok.ensures.value) w.decide-answer.ensures.failed in
+          (let failed = err_of w.decide-answer.result (λ stop. HasFailedDeciding c.args.region.now c.args.logs.now.writes stop l w.decide-answer.new.client.value) (ap is_ok (sym w.answer-is) ∙ sym c.if-is_ok.ensures.value) w.decide-answer.ensures.failed in
           let at = ap (λ (s : ClientShown). s.value.steps) w.client-is in
           let reads = ap (λ (x : Client). length x.reads) w.in-Ok.ensures.all.0 in
           omega (arith, few, failed.1.steps, at, reads, w.in-Ok.ensures.all.1, w.in-Ok.ensures.all.2, c.give_back_first.ensures.steps))

@@ -1,7 +1,24 @@
-use Rattle.std.proofs.Common.{ap, ◌∙◌}
+use Rattle.std.proofs.Common.{refl, sym, ap, subst, ◌∙◌, ◌≤◌, ℕ, List, [], length, take}
 use Rattle.stm_region.specs.Shown.{ClientShown, bounds, stripe_of, unplaced}
 use Rattle.stm_attempt.proofs.Returning.{may_return, return_logged, returned_one}
 use Rattle.stm_attempt.proofs.locking.give_back_first.Goals as goal
+
+pub loop-lock-init : goal.loop-lock-init
+loop-lock-init g c =
+    let all = c.into_iter-lock-iterator.ensures.into_iter_gives ∙ c.locks-lock-items.ensures in (
+      tt,
+      tt,
+      c.requires.own,
+      record {
+        gone = [];
+        order = all;
+        same = refl;
+        able = c.requires.able;
+        held = c.requires.held ∙ ap (take c.args.count) (sym all);
+        few = subst (λ (xs : List ℕ). c.args.count ≤ length xs) (sym all) c.requires.few;
+        steps = refl;
+      },
+    )
 
 pub give_back-requires-clause-allowed : goal.give_back-requires-clause-allowed
 give_back-requires-clause-allowed g c =

@@ -1,0 +1,106 @@
+//! What a commit answers where another client has committed since the attempt began.
+ghost use Rattle.std.specs.Prelude.{◌≡◌, ◌<◌};
+ghost use Rattle.stm_core.specs.Core.{IsFreeHanded};
+
+use super::{read_one, version, write_one};
+use crate::{Attempt, Conflict, Logs, NoGate, Stop};
+use std::test::Fail;
+use stm_region::{Client, Region};
+use stm_words::{Addr, FreeLaw, TxMem, TxRead, Version};
+
+// Reads word 9 and writes a word, while the other client writes 1 to word 9.
+fn write_while_another_commits(
+    region: &Region<FreeLaw>,
+    client: &mut Client<FreeLaw>,
+    other: &mut Client<FreeLaw>,
+    logs: &mut Logs,
+    others: &mut Logs,
+    addr: Addr,
+) -> Result<Result<Version, Stop>, Stop>
+    requires own { (client.old.table ≡ region.now.table) × (other.old.table ≡ region.now.table) }
+    requires free { IsFreeHanded client.old.value × IsFreeHanded other.old.value }
+    requires range { (9 < region.now.size) × (addr.0 < region.now.size) }
+    ensures own { (client.new.table ≡ client.old.table) × (other.new.table ≡ other.old.table) }
+    ensures free { IsFreeHanded client.new.value × IsFreeHanded other.new.value }
+{
+    let mut attempt = Attempt::begin(region, client, logs);
+    let read = attempt.read(Addr(9));
+    let written = attempt.write(addr, 7);
+    let between = write_one(region, other, others, Addr(9), 1);
+    let committed = attempt.commit(&2u64, &mut NoGate);
+    read?;
+    written?;
+    between?;
+    Ok(committed)
+}
+
+// The word that was read has a version above the read version, be its lock another's or the
+// client's own.
+#[test]
+fn a_look_meets_a_newer_version(rt: HostRuntime) -> Result<(), Fail> {
+    let alloc = rt.alloc();
+    let (region, mut a) = Region::<FreeLaw>::new(alloc, &[0; 32], 100, 32)?;
+    let mut b = region.split(&mut a)?;
+    let mut logs_a = Logs::new(alloc);
+    let mut logs_b = Logs::new(alloc);
+    let another = write_while_another_commits(
+        &region,
+        &mut a,
+        &mut b,
+        &mut logs_a,
+        &mut logs_b,
+        Addr(10),
+    )?;
+    let own = write_while_another_commits(
+        &region,
+        &mut a,
+        &mut b,
+        &mut logs_a,
+        &mut logs_b,
+        Addr(9),
+    )?;
+    let newer = Conflict::Newer {
+        lock: 9,
+        version: version(1)?,
+        rv: version(0)?,
+    };
+    assert_eq!(rt; another, Err(Stop::Conflict(newer)));
+    let newer = Conflict::Newer {
+        lock: 9,
+        version: version(3)?,
+        rv: version(2)?,
+    };
+    assert_eq!(rt; own, Err(Stop::Conflict(newer)));
+    assert_eq!(rt; read_one(&region, &mut a, &mut logs_a, Addr(9))?, 1);
+    assert_eq!(rt; read_one(&region, &mut a, &mut logs_a, Addr(10))?, 0);
+    assert_eq!(rt;
+        write_one(&region, &mut a, &mut logs_a, Addr(10), 8)?,
+        version(5)?
+    );
+    Ok(())
+}
+
+// The other one has made the last version, which the first tick finds; no look comes after it.
+#[test]
+fn a_lost_tick_finds_the_clock_spent(rt: HostRuntime) -> Result<(), Fail> {
+    let alloc = rt.alloc();
+    let (region, mut a) = Region::<FreeLaw>::new(alloc, &[0; 32], 1, 32)?;
+    let mut b = region.split(&mut a)?;
+    let mut logs_a = Logs::new(alloc);
+    let mut logs_b = Logs::new(alloc);
+    let committed = write_while_another_commits(
+        &region,
+        &mut a,
+        &mut b,
+        &mut logs_a,
+        &mut logs_b,
+        Addr(10),
+    )?;
+    let spent = Stop::Spent {
+        version: version(1)?,
+    };
+    assert_eq!(rt; committed, Err(spent));
+    assert_eq!(rt; read_one(&region, &mut b, &mut logs_b, Addr(10))?, 0);
+    assert_eq!(rt; read_one(&region, &mut a, &mut logs_a, Addr(9))?, 1);
+    Ok(())
+}
