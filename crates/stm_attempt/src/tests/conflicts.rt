@@ -39,44 +39,41 @@ fn write_while_another_commits(
 #[test]
 fn a_look_meets_a_newer_version(rt: HostRuntime) -> Result<(), Fail> {
     let alloc = rt.alloc();
-    let (region, mut a) = Region::<FreeLaw>::new(alloc, &[0; 32], 100, 32)?;
-    let mut b = region.split(&mut a)?;
-    let mut logs_a = Logs::new(alloc);
-    let mut logs_b = Logs::new(alloc);
-    let another = write_while_another_commits(
-        &region,
-        &mut a,
-        &mut b,
-        &mut logs_a,
-        &mut logs_b,
-        Addr(10),
-    )?;
-    let own = write_while_another_commits(
-        &region,
-        &mut a,
-        &mut b,
-        &mut logs_a,
-        &mut logs_b,
-        Addr(9),
-    )?;
+    let (another, own, nine, ten, after) = {
+        let (region, mut a) = Region::<FreeLaw>::new(alloc, &[0; 32], 100, 32)?;
+        let mut b = region.split(&mut a)?;
+        let mut logs_a = Logs::new(alloc);
+        let mut logs_b = Logs::new(alloc);
+        (
+            write_while_another_commits(
+                &region,
+                &mut a,
+                &mut b,
+                &mut logs_a,
+                &mut logs_b,
+                Addr(10),
+            ),
+            write_while_another_commits(&region, &mut a, &mut b, &mut logs_a, &mut logs_b, Addr(9)),
+            read_one(&region, &mut a, &mut logs_a, Addr(9)),
+            read_one(&region, &mut a, &mut logs_a, Addr(10)),
+            write_one(&region, &mut a, &mut logs_a, Addr(10), 8),
+        )
+    };
     let newer = Conflict::Newer {
         lock: 9,
         version: version(1)?,
         rv: version(0)?,
     };
-    assert_eq!(rt; another, Err(Stop::Conflict(newer)));
+    assert_eq!(rt; another?, Err(Stop::Conflict(newer)));
     let newer = Conflict::Newer {
         lock: 9,
         version: version(3)?,
         rv: version(2)?,
     };
-    assert_eq!(rt; own, Err(Stop::Conflict(newer)));
-    assert_eq!(rt; read_one(&region, &mut a, &mut logs_a, Addr(9))?, 1);
-    assert_eq!(rt; read_one(&region, &mut a, &mut logs_a, Addr(10))?, 0);
-    assert_eq!(rt;
-        write_one(&region, &mut a, &mut logs_a, Addr(10), 8)?,
-        version(5)?
-    );
+    assert_eq!(rt; own?, Err(Stop::Conflict(newer)));
+    assert_eq!(rt; nine?, 1);
+    assert_eq!(rt; ten?, 0);
+    assert_eq!(rt; after?, version(5)?);
     Ok(())
 }
 
@@ -84,23 +81,29 @@ fn a_look_meets_a_newer_version(rt: HostRuntime) -> Result<(), Fail> {
 #[test]
 fn a_lost_tick_finds_the_clock_spent(rt: HostRuntime) -> Result<(), Fail> {
     let alloc = rt.alloc();
-    let (region, mut a) = Region::<FreeLaw>::new(alloc, &[0; 32], 1, 32)?;
-    let mut b = region.split(&mut a)?;
-    let mut logs_a = Logs::new(alloc);
-    let mut logs_b = Logs::new(alloc);
-    let committed = write_while_another_commits(
-        &region,
-        &mut a,
-        &mut b,
-        &mut logs_a,
-        &mut logs_b,
-        Addr(10),
-    )?;
+    let (committed, ten, nine) = {
+        let (region, mut a) = Region::<FreeLaw>::new(alloc, &[0; 32], 1, 32)?;
+        let mut b = region.split(&mut a)?;
+        let mut logs_a = Logs::new(alloc);
+        let mut logs_b = Logs::new(alloc);
+        (
+            write_while_another_commits(
+                &region,
+                &mut a,
+                &mut b,
+                &mut logs_a,
+                &mut logs_b,
+                Addr(10),
+            ),
+            read_one(&region, &mut b, &mut logs_b, Addr(10)),
+            read_one(&region, &mut a, &mut logs_a, Addr(9)),
+        )
+    };
     let spent = Stop::Spent {
         version: version(1)?,
     };
-    assert_eq!(rt; committed, Err(spent));
-    assert_eq!(rt; read_one(&region, &mut b, &mut logs_b, Addr(10))?, 0);
-    assert_eq!(rt; read_one(&region, &mut a, &mut logs_a, Addr(9))?, 1);
+    assert_eq!(rt; committed?, Err(spent));
+    assert_eq!(rt; ten?, 0);
+    assert_eq!(rt; nine?, 1);
     Ok(())
 }

@@ -15,6 +15,15 @@ struct Told {
     told: usize,
 }
 
+impl Told {
+    fn new() -> Told {
+        Told {
+            points: [None; 6],
+            told: 0,
+        }
+    }
+}
+
 impl Gate for Told {
     fn at(&mut self, point: Point) {
         if self.told < 6 {
@@ -35,41 +44,37 @@ const ALL_POINTS: [Option<Point>; 5] = [
 #[test]
 fn gates_are_told_each_point(rt: HostRuntime) -> Result<(), Fail> {
     let alloc = rt.alloc();
-    let (region, mut a) = Region::<FreeLaw>::new(alloc, &[0; 32], 100, 4)?;
-    let mut b = region.split(&mut a)?;
-    let mut logs_a = Logs::new(alloc);
-    let mut logs_b = Logs::new(alloc);
-    let mut told = Told {
-        points: [None; 6],
-        told: 0,
+    let mut writing = Told::new();
+    let mut reading = Told::new();
+    let mut looking = Told::new();
+    let answers = {
+        let (region, mut a) = Region::<FreeLaw>::new(alloc, &[0; 32], 100, 4)?;
+        let mut b = region.split(&mut a)?;
+        let mut logs_a = Logs::new(alloc);
+        let mut logs_b = Logs::new(alloc);
+        let mut attempt = Attempt::begin(&region, &mut a, &mut logs_a);
+        let written = attempt.write(Addr(9), 1);
+        let first = attempt.commit(&1u64, &mut writing);
+        let attempt = Attempt::begin(&region, &mut a, &mut logs_a);
+        let second = attempt.commit(&2u64, &mut reading);
+        // It looks at its reads, since another one comes between.
+        let mut attempt = Attempt::begin(&region, &mut a, &mut logs_a);
+        let read = attempt.read(Addr(9));
+        let rewritten = attempt.write(Addr(9), 3);
+        let between = write_one(&region, &mut b, &mut logs_b, Addr(10), 2);
+        let third = attempt.commit(&3u64, &mut looking);
+        assert!(rt; written.is_ok() && rewritten.is_ok() && read == Ok(1));
+        [first, second, between, third]
     };
-    let mut attempt = Attempt::begin(&region, &mut a, &mut logs_a);
-    let written = attempt.write(Addr(9), 1);
-    let committed = attempt.commit(&1u64, &mut told);
-    written?;
-    assert_eq!(rt; committed?, version(1)?);
-    assert!(rt; &told.points[..5] == ALL_POINTS.as_slice() && told.points[5].is_none());
-    let mut reads_alone = Told {
-        points: [None; 6],
-        told: 0,
-    };
-    let attempt = Attempt::begin(&region, &mut a, &mut logs_a);
-    assert_eq!(rt; attempt.commit(&2u64, &mut reads_alone)?, version(1)?);
-    assert!(rt; reads_alone.points == [Some(Point::ReadsDone), None, None, None, None, None]);
-    // A commit that looks at its reads, since another one came between.
-    let mut looking = Told {
-        points: [None; 6],
-        told: 0,
-    };
-    let mut attempt = Attempt::begin(&region, &mut a, &mut logs_a);
-    let read = attempt.read(Addr(9));
-    let written = attempt.write(Addr(9), 3);
-    let between = write_one(&region, &mut b, &mut logs_b, Addr(10), 2);
-    let committed = attempt.commit(&3u64, &mut looking);
-    assert_eq!(rt; read?, 1);
-    written?;
-    assert_eq!(rt; between?, version(2)?);
-    assert_eq!(rt; committed?, version(3)?);
+    let versions = [
+        Ok(version(1)?),
+        Ok(version(1)?),
+        Ok(version(2)?),
+        Ok(version(3)?),
+    ];
+    assert_eq!(rt; answers, versions);
+    assert!(rt; &writing.points[..5] == ALL_POINTS.as_slice() && writing.points[5].is_none());
+    assert!(rt; reading.points == [Some(Point::ReadsDone), None, None, None, None, None]);
     assert!(rt; &looking.points[..5] == ALL_POINTS.as_slice() && looking.points[5].is_none());
     Ok(())
 }
@@ -126,28 +131,31 @@ fn write_under(
 #[test]
 fn a_commit_at_locked_decides_by_its_tick(rt: HostRuntime) -> Result<(), Fail> {
     let alloc = rt.alloc();
-    let (region, mut a) = Region::<FreeLaw>::new(alloc, &[0; 32], 100, 32)?;
-    let mut b = region.split(&mut a)?;
-    let mut logs_a = Logs::new(alloc);
-    let mut logs_b = Logs::new(alloc);
-    let mut other = Attempt::begin(&region, &mut b, &mut logs_b);
-    let read = other.read(Addr(9));
-    let written = other.write(Addr(10), 7);
     let mut answer = None;
-    let mut gate = Meanwhile {
-        other: Some(Running { attempt: other }),
-        when: Point::Locked,
-        answer: &mut answer,
+    let (read, written, committed) = {
+        let (region, mut a) = Region::<FreeLaw>::new(alloc, &[0; 32], 100, 32)?;
+        let mut b = region.split(&mut a)?;
+        let mut logs_a = Logs::new(alloc);
+        let mut logs_b = Logs::new(alloc);
+        let mut other = Attempt::begin(&region, &mut b, &mut logs_b);
+        let read = other.read(Addr(9));
+        let written = other.write(Addr(10), 7);
+        let mut gate = Meanwhile {
+            other: Some(Running { attempt: other }),
+            when: Point::Locked,
+            answer: &mut answer,
+        };
+        let committed = write_under(&region, &mut a, &mut logs_a, &mut gate);
+        let Meanwhile {
+            other,
+            when: _,
+            answer: _,
+        } = gate;
+        if let Some(Running { attempt }) = other {
+            attempt.drop_it();
+        }
+        (read, written, committed)
     };
-    let committed = write_under(&region, &mut a, &mut logs_a, &mut gate);
-    let Meanwhile {
-        other,
-        when: _,
-        answer: _,
-    } = gate;
-    if let Some(Running { attempt }) = other {
-        attempt.drop_it();
-    }
     assert_eq!(rt; read?, 0);
     written?;
     assert_eq!(rt; committed?, version(2)?);
@@ -160,37 +168,42 @@ fn a_commit_at_locked_decides_by_its_tick(rt: HostRuntime) -> Result<(), Fail> {
 #[test]
 fn a_commit_at_locked_meets_a_held_lock(rt: HostRuntime) -> Result<(), Fail> {
     let alloc = rt.alloc();
-    let (region, mut a) = Region::<FreeLaw>::new(alloc, &[0; 32], 100, 32)?;
-    let mut b = region.split(&mut a)?;
-    let mut logs_a = Logs::new(alloc);
-    let mut logs_b = Logs::new(alloc);
-    let mut other = Attempt::begin(&region, &mut b, &mut logs_b);
-    let read = other.read(Addr(9));
-    let written = other.write(Addr(10), 7);
-    let before = write_one(&region, &mut a, &mut logs_a, Addr(20), 1);
     let mut answer = None;
-    let mut gate = Meanwhile {
-        other: Some(Running { attempt: other }),
-        when: Point::Locked,
-        answer: &mut answer,
+    let (read, written, before, committed, nine, ten) = {
+        let (region, mut a) = Region::<FreeLaw>::new(alloc, &[0; 32], 100, 32)?;
+        let mut b = region.split(&mut a)?;
+        let mut logs_a = Logs::new(alloc);
+        let mut logs_b = Logs::new(alloc);
+        let mut other = Attempt::begin(&region, &mut b, &mut logs_b);
+        let read = other.read(Addr(9));
+        let written = other.write(Addr(10), 7);
+        let before = write_one(&region, &mut a, &mut logs_a, Addr(20), 1);
+        let mut gate = Meanwhile {
+            other: Some(Running { attempt: other }),
+            when: Point::Locked,
+            answer: &mut answer,
+        };
+        let committed = write_under(&region, &mut a, &mut logs_a, &mut gate);
+        let Meanwhile {
+            other,
+            when: _,
+            answer: _,
+        } = gate;
+        if let Some(Running { attempt }) = other {
+            attempt.drop_it();
+        }
+        let nine = read_one(&region, &mut a, &mut logs_a, Addr(9));
+        let ten = read_one(&region, &mut a, &mut logs_a, Addr(10));
+        (read, written, before, committed, nine, ten)
     };
-    let committed = write_under(&region, &mut a, &mut logs_a, &mut gate);
-    let Meanwhile {
-        other,
-        when: _,
-        answer: _,
-    } = gate;
-    if let Some(Running { attempt }) = other {
-        attempt.drop_it();
-    }
     assert_eq!(rt; read?, 0);
     written?;
     assert_eq!(rt; before?, version(1)?);
     assert_eq!(rt; committed?, version(3)?);
     let held = Conflict::Held { lock: 9, word: 1 };
     assert_eq!(rt; answer, Some(Err(Stop::Conflict(held))));
-    assert_eq!(rt; read_one(&region, &mut a, &mut logs_a, Addr(9))?, 1);
-    assert_eq!(rt; read_one(&region, &mut a, &mut logs_a, Addr(10))?, 0);
+    assert_eq!(rt; nine?, 1);
+    assert_eq!(rt; ten?, 0);
     Ok(())
 }
 
@@ -198,34 +211,39 @@ fn a_commit_at_locked_meets_a_held_lock(rt: HostRuntime) -> Result<(), Fail> {
 #[test]
 fn a_commit_at_locked_finds_its_own_lock_held(rt: HostRuntime) -> Result<(), Fail> {
     let alloc = rt.alloc();
-    let (region, mut a) = Region::<FreeLaw>::new(alloc, &[0; 32], 100, 32)?;
-    let mut b = region.split(&mut a)?;
-    let mut logs_a = Logs::new(alloc);
-    let mut logs_b = Logs::new(alloc);
-    let mut other = Attempt::begin(&region, &mut b, &mut logs_b);
-    let written = other.write(Addr(8), 6);
-    let same = other.write(Addr(9), 7);
     let mut answer = None;
-    let mut gate = Meanwhile {
-        other: Some(Running { attempt: other }),
-        when: Point::Locked,
-        answer: &mut answer,
+    let (eighth, ninth, committed, eight, nine) = {
+        let (region, mut a) = Region::<FreeLaw>::new(alloc, &[0; 32], 100, 32)?;
+        let mut b = region.split(&mut a)?;
+        let mut logs_a = Logs::new(alloc);
+        let mut logs_b = Logs::new(alloc);
+        let mut other = Attempt::begin(&region, &mut b, &mut logs_b);
+        let eighth = other.write(Addr(8), 6);
+        let ninth = other.write(Addr(9), 7);
+        let mut gate = Meanwhile {
+            other: Some(Running { attempt: other }),
+            when: Point::Locked,
+            answer: &mut answer,
+        };
+        let committed = write_under(&region, &mut a, &mut logs_a, &mut gate);
+        let Meanwhile {
+            other,
+            when: _,
+            answer: _,
+        } = gate;
+        if let Some(Running { attempt }) = other {
+            attempt.drop_it();
+        }
+        let eight = read_one(&region, &mut a, &mut logs_a, Addr(8));
+        let nine = read_one(&region, &mut a, &mut logs_a, Addr(9));
+        (eighth, ninth, committed, eight, nine)
     };
-    let committed = write_under(&region, &mut a, &mut logs_a, &mut gate);
-    let Meanwhile {
-        other,
-        when: _,
-        answer: _,
-    } = gate;
-    if let Some(Running { attempt }) = other {
-        attempt.drop_it();
-    }
-    written?;
-    same?;
+    eighth?;
+    ninth?;
     assert_eq!(rt; committed?, version(1)?);
     let held = Conflict::Held { lock: 9, word: 1 };
     assert_eq!(rt; answer, Some(Err(Stop::Conflict(held))));
-    assert_eq!(rt; read_one(&region, &mut a, &mut logs_a, Addr(8))?, 0);
-    assert_eq!(rt; read_one(&region, &mut a, &mut logs_a, Addr(9))?, 1);
+    assert_eq!(rt; eight?, 0);
+    assert_eq!(rt; nine?, 1);
     Ok(())
 }
