@@ -209,7 +209,7 @@ pub record HasCommitted (tag : List ℕ) (writes : List (ℕ × ℕ)) (v v' : Cl
   pub free : v'.held ≡ []
   pub same : apart v' ≡ apart v
 
--- the commit was refused: it added no record, and no lock is held. Something was written. A spent clock was found with all locks taken: two steps for each, and one more to give it back
+-- the commit was refused: it added no record, and no lock is held. Something was written. A spent clock is answered after as many steps as each lock costs, two to take it and one to give it back, and the lost ticks
 pub record HasStopped (region : RegionShown) (log : LogValue) (stop : Stop) (v v' : Client) : Type 0 where
   pub written : log_pairs log ≢ []
   pub shown : IsCommitStop region log stop v'

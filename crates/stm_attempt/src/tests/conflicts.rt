@@ -34,12 +34,11 @@ fn write_while_another_commits(
     Ok(committed)
 }
 
-// The word that was read has a version above the read version, be its lock another's or the
-// client's own.
+// The word that was read has a version above the read version, be its lock free or the client's own.
 #[test]
 fn a_look_meets_a_newer_version(rt: HostRuntime) -> Result<(), Fail> {
     let alloc = rt.alloc();
-    let (another, own, nine, ten, after) = {
+    let (free, own, nine, ten, after) = {
         let (region, mut a) = Region::<FreeLaw>::new(alloc, &[0; 32], 100, 32)?;
         let mut b = region.split(&mut a)?;
         let mut logs_a = Logs::new(alloc);
@@ -64,7 +63,7 @@ fn a_look_meets_a_newer_version(rt: HostRuntime) -> Result<(), Fail> {
         version: version(1)?,
         rv: version(0)?,
     };
-    assert_eq!(rt; another?, Err(Stop::Conflict(newer)));
+    assert_eq!(rt; free?, Err(Stop::Conflict(newer)));
     let newer = Conflict::Newer {
         lock: 9,
         version: version(3)?,

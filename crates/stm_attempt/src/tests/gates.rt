@@ -207,9 +207,10 @@ fn a_commit_at_locked_meets_a_held_lock(rt: HostRuntime) -> Result<(), Fail> {
     Ok(())
 }
 
-// It writes the same word, so that it finds the lock held before it takes any.
+// It writes the same word, and one below it: it takes that one's lock, finds the other one held, and
+// gives the first back.
 #[test]
-fn a_commit_at_locked_finds_its_own_lock_held(rt: HostRuntime) -> Result<(), Fail> {
+fn a_commit_at_locked_finds_a_lock_taken(rt: HostRuntime) -> Result<(), Fail> {
     let alloc = rt.alloc();
     let mut answer = None;
     let (eighth, ninth, committed, eight, nine) = {
