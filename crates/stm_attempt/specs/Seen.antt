@@ -3,7 +3,7 @@ use Rattle.std.specs.Prelude.{◌≡◌, ℕ, Bool, true, false, List, [], Some}
 use Rattle.std.specs.FinMap.{get, empty, get-empty}
 use Rattle.std.specs.Ordering.{nat_cmp}
 use Rattle.stm_words.specs.Image.{Has, Agrees}
-use Rattle.stm_words.specs.View.{View, Sees}
+use Rattle.stm_words.specs.View.{View, Stands}
 use Rattle.stm_words.specs.Pairs.{map_of}
 use Rattle.stm_core.specs.Client.{Client}
 use Rattle.stm_logs.specs.Log.{LogValue}
@@ -34,8 +34,8 @@ none_agrees : (a x : ℕ) → get {R = nat_cmp} (empty {X = ℕ}) a ≡ Some x �
 none_agrees a x e = absurd (let n = get-empty {X = ℕ} nat_cmp a in cc)
 
 -- the memory may stand on an image that agrees with the reads
-pub attempt_seen : (in_use : Bool) (region : RegionShown) (fits : List ℕ → Type 0) (v : Client) (writes : LogValue) (size : ℕ) (reads : List (ℕ × ℕ)) → (in_use ≡ true → (size ≡ region.size) × (reads ≡ v.reads)) → ∥ StandsOn fits size reads ∥₁ → ∥ ((image : List ℕ) × Sees (memory_of in_use region fits v writes) image) ∥₁
+pub attempt_seen : (in_use : Bool) (region : RegionShown) (fits : List ℕ → Type 0) (v : Client) (writes : LogValue) (size : ℕ) (reads : List (ℕ × ℕ)) → (in_use ≡ true → (size ≡ region.size) × (reads ≡ v.reads)) → ∥ StandsOn fits size reads ∥₁ → ∥ ((image : List ℕ) × Stands (memory_of in_use region fits v writes) image) ∥₁
 attempt_seen true region fits v writes size reads same stands =
-    ∥∥₁_map stands (λ s. (s.image, record { size = s.length_is ∙ (same refl).0; fits = s.fitting; agrees = agrees-map_of s.image v.reads (subst (λ (rs : List (ℕ × ℕ)). Agrees s.image rs) (same refl).1 s.agrees) }))
+    ∥∥₁_map stands (λ s. (s.image, record { size = s.length_is ∙ (same refl).0; sees = record { fits = s.fitting; agrees = agrees-map_of s.image v.reads (subst (λ (rs : List (ℕ × ℕ)). Agrees s.image rs) (same refl).1 s.agrees) } }))
 attempt_seen false region fits v writes size reads same stands =
-    ∥∥₁_map stands (λ s. ([], record { size = refl; fits = tt; agrees = none_agrees }))
+    ∥∥₁_map stands (λ s. ([], record { size = refl; sees = record { fits = tt; agrees = none_agrees } }))

@@ -1,5 +1,5 @@
 -- Plain memory: every image of its size fits, nothing is read of it, and its words are all written.
-use Rattle.std.specs.Prelude.{ℕ, ◌+◌, List, [], ◌∷◌, length}
+use Rattle.std.specs.Prelude.{◌≡◌, ℕ, ◌+◌, List, [], ◌∷◌, length}
 use Rattle.std.specs.FinMap.{insert, empty}
 use Rattle.stm_words.specs.View.{View, Words}
 
@@ -9,4 +9,4 @@ numbered i [] = empty
 numbered i (x ∷ xs) = insert (numbered (i + 1) xs) i x
 
 abbrev pub flat_view : List ℕ → View
-flat_view xs = record { size = length xs; fits = λ _. Unit {0}; reads = empty; writes = numbered 0 xs }
+flat_view xs = record { size = length xs; fits = λ image. length image ≡ length xs; reads = empty; writes = numbered 0 xs }

@@ -4,7 +4,7 @@ use Rattle.std.specs.FinMap.{get, insert, empty, get-empty, same_map, nat_cmp-Is
 use Rattle.std.specs.Ordering.{nat_cmp}
 use Rattle.std.proofs.lemmas.Cmp.{nat_cmp_total}
 use Rattle.std.proofs.lemmas.Bool.{cases_lt}
-use Rattle.stm_words.specs.View.{Sees, HasRead}
+use Rattle.stm_words.specs.View.{Stands, HasRead}
 use Rattle.stm_words.specs.Plain.{numbered, flat_view}
 use Rattle.stm_words.specs.Seen.{same_or, get_here, get_other}
 
@@ -33,8 +33,8 @@ get_at xs a l = rw zero-add at (get_in xs 0 a l)
 some_not_none : {A : Type 0} (o : Option A) (x : A) → o ≡ Some x → o ≡ None → ⊥
 some_not_none o x p q = cc
 
-pub flat_seen : (xs : List ℕ) → (image : List ℕ) × Sees (flat_view xs) image
-flat_seen xs = (xs, record { size = refl; fits = tt; agrees = λ a v e. absurd (some_not_none _ v e (none_at a)) })
+pub flat_seen : (xs : List ℕ) → (image : List ℕ) × Stands (flat_view xs) image
+flat_seen xs = (xs, record { size = refl; sees = record { fits = refl; agrees = λ a v e. absurd (some_not_none _ v e (none_at a)) } })
 
 pub flat_read : (xs : List ℕ) (a : ℕ) → a < length xs → HasRead (flat_view xs) (flat_view xs) a (get_or xs a 0)
 flat_read xs a l = record {

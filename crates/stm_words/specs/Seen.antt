@@ -8,7 +8,7 @@ use Rattle.std.proofs.lemmas.Bool.Decides.{nat_tests}
 use Rattle.std.proofs.lemmas.Grind.{not_there}
 use Rattle.std.proofs.Math.Logic.{∥∥₁_map}
 use Rattle.stm_words.specs.Image.{Has}
-use Rattle.stm_words.specs.View.{View, Words, Sees, Kept, SameFrame, HasRead, IsWrite, memory, Loaded, Stored}
+use Rattle.stm_words.specs.View.{View, Words, Sees, Stands, Kept, SameFrame, HasRead, IsWrite, memory, Loaded, Stored}
 
 pub same_or : (j i : ℕ) → (j ≡ i) ⊎ (j ≢ i)
 same_or j i = elim (cases_lt j i) [
@@ -40,13 +40,13 @@ read_agrees s s' a v None e r image h b w is =
 pub read_kept : (s s' : View) (a v : ℕ) → SameFrame s s' → HasRead s s' a v → Kept s s'
 read_kept s s' a v f r = record {
   size = f.size;
-  seen = λ image h. record { size = h.size ∙ f.size; fits = f.fits image h.fits; agrees = read_agrees s s' a v (get s.writes a) refl r image h.agrees };
+  seen = λ image h. record { fits = f.fits image h.fits; agrees = read_agrees s s' a v (get s.writes a) refl r image h.agrees };
 }
 
 pub same_kept : (s s' : View) → SameFrame s s' → s'.reads ≡ s.reads → Kept s s'
 same_kept s s' f e = record {
   size = f.size;
-  seen = λ image h. record { size = h.size ∙ f.size; fits = f.fits image h.fits; agrees = λ b w is. h.agrees b w (ap (λ (x : Words). get x b) e ∙ is) };
+  seen = λ image h. record { fits = f.fits image h.fits; agrees = λ b w is. h.agrees b w (ap (λ (x : Words). get x b) e ∙ is) };
 }
 
 go_answers : (s s' : View) (a v : ℕ) (o : Option ℕ) → get s.writes a ≡ o → HasRead s s' a v → (image : List ℕ) → Sees s' image → unwrap_or o (slice_index image a) ≡ v
@@ -76,5 +76,5 @@ pub some_le : {W : Type 0} (a b : ℕ) → ∥ W ∥₁ → (W → a ≤ b) → 
 some_le a b w f =
     elim (cases_lt b a) [ inl less ↦ absurd (not_there w (λ x. absurd (omega (arith, f x)))) | inr le ↦ le ]
 
-pub seen_before : (s s' : View) → Kept s s' → ∥ ((image : List ℕ) × Sees s' image) ∥₁ → ∥ ((image : List ℕ) × Sees s image) ∥₁
-seen_before s s' k w = ∥∥₁_map w (λ x. (x.0, k.seen x.0 x.1))
+pub seen_before : (s s' : View) → Kept s s' → ∥ ((image : List ℕ) × Stands s' image) ∥₁ → ∥ ((image : List ℕ) × Stands s image) ∥₁
+seen_before s s' k w = ∥∥₁_map w (λ x. (x.0, record { size = x.1.size ∙ k.size; sees = k.seen x.0 x.1.sees }))

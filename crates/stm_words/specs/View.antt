@@ -19,11 +19,15 @@ pub record View : Type 1 where
 abbrev pub memory : List ℕ → Words → ℕ → ℕ
 memory image writes address = unwrap_or (get writes address) (slice_index image address)
 
--- the memory may stand on this image: it has the size, fits, and agrees with the reads
+-- the memory may stand on this image, whatever its length: it fits, and agrees with the reads
 pub record Sees (s : View) (image : List ℕ) : Type 0 where
-  pub size : length image ≡ s.size
   pub fits : s.fits image
   pub agrees : (address value : ℕ) → get s.reads address ≡ Some value → Has image address value
+
+-- an image of the memory's size on which it may stand
+pub record Stands (s : View) (image : List ℕ) : Type 0 where
+  pub size : length image ≡ s.size
+  pub sees : Sees s image
 
 -- each image on which the memory may stand afterwards is one on which it may have stood before
 pub record Kept (s s' : View) : Type 0 where

@@ -1,6 +1,6 @@
 ghost use Rattle.std.specs.Prelude.{◌≡◌, ℕ, ◌<◌, List, IfOk, MatchResult};
 ghost use Rattle.std.specs.FinMap.{insert};
-ghost use Rattle.stm_words.specs.View.{View, Sees, SameFrame, HasRead, Loaded, Stored};
+ghost use Rattle.stm_words.specs.View.{View, Stands, SameFrame, HasRead, Loaded, Stored};
 
 /// The number of a data word.
 #[derive(Clone, Copy, Debug, PartialEq, Eq, PartialOrd, Ord)]
@@ -31,7 +31,7 @@ pub trait TxRead {
         ensures writes { (view self.new).writes ≡ (view self.old).writes }
         ensures answer { MatchResult result (λ v. HasRead (view self.old) (view self.new) addr.0 v) (λ _. (view self.new).reads ≡ (view self.old).reads) };
 
-    ghost seen: { (s : Self) → ∥ ((image : List ℕ) × Sees (view s) image) ∥₁ };
+    ghost seen: { (s : Self) → ∥ ((image : List ℕ) × Stands (view s) image) ∥₁ };
 }
 
 /// A memory whose words are read and written in a transaction.
