@@ -1,5 +1,5 @@
 -- An insertion into a table, over every memory that there may be.
-use Rattle.std.proofs.Common.{◌≡◌, ◌≢◌, inl, inr, ℕ, ◌+◌, ◌<◌, sym, ap, ◌∙◌, subst, arith}
+use Rattle.std.proofs.Common.{◌≡◌, ◌≢◌, inl, inr, ℕ, ◌+◌, ◌<◌, sym, ap, ◌∙◌, length, subst, arith}
 use Rattle.stm_words.specs.View.{View, Loaded, Stored, IsWrite}
 use Rattle.vac_records.specs.Items.{mem}
 use Rattle.vac_records.specs.Steps.{kept_both, at_start, write_at_start}
@@ -32,11 +32,12 @@ inserted s s1 s2 s3 s4 s5 s6 root key b link p has f k l w1 w2 w3 w4 =
           let read : mem s image link ≡ p = at_start s s1 s2 link p k.writes l image i2 in
           let first : IsWrite (mem s image) (mem s3 image) (b + 1) 0 = write_at_start s s2 s3 (b + 1) 0 (l.writes ∙ k.writes) w1 image i3 in
           let out = (f.out image rs i0 h).0 in
+          let bb = f.block image i0 in
           let apart : (j : ℕ) → j < 4 → link ≢ b + j = λ j less e. elim (link_is root key rs) [
-            | inl q ↦ absurd (omega (arith, at, q, e, f.block.1.1, has.low))
+            | inl q ↦ absurd (omega (arith, at, q, e, bb.1.1, has.low))
             | inr (a, (q, many)) ↦ (
-                let ba = (rows_key (mem s image) s.size (mem s image root) 0 a rs h many).0 in
-                let same : a ≡ b = omega (arith, at, q, e, f.block.1.1, ba.1.1) in
+                let ba = (rows_key (mem s image) (length image) (mem s image root) 0 a rs h many).0 in
+                let same : a ≡ b = omega (arith, at, q, e, bb.1.1, ba.1.1) in
                 absurd (omega (arith, many, out, ap (λ (z : ℕ). times z rs) same)))
           ] in
           subst (λ (x : ℕ). Puts (mem s image) (mem s6 image) b x) at

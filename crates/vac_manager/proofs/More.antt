@@ -1,8 +1,8 @@
 -- Units are added to an item that is there, and its price is replaced where one is given; over every memory that there may be.
-use Rattle.std.proofs.Common.{◌≡◌, ◌≢◌, ℕ, ◌+◌, ◌<◌, ◌≤◌, List, Option, Some, None, true, false, IsTrue, nat_lt, unwrap_or, refl, sym, ap, ◌∙◌, subst, arith}
+use Rattle.std.proofs.Common.{◌≡◌, ◌≢◌, ℕ, ◌+◌, ◌<◌, ◌≤◌, List, length, Option, Some, None, true, false, IsTrue, nat_lt, unwrap_or, refl, sym, ap, ◌∙◌, subst, arith}
 use Rattle.std.proofs.lemmas.Bool.Decides.{nat_tests}
 use Rattle.stm_words.specs.Seen.{some_le}
-use Rattle.stm_words.specs.View.{View, Sees, Loaded, Stored}
+use Rattle.stm_words.specs.View.{View, Sees, Stands, Loaded, Stored}
 use Rattle.vac_model.specs.declared.items.Kind.{Kind}
 use Rattle.vac_model.specs.declared.items.Item.{Item}
 use Rattle.vac_model.specs.declared.commands.Command.TheVariants as command
@@ -20,19 +20,19 @@ use Rattle.vac_manager.proofs.Updating.{ChangedAt, change_state}
 use Rattle.vac_manager.proofs.Outcomes.{AddRange, add_range, price_small, outcome_is, ran_reads}
 
 -- the item in the node
-more_item : (s : View) (kind : Kind) (id node : ℕ) → HasItemAt s kind id node → (image : List ℕ) (state : State) → Sees s image → IsState (mem s image) s.size state → item_of state kind id ≡ Some (item_in (mem s image) node)
-more_item s kind id node f image state i h = item_there (mem s image) s.size state kind id node h f.some (f.at image state i h)
+more_item : (s : View) (kind : Kind) (id node : ℕ) → HasItemAt s kind id node → (image : List ℕ) (state : State) → Sees s image → IsState (mem s image) (length image) state → item_of state kind id ≡ Some (item_in (mem s image) node)
+more_item s kind id node f image state i h = item_there (mem s image) (length image) state kind id node h f.some (f.at image state i h)
 
 -- its total is within the limit
-more_sound : (s : View) (kind : Kind) (id node : ℕ) → HasItemAt s kind id node → (image : List ℕ) (state : State) → Sees s image → IsState (mem s image) s.size state → IsSound id (item_in (mem s image) node)
+more_sound : (s : View) (kind : Kind) (id node : ℕ) → HasItemAt s kind id node → (image : List ℕ) (state : State) → Sees s image → IsState (mem s image) (length image) state → IsSound id (item_in (mem s image) node)
 more_sound s kind id node f image state i h =
     item_sound state kind id (item_in (mem s image) node) h.represents.no_customers (h.balanced.items kind id (item_in (mem s image) node) (more_item s kind id node f image state i h))
 
-pub total_small : (s s1 : View) (kind : Kind) (id node v : ℕ) → HoldsState s → HasItemAt s kind id node → Loaded s s1 (node + 6) v → ∥ ((image : List ℕ) × Sees s1 image) ∥₁ → v ≤ 1000000000
+pub total_small : (s s1 : View) (kind : Kind) (id node v : ℕ) → HoldsState s → HasItemAt s kind id node → Loaded s s1 (node + 6) v → ∥ ((image : List ℕ) × Stands s1 image) ∥₁ → v ≤ 1000000000
 total_small s s1 kind id node v has f l ws = some_le v 1000000000 ws (λ w.
-    let i = l.kept.seen w.0 w.1 in
+    let i = l.kept.seen w.0 w.1.sees in
     let h = has.under w.0 i in
-    omega (arith, (more_sound s kind id node f w.0 h.0 i h.1).few_units, l.answer w.0 w.1))
+    omega (arith, (more_sound s kind id node f w.0 h.0 i h.1).few_units, l.answer w.0 w.1.sees))
 
 limit_step : (state : State) (kind : Kind) (id num : ℕ) (price : Option ℕ) (item : Item) → item_of state kind id ≡ Some item → total_limit < item.total + num → step state (command.Add kind id num price) ≡ (state, reply.No TotalLimit)
 limit_step state kind id num price item is over =
@@ -99,11 +99,10 @@ more_done s s1 s2 s3 kind id node num v price f range l le u p = record {
       let numbers = more_numbers (mem s image) (mem s2 image) (mem s3 image) node num price more (p.price_is image i) (p.others image i) in
       let old = more_sound s kind id node f image state i0 h in
       let sound = more_is_sound id num price (item_in (mem s image) node) old (add_range kind id num price range) few in
-      let size : s3.size ≡ s.size = p.kept.size ∙ (u.kept.size ∙ l.kept.size) in
       let changed = more_changed (mem s image) (mem s2 image) (mem s3 image) node num more (p.others image i) in
-      let after : IsState (mem s3 image) s3.size (with_item state kind id (item_in (mem s3 image) node)) =
-      rw size (change_state (mem s image) (mem s3 image) s.size state kind id node h f.some (f.at image state i0 h) changed (subst (λ (z : Item). IsSound id z) (sym numbers) sound)) in
-      outcome_is (mem s3 image) s3.size (step state (command.Add kind id num price)) (with_item state kind id (item_in (mem s3 image) node)) reply.Done
+      let after : IsState (mem s3 image) (length image) (with_item state kind id (item_in (mem s3 image) node)) =
+          change_state (mem s image) (mem s3 image) (length image) state kind id node h f.some (f.at image state i0 h) changed (subst (λ (z : Item). IsSound id z) (sym numbers) sound) in
+      outcome_is (mem s3 image) (length image) (step state (command.Add kind id num price)) (with_item state kind id (item_in (mem s3 image) node)) reply.Done
       (more_step state kind id num price (item_in (mem s image) node) (more_item s kind id node f image state i0 h) few ∙ ap (λ (z : Item). (with_item state kind id z, reply.Done)) (sym numbers)) after;
 }
 

@@ -1,5 +1,5 @@
 -- What the steps of a command do to the state, under every image.
-use Rattle.std.proofs.Common.{◌≡◌, ◌≢◌, ℕ, ◌+◌, ◌≤◌, ◌^◌, List, Option, Some, None, Bool, true, false, ◌&&◌, IsTrue, nat_eq, nat_le, nat_lt, refl, sym, ap, ◌∙◌, subst, arith}
+use Rattle.std.proofs.Common.{◌≡◌, ◌≢◌, ℕ, ◌+◌, ◌≤◌, ◌^◌, List, length, Option, Some, None, Bool, true, false, ◌&&◌, IsTrue, nat_eq, nat_le, nat_lt, refl, sym, ap, ◌∙◌, subst, arith}
 use Rattle.std.proofs.lemmas.Bool.Decides.{nat_tests}
 use Rattle.stm_words.specs.View.{View, Sees, Kept, Loaded}
 use Rattle.vac_model.specs.declared.items.Kind.{Kind}
@@ -32,24 +32,24 @@ pub state_read : (s s' : View) → Kept s s' → s'.writes ≡ s.writes → Hold
 state_read s s' k w h = record {
   inside = omega (arith, h.inside, k.size);
   small = omega (arith, h.small, k.size);
-  under = λ image i. rw (w, k.size) (h.under image (k.seen image i));
+  under = λ image i. rw w (h.under image (k.seen image i));
 }
 
-pub state_same : (s s' : View) (image : List ℕ) (state : State) → s'.size ≡ s.size → s'.writes ≡ s.writes → IsState (mem s image) s.size state → IsState (mem s' image) s'.size state
-state_same s s' image state e w h = rw (w, e) h
+pub state_same : (s s' : View) (image : List ℕ) (state : State) → s'.writes ≡ s.writes → IsState (mem s image) (length image) state → IsState (mem s' image) (length image) state
+state_same s s' image state w h = rw w h
 
 -- a command runs from the memory after reads as from the memory before
 pub ran_read : (s s' s'' : View) (c : Command) (r : Reply) → Kept s s' → s'.writes ≡ s.writes → Ran s' s'' c r → Ran s s'' c r
 ran_read s s' s'' c r k w h = record {
   kept = kept_both s s' s'' k h.kept;
-  outcome = λ image state i is. h.outcome image state i (state_same s s' image state k.size w is);
+  outcome = λ image state i is. h.outcome image state i (state_same s s' image state w is);
 }
 
 -- a reply that only reads lead to
-pub ran_reads : (s s' : View) (c : Command) (r : Reply) → Kept s s' → s'.writes ≡ s.writes → ((image : List ℕ) (state : State) → Sees s' image → IsState (mem s image) s.size state → step state c ≡ (state, r)) → Ran s s' c r
+pub ran_reads : (s s' : View) (c : Command) (r : Reply) → Kept s s' → s'.writes ≡ s.writes → ((image : List ℕ) (state : State) → Sees s' image → IsState (mem s image) (length image) state → step state c ≡ (state, r)) → Ran s s' c r
 ran_reads s s' c r k w e = record {
   kept = k;
-  outcome = λ image state i is. outcome_is (mem s' image) s'.size (step state c) state r (e image state i is) (state_same s s' image state k.size w is);
+  outcome = λ image state i is. outcome_is (mem s' image) (length image) (step state c) state r (e image state i is) (state_same s s' image state w is);
 }
 
 -- the lists of a memory that holds a state
@@ -60,30 +60,30 @@ lists_of_state s h = record {
   lists = λ image i. let t = h.under image i in (t.1.represents.parts.free, t.1.represents.heap.lists);
 }
 
-pub no_item : (s s' : View) (kind : Kind) (id root : ℕ) → root ≡ 1 + kind_number kind → Missing s s' root id → (image : List ℕ) (state : State) → Sees s' image → (h : IsState (mem s image) s.size state) → row_of h kind id ≡ 0
+pub no_item : (s s' : View) (kind : Kind) (id root : ℕ) → root ≡ 1 + kind_number kind → Missing s s' root id → (image : List ℕ) (state : State) → Sees s' image → (h : IsState (mem s image) (length image) state) → row_of h kind id ≡ 0
 no_item s s' kind id root e f image state i h =
     let g = subst (λ (x : ℕ). Missing s s' x id) e f in
-    g.none image (h.represents.parts.tables (kind_number kind)) i (rows_of_kind (mem s image) s.size state kind h)
+    g.none image (h.represents.parts.tables (kind_number kind)) i (rows_of_kind (mem s image) (length image) state kind h)
 
-pub item_at_node : (s s' : View) (kind : Kind) (id root node : ℕ) → root ≡ 1 + kind_number kind → FoundAt s s' root id node → (image : List ℕ) (state : State) → Sees s' image → (h : IsState (mem s image) s.size state) → row_of h kind id ≡ node
+pub item_at_node : (s s' : View) (kind : Kind) (id root node : ℕ) → root ≡ 1 + kind_number kind → FoundAt s s' root id node → (image : List ℕ) (state : State) → Sees s' image → (h : IsState (mem s image) (length image) state) → row_of h kind id ≡ node
 item_at_node s s' kind id root node e f image state i h =
     let g = subst (λ (x : ℕ). FoundAt s s' x id node) e f in
-    g.is image (h.represents.parts.tables (kind_number kind)) i (rows_of_kind (mem s image) s.size state kind h)
+    g.is image (h.represents.parts.tables (kind_number kind)) i (rows_of_kind (mem s image) (length image) state kind h)
 
 pub free_missing : (s s' : View) (kind : Kind) (id root : ℕ) → root ≡ 1 + kind_number kind → Missing s s' root id → Ran s s' (command.Free kind id) (reply.Number None)
 free_missing s s' kind id root e f = ran_reads s s' (command.Free kind id) (reply.Number None) f.kept f.writes (λ image state i h.
-    let none = item_missing (mem s image) s.size state kind id h (no_item s s' kind id root e f image state i h) in
+    let none = item_missing (mem s image) (length image) state kind id h (no_item s s' kind id root e f image state i h) in
     rw none refl)
 
 pub price_missing : (s s' : View) (kind : Kind) (id root : ℕ) → root ≡ 1 + kind_number kind → Missing s s' root id → Ran s s' (command.Price kind id) (reply.Number None)
 price_missing s s' kind id root e f = ran_reads s s' (command.Price kind id) (reply.Number None) f.kept f.writes (λ image state i h.
-    let none = item_missing (mem s image) s.size state kind id h (no_item s s' kind id root e f image state i h) in
+    let none = item_missing (mem s image) (length image) state kind id h (no_item s s' kind id root e f image state i h) in
     rw none refl)
 
 -- the item that was found
-pub item_found : (s s' : View) (kind : Kind) (id root node : ℕ) → root ≡ 1 + kind_number kind → FoundAt s s' root id node → (image : List ℕ) (state : State) → Sees s' image → IsState (mem s image) s.size state → item_of state kind id ≡ Some (item_in (mem s image) node)
+pub item_found : (s s' : View) (kind : Kind) (id root node : ℕ) → root ≡ 1 + kind_number kind → FoundAt s s' root id node → (image : List ℕ) (state : State) → Sees s' image → IsState (mem s image) (length image) state → item_of state kind id ≡ Some (item_in (mem s image) node)
 item_found s s' kind id root node e f image state i h =
-    item_there (mem s image) s.size state kind id node h f.some (item_at_node s s' kind id root node e f image state i h)
+    item_there (mem s image) (length image) state kind id node h f.some (item_at_node s s' kind id root node e f image state i h)
 
 pub free_there : (s s1 s2 : View) (kind : Kind) (id root node v : ℕ) → root ≡ 1 + kind_number kind → FoundAt s s1 root id node → Loaded s1 s2 (node + 5) v → Ran s s2 (command.Free kind id) (reply.Number (Some v))
 free_there s s1 s2 kind id root node v e f l = ran_reads s s2 (command.Free kind id) (reply.Number (Some v)) (kept_both s s1 s2 f.kept l.kept) (l.writes ∙ f.writes) (λ image state i h.
@@ -142,7 +142,7 @@ new_sound id num p r ne = record {
 -- refusals of a missing item
 pub needs_price : (s : View) (kind : Kind) (id num : ℕ) → HasNoItem s kind id → Ran s s (command.Add kind id num None) (reply.No NeedsCountAndPrice)
 needs_price s kind id num f = ran_reads s s (command.Add kind id num None) (reply.No NeedsCountAndPrice) (kept_none s) refl (λ image state i h.
-    let none = item_missing (mem s image) s.size state kind id h (f.none image state i h) in
+    let none = item_missing (mem s image) (length image) state kind id h (f.none image state i h) in
     rw none refl)
 
 zero_num : (state : State) (kind : Kind) (id num p : ℕ) → item_of state kind id ≡ None → num ≡ 0 → step state (command.Add kind id num (Some p)) ≡ (state, reply.No NeedsCountAndPrice)
@@ -152,7 +152,7 @@ zero_num state kind id num p none z =
 
 pub needs_count : (s : View) (kind : Kind) (id num p : ℕ) → HasNoItem s kind id → num ≡ 0 → Ran s s (command.Add kind id num (Some p)) (reply.No NeedsCountAndPrice)
 needs_count s kind id num p f z = ran_reads s s (command.Add kind id num (Some p)) (reply.No NeedsCountAndPrice) (kept_none s) refl (λ image state i h.
-    zero_num state kind id num p (item_missing (mem s image) s.size state kind id h (f.none image state i h)) z)
+    zero_num state kind id num p (item_missing (mem s image) (length image) state kind id h (f.none image state i h)) z)
 
 full_step : (state : State) (kind : Kind) (id num p : ℕ) → item_of state kind id ≡ None → num ≢ 0 → is_full state ≡ true → step state (command.Add kind id num (Some p)) ≡ (state, reply.No Full)
 full_step state kind id num p none nz is =
@@ -166,16 +166,15 @@ new_step state kind id num p none nz is =
 
 pub no_place : (s s' : View) (kind : Kind) (id num p : ℕ) → HasNoItem s kind id → num ≢ 0 → NoneFree s s' → Ran s s' (command.Add kind id num (Some p)) (reply.No Full)
 no_place s s' kind id num p f nz n = ran_reads s s' (command.Add kind id num (Some p)) (reply.No Full) n.kept n.writes (λ image state i h.
-    let none = item_missing (mem s image) s.size state kind id h (f.none image state (n.kept.seen image i) h) in
-    full_step state kind id num p none nz (full (mem s image) s.size state h.represents (n.none image h.represents.parts.free i h.represents.heap.lists)))
+    let none = item_missing (mem s image) (length image) state kind id h (f.none image state (n.kept.seen image i) h) in
+    full_step state kind id num p none nz (full (mem s image) (length image) state h.represents (n.none image h.represents.parts.free i h.represents.heap.lists)))
 
 -- the heap while the new block is out
-out_heap : (s s1 s2 : View) (id num p start b : ℕ) (image : List ℕ) (state : State) → Taken s s1 start b → ItemMade s1 s2 b id num p → Sees s2 image → (h : IsState (mem s image) s.size state) →
-    (t : IsTaken (mem s image) (mem s1 image) h.represents.parts.free start b) → IsHeap (mem s2 image) s2.size (parts_out h.represents.parts t.list t.rest b)
+out_heap : (s s1 s2 : View) (id num p start b : ℕ) (image : List ℕ) (state : State) → Taken s s1 start b → ItemMade s1 s2 b id num p → Sees s2 image → (h : IsState (mem s image) (length image) state) →
+    (t : IsTaken (mem s image) (mem s1 image) h.represents.parts.free start b) → IsHeap (mem s2 image) (length image) (parts_out h.represents.parts t.list t.rest b)
 out_heap s s1 s2 id num p start b image state t w i h t1 =
-    let bb : IsBlock s.size b = (t.block.0, (omega (arith, t.block.1.0, t.kept.size), t.block.1.1)) in
-    let size : s2.size ≡ s.size = w.kept.size ∙ t.kept.size in
-    rw size (made_heap (mem s image) (mem s1 image) (mem s2 image) s.size id num p start b h.represents.parts h.represents.heap bb t1 (w.made image i))
+    let bb = t.block image h.represents.parts.free (w.kept.seen image i) h.represents.heap.lists in
+    made_heap (mem s image) (mem s1 image) (mem s2 image) (length image) id num p start b h.represents.parts h.represents.heap bb t1 (w.made image i)
 
 pub table_out : (s s1 s2 : View) (kind : Kind) (id num p start b root : ℕ) → root ≡ 1 + kind_number kind → HoldsState s → Taken s s1 start b → ItemMade s1 s2 b id num p → HasTable s2 root
 table_out s s1 s2 kind id num p start b root e has t w = record {
@@ -191,10 +190,12 @@ table_out s s1 s2 kind id num p start b root e has t w = record {
 }
 
 pub fresh_out : (s s1 s2 : View) (kind : Kind) (id num p start b root : ℕ) → root ≡ 1 + kind_number kind → HoldsState s → HasNoItem s kind id → Taken s s1 start b → ItemMade s1 s2 b id num p → IsFresh s2 root id b
-fresh_out s s1 s2 kind id num p start b root e has f t w =
-    let bb : IsBlock s2.size b = (t.block.0, (omega (arith, t.block.1.0, w.kept.size), t.block.1.1)) in
-    record {
-      block = bb;
+fresh_out s s1 s2 kind id num p start b root e has f t w = record {
+      room = omega (arith, t.room, w.kept.size);
+      block = λ image i.
+          let i1 = w.kept.seen image i in
+          let h = has.under image (t.kept.seen image i1) in
+          t.block image h.1.represents.parts.free i1 h.1.represents.heap.lists;
       out = λ image rs i table.
           let i1 = w.kept.seen image i in
           let i0 = t.kept.seen image i1 in
@@ -203,10 +204,11 @@ fresh_out s s1 s2 kind id num p start b root e has f t w =
           let k = kind_number kind in
           let small = kind_small kind in
           let t1 = t.taken image parts.free i1 h.1.represents.heap.lists in
+          let bb = t.block image parts.free i1 h.1.represents.heap.lists in
           let heap = out_heap s s1 s2 id num p start b image h.0 t w i h.1 t1 in
-          let rows : Rows (mem s2 image) s2.size (mem s2 image (1 + k)) 0 rs = rw e at table in
-          let same : rs ≡ parts.tables k = rows_same (mem s2 image) s2.size (mem s2 image (1 + k)) 0 rs (parts.tables k) rows (heap.rows k (omega arith)) in
-          let none : times b (parts.tables k) ≡ 0 = out_of_tables (mem s2 image) s2.size b k (parts_out parts t1.list t1.rest b) parts.out heap bb refl (omega arith) in
+          let rows : Rows (mem s2 image) (length image) (mem s2 image (1 + k)) 0 rs = rw e at table in
+          let same : rs ≡ parts.tables k = rows_same (mem s2 image) (length image) (mem s2 image (1 + k)) 0 rs (parts.tables k) rows (heap.rows k (omega arith)) in
+          let none : times b (parts.tables k) ≡ 0 = out_of_tables (mem s2 image) (length image) b k (parts_out parts t1.list t1.rest b) parts.out heap bb refl (omega arith) in
           rw same (none, f.none image h.0 i0 h.1);
     }
 
@@ -218,17 +220,16 @@ new_done s s1 s2 s3 kind id num p start b root e f range nz t w v = record {
       let parts = h.represents.parts in
       let k = kind_number kind in
       let small = kind_small kind in
-      let bb : IsBlock s.size b = (t.block.0, (omega (arith, t.block.1.0, t.kept.size), t.block.1.1)) in
+      let bb = t.block image parts.free i1 h.represents.heap.lists in
       let none = f.none image state i0 h in
       let t1 = t.taken image parts.free i1 h.represents.heap.lists in
       let heap = out_heap s s1 s2 id num p start b image state t w i2 h t1 in
       let g = subst (λ (x : ℕ). Inserted s2 s3 x id b) e v in
       let hung = g.puts image (parts.tables k) i (heap.rows k (omega arith)) in
       let sound = new_sound id num p (add_range kind id num (Some p) range) nz in
-      let size : s3.size ≡ s.size = v.kept.size ∙ (w.kept.size ∙ t.kept.size) in
-      let after : IsState (mem s3 image) s3.size (with_item state kind id (new_item num p)) =
-      rw size (new_state (mem s image) (mem s1 image) (mem s2 image) (mem s3 image) s.size state kind id num p start b h none bb t1 (w.made image i2) hung sound) in
-      let room = not_full (mem s image) s.size state h.represents t1.list b t1.rest (omega (arith, t1.is_list)) t1.first in
-      let missing = item_missing (mem s image) s.size state kind id h none in
-      outcome_is (mem s3 image) s3.size (step state (command.Add kind id num (Some p))) (with_item state kind id (new_item num p)) reply.Done (new_step state kind id num p missing nz room) after;
+      let after : IsState (mem s3 image) (length image) (with_item state kind id (new_item num p)) =
+          new_state (mem s image) (mem s1 image) (mem s2 image) (mem s3 image) (length image) state kind id num p start b h none bb t1 (w.made image i2) hung sound in
+      let room = not_full (mem s image) (length image) state h.represents t1.list b t1.rest (omega (arith, t1.is_list)) t1.first in
+      let missing = item_missing (mem s image) (length image) state kind id h none in
+      outcome_is (mem s3 image) (length image) (step state (command.Add kind id num (Some p))) (with_item state kind id (new_item num p)) reply.Done (new_step state kind id num p missing nz room) after;
 }

@@ -1,5 +1,5 @@
 -- Plain memory: the state read off its words is the one that they represent.
-use Rattle.std.proofs.Common.{◌≡◌, inl, inr, ℕ, ◌+◌, ◌-◌, ◌/◌, ◌≤◌, List, [], ◌∷◌, Option, Some, None, nat_eq, true, false, length, slice_index, unwrap_or, refl, sym, ap, ◌∙◌, arith, zero, suc}
+use Rattle.std.proofs.Common.{◌≡◌, inl, inr, ℕ, ◌+◌, ◌-◌, ◌/◌, ◌≤◌, List, [], ◌∷◌, Option, Some, None, nat_eq, true, false, length, slice_index, unwrap_or, refl, sym, ap, ◌∙◌, subst, arith, zero, suc}
 use Rattle.std.specs.FinMap.{entries, empty, from_sorted, get, same_entries_map, entries_sorted, entries-from_sorted, get-empty}
 use Rattle.std.specs.Ordering.{nat_cmp}
 use Rattle.std.proofs.lemmas.List.{get_or_past}
@@ -71,20 +71,22 @@ pub holds_plain : (xs : List ℕ) → IsPlainState xs → HoldsState (flat_view 
 holds_plain xs h = record {
   inside = omega (arith, h.state.represents.size);
   small = h.small;
-  under = λ image i. (state_of xs, rw (flat_mem xs image i.size) h.state);
+  under = λ image i. (state_of xs, rw (flat_mem xs image i.fits, i.fits) h.state);
 }
 
 not_there : {A : Type 0} {x : A} (o : Option A) → o ≡ None → o ≡ Some x → ⊥
 not_there o p q = cc
 
 seen_over : (xs ys : List ℕ) → length xs ≡ length ys → Sees (flat_view ys) xs
-seen_over xs ys e = record { size = e; fits = tt; agrees = λ a v is. absurd (not_there (get {R = nat_cmp} (empty {X = ℕ}) a) (get-empty nat_cmp a) is) }
+seen_over xs ys e = record { fits = e; agrees = λ a v is. absurd (not_there (get {R = nat_cmp} (empty {X = ℕ}) a) (get-empty nat_cmp a) is) }
 
 -- what a command did to plain memory
 pub plain_outcome : (xs ys : List ℕ) (c : Command) (r : Reply) → IsPlainState xs → Ran (flat_view xs) (flat_view ys) c r → IsOutcome (words_of ys) (length ys) (step (state_of xs) c) r
 plain_outcome xs ys c r h ran =
     let e : length xs ≡ length ys = sym ran.kept.size in
-    rw (flat_mem ys xs e) at (ran.outcome xs (state_of xs) (seen_over xs ys e) (rw (flat_mem xs xs refl) h.state))
+    let o = step (state_of xs) c in
+    let at : IsOutcome (words_of ys) (length xs) o r = rw (flat_mem ys xs e) at (ran.outcome xs (state_of xs) (seen_over xs ys e) (rw (flat_mem xs xs refl) h.state)) in
+    subst (λ (n : ℕ). IsOutcome (words_of ys) n o r) e at
 
 pub plain_after : (xs ys : List ℕ) (c : Command) (r : Reply) → IsPlainState xs → Ran (flat_view xs) (flat_view ys) c r → step (state_of xs) c ≡ (state_of ys, r)
 plain_after xs ys c r h ran =

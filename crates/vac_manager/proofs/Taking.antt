@@ -1,8 +1,8 @@
 -- The search for a free block, over every memory that there may be.
-use Rattle.std.proofs.Common.{◌≡◌, ◌≢◌, inl, inr, ℕ, ◌+◌, ◌-◌, ◌*◌, ◌/◌, ◌%◌, ◌<◌, ◌≤◌, List, [], ◌∷◌, refl, sym, ap, ◌∙◌, subst, arith}
+use Rattle.std.proofs.Common.{◌≡◌, ◌≢◌, inl, inr, ℕ, ◌+◌, ◌-◌, ◌*◌, ◌/◌, ◌%◌, ◌<◌, ◌≤◌, List, [], ◌∷◌, length, refl, sym, ap, ◌∙◌, subst, arith}
 use Rattle.std.proofs.lemmas.Bool.{cases_lt}
 use Rattle.stm_words.specs.Seen.{some_le}
-use Rattle.stm_words.specs.View.{View, Sees, Kept, Loaded, Stored}
+use Rattle.stm_words.specs.View.{View, Sees, Stands, Kept, Loaded, Stored}
 use Rattle.vac_records.specs.Items.{mem}
 use Rattle.vac_records.specs.Steps.{kept_none, kept_both, at_start, write_at_start}
 use Rattle.vac_manager.specs.Rows.{IsBlock}
@@ -41,7 +41,7 @@ look_end s0 s start n l many k = record {
   none = λ image f seen h i less.
       let e : (start + (i + 8 - start) % 8) % 8 ≡ i = omega arith in
       let z = k.empty image seen ((i + 8 - start) % 8) (omega arith) in
-      free_zero (mem s0 image) s0.size (mem s0 image (8 + i)) (f i) (h i less) (rw e at z);
+      free_zero (mem s0 image) (length image) (mem s0 image (8 + i)) (f i) (h i less) (rw e at z);
 }
 
 pub record First (m : ℕ → ℕ) (n p : ℕ) (bs : List ℕ) : Type 0 where
@@ -54,33 +54,23 @@ free_first m n p [] h ne = absurd (ne h)
 free_first m n p (a ∷ bs) (e, b, h) ne = record { block = subst (λ (x : ℕ). IsBlock n x) (sym e) b; rest = bs; is = ap (λ (x : ℕ). x ∷ bs) (sym e) }
 
 -- the head of a list that is not empty
-first_of : (s0 s s' : View) (start i at p : ℕ) → Looking s0 s start i → Loaded s s' at p → at ≡ 8 + (start + i) % 8 → p ≢ 0 → (image : List ℕ) (f : ℕ → List ℕ) → Sees s' image → AreLists s0 image f → First (mem s0 image) s0.size p (f ((start + i) % 8))
+first_of : (s0 s s' : View) (start i at p : ℕ) → Looking s0 s start i → Loaded s s' at p → at ≡ 8 + (start + i) % 8 → p ≢ 0 → (image : List ℕ) (f : ℕ → List ℕ) → Sees s' image → AreLists s0 image f → First (mem s0 image) (length image) p (f ((start + i) % 8))
 first_of s0 s s' start i at p k l q ne image f seen h =
     let e : mem s0 image (8 + (start + i) % 8) ≡ p = ap (mem s0 image) (sym q) ∙ at_start s0 s s' at p k.writes l image seen in
-    free_first (mem s0 image) s0.size p (f ((start + i) % 8)) (rw e at (h ((start + i) % 8) (omega arith))) ne
+    free_first (mem s0 image) (length image) p (f ((start + i) % 8)) (rw e at (h ((start + i) % 8) (omega arith))) ne
 
-pub first_in : (s0 s s' : View) (start i at p : ℕ) → Looking s0 s start i → Loaded s s' at p → at ≡ 8 + (start + i) % 8 → p ≢ 0 → HasLists s0 → ∥ ((image : List ℕ) × Sees s' image) ∥₁ → InSpace s' p
+pub first_in : (s0 s s' : View) (start i at p : ℕ) → Looking s0 s start i → Loaded s s' at p → at ≡ 8 + (start + i) % 8 → p ≢ 0 → HasLists s0 → ∥ ((image : List ℕ) × Stands s' image) ∥₁ → InSpace s' p
 first_in s0 s s' start i at p k l q ne has ws =
     let inside : p + 8 ≤ s'.size = some_le (p + 8) s'.size ws (λ w.
-    let f = has.lists w.0 (k.kept.seen w.0 (l.kept.seen w.0 w.1)) in
-    omega (arith, (first_of s0 s s' start i at p k l q ne w.0 f.0 w.1 f.1).block.1.0, k.kept.size, l.kept.size)) in
+    let f = has.lists w.0 (k.kept.seen w.0 (l.kept.seen w.0 w.1.sees)) in
+    omega (arith, (first_of s0 s s' start i at p k l q ne w.0 f.0 w.1.sees f.1).block.1.0, w.1.size)) in
     record { inside = inside; small = omega (arith, has.small, k.kept.size, l.kept.size) }
 
--- a number that is a block's place under some image is one
-some_block : {W : Type 0} (n p : ℕ) → ∥ W ∥₁ → (W → IsBlock n p) → IsBlock n p
-some_block n p w f =
-    let inside : p + 8 ≤ n = some_le (p + 8) n w (λ x. omega (arith, (f x).1.0)) in
-    let above : p ≤ 16 + 8 * ((p - 16) / 8) = some_le p (16 + 8 * ((p - 16) / 8)) w (λ x. omega (arith, (f x).1.1)) in
-    let below : 16 + 8 * ((p - 16) / 8) ≤ p = some_le (16 + 8 * ((p - 16) / 8)) p w (λ x. omega (arith, (f x).1.1)) in
-    ((p - 16) / 8, (inside, omega arith))
-
-pub taken : (s0 s s1 s2 s3 : View) (start i at p next : ℕ) → Looking s0 s start i → Loaded s s1 at p → at ≡ 8 + (start + i) % 8 → p ≢ 0 → HasLists s0 → Loaded s1 s2 p next → Stored s2 s3 at next → ∥ ((image : List ℕ) × Sees s1 image) ∥₁ → Taken s0 s3 start p
+pub taken : (s0 s s1 s2 s3 : View) (start i at p next : ℕ) → Looking s0 s start i → Loaded s s1 at p → at ≡ 8 + (start + i) % 8 → p ≢ 0 → HasLists s0 → Loaded s1 s2 p next → Stored s2 s3 at next → ∥ ((image : List ℕ) × Stands s1 image) ∥₁ → Taken s0 s3 start p
 taken s0 s s1 s2 s3 start i at p next k l q ne has l' w ws = record {
   kept = kept_both s0 s2 s3 (kept_both s0 s s2 k.kept (kept_both s s1 s2 l.kept l'.kept)) w.kept;
-  block = some_block s3.size p ws (λ v.
-      let f = has.lists v.0 (k.kept.seen v.0 (l.kept.seen v.0 v.1)) in
-      let b = (first_of s0 s s1 start i at p k l q ne v.0 f.0 v.1 f.1).block in
-      (b.0, (omega (arith, b.1.0, k.kept.size, l.kept.size, l'.kept.size, w.kept.size), b.1.1)));
+  room = omega (arith, (first_in s0 s s1 start i at p k l q ne has ws).inside, l'.kept.size, w.kept.size);
+  block = λ image f seen h. (first_of s0 s s1 start i at p k l q ne image f (l'.kept.seen image (w.kept.seen image seen)) h).block;
   taken = λ image f seen h.
       let i2 = w.kept.seen image seen in let i1 = l'.kept.seen image i2 in
       let o = first_of s0 s s1 start i at p k l q ne image f i1 h in
@@ -89,7 +79,7 @@ taken s0 s s1 s2 s3 start i at p next k l q ne has l' w ws = record {
         steps = i;
         earlier = λ j less.
             let z = k.empty image (l.kept.seen image i1) j less in
-            free_zero (mem s0 image) s0.size (mem s0 image (8 + (start + j) % 8)) (f ((start + j) % 8)) (h ((start + j) % 8) (omega arith)) z;
+            free_zero (mem s0 image) (length image) (mem s0 image (8 + (start + j) % 8)) (f ((start + j) % 8)) (h ((start + j) % 8) (omega arith)) z;
         list = (start + i) % 8;
         is_list = refl;
         rest = o.rest;

@@ -7,7 +7,7 @@ use Rattle.vac_manager.specs.Heap.{Free}
 
 -- under this image the eight heads lead to these lists
 abbrev pub AreLists : View → List ℕ → (ℕ → List ℕ) → Type 0
-AreLists s image f = (i : ℕ) → i < 8 → Free (mem s image) s.size (mem s image (8 + i)) (f i)
+AreLists s image f = (i : ℕ) → i < 8 → Free (mem s image) (length image) (mem s image (8 + i)) (f i)
 
 -- under each image that there may be the heads lead to some lists. Addresses fit 32 bits.
 pub record HasLists (s : View) : Type 0 where
@@ -34,7 +34,8 @@ pub record NoneFree (s s' : View) : Type 0 where
 -- b was free, and was taken out of its list
 pub record Taken (s s' : View) (start b : ℕ) : Type 0 where
   pub kept : Kept s s'
-  pub block : IsBlock s'.size b
+  pub room : b + 8 ≤ s'.size
+  pub block : (image : List ℕ) (f : ℕ → List ℕ) → Sees s' image → AreLists s image f → IsBlock (length image) b
   pub taken : (image : List ℕ) (f : ℕ → List ℕ) → Sees s' image → AreLists s image f → IsTaken (mem s image) (mem s' image) f start b
 
 -- the words of an empty heap of n blocks: block b is in list b mod 8, the lists ascend, and all other words are 0

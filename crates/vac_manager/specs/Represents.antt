@@ -1,5 +1,5 @@
 -- When a memory represents a state, and what a command does to it under every image.
-use Rattle.std.specs.Prelude.{◌≡◌, ◌≢◌, ℕ, ◌+◌, ◌*◌, ◌≤◌, ◌^◌, Option, List, [], ◌∷◌, unwrap_or}
+use Rattle.std.specs.Prelude.{◌≡◌, ◌≢◌, ℕ, ◌+◌, ◌*◌, ◌≤◌, ◌^◌, Option, List, [], ◌∷◌, length, unwrap_or}
 use Rattle.std.specs.FinMap.{entries, empty}
 use Rattle.stm_words.specs.View.{View, Sees, Kept}
 use Rattle.vac_model.specs.declared.items.Kind.{Kind}
@@ -38,7 +38,7 @@ pub record IsState (m : ℕ → ℕ) (n : ℕ) (s : State) : Type 0 where
 pub record HoldsState (s : View) : Type 0 where
   pub inside : 16 ≤ s.size
   pub small : s.size ≤ 2 ^ 32
-  pub under : (image : List ℕ) → Sees s image → (state : State) × IsState (mem s image) s.size state
+  pub under : (image : List ℕ) → Sees s image → (state : State) × IsState (mem s image) (length image) state
 
 -- the block of the row of an item, or 0
 abbrev pub row_of : {m : ℕ → ℕ} {n : ℕ} {s : State} → IsState m n s → Kind → ℕ → ℕ
@@ -46,13 +46,13 @@ row_of h kind id = block_at (h.represents.parts.tables (kind_number kind)) id
 
 -- under each image the item is missing
 pub record HasNoItem (s : View) (kind : Kind) (id : ℕ) : Type 0 where
-  pub none : (image : List ℕ) (state : State) → Sees s image → (h : IsState (mem s image) s.size state) → row_of h kind id ≡ 0
+  pub none : (image : List ℕ) (state : State) → Sees s image → (h : IsState (mem s image) (length image) state) → row_of h kind id ≡ 0
 
 -- under each image node is the block of the item
 pub record HasItemAt (s : View) (kind : Kind) (id node : ℕ) : Type 0 where
   pub some : node ≢ 0
   pub room : node + 8 ≤ s.size
-  pub at : (image : List ℕ) (state : State) → Sees s image → (h : IsState (mem s image) s.size state) → row_of h kind id ≡ node
+  pub at : (image : List ℕ) (state : State) → Sees s image → (h : IsState (mem s image) (length image) state) → row_of h kind id ≡ node
 
 -- the price of the item was replaced where one was given, and all other words are as before
 pub record PriceGiven (s s' : View) (node : ℕ) (price : Option ℕ) : Type 0 where
@@ -68,4 +68,4 @@ pub record IsOutcome (m : ℕ → ℕ) (n : ℕ) (o : Outcome) (r : Reply) : Typ
 -- under each image the memory was changed as the command changes the state, and the reply is the command's
 pub record Ran (s s' : View) (c : Command) (r : Reply) : Type 0 where
   pub kept : Kept s s'
-  pub outcome : (image : List ℕ) (state : State) → Sees s' image → IsState (mem s image) s.size state → IsOutcome (mem s' image) s'.size (step state c) r
+  pub outcome : (image : List ℕ) (state : State) → Sees s' image → IsState (mem s image) (length image) state → IsOutcome (mem s' image) (length image) (step state c) r

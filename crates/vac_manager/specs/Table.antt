@@ -1,12 +1,12 @@
 -- A table in a transactional memory, as a sorted list.
-use Rattle.std.specs.Prelude.{◌≡◌, ◌≢◌, ℕ, ◌+◌, ◌<◌, ◌≤◌, ◌^◌, List}
+use Rattle.std.specs.Prelude.{◌≡◌, ◌≢◌, ℕ, ◌+◌, ◌<◌, ◌≤◌, ◌^◌, List, length}
 use Rattle.stm_words.specs.View.{View, Sees, Kept}
 use Rattle.vac_records.specs.Items.{mem}
 use Rattle.vac_manager.specs.Rows.{Rows, link_of, block_at, times, IsBlock}
 
 -- under this image the word root leads to these rows
 abbrev pub IsTable : View → List ℕ → ℕ → List (ℕ × ℕ) → Type 0
-IsTable s image root rs = Rows (mem s image) s.size (mem s image root) 0 rs
+IsTable s image root rs = Rows (mem s image) (length image) (mem s image root) 0 rs
 
 -- root is one of the first 16 words; under each image that there may be it leads to some rows. Addresses fit 32 bits.
 pub record HasTable (s : View) (root : ℕ) : Type 0 where
@@ -46,7 +46,8 @@ pub record Puts (m m' : ℕ → ℕ) (b l : ℕ) : Type 0 where
 
 -- under each image b is a block that is no row's of the table, which has no row of the key
 pub record IsFresh (s : View) (root key b : ℕ) : Type 0 where
-  pub block : IsBlock s.size b
+  pub room : b + 8 ≤ s.size
+  pub block : (image : List ℕ) → Sees s image → IsBlock (length image) b
   pub out : (image : List ℕ) (rs : List (ℕ × ℕ)) → Sees s image → IsTable s image root rs → (times b rs ≡ 0) × (block_at rs key ≡ 0)
 
 -- under each image the block was hung in at the place of the key
