@@ -29,7 +29,7 @@ pub record IsDated (time : ℕ → ℕ) (events : ℕ) (v : Client) : Type 0 whe
   pub reading : IsReading v → (v.began_at < events) × (time v.began_at ≡ v.rv) × (time (suc v.began_at) ≡ v.rv)
   pub ticking : IsOpen v → (v.ticked_at < events) × (time v.ticked_at + 1 ≡ v.wv) × (time (suc v.ticked_at) ≡ v.wv)
 
-pub record Dated (clock events : ℕ) (cs : List Client) (h : List Record) : Type 0 where
+pub record Dated (old : List Record) (clock events : ℕ) (cs : List Client) (h : List Record) : Type 0 where
   pub time : ℕ → ℕ
   pub grows : (p q : ℕ) → p ≤ q → time p ≤ time q
   pub now : time events ≡ clock
@@ -42,6 +42,12 @@ pub record Dated (clock events : ℕ) (cs : List Client) (h : List Record) : Typ
   pub only : (r : Record) → In r h → (i : ℕ) × (v : Client) × At cs i v × In r v.records
   pub known : (r : Record) → In r h → r.client ≤ length cs
   pub numbered : (i : ℕ) (v : Client) (r : Record) → At cs i v → v.spent ≡ false → In r h → r.client ≡ suc i → (r.attempt ≤ v.attempt) × (r.attempt ≡ v.attempt → is_settled v.phase ≡ true)
+  -- the records of earlier renewals stand before all that
+  pub old_past : (r : Record) → In r old → r.point < events
+  pub old_before : (r x : Record) → In r old → In x h → r.point < x.point
+  pub old_marked : (i : ℕ) (v : Client) (p : ℕ) (r : Record) → At cs i v → Mark v p → In r old → r.point < p
+  pub old_known : (r : Record) → In r old → r.client ≤ length cs
+  pub old_numbered : (i : ℕ) (v : Client) (r : Record) → At cs i v → v.spent ≡ false → In r old → r.client ≡ suc i → (r.attempt ≤ v.attempt) × (r.attempt ≡ v.attempt → is_settled v.phase ≡ true)
 
 -- the values of the clock with one more, after so many events
 pub later_on : (ℕ → ℕ) → ℕ → ℕ → ℕ → ℕ
@@ -68,7 +74,7 @@ in_placed r (y ∷ l) x i = go (ltb r.point y.point) i (λ h. in_placed r l x h)
     go true j f = in_cons r x (y ∷ l) j
     go false j f = ⊎_elim (λ e. inr (0, ap some e)) (λ k. ⊎_elim (λ e. inl e) (λ o. inr (suc o.0, o.1)) (f k)) (in_cons y x (placed r l) j)
 
-placed_in : (r : Record) (l : List Record) → In r (placed r l)
+pub placed_in : (r : Record) (l : List Record) → In r (placed r l)
 placed_in r [] = (0, refl)
 placed_in r (y ∷ l) = go (ltb r.point y.point) (placed_in r l)
   where
@@ -93,9 +99,9 @@ placed_by r (x ∷ l) o f = go (ltb r.point x.point) refl (placed_by r l o.1 (λ
     go false e k = (λ y i. ⊎_elim (λ q. subst (λ (z : Record). x.point < z.point) q (let n = f x (0, refl) in let q' : x.point ≤ r.point = grind (arith, nat_tests) in omega arith)) (λ j. o.0 y j) (in_placed r l y i), k)
 
 -- records by point steps stand by versions, the one writer of a version before its readers
-pub ranked_by : (clock events : ℕ) (cs : List Client) (h : List Record) → Dated clock events cs h → (l : List Record) → ByPoint l → ((r : Record) → In r l → In r h) → Ranked l
-ranked_by clock events cs h d [] o f = tt
-ranked_by clock events cs h d (x ∷ l) o f = (λ r i. pair r i, ranked_by clock events cs h d l o.1 (λ r i. f r (suc i.0, i.1)))
+pub ranked_by : (old : List Record) (clock events : ℕ) (cs : List Client) (h : List Record) → Dated old clock events cs h → (l : List Record) → ByPoint l → ((r : Record) → In r l → In r h) → Ranked l
+ranked_by old clock events cs h d [] o f = tt
+ranked_by old clock events cs h d (x ∷ l) o f = (λ r i. pair r i, ranked_by old clock events cs h d l o.1 (λ r i. f r (suc i.0, i.1)))
   where
     pair : (r : Record) → In r l → (rank x ≤ rank r) × (x.writer ≡ true → r.writer ≡ true → x.version ≢ r.version)
     pair r i =
@@ -109,7 +115,7 @@ ranked_by clock events cs h d (x ∷ l) o f = (λ r i. pair r i, ranked_by clock
           λ t u e. (let a' = a.writer t in let b' = b.writer u in omega (arith, a', b', e)),
         )
 
-module _ (clock events : ℕ) (cs : List Client) (h : List Record) (d : Dated clock events cs h) (i : ℕ) (v w : Client) (at : At cs i v) where
+module _ (old : List Record) (clock events : ℕ) (cs : List Client) (h : List Record) (d : Dated old clock events cs h) (i : ℕ) (v w : Client) (at : At cs i v) where
   who : (P : ℕ → Client → Type 0) → P i w → ((j : ℕ) (o : Client) → At cs j o → j ≢ i → P j o) → (j : ℕ) (o : Client) → At (set cs i w) j o → P j o
   who P mine else j o e = ⊎_elim (λ p. subst (λ c. P j c) p.1 (subst (λ y. P y w) (sym p.0) mine)) (λ p. else j o p.1 p.0) (at_set cs i j w o e)
 
@@ -121,8 +127,8 @@ module _ (clock events : ℕ) (cs : List Client) (h : List Record) (d : Dated cl
     abbrev time' : ℕ → ℕ
     time' = later_on d.time events clock'
 
-    old : (p : ℕ) → p ≤ events → later_on d.time events clock' p ≡ d.time p
-    old p l = on_time d.time events clock' p l
+    then : (p : ℕ) → p ≤ events → later_on d.time events clock' p ≡ d.time p
+    then p l = on_time d.time events clock' p l
 
     new : (p : ℕ) → events < p → later_on d.time events clock' p ≡ clock'
     new p l = past_time d.time events clock' p l
@@ -135,12 +141,12 @@ module _ (clock events : ℕ) (cs : List Client) (h : List Record) (d : Dated cl
 
     dated_on : (o : Client) → IsDated d.time events o → IsDated time' (events + 1) o
     dated_on o it = record {
-      reading = λ r. let q = it.reading r in (omega (arith, q.0), old o.began_at (omega (arith, q.0)) ∙ q.1, old (suc o.began_at) (omega (arith, q.0)) ∙ q.2);
-      ticking = λ r. let q = it.ticking r in (omega (arith, q.0), (let e = old o.ticked_at (omega (arith, q.0)) in omega (arith, q.1)), old (suc o.ticked_at) (omega (arith, q.0)) ∙ q.2);
+      reading = λ r. let q = it.reading r in (omega (arith, q.0), then o.began_at (omega (arith, q.0)) ∙ q.1, then (suc o.began_at) (omega (arith, q.0)) ∙ q.2);
+      ticking = λ r. let q = it.ticking r in (omega (arith, q.0), (let e = then o.ticked_at (omega (arith, q.0)) in omega (arith, q.1)), then (suc o.ticked_at) (omega (arith, q.0)) ∙ q.2);
     }
 
     at_now : (later_on d.time events clock') events ≡ clock
-    at_now = old events (le_refl _) ∙ d.now
+    at_now = then events (le_refl _) ∙ d.now
 
     mine : IsDated (later_on d.time events clock') (events + 1) w
     mine = record {
@@ -150,16 +156,16 @@ module _ (clock events : ℕ) (cs : List Client) (h : List Record) (d : Dated cl
 
     grown : (p q : ℕ) → p ≤ q → (later_on d.time events clock') p ≤ (later_on d.time events clock') q
     grown p q l = by_bool (leb q events)
-        (λ t. let k : q ≤ events = grind (arith, nat_tests) in let a = old p (omega arith) in let b = old q k in let c = d.grows p q l in omega arith)
-        (λ t. let k : events < q = grind (arith, nat_tests) in by_bool (leb p events) (λ u. let m : p ≤ events = grind (arith, nat_tests) in let a = old p m in let b = new q k in let c = d.grows p events m in let e = d.now in omega arith)
+        (λ t. let k : q ≤ events = grind (arith, nat_tests) in let a = then p (omega arith) in let b = then q k in let c = d.grows p q l in omega arith)
+        (λ t. let k : events < q = grind (arith, nat_tests) in by_bool (leb p events) (λ u. let m : p ≤ events = grind (arith, nat_tests) in let a = then p m in let b = new q k in let c = d.grows p events m in let e = d.now in omega arith)
         (λ u. let m : events < p = grind (arith, nat_tests) in let a = new p m in let b = new q k in omega arith))
 
-    pub date_step : Dated clock' (events + 1) (set cs i w) h
+    pub date_step : Dated old clock' (events + 1) (set cs i w) h
     date_step = record {
       time = later_on d.time events clock';
       grows = grown;
       now = new (events + 1) (omega arith);
-      stamped = λ r m. let s = d.stamped r m in let a = old r.point (let p = s.past in omega arith) in let b = old (suc r.point) (let p = s.past in omega arith) in record {
+      stamped = λ r m. let s = d.stamped r m in let a = then r.point (let p = s.past in omega arith) in let b = then (suc r.point) (let p = s.past in omega arith) in record {
         past = (let p = s.past in omega arith);
         writer = λ t. let q = s.writer t in (omega (arith, q.0), omega (arith, q.1));
         reader = λ t. let q = s.reader t in (omega (arith, q.0), omega (arith, q.1));
@@ -176,11 +182,18 @@ module _ (clock events : ℕ) (cs : List Client) (h : List Record) (d : Dated cl
       numbered = λ j o r e s m k. who (λ y c. c.spent ≡ false → r.client ≡ suc y → (r.attempt ≤ c.attempt) × (r.attempt ≡ c.attempt → is_settled c.phase ≡ true))
           (λ s' k'. let q = d.numbered i v r at (sym spent ∙ s') m k' in ⊎_elim (λ l. (omega (arith, q.0), λ z. absurd (let a = q.0 in omega (arith, l)))) (λ l. (let a = q.0 in let b = l.0 in omega arith, λ z. l.1 (q.1 (z ∙ l.0)))) number)
           (λ y c f n s' k'. d.numbered y c r f s' m k') j o e s k;
+      old_past = λ r m. (let p = d.old_past r m in omega arith);
+      old_before = d.old_before;
+      old_marked = λ j o p r e m k. who (λ y c. Mark c p → r.point < p) (λ m'. ⊎_elim (λ q. d.old_marked i v p r at q k) (λ q. (let z = d.old_past r k in omega arith)) (marks p m')) (λ y c f n m'. d.old_marked y c p r f m' k) j o e m;
+      old_known = λ r m. rw (length-set cs i w) (d.old_known r m);
+      old_numbered = λ j o r e s m k. who (λ y c. c.spent ≡ false → r.client ≡ suc y → (r.attempt ≤ c.attempt) × (r.attempt ≡ c.attempt → is_settled c.phase ≡ true))
+          (λ s' k'. let q = d.old_numbered i v r at (sym spent ∙ s') m k' in ⊎_elim (λ l. (omega (arith, q.0), λ z. absurd (let a = q.0 in omega (arith, l)))) (λ l. (let a = q.0 in let b = l.0 in omega arith, λ z. l.1 (q.1 (z ∙ l.0)))) number)
+          (λ y c f n s' k'. d.old_numbered y c r f s' m k') j o e s k;
     }
 
   -- a decision: the point step was before
   module _ (r : Record) (mark : Mark v r.point) (records : w.records ≡ inserted r v.records) (spent : w.spent ≡ v.spent) (none : (p : ℕ) → Mark w p → ⊥) (stamp : IsStamped d.time events r) (who_is : r.client ≡ suc i) (attempt : r.attempt ≡ v.attempt) (number : w.attempt ≡ v.attempt) (settled : is_settled w.phase ≡ true) where
-    pub date_decide : Dated clock events (set cs i w) (placed r h)
+    pub date_decide : Dated old clock events (set cs i w) (placed r h)
     date_decide = record {
       time = d.time;
       grows = d.grows;
@@ -198,14 +211,20 @@ module _ (clock events : ℕ) (cs : List Client) (h : List Record) (d : Dated cl
       numbered = λ j o x e s m k. who (λ y c. c.spent ≡ false → x.client ≡ suc y → (x.attempt ≤ c.attempt) × (x.attempt ≡ c.attempt → is_settled c.phase ≡ true))
           (λ s' k'. (⊎_elim (λ q. (let z : r.attempt ≡ x.attempt = ap (λ (y : Record). y.attempt) q in let l = number in let l' = attempt in omega arith)) (λ q. (let z = (d.numbered i v x at (sym spent ∙ s') q k').0 in let l = number in omega arith)) (in_placed r h x m), λ z. settled))
           (λ y c f n s' k'. ⊎_elim (λ q. absurd (n (let z : r.client ≡ x.client = ap (λ (y : Record). y.client) q in let a = who_is in omega (arith, k')))) (λ q. d.numbered y c x f s' q k') (in_placed r h x m)) j o e s k;
+      old_past = d.old_past;
+      old_before = λ y x k m. ⊎_elim (λ e. subst (λ (z : Record). y.point < z.point) e (d.old_marked i v r.point y at mark k)) (λ q. d.old_before y x k q) (in_placed r h x m);
+      old_marked = λ j o p y e m k. who (λ z c. Mark c p → y.point < p) (λ m'. absurd (none p m')) (λ z c f n m'. d.old_marked z c p y f m' k) j o e m;
+      old_known = λ x m. rw (length-set cs i w) (d.old_known x m);
+      old_numbered = λ j o x e s m k. who (λ y c. c.spent ≡ false → x.client ≡ suc y → (x.attempt ≤ c.attempt) × (x.attempt ≡ c.attempt → is_settled c.phase ≡ true))
+          (λ s' k'. let q = d.old_numbered i v x at (sym spent ∙ s') m k' in (let a = q.0 in let l = number in omega arith, λ z. settled)) (λ y c f n s' k'. d.old_numbered y c x f s' m k') j o e s k;
     }
 
-module _ (clock events : ℕ) (cs : List Client) (h : List Record) (d : Dated clock events cs h) where
+module _ (old : List Record) (clock events : ℕ) (cs : List Client) (h : List Record) (d : Dated old clock events cs h) where
   blank_dated : (w : Client) → ((p : ℕ) → Mark w p → ⊥) → IsDated d.time events w
   blank_dated w none = record { reading = λ q. absurd (none w.began_at (inl (q, refl))); ticking = λ q. absurd (none w.ticked_at (inr (q, refl))) }
 
   -- a client more, which has nothing
-  pub date_longer : (w : Client) → ((p : ℕ) → Mark w p → ⊥) → w.records ≡ [] → Dated clock events (cs ++ w ∷ []) h
+  pub date_longer : (w : Client) → ((p : ℕ) → Mark w p → ⊥) → w.records ≡ [] → Dated old clock events (cs ++ w ∷ []) h
   date_longer w none records = record {
     time = d.time;
     grows = d.grows;
@@ -219,6 +238,11 @@ module _ (clock events : ℕ) (cs : List Client) (h : List Record) (d : Dated cl
     only = λ r m. let q = d.only r m in (q.0, q.1, at_longer cs w q.1 q.0 q.2, q.3);
     known = λ r m. rw (length-append cs (w ∷ [])) (let q = d.known r m in omega arith);
     numbered = λ i o r e s m k. who (λ y c. c.spent ≡ false → r.client ≡ suc y → (r.attempt ≤ c.attempt) × (r.attempt ≡ c.attempt → is_settled c.phase ≡ true)) (λ y l s' k'. absurd (let q = d.known r m in omega (arith, l, k'))) (λ y c f s' k'. d.numbered y c r f s' m k') i o e s k;
+    old_past = d.old_past;
+    old_before = d.old_before;
+    old_marked = λ i o p r e m k. who (λ y c. Mark c p → r.point < p) (λ y _ m'. absurd (none p m')) (λ y c f m'. d.old_marked y c p r f m' k) i o e m;
+    old_known = λ r m. rw (length-append cs (w ∷ [])) (let q = d.old_known r m in omega arith);
+    old_numbered = λ i o r e s m k. who (λ y c. c.spent ≡ false → r.client ≡ suc y → (r.attempt ≤ c.attempt) × (r.attempt ≡ c.attempt → is_settled c.phase ≡ true)) (λ y l s' k'. absurd (let q = d.old_known r m in omega (arith, l, k'))) (λ y c f s' k'. d.old_numbered y c r f s' m k') i o e s k;
   }
     where
       last_at : (l : List Client) (i : ℕ) (o : Client) → At (l ++ w ∷ []) i o → At l i o ⊎ ((i ≡ length l) × (w ≡ o))
@@ -231,7 +255,7 @@ module _ (clock events : ℕ) (cs : List Client) (h : List Record) (d : Dated cl
       who P new old i o e = ⊎_elim (λ p. old i o p) (λ p. subst (λ c. P i c) p.1 (new i p.0)) (last_at cs i o e)
 
   -- a client takes another's records
-  pub date_join : (i j : ℕ) (v w : Client) → At cs i v → At cs j w → i ≢ j → v.spent ≡ false → Dated clock events (set (set cs i (taking v w)) j gone) h
+  pub date_join : (i j : ℕ) (v w : Client) → At cs i v → At cs j w → i ≢ j → v.spent ≡ false → Dated old clock events (set (set cs i (taking v w)) j gone) h
   date_join i j v w at to ne live = record {
     time = d.time;
     grows = d.grows;
@@ -250,6 +274,11 @@ module _ (clock events : ℕ) (cs : List Client) (h : List Record) (d : Dated cl
         (λ y. (q.0, q.1, set_else (set cs i (taking v w)) j q.0 gone q.1 y (set_else cs i q.0 (taking v w) q.1 z q.2), q.3)));
     known = λ r m. rw (length-set (set cs i (taking v w)) j gone ∙ length-set cs i (taking v w)) (d.known r m);
     numbered = λ n o r e s m k. who (λ y c. c.spent ≡ false → r.client ≡ suc y → (r.attempt ≤ c.attempt) × (r.attempt ≡ c.attempt → is_settled c.phase ≡ true)) (λ s' k'. d.numbered i v r at live m k') (λ s' k'. clash refl s') (λ y c f a b s' k'. d.numbered y c r f s' m k') n o e s k;
+    old_past = d.old_past;
+    old_before = d.old_before;
+    old_marked = λ n o p r e m k. who (λ y c. Mark c p → r.point < p) (λ m'. d.old_marked i v p r at m' k) (λ m'. absurd (none p m')) (λ y c f a b m'. d.old_marked y c p r f m' k) n o e m;
+    old_known = λ r m. rw (length-set (set cs i (taking v w)) j gone ∙ length-set cs i (taking v w)) (d.old_known r m);
+    old_numbered = λ n o r e s m k. who (λ y c. c.spent ≡ false → r.client ≡ suc y → (r.attempt ≤ c.attempt) × (r.attempt ≡ c.attempt → is_settled c.phase ≡ true)) (λ s' k'. d.old_numbered i v r at live m k') (λ s' k'. clash refl s') (λ y c f a b s' k'. d.old_numbered y c r f s' m k') n o e s k;
   }
     where
       none : (p : ℕ) → Mark gone p → ⊥

@@ -1,24 +1,26 @@
 -- The running core follows the core, event by event.
-use Rattle.std.proofs.Common.{◌≡◌, ◌≢◌, ℕ, zero, suc, ◌+◌, ◌-◌, ◌*◌, ◌^◌, ◌≤◌, ◌<◌, ◌⊎◌, inl, inr, ⊎_elim, Bool, true, false, cond, not, eqb, nat_lt, ◌==◌, ◌&&◌, ◌||◌, List, [], ◌∷◌, ◌++◌, length, length-set, set, get_or, map, replicate, slice_set, refl, sym, ap, ◌∙◌, subst, arith}
-use mathlib.Core.Option.{some}
+use Rattle.std.proofs.Common.{◌≡◌, ◌≢◌, ℕ, zero, suc, ◌+◌, ◌-◌, ◌*◌, ◌^◌, ◌≤◌, ◌<◌, ◌⊎◌, inl, inr, ⊎_elim, Bool, true, false, cond, not, eqb, ltb, nat_lt, nat_le, append-nil, ◌==◌, ◌&&◌, ◌||◌, List, [], ◌∷◌, ◌++◌, length, length-set, set, get_or, map, replicate, slice_set, refl, sym, ap, ◌∙◌, subst, arith}
+use mathlib.Core.Option.{some, some-injective}
 use lib.ListN.{get_elem?}
 use Rattle.std.proofs.lemmas.Bool.Decides.{nat_tests}
+use Rattle.std.proofs.lemmas.List.{length-replicate}
 use Rattle.stm_words.specs.Image.{In}
-use Rattle.stm_core.specs.Client.{Client, Record, Stamp, checked, locked, ticked, looked, version_of, word_before, value_fetched, writes_to, old_version, is_committed}
-use Rattle.stm_core.specs.Event.{Action, begin, probe, fetch, check, lock, tick, validate, put, release, give_back, finish, is_empty, committed_by, stepping, failing, read_too, holding, versioned, decides_at_once, won, passes, passing, after, giving, fresh, taking, gone}
-use Rattle.stm_core.specs.Core.{Core, bounds_of, found, left, written, Event, acts, splits, gathers, IsClient, Allowed, client_of, played, Leads, opened}
+use Rattle.stm_core.specs.Client.{shed, Client, Record, Stamp, checked, locked, ticked, looked, version_of, word_before, value_fetched, writes_to, old_version, is_committed}
+use Rattle.stm_core.specs.Event.{Action, begin, probe, fetch, check, lock, tick, validate, put, release, give_back, finish, is_empty, committed_by, stepping, failing, read_too, holding, versioned, decides_at_once, won, passes, passing, after, giving, fresh, taking, renewing, gone}
+use Rattle.stm_core.specs.Core.{Core, bounds_of, found, left, written, Event, acts, splits, gathers, renews, IsClient, Allowed, client_of, played, Leads, opened}
 use Rattle.stm_core.specs.Theorem.{stripe_of, free_law, IsHistory}
-use Rattle.stm_core.specs.Invariant.{Inv}
+use Rattle.stm_core.specs.Invariant.{Inv, now, Rule}
 use Rattle.stm_core.specs.Seat.{blank, seat_after}
 use Rattle.stm_core.specs.Tests.{may_act}
-use Rattle.stm_core.specs.Running.{Running, IsSane, stripes_of, is_out, may_play, decision, entered, stamp_of, run_acts, run_played, run_opened, found_of, shown, ran}
+use Rattle.stm_core.specs.Running.{Running, IsSane, stripes_of, is_out, may_play, are_spent, others_spent, decision, entered, stamp_of, run_acts, run_played, run_opened, found_of, shown, ran}
 use Rattle.stm_core.specs.Placing.{Placed}
 use Rattle.stm_core.specs.Follows.{IsOrderOf, IsReached, FollowsCore, RunningFollows}
 use Rattle.stm_core.proofs.Lists.{clash, nothing_in, by_bool, in_range}
 use Rattle.stm_core.proofs.Steps.{by_case, word_inside}
 use Rattle.stm_core.proofs.Held.{old_in}
 use Rattle.stm_core.proofs.Simulating.{act_is, is_act, left_of, right_of, both, not_of, empty_is}
-use Rattle.stm_core.proofs.Playing.{get_is, filed, history_after, IsDatedBy, event_dates, opening_dates, every_list_stands}
+use Rattle.stm_core.proofs.Playing.{get_is, filed, earlier_after, history_after, Beside, event_beside, opening_beside, is_history, every_list_stands}
+use Rattle.stm_core.proofs.Dating.{placed, placed_in}
 use Rattle.stm_core.proofs.Placing.{order_of, as_kept, decision_shown, entered_order, one_history}
 use Rattle.stm_core.proofs.Facts.{grants_of_two}
 
@@ -127,16 +129,29 @@ play_shown (splits k) c s same =
 play_shown (gathers k j) c s same =
     subst (λ d. (run_played (gathers k j) (record s { core = d })).core ≡ shown (played (stripes_of c) (gathers k j) c)) (sym same)
     (rw (client_shown c k, client_shown c j) (λ i. record (shown c) { clients = sym (map_set (set c.clients (k - 1) (taking (client_of c k) (client_of c j))) (j - 1) gone ∙ ap (λ l. set l (j - 1) gone) (map_set c.clients (k - 1) (taking (client_of c k) (client_of c j)))) i; events = c.events + 1 }))
+play_shown (renews k last) c s same =
+    subst (λ d. (run_played (renews k last) (record s { core = d })).core ≡ shown (played (stripes_of c) (renews k last) c)) (sym same)
+    (rw (client_shown c k) (λ i. record (shown (played (stripes_of c) (renews k last) c)) { clients = sym (map_set c.clients (k - 1) (renewing (client_of c k))) i }))
+
+placed_behind : (r : Record) (old h : List Record) → ((x : Record) → In x old → x.point < r.point) → placed r (old ++ h) ≡ old ++ placed r h
+placed_behind r [] h f = refl
+placed_behind r (x ∷ old) h f = let e : ltb r.point x.point ≡ false = (let p = f x (0, refl) in grind (arith, nat_tests)) in rw e (ap (λ l. x ∷ l) (placed_behind r old h (λ y i. f y (suc i.0, i.1))))
+
+filed_behind : (rs old h : List Record) → ((x y : Record) → In x old → In y (filed rs h) → x.point < y.point) → filed rs (old ++ h) ≡ old ++ filed rs h
+filed_behind [] old h f = refl
+filed_behind (r ∷ rs) old h f = placed_behind r old h (λ x i. f x r i (placed_in r h))
 
 -- an event brings what it decides to its place in the order
-play_order : (e : Event) (c : Core) (s : Running) (h : List Record) → s.core ≡ shown c → s.order ≡ order_of h → (run_played e s).order ≡ order_of (history_after (stripes_of c) e c h)
-play_order (acts k e) c s h same o =
+play_order : (e : Event) (c : Core) (s : Running) (old h : List Record) → s.core ≡ shown c → s.order ≡ order_of (old ++ h) → ((x y : Record) → In x (earlier_after e old h) → In y (history_after (stripes_of c) e c h) → x.point < y.point)
+    → (run_played e s).order ≡ order_of (earlier_after e old h ++ history_after (stripes_of c) e c h)
+play_order (acts k e) c s old h same o f =
     let t : Stamp = record { client = k; place = c.events; renewal = c.renewal } in
     let rs = decision t e (found (stripes_of c) c e) (client_of c k) in
     let kept : decision (stamp_of (shown c) k) e (found (stripes_of c) (shown c) e) (client_of (shown c) k) ≡ map as_kept rs = rw (found_shown (stripes_of c) c e, client_shown c k) (decision_shown t e (found (stripes_of c) c e) (client_of c k)) in
-    subst (λ d. (run_acts k e (record s { core = d })).order ≡ order_of (filed rs h)) (sym same) (entered_order _ rs kept _ h o)
-play_order (splits k) c s h same o = o
-play_order (gathers k j) c s h same o = o
+    subst (λ d. (run_acts k e (record s { core = d })).order ≡ order_of (filed rs (old ++ h))) (sym same) (entered_order _ rs kept _ (old ++ h) o) ∙ ap order_of (filed_behind rs old h f)
+play_order (splits k) c s old h same o f = o
+play_order (gathers k j) c s old h same o f = o
+play_order (renews k last) c s old h same o f = o ∙ ap order_of (sym (append-nil (old ++ h)))
 
 at_of : (l : List Client) (i : ℕ) → i < length l → get_elem? l i ≡ some (get_or l i gone)
 at_of [] i h = absurd (omega arith)
@@ -166,6 +181,37 @@ may_shown (acts k e) c = rw (out_shown c k, client_shown c k) (ap (λ b. is_out 
     same (finish t) = refl
 may_shown (splits k) c = rw (out_shown c k, client_shown c k, map_length c.clients) refl
 may_shown (gathers k j) c = rw (out_shown c k, out_shown c j, client_shown c k, client_shown c j) refl
+may_shown (renews k last) c = rw (out_shown c k, client_shown c k, others_shown c.clients (k - 1)) refl
+  where
+    are_shown : (l : List Client) → are_spent (map blank l) ≡ are_spent l
+    are_shown [] = refl
+    are_shown (v ∷ vs) = ap (λ b. v.spent && b) (are_shown vs)
+
+    others_shown : (l : List Client) (i : ℕ) → others_spent (map blank l) i ≡ others_spent l i
+    others_shown [] i = refl
+    others_shown (v ∷ vs) zero = are_shown vs
+    others_shown (v ∷ vs) (suc i) = ap (λ b. v.spent && b) (others_shown vs i)
+
+all_spent : (l : List Client) → are_spent l ≡ true → (j : ℕ) (w : Client) → get_elem? l j ≡ some w → w.spent ≡ true
+all_spent [] h j w e = absurd (nothing_in w (j, e))
+all_spent (v ∷ vs) h zero w e = sym (ap (λ (z : Client). z.spent) (some-injective v w e)) ∙ left_of v.spent (are_spent vs) h
+all_spent (v ∷ vs) h (suc j) w e = all_spent vs (right_of v.spent (are_spent vs) h) j w e
+
+spent_all : (l : List Client) → ((j : ℕ) (w : Client) → get_elem? l j ≡ some w → w.spent ≡ true) → are_spent l ≡ true
+spent_all [] f = refl
+spent_all (v ∷ vs) f = both v.spent (are_spent vs) (f 0 v refl) (spent_all vs (λ j w e. f (suc j) w e))
+
+others_are : (l : List Client) (i : ℕ) → others_spent l i ≡ true → (j : ℕ) (w : Client) → get_elem? l j ≡ some w → j ≢ i → w.spent ≡ true
+others_are [] i h j w e n = absurd (nothing_in w (j, e))
+others_are (v ∷ vs) zero h zero w e n = absurd (n refl)
+others_are (v ∷ vs) zero h (suc j) w e n = all_spent vs h j w e
+others_are (v ∷ vs) (suc i) h zero w e n = sym (ap (λ (z : Client). z.spent) (some-injective v w e)) ∙ left_of v.spent (others_spent vs i) h
+others_are (v ∷ vs) (suc i) h (suc j) w e n = others_are vs i (right_of v.spent (others_spent vs i) h) j w e (λ z. n (ap suc z))
+
+are_others : (l : List Client) (i : ℕ) → ((j : ℕ) (w : Client) → get_elem? l j ≡ some w → j ≢ i → w.spent ≡ true) → others_spent l i ≡ true
+are_others [] i f = refl
+are_others (v ∷ vs) zero f = spent_all vs (λ j w e. f (suc j) w e (λ z. (let q : suc j ≡ 0 = z in omega arith)))
+are_others (v ∷ vs) (suc i) f = both v.spent (others_spent vs i) (f 0 v refl (λ z. (let q : 0 ≡ suc i = z in omega arith))) (are_others vs i (λ j w e n. f (suc j) w e (λ z. n (let q : j ≡ i = omega arith in q))))
 
 out_is : (c : Core) (k : ℕ) → is_out c k ≡ true → IsClient c k (client_of c k) × ((client_of c k).spent ≡ false)
 out_is c k h =
@@ -207,6 +253,26 @@ may_is (gathers k j) c h =
       (o.1, empty_is (client_of c k).held (right_of (is_out c k && is_out c j && not (k == j)) (is_empty (client_of c k).held) g3)),
       (q.1, empty_is (client_of c j).held (right_of (is_out c k && is_out c j && not (k == j) && is_empty (client_of c k).held) (is_empty (client_of c j).held) h)),
     )
+may_is (renews k last) c h =
+    let x1 = is_out c k in
+    let x2 = is_empty (client_of c k).held in
+    let x3 = others_spent c.clients (k - 1) in
+    let x4 = nat_le 1 last in
+    let x5 = nat_lt last (2 ^ 62) in
+    let x6 = nat_lt c.renewal 65535 in
+    let g4 = left_of (x1 && x2 && x3 && x4 && x5) x6 h in
+    let g3 = left_of (x1 && x2 && x3 && x4) x5 g4 in
+    let g2 = left_of (x1 && x2 && x3) x4 g3 in
+    let g1 = left_of (x1 && x2) x3 g2 in
+    let o = out_is c k (left_of x1 x2 g1) in (
+      client_of c k,
+      o.0,
+      (o.1, empty_is (client_of c k).held (right_of x1 x2 g1)),
+      others_are c.clients (k - 1) (right_of (x1 && x2) x3 g2),
+      (let e = right_of (x1 && x2 && x3) x4 g3 in grind (arith, nat_tests)),
+      (let e = right_of (x1 && x2 && x3 && x4) x5 g4 in grind (arith, nat_tests)),
+      (let e = right_of (x1 && x2 && x3 && x4 && x5) x6 h in grind (arith, nat_tests)),
+    )
 
 pub is_may : (e : Event) (c : Core) → Allowed free_law (stripes_of c) e c → may_play e c ≡ true
 is_may (acts k e) c h = let o = is_out_of c k h.0 h.1 h.2.0 in both (is_out c k) (may_act (bounds_of c) e (client_of c k)) o.0 (rw o.1 (is_act (bounds_of c) h.0 e h.2.1))
@@ -214,21 +280,48 @@ is_may (splits k) c h = let o = is_out_of c k h.0 h.1 h.2.0 in
     both (is_out c k && is_empty (client_of c k).held && nat_lt 0 (client_of c k).grants) (nat_lt (length c.clients) (2 ^ 32 - 1)) (both (is_out c k && is_empty (client_of c k).held) (nat_lt 0 (client_of c k).grants) (both (is_out c k) (is_empty (client_of c k).held) o.0 (rw o.1 (ap is_empty h.2.1))) (rw o.1 (let e = h.3 in grind (arith, nat_tests)))) (let e = h.4 in grind (arith, nat_tests))
 is_may (gathers k j) c h = let o = is_out_of c k h.0 h.2 h.5.0 in let q = is_out_of c j h.1 h.3 h.6.0 in
     both (is_out c k && is_out c j && not (k == j) && is_empty (client_of c k).held) (is_empty (client_of c j).held) (both (is_out c k && is_out c j && not (k == j)) (is_empty (client_of c k).held) (both (is_out c k && is_out c j) (not (k == j)) (both (is_out c k) (is_out c j) o.0 q.0) (let n = h.4 in by_bool (k == j) (λ t. absurd (n (grind (arith, nat_tests)))) (λ f. ap not f))) (rw o.1 (ap is_empty h.5.1))) (rw q.1 (ap is_empty h.6.1))
+is_may (renews k last) c h =
+    let o = is_out_of c k h.0 h.1 h.2.0 in
+    let x1 = is_out c k in
+    let x2 = is_empty (client_of c k).held in
+    let x3 = others_spent c.clients (k - 1) in
+    let x4 = nat_le 1 last in
+    let x5 = nat_lt last (2 ^ 62) in
+    let x6 = nat_lt c.renewal 65535 in
+    both (x1 && x2 && x3 && x4 && x5) x6 (both (x1 && x2 && x3 && x4) x5 (both (x1 && x2 && x3) x4 (both (x1 && x2) x3 (both x1 x2 o.0 (rw o.1 (ap is_empty h.2.1))) (are_others c.clients (k - 1) h.3)) (let e = h.4 in grind (arith, nat_tests))) (let e = h.5 in grind (arith, nat_tests))) (let e = h.6 in grind (arith, nat_tests))
 
-last_stays : (lk : ℕ → ℕ) (e : Event) (c : Core) → ((played lk e c).last ≡ c.last) × (length (played lk e c).locks ≡ length c.locks)
-last_stays lk (acts k begin) c = (refl, refl)
-last_stays lk (acts k (probe n)) c = (refl, refl)
-last_stays lk (acts k (fetch a)) c = (refl, refl)
-last_stays lk (acts k (check a)) c = (refl, refl)
-last_stays lk (acts k (lock n)) c = (refl, length-set c.locks n (left (lock n) (found lk c (lock n)) (client_of c k)))
-last_stays lk (acts k (tick f t w)) c = (refl, refl)
-last_stays lk (acts k (validate n)) c = (refl, refl)
-last_stays lk (acts k (put a x)) c = (refl, refl)
-last_stays lk (acts k (release n)) c = (refl, length-set c.locks n (2 * (client_of c k).wv))
-last_stays lk (acts k (give_back n)) c = (refl, length-set c.locks n (2 * old_version (client_of c k).held n))
-last_stays lk (acts k (finish t)) c = (refl, refl)
-last_stays lk (splits k) c = (refl, refl)
-last_stays lk (gathers k j) c = (refl, refl)
+locks_stay : (lk : ℕ → ℕ) (e : Event) (c : Core) → length (played lk e c).locks ≡ length c.locks
+locks_stay lk (acts k begin) c = refl
+locks_stay lk (acts k (probe n)) c = refl
+locks_stay lk (acts k (fetch a)) c = refl
+locks_stay lk (acts k (check a)) c = refl
+locks_stay lk (acts k (lock n)) c = length-set c.locks n (left (lock n) (found lk c (lock n)) (client_of c k))
+locks_stay lk (acts k (tick f t w)) c = refl
+locks_stay lk (acts k (validate n)) c = refl
+locks_stay lk (acts k (put a x)) c = refl
+locks_stay lk (acts k (release n)) c = length-set c.locks n (2 * (client_of c k).wv)
+locks_stay lk (acts k (give_back n)) c = length-set c.locks n (2 * old_version (client_of c k).held n)
+locks_stay lk (acts k (finish t)) c = refl
+locks_stay lk (splits k) c = refl
+locks_stay lk (gathers k j) c = refl
+locks_stay lk (renews k last) c = length-replicate (length c.locks) 0
+
+-- the last version stays small
+last_small : (lk : ℕ → ℕ) (e : Event) (c : Core) → Allowed free_law lk e c → c.last < 2 ^ 62 → (played lk e c).last < 2 ^ 62
+last_small lk (acts k begin) c h l = l
+last_small lk (acts k (probe n)) c h l = l
+last_small lk (acts k (fetch a)) c h l = l
+last_small lk (acts k (check a)) c h l = l
+last_small lk (acts k (lock n)) c h l = l
+last_small lk (acts k (tick f t w)) c h l = l
+last_small lk (acts k (validate n)) c h l = l
+last_small lk (acts k (put a x)) c h l = l
+last_small lk (acts k (release n)) c h l = l
+last_small lk (acts k (give_back n)) c h l = l
+last_small lk (acts k (finish t)) c h l = l
+last_small lk (splits k) c h l = l
+last_small lk (gathers k j) c h l = l
+last_small lk (renews k last) c h l = h.5
 
 replicated : (n : ℕ) → length (replicate n (let z : ℕ = 0 in z)) ≡ n
 replicated zero = refl
@@ -284,45 +377,50 @@ module _ (c : Core) (h : Inv free_law (stripes_of c) c) (low : c.last < 2 ^ 62) 
     grants = λ k j n o p. rw (client_shown c k, client_shown c j) (few_grants k j n (sym (out_shown c k) ∙ o) (sym (out_shown c j) ∙ p));
   }
 
--- the numbers that no event changes
-leads_stays : (lk : ℕ → ℕ) (es : List Event) (c d : Core) → Leads free_law lk c es d → (d.last ≡ c.last) × (length d.locks ≡ length c.locks)
-leads_stays lk [] c d e = (ap (λ (x : Core). x.last) (sym e), ap (λ (x : Core). length x.locks) (sym e))
-leads_stays lk (a ∷ es) c d e = let q = leads_stays lk es (played lk a c) d e.1 in let r = last_stays lk a c in (q.0 ∙ r.0, q.1 ∙ r.1)
+-- what no event changes, and what every event keeps small
+leads_stays : (lk : ℕ → ℕ) (es : List Event) (c d : Core) → Leads free_law lk c es d → length d.locks ≡ length c.locks
+leads_stays lk [] c d e = ap (λ (x : Core). length x.locks) (sym e)
+leads_stays lk (a ∷ es) c d e = leads_stays lk es (played lk a c) d e.1 ∙ locks_stay lk a c
 
--- the running core beside the core and its history
-record Beside (h : List Record) (s : Running) (c : Core) : Type 0 where
+leads_small : (lk : ℕ → ℕ) (es : List Event) (c d : Core) → Leads free_law lk c es d → c.last < 2 ^ 62 → d.last < 2 ^ 62
+leads_small lk [] c d e l = subst (λ (x : Core). x.last < 2 ^ 62) e l
+leads_small lk (a ∷ es) c d e l = leads_small lk es (played lk a c) d e.1 (last_small lk a c e.0 l)
+
+-- the running core beside the core and its histories
+record RunsBeside (old h : List Record) (s : Running) (c : Core) : Type 0 where
   shows : s.core ≡ shown c
-  orders : s.order ≡ order_of h
-  dated : IsDatedBy h c
+  orders : s.order ≡ order_of (old ++ h)
+  beside : Beside free_law (stripes_of c) old h c
 
-beside_next : (e : Event) (h : List Record) (s : Running) (c : Core) → Beside h s c → Allowed free_law (stripes_of c) e c → Beside (history_after (stripes_of c) e c h) (run_played e s) (played (stripes_of c) e c)
-beside_next e h s c b may = record {
-  shows = play_shown e c s b.shows;
-  orders = play_order e c s h b.shows b.orders;
-  dated = event_dates free_law (stripes_of c) c e h b.dated may;
-}
+runs_next : (e : Event) (old h : List Record) (s : Running) (c : Core) → RunsBeside old h s c → Allowed free_law (stripes_of c) e c → RunsBeside (earlier_after e old h) (history_after (stripes_of c) e c h) (run_played e s) (played (stripes_of c) e c)
+runs_next e old h s c b may =
+    let g = event_beside free_law (stripes_of c) c e old h b.beside may in record {
+      shows = play_shown e c s b.shows;
+      orders = play_order e c s old h b.shows b.orders (λ x y m n. g.dated.old_before x y m n);
+      beside = subst (λ m. Beside free_law (stripe_of m) (earlier_after e old h) (history_after (stripes_of c) e c h) (played (stripes_of c) e c)) (sym (locks_stay (stripes_of c) e c)) g;
+    }
 
-ran_beside : (es : List Event) (h : List Record) (s : Running) (c d : Core) → Beside h s c → Leads free_law (stripes_of c) c es d → (g : List Record) × Beside g (ran es s) d
-ran_beside [] h s c d b e = (h, subst (Beside h s) e b)
-ran_beside (a ∷ es) h s c d b e =
-    let n = (last_stays (stripes_of c) a c).1 in
-    ran_beside es (history_after (stripes_of c) a c h) (run_played a s) (played (stripes_of c) a c) d (beside_next a h s c b e.0) (subst (λ m. Leads free_law (stripe_of m) (played (stripes_of c) a c) es d) (sym n) e.1)
+ran_beside : (es : List Event) (old h : List Record) (s : Running) (c d : Core) → RunsBeside old h s c → Leads free_law (stripes_of c) c es d → (old' : List Record) × (h' : List Record) × RunsBeside old' h' (ran es s) d
+ran_beside [] old h s c d b e = (old, h, subst (RunsBeside old h s) e b)
+ran_beside (a ∷ es) old h s c d b e =
+    let n = locks_stay (stripes_of c) a c in
+    ran_beside es (earlier_after a old h) (history_after (stripes_of c) a c h) (run_played a s) (played (stripes_of c) a c) d (runs_next a old h s c b e.0) (subst (λ m. Leads free_law (stripe_of m) (played (stripes_of c) a c) es d) (sym n) e.1)
 
 -- what stands beside a history has it for its order
-order_beside : (h : List Record) (s : Running) (c : Core) → Beside h s c → IsOrderOf c s.order.entries s.order.points
-order_beside h s c b =
-    let own : IsHistory c h = record { ascending = b.dated.ascending; every = b.dated.every; only = b.dated.only } in
-    record { history = h; is_history = own; only = λ rs i. one_history c rs h i own; listed = ap (λ (o : Placed). o.entries) b.orders; dated = ap (λ (o : Placed). o.points) b.orders }
+order_beside : (old h : List Record) (s : Running) (c : Core) → RunsBeside old h s c → IsOrderOf c s.order.entries s.order.points
+order_beside old h s c b =
+    let own : IsHistory c (old ++ h) = is_history (stripes_of c) c old h b.beside in
+    record { history = old ++ h; is_history = own; only = λ rs i. one_history c rs (old ++ h) i own; listed = ap (λ (o : Placed). o.entries) b.orders; dated = ap (λ (o : Placed). o.points) b.orders }
 
 pub running_follows : RunningFollows
 running_follows image last stripes es c leads =
     let n = replicated stripes in
-    let m : length c.locks ≡ stripes = (leads_stays (stripe_of stripes) es (opened image last stripes) c leads).1 ∙ n in
-    let q = ran_beside es [] (run_opened image last stripes) (opened image last stripes) c (record { shows = refl; orders = refl; dated = opening_dates free_law (stripe_of stripes) image last stripes }) (subst (λ k. Leads free_law (stripe_of k) (opened image last stripes) es c) (sym n) leads) in
-    let same = q.1.shows in record {
+    let m : length c.locks ≡ stripes = leads_stays (stripe_of stripes) es (opened image last stripes) c leads ∙ n in
+    let q = ran_beside es [] [] (run_opened image last stripes) (opened image last stripes) c (record { shows = refl; orders = refl; beside = opening_beside free_law (stripes_of (opened image last stripes)) image last stripes }) (subst (λ k. Leads free_law (stripe_of k) (opened image last stripes) es c) (sym n) leads) in
+    let same = q.2.shows in record {
       shows = same;
       finds = λ k. ap (λ x. found_of x k) same ∙ last_found_shown c k;
-      order = order_beside q.0 (ran es (run_opened image last stripes)) c q.1;
+      order = order_beside q.0 q.1 (ran es (run_opened image last stripes)) c q.2;
       allows = λ e. (
         (λ t. subst (λ k. Allowed free_law (stripe_of k) e c) m (may_is e c (sym (may_shown e c) ∙ (ap (may_play e) (sym same) ∙ t)))),
         (λ a. ap (may_play e) same ∙ (may_shown e c ∙ is_may e c (subst (λ k. Allowed free_law (stripe_of k) e c) (sym m) a))),
@@ -361,9 +459,16 @@ reached_next e s r may = record {
 }
 
 -- a reached core is sane
+shown_now : (c : Core) → shown (now c) ≡ shown c
+shown_now c = ap (λ l. record (shown c) { clients = l }) (go c.clients)
+  where
+    go : (l : List Client) → map blank (map (shed c.renewal) l) ≡ map blank l
+    go [] = refl
+    go (v ∷ vs) = ap (λ m. blank v ∷ m) (go vs)
+
 pub reached_sane : (s : Running) → IsReached s → IsSane s.core
 reached_sane s r =
-    let q = leads_stays (stripe_of r.stripes) r.events (opened r.image r.last r.stripes) r.core r.leads in
-    let n : length r.core.locks ≡ r.stripes = q.1 ∙ replicated r.stripes in
-    let h : Inv free_law (stripes_of r.core) r.core = subst (λ m. Inv free_law (stripe_of m) r.core) (sym n) (every_list_stands r.image r.last r.stripes r.events r.core r.leads).invariant in
-    subst IsSane (sym (reached_follows s r).shows) (sane_shown r.core h (rw q.0 r.versions) (rw n r.locks))
+    let n : length r.core.locks ≡ r.stripes = leads_stays (stripe_of r.stripes) r.events (opened r.image r.last r.stripes) r.core r.leads ∙ replicated r.stripes in
+    let k : Rule free_law (stripes_of r.core) r.core = subst (λ m. Rule free_law (stripe_of m) r.core) (sym n) (every_list_stands r.image r.last r.stripes r.events r.core r.leads).rule in
+    let low : r.core.last < 2 ^ 62 = leads_small (stripe_of r.stripes) r.events (opened r.image r.last r.stripes) r.core r.leads r.versions in
+    subst IsSane (sym (reached_follows s r).shows) (subst IsSane (shown_now r.core) (sane_shown (now r.core) k.inv low (rw n r.locks)))

@@ -92,7 +92,7 @@ module _ (lawful : List ℕ → List (ℕ × ℕ) → List (ℕ × ℕ) → Type
     gone = λ s. (records, held);
   }
 
-  longer_files : (clock : ℕ) (cs : List Client) (w : Client) → Filed lawful size renewal story clock cs → w.held ≡ [] → w.wv ≡ 0 → w.reads ≡ [] → w.records ≡ [] → decided w ≡ false → Filed lawful size renewal story clock (cs ++ w ∷ [])
+  pub longer_files : (clock : ℕ) (cs : List Client) (w : Client) → Filed lawful size renewal story clock cs → w.held ≡ [] → w.wv ≡ 0 → w.reads ≡ [] → w.records ≡ [] → decided w ≡ false → Filed lawful size renewal story clock (cs ++ w ∷ [])
   longer_files clock cs w h held wv reads records phase = record {
     filed = λ i o e. who (λ y c. IsFiled lawful size renewal story c) (λ y. blank_filed w held wv reads records phase) (λ y c at. h.filed y c at) i o e;
     versions = h.versions;
@@ -253,7 +253,7 @@ module _ (lawful : List ℕ → List (ℕ × ℕ) → List (ℕ × ℕ) → Type
   abbrev start : World
   start = world (opened image last stripes) []
 
-  nobody_yet : Heart lk (world (opened image last stripes) []) []
+  pub nobody_yet : Heart lk (world (opened image last stripes) []) []
   nobody_yet = record {
     version = record {
       versions = λ k. rw (zeros stripes k) (le_refl _);
@@ -272,7 +272,7 @@ module _ (lawful : List ℕ → List (ℕ × ℕ) → List (ℕ × ℕ) → Type
       no_writer zero a = refl
       no_writer (suc u) a = refl
 
-  none_filed : Filed lawful (length image) 0 [] 0 []
+  pub none_filed : Filed lawful (length image) 0 [] 0 []
   none_filed = record {
     filed = λ i v e. absurd (nothing_in v (i, e));
     versions = refl;

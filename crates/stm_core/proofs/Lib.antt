@@ -1,4 +1,6 @@
 pub mod Lists
+pub mod Eras
+pub mod Lones
 pub mod Turns
 pub mod Orders
 pub mod Loading
@@ -15,6 +17,9 @@ pub mod Sums
 pub mod Held
 pub mod Steps
 pub mod Joining
+pub mod Renewals
+pub mod Renewing
+pub mod Whole
 pub mod Histories
 pub mod Merging
 pub mod Facts

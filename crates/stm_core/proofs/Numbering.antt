@@ -6,8 +6,8 @@ use Rattle.std.proofs.lemmas.Bool.Decides.{nat_tests}
 use mathlib.Core.Option.{some, some-injective, some-ne-none}
 use lib.ListN.{get_elem?}
 use Rattle.stm_core.specs.Client.{Client, Record, Stamp, checked, locked, ticked, looked, version_of, word_before, value_fetched, writes_to, before, inserted, merged}
-use Rattle.stm_core.specs.Event.{Action, begin, probe, fetch, check, lock, tick, validate, put, release, give_back, finish, Bounds, MayAct, committed_by, stepping, failing, read_too, holding, versioned, decides_at_once, won, passes, passing, after, giving, fresh, taking, gone}
-use Rattle.stm_core.specs.Core.{Core, bounds_of, found, left, written, stepped, divided, gathered, Event, acts, splits, gathers, IsClient, Allowed, client_of, played, Leads, opened}
+use Rattle.stm_core.specs.Event.{Action, begin, probe, fetch, check, lock, tick, validate, put, release, give_back, finish, Bounds, MayAct, committed_by, stepping, failing, read_too, holding, versioned, decides_at_once, won, passes, passing, after, giving, fresh, taking, renewing, gone}
+use Rattle.stm_core.specs.Core.{Core, bounds_of, found, left, written, stepped, divided, gathered, renewed, Event, acts, splits, gathers, renews, IsClient, Allowed, client_of, played, Leads, opened}
 use Rattle.stm_core.specs.Version.{At}
 use Rattle.stm_core.specs.Theorem.{stripe_of, free_law}
 use Rattle.stm_core.specs.Numbered.{AllowedWithNumbers, SameButTags, numbered_action, numbered_event, numbered_record, numbered_client, numbered_core}
@@ -166,6 +166,9 @@ module _ (number : List ℕ → ℕ) where
       (map-set (numbered_client number) (set c.clients i (taking v w)) j gone
       ∙ ap (λ l. set l j gone) (map-set (numbered_client number) c.clients i (taking v w) ∙ ap (set (map (numbered_client number) c.clients) i) (taking_numbered v w)))
 
+  renewed_numbered : (i last : ℕ) (v : Client) (c : Core) → numbered_core number (renewed i last v c) ≡ renewed i last (numbered_client number v) (numbered_core number c)
+  renewed_numbered i last v c = ap (λ l. record (renewed i last (numbered_client number v) (numbered_core number c)) { clients = l }) (map-set (numbered_client number) c.clients i (renewing v))
+
   module _ (lawful : List ℕ → List (ℕ × ℕ) → List (ℕ × ℕ) → Type 0) (lk : ℕ → ℕ) where
     is_numbered : (c : Core) (k : ℕ) (v : Client) → IsClient c k v → IsClient (numbered_core number c) k (numbered_client number v)
     is_numbered c k v h = (h.0, elem_map (numbered_client number) c.clients (k - 1) v h.1)
@@ -174,6 +177,15 @@ module _ (number : List ℕ → ℕ) where
     event_allowed (acts k e) c h = (numbered_client number h.0, is_numbered c k h.0 h.1, (h.2.0, may_numbered lawful lk (bounds_of c) e h.0 h.2.1))
     event_allowed (splits k) c h = (numbered_client number h.0, is_numbered c k h.0 h.1, h.2, h.3, rw (length-map c.clients (numbered_client number)) h.4)
     event_allowed (gathers k j) c h = (numbered_client number h.0, numbered_client number h.1, is_numbered c k h.0 h.2, is_numbered c j h.1 h.3, h.4, h.5, h.6)
+    event_allowed (renews k last) c h = (
+      numbered_client number h.0,
+      is_numbered c k h.0 h.1,
+      h.2,
+      (λ j w e n. let q = elem_unmap (numbered_client number) c.clients j w e in sym (ap (λ (z : Client). z.spent) q.2) ∙ h.3 j q.0 q.1 n),
+      h.4,
+      h.5,
+      h.6,
+    )
 
     event_played : (e : Event) (c : Core) → Allowed lawful lk e c → numbered_core number (played lk e c) ≡ played lk (numbered_event number e) (numbered_core number c)
     event_played (acts k e) c h =
@@ -188,6 +200,7 @@ module _ (number : List ℕ → ℕ) where
         let d = numbered_core number c in
         gathered_numbered (k - 1) (client_of c k) (j - 1) (client_of c j) c
         ∙ (ap (λ w. gathered (k - 1) w (j - 1) (numbered_client number (client_of c j)) d) (sym (client_numbered c k)) ∙ ap (λ w. gathered (k - 1) (client_of d k) (j - 1) w d) (sym (client_numbered c j)))
+    event_played (renews k last) c h = renewed_numbered (k - 1) last (client_of c k) c ∙ ap (λ w. renewed (k - 1) last w (numbered_core number c)) (sym (client_numbered c k))
 
     pub leads_numbered : (es : List Event) (c d : Core) → Leads lawful lk c es d → Leads free_law lk (numbered_core number c) (map (numbered_event number) es) (numbered_core number d)
     leads_numbered [] c d h = ap (numbered_core number) h

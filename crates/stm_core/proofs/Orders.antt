@@ -70,7 +70,7 @@ of_place : (r x : Record) → Place r x → before r x ≡ true
 unfolding Place
 of_place r x h = is_before r.renewal (rank r) r.point x.renewal (rank x) x.point h
 
-before_asym : (r x : Record) → before r x ≡ true → before x r ≡ false
+pub before_asym : (r x : Record) → before r x ≡ true → before x r ≡ false
 unfolding Place
 before_asym r x h = not_true (before x r) (λ k. let p = place_of r x h in let q = place_of x r k in go r.renewal (rank r) r.point x.renewal (rank x) x.point p q)
   where

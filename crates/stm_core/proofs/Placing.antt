@@ -32,10 +32,10 @@ placed_map f r (x ∷ h) = by_case (λ b. map f (cond b (r ∷ x ∷ h) (x ∷ p
 
 -- a record without what the running core does not keep
 abbrev pub as_kept : Record → Record
-as_kept r = record r { attempt = 0; renewal = 0 }
+as_kept r = record r { attempt = 0 }
 
 -- a client as far as it is kept decides the same record as far as it is kept
-pub decision_shown : (t : Stamp) (e : Action) (n : ℕ) (v : Client) → decision (record t { renewal = 0 }) e n (blank v) ≡ map as_kept (decision t e n v)
+pub decision_shown : (t : Stamp) (e : Action) (n : ℕ) (v : Client) → decision t e n (blank v) ≡ map as_kept (decision t e n v)
 decision_shown t begin n v = refl
 decision_shown t (probe k) n v = refl
 decision_shown t (fetch a) n v = refl

@@ -1,22 +1,28 @@
 -- A list of allowed events, from the opening on: what holds of the core that it leads to.
-use Rattle.std.proofs.Common.{◌≡◌, ◌≢◌, ℕ, zero, suc, ◌+◌, ◌-◌, ◌<◌, ◌⊎◌, inl, inr, ⊎_elim, true, false, cond, eqb, List, [], ◌∷◌, length, set, set-set, get_or, slice_index, slice_set, refl, sym, ap, ◌∙◌, subst, arith, le_refl}
+use Rattle.std.proofs.Common.{◌≡◌, ◌≢◌, ℕ, zero, suc, ◌+◌, ◌-◌, ◌<◌, ◌≤◌, ◌⊎◌, inl, inr, ⊎_elim, Bool, true, false, cond, eqb, List, [], ◌∷◌, ◌++◌, length, length-set, set, set-set, get_or, slice_index, slice_set, refl, sym, ap, ◌∙◌, subst, arith, le_refl}
 use mathlib.Core.Option.{some, some-injective, some-ne-none}
+use mathlib.Core.Logic.{dite}
+use native.Mathlib.Decide.{ℕ_discrete}
 use lib.ListN.{get_elem?}
 use Rattle.std.proofs.lemmas.Bool.Decides.{nat_tests}
 use Rattle.stm_words.specs.Image.{In}
-use Rattle.stm_core.specs.Client.{Client, Record, running, ending, committed, checked, locked, ticked, looked, Stamp, version_of, word_before, value_fetched, writes_to}
-use Rattle.stm_core.specs.Event.{Action, begin, probe, fetch, check, lock, tick, validate, put, release, give_back, finish, IsReading, MayAct, committed_by, stepping, failing, read_too, holding, versioned, decides_at_once, won, passes, passing, after, giving, fresh, gone, opener}
-use Rattle.stm_core.specs.Core.{Core, bounds_of, found, stepped, divided, gathered, Event, acts, splits, gathers, Allowed, client_of, played, Leads, opened}
+use Rattle.stm_core.specs.History.{Serial, image_after, ByPoint}
+use Rattle.stm_core.specs.Client.{shed, Client, Record, idle, running, ending, committed, checked, locked, ticked, looked, Stamp, version_of, word_before, value_fetched, writes_to}
+use Rattle.stm_core.specs.Event.{Action, begin, probe, fetch, check, lock, tick, validate, put, release, give_back, finish, IsReading, MayAct, committed_by, stepping, failing, read_too, holding, versioned, decides_at_once, won, passes, passing, after, giving, fresh, renewing, gone, opener}
+use Rattle.stm_core.specs.Core.{Core, bounds_of, found, stepped, divided, gathered, renewed, IsFreeHanded, IsAlone, Event, acts, splits, gathers, renews, Allowed, client_of, played, Leads, opened}
 use Rattle.stm_core.specs.Version.{At, IsOpen}
-use Rattle.stm_core.specs.Invariant.{Inv}
-use Rattle.stm_core.specs.Theorem.{stripe_of, free_law, is_settled, Stands, EveryListStands}
+use Rattle.stm_core.specs.Invariant.{now, Rule}
+use Rattle.stm_core.specs.Theorem.{stripe_of, free_law, IsHistory, is_settled, Stands, EveryListStands}
 use Rattle.stm_core.specs.Running.{decision}
-use Rattle.stm_core.proofs.Lists.{set_here, clash, nothing_in}
-use Rattle.stm_core.proofs.Steps.{step_keeps, undecided_at, by_case}
-use Rattle.stm_core.proofs.Joining.{split_keeps, gather_keeps, opening_keeps}
-use Rattle.stm_core.proofs.Histories.{serial, image_last}
+use Rattle.stm_core.proofs.Lists.{at_set, set_here, same_at, clash, nothing_in}
+use Rattle.stm_core.proofs.Steps.{undecided_at, by_case}
+use Rattle.stm_core.proofs.Histories.{Ahead, serial, image_last}
 use Rattle.stm_core.proofs.Facts.{ahead_by, agrees_by, cells_by}
-use Rattle.stm_core.proofs.Dating.{Mark, IsStamped, Dated, placed, date_step, date_decide, date_longer, date_join, ranked_by}
+use Rattle.stm_core.proofs.Eras.{in_append, append_left, append_right, of_is}
+use Rattle.stm_core.proofs.Lones.{at_map, at_unmap, goes_on}
+use Rattle.stm_core.proofs.Renewals.{step_rules, now_stepped, may_shed, pre, map_length, eqb_yes}
+use Rattle.stm_core.proofs.Renewing.{split_rules, gather_rules, renew_rules, opening_rules, now_divided, now_gathered, whole, at_below, serial_append, image_append}
+use Rattle.stm_core.proofs.Dating.{Mark, IsStamped, IsDated, Dated, placed, date_step, date_decide, date_longer, date_join, ranked_by}
 
 not_running : (c : Client) → c.phase ≡ ending → IsReading c → ⊥
 not_running c e r = (let z : ending ≡ running = sym e ∙ r.0 in cc)
@@ -50,25 +56,33 @@ abbrev pub history_after : (ℕ → ℕ) → Event → Core → List Record → 
 history_after lk (acts k e) c h = filed (decision (record { client = k; place = c.events; renewal = c.renewal }) e (found lk c e) (client_of c k)) h
 history_after lk (splits k) c h = h
 history_after lk (gathers k j) c h = h
+history_after lk (renews k last) c h = []
+
+-- and the history of the earlier renewals
+abbrev pub earlier_after : Event → List Record → List Record → List Record
+earlier_after (acts k e) old h = old
+earlier_after (splits k) old h = old
+earlier_after (gathers k j) old h = old
+earlier_after (renews k last) old h = old ++ h
 
 -- a core beside its history
-abbrev pub IsDatedBy : List Record → Core → Type 0
-IsDatedBy h c = Dated c.clock c.events c.clients h
+abbrev pub IsDatedBy : List Record → List Record → Core → Type 0
+IsDatedBy old h c = Dated old c.clock c.events c.clients h
 
-module _ (lawful : List ℕ → List (ℕ × ℕ) → List (ℕ × ℕ) → Type 0) (lk : ℕ → ℕ) (c : Core) (h : List Record) (d : Dated c.clock c.events c.clients h) (i : ℕ) (v : Client) (at : At c.clients i v) (live : v.spent ≡ false) where
+module _ (lawful : List ℕ → List (ℕ × ℕ) → List (ℕ × ℕ) → Type 0) (lk : ℕ → ℕ) (old : List Record) (c : Core) (h : List Record) (d : Dated old c.clock c.events c.clients h) (i : ℕ) (v : Client) (at : At c.clients i v) (live : v.spent ≡ false) where
   abbrev stamp : Stamp
   stamp = record { client = suc i; place = c.events; renewal = c.renewal }
 
   abbrev Next : Action → Type 0
-  Next e = IsDatedBy (filed (decision stamp e (found lk c e) v) h) (stepped stamp lk e i v c)
+  Next e = IsDatedBy old (filed (decision stamp e (found lk c e) v) h) (stepped stamp lk e i v c)
 
   -- a step that leaves read version, write version and their places
   quiet : (w : Client) → w.records ≡ v.records → w.spent ≡ v.spent → (IsReading w → IsReading v × (w.began_at ≡ v.began_at) × (w.rv ≡ v.rv)) → (IsOpen w → IsOpen v × (w.ticked_at ≡ v.ticked_at) × (w.wv ≡ v.wv)) → w.attempt ≡ v.attempt → (is_settled v.phase ≡ true → is_settled w.phase ≡ true)
-      → Dated c.clock (c.events + 1) (set c.clients i w) h
-  quiet w records spent reading ticking attempt settled = date_step c.clock c.events c.clients h d i v w at c.clock (le_refl _) records spent (λ r. inl (reading r)) (λ o. inl (ticking o)) (inr (attempt, settled))
+      → Dated old c.clock (c.events + 1) (set c.clients i w) h
+  quiet w records spent reading ticking attempt settled = date_step old c.clock c.events c.clients h d i v w at c.clock (le_refl _) records spent (λ r. inl (reading r)) (λ o. inl (ticking o)) (inr (attempt, settled))
 
   begin_dates : Next begin
-  begin_dates = date_step c.clock c.events c.clients h d i v (after stamp lk begin c.clock v) at c.clock (le_refl _) refl refl (λ r. inr (refl, refl, refl)) (λ o. absurd (let z = o.0 in omega arith)) (inl (omega arith))
+  begin_dates = date_step old c.clock c.events c.clients h d i v (after stamp lk begin c.clock v) at c.clock (le_refl _) refl refl (λ r. inr (refl, refl, refl)) (λ o. absurd (let z = o.0 in omega arith)) (inl (omega arith))
 
   probe_dates : (k : ℕ) → Next (probe k)
   probe_dates k = quiet (after stamp lk (probe k) (slice_index c.locks k) v) refl refl (λ r. (r, refl, refl)) (λ o. (o, refl, refl)) refl (λ s. s)
@@ -82,14 +96,14 @@ module _ (lawful : List ℕ → List (ℕ × ℕ) → List (ℕ × ℕ) → Type
   check_dates : (a : ℕ) → IsReading v → Next (check a)
   check_dates a may =
       let n = slice_index c.locks (lk a) in
-      by_case (λ b. Dated c.clock (c.events + 1) (slice_set c.clients i (stepping (checked a (word_before v.last) n) (cond b (read_too a (value_fetched v.last) v) (failing v)))) h) (eqb n (word_before v.last))
+      by_case (λ b. Dated old c.clock (c.events + 1) (slice_set c.clients i (stepping (checked a (word_before v.last) n) (cond b (read_too a (value_fetched v.last) v) (failing v)))) h) (eqb n (word_before v.last))
       (λ e. quiet (stepping (checked a (word_before v.last) n) (read_too a (value_fetched v.last) v)) refl refl (λ r. (r, refl, refl)) (λ o. (o, refl, refl)) refl (λ s. s))
       (λ e. let w : Client = stepping (checked a (word_before v.last) n) (failing v) in quiet w refl refl (λ r. absurd (not_running w refl r)) (λ o. absurd (closed may o.0)) refl (λ s. absurd (unsettled v may.0 s)))
 
   lock_dates : (k : ℕ) → IsReading v → Next (lock k)
   lock_dates k may =
       let n = slice_index c.locks k in
-      by_case (λ b. Dated c.clock (c.events + 1) (slice_set c.clients i (stepping (locked k (word_before v.last) n) (cond b (holding k (version_of n) v) (failing v)))) h) (eqb n (word_before v.last))
+      by_case (λ b. Dated old c.clock (c.events + 1) (slice_set c.clients i (stepping (locked k (word_before v.last) n) (cond b (holding k (version_of n) v) (failing v)))) h) (eqb n (word_before v.last))
       (λ e. quiet (stepping (locked k (word_before v.last) n) (holding k (version_of n) v)) refl refl (λ r. (r, refl, refl)) (λ o. (o, refl, refl)) refl (λ s. s))
       (λ e. let w : Client = stepping (locked k (word_before v.last) n) (failing v) in quiet w refl refl (λ r. absurd (not_running w refl r)) (λ o. absurd (closed may o.0)) refl (λ s. absurd (unsettled v may.0 s)))
 
@@ -98,24 +112,24 @@ module _ (lawful : List ℕ → List (ℕ × ℕ) → List (ℕ × ℕ) → Type
   record_of w = record { tag = w.tag; reads = w.reads; writes = w.writes; writer = true; version = w.wv; attempt = w.attempt; renewal = c.renewal; point = w.ticked_at; client = suc i }
 
   -- a decision right after a step of the same client
-  then_decided : (clock events : ℕ) (w : Client) (g : Dated clock events (set c.clients i w) h) → IsOpen w → w.spent ≡ v.spent → Dated clock events (set c.clients i (committed_by stamp w)) (placed (record_of w) h)
+  then_decided : (clock events : ℕ) (w : Client) (g : Dated old clock events (set c.clients i w) h) → IsOpen w → w.spent ≡ v.spent → Dated old clock events (set c.clients i (committed_by stamp w)) (placed (record_of w) h)
   then_decided clock events w g open' spent =
       let here : At (set c.clients i w) i w = set_here c.clients i v w at in
       let q = (g.each i w here).ticking open' in
-      subst (λ cs. Dated clock events cs (placed (record_of w) h)) (set-set c.clients i w (committed_by stamp w))
-      (date_decide clock events (set c.clients i w) h g i w (committed_by stamp w) here (record_of w) (inr (open', refl)) refl refl
+      subst (λ cs. Dated old clock events cs (placed (record_of w) h)) (set-set c.clients i w (committed_by stamp w))
+      (date_decide old clock events (set c.clients i w) h g i w (committed_by stamp w) here (record_of w) (inr (open', refl)) refl refl
       (λ p m. ⊎_elim (λ s. (let z = s.0.0 in cc)) (λ s. clash refl s.0.1) m) (record { past = q.0; writer = λ t. (q.1, q.2); reader = λ t. clash refl t }) refl refl refl refl)
 
   tick_dates : (from : ℕ) (tag : List ℕ) (writes : List (ℕ × ℕ)) → IsReading v → Next (tick from tag writes)
   tick_dates from tag writes may =
       let w0 : Client = versioned stamp (from + 1) tag writes v in
-      by_case (λ b. Dated (cond b (from + 1) c.clock) (c.events + 1) (slice_set c.clients i (record (stepping (ticked from c.clock) (cond b (won stamp (from + 1) tag writes v) v)) { ticks = v.ticks + 1; next_from = c.clock })) (filed (cond b (cond (decides_at_once w0) (record_of w0 ∷ []) []) []) h)) (eqb c.clock from)
+      by_case (λ b. Dated old (cond b (from + 1) c.clock) (c.events + 1) (slice_set c.clients i (record (stepping (ticked from c.clock) (cond b (won stamp (from + 1) tag writes v) v)) { ticks = v.ticks + 1; next_from = c.clock })) (filed (cond b (cond (decides_at_once w0) (record_of w0 ∷ []) []) []) h)) (eqb c.clock from)
       (λ e. let same : c.clock ≡ from = grind (arith, nat_tests) in
       let w : Client = record (stepping (ticked from c.clock) w0) { ticks = v.ticks + 1; next_from = c.clock } in
       let open' : IsOpen w = (omega arith, undecided_at v may.0) in
-      let g : Dated (from + 1) (c.events + 1) (set c.clients i w) h =
-      date_step c.clock c.events c.clients h d i v w at (from + 1) (omega arith) refl refl (λ r. absurd (let z = r.1 in omega arith)) (λ o. inr (refl, omega arith, omega arith)) (inr (refl, λ s. s)) in
-      by_case (λ b. Dated (from + 1) (c.events + 1) (slice_set c.clients i (record (stepping (ticked from c.clock) (cond b (committed_by stamp w0) w0)) { ticks = v.ticks + 1; next_from = c.clock })) (filed (cond b (record_of w0 ∷ []) []) h)) (decides_at_once w0)
+      let g : Dated old (from + 1) (c.events + 1) (set c.clients i w) h =
+      date_step old c.clock c.events c.clients h d i v w at (from + 1) (omega arith) refl refl (λ r. absurd (let z = r.1 in omega arith)) (λ o. inr (refl, omega arith, omega arith)) (inr (refl, λ s. s)) in
+      by_case (λ b. Dated old (from + 1) (c.events + 1) (slice_set c.clients i (record (stepping (ticked from c.clock) (cond b (committed_by stamp w0) w0)) { ticks = v.ticks + 1; next_from = c.clock })) (filed (cond b (record_of w0 ∷ []) []) h)) (decides_at_once w0)
       (λ z. then_decided (from + 1) (c.events + 1) w g open' refl)
       (λ z. g))
       (λ e. quiet (record (stepping (ticked from c.clock) v) { ticks = v.ticks + 1; next_from = c.clock }) refl refl (λ r. (r, refl, refl)) (λ o. (o, refl, refl)) refl (λ s. s))
@@ -124,11 +138,11 @@ module _ (lawful : List ℕ → List (ℕ × ℕ) → List (ℕ × ℕ) → Type
   validate_dates k run number =
       let n = slice_index c.locks k in
       let w0 : Client = record v { passed = v.passed + 1 } in
-      by_case (λ b. Dated c.clock (c.events + 1) (slice_set c.clients i (record (stepping (looked k n) (cond b (passing stamp v) (failing v))) { mine = writes_to v.held k })) (filed (cond b (cond (eqb w0.passed (length v.reads)) (record_of w0 ∷ []) []) []) h)) (passes k n v)
+      by_case (λ b. Dated old c.clock (c.events + 1) (slice_set c.clients i (record (stepping (looked k n) (cond b (passing stamp v) (failing v))) { mine = writes_to v.held k })) (filed (cond b (cond (eqb w0.passed (length v.reads)) (record_of w0 ∷ []) []) []) h)) (passes k n v)
       (λ e. let w : Client = record (stepping (looked k n) w0) { mine = writes_to v.held k } in
       let open' : IsOpen w = (number, undecided_at v run) in
-      let g : Dated c.clock (c.events + 1) (set c.clients i w) h = quiet w refl refl (λ r. (r, refl, refl)) (λ o. (o, refl, refl)) refl (λ s. s) in
-      by_case (λ b. Dated c.clock (c.events + 1) (slice_set c.clients i (record (stepping (looked k n) (cond b (committed_by stamp w0) w0)) { mine = writes_to v.held k })) (filed (cond b (record_of w0 ∷ []) []) h)) (eqb w0.passed (length v.reads))
+      let g : Dated old c.clock (c.events + 1) (set c.clients i w) h = quiet w refl refl (λ r. (r, refl, refl)) (λ o. (o, refl, refl)) refl (λ s. s) in
+      by_case (λ b. Dated old c.clock (c.events + 1) (slice_set c.clients i (record (stepping (looked k n) (cond b (committed_by stamp w0) w0)) { mine = writes_to v.held k })) (filed (cond b (record_of w0 ∷ []) []) h)) (eqb w0.passed (length v.reads))
       (λ z. then_decided c.clock (c.events + 1) w g open' refl)
       (λ z. g))
       (λ e. let w : Client = record (stepping (looked k n) (failing v)) { mine = writes_to v.held k } in quiet w refl refl (λ r. absurd (not_running w refl r)) (λ o. ((number, undecided_at v run), refl, refl)) refl (λ s. absurd (unsettled v run s)))
@@ -147,10 +161,10 @@ module _ (lawful : List ℕ → List (ℕ × ℕ) → List (ℕ × ℕ) → Type
   finish_dates tag may =
       let r : Record = record { tag = tag; reads = v.reads; writes = []; writer = false; version = v.rv; attempt = v.attempt; renewal = c.renewal; point = v.began_at; client = suc i } in
       let w : Client = after stamp lk (finish tag) c.clock v in
-      let g : Dated c.clock (c.events + 1) (set c.clients i v) h = quiet v refl refl (λ q. (q, refl, refl)) (λ o. (o, refl, refl)) refl (λ s. s) in
-      let k : Dated c.clock (c.events + 1) c.clients h = subst (λ cs. Dated c.clock (c.events + 1) cs h) (set_same c.clients i v at) g in
+      let g : Dated old c.clock (c.events + 1) (set c.clients i v) h = quiet v refl refl (λ q. (q, refl, refl)) (λ o. (o, refl, refl)) refl (λ s. s) in
+      let k : Dated old c.clock (c.events + 1) c.clients h = subst (λ cs. Dated old c.clock (c.events + 1) cs h) (set_same c.clients i v at) g in
       let q = (k.each i v at).reading may in
-      date_decide c.clock (c.events + 1) c.clients h k i v w at r (inl (may, refl)) refl refl (λ p m. ⊎_elim (λ s. (let z = s.0.0 in cc)) (λ s. (let z = s.0.0 in closed may z)) m)
+      date_decide old c.clock (c.events + 1) c.clients h k i v w at r (inl (may, refl)) refl refl (λ p m. ⊎_elim (λ s. (let z = s.0.0 in cc)) (λ s. (let z = s.0.0 in closed may z)) m)
       (record { past = q.0; writer = λ t. clash t refl; reader = λ t. (q.1, q.2) }) refl refl refl refl
 
   act_dates : (e : Action) → MayAct lawful lk (bounds_of c) e v → Next e
@@ -166,43 +180,221 @@ module _ (lawful : List ℕ → List (ℕ × ℕ) → List (ℕ × ℕ) → Type
   act_dates (give_back k) may = give_back_dates k may.0
   act_dates (finish tag) may = finish_dates tag may.0
 
-  split_dates : IsDatedBy h (divided i v c)
-  split_dates = date_longer c.clock (c.events + 1) (set c.clients i (giving v)) h (quiet (giving v) refl refl (λ r. (r, refl, refl)) (λ o. (o, refl, refl)) refl (λ s. s)) (fresh v) (λ p m. ⊎_elim (λ s. (let z = s.0.0 in cc)) (λ s. (let z = s.0.0 in omega arith)) m) refl
+  split_dates : IsDatedBy old h (divided i v c)
+  split_dates = date_longer old c.clock (c.events + 1) (set c.clients i (giving v)) h (quiet (giving v) refl refl (λ r. (r, refl, refl)) (λ o. (o, refl, refl)) refl (λ s. s)) (fresh v) (λ p m. ⊎_elim (λ s. (let z = s.0.0 in cc)) (λ s. (let z = s.0.0 in omega arith)) m) refl
 
-  gather_dates : (j : ℕ) (w : Client) → At c.clients j w → i ≢ j → IsDatedBy h (gathered i v j w c)
+  gather_dates : (j : ℕ) (w : Client) → At c.clients j w → i ≢ j → IsDatedBy old h (gathered i v j w c)
   gather_dates j w to ne =
-      let g : Dated c.clock (c.events + 1) (set c.clients i v) h = quiet v refl refl (λ q. (q, refl, refl)) (λ o. (o, refl, refl)) refl (λ s. s) in
-      let k : Dated c.clock (c.events + 1) c.clients h = subst (λ cs. Dated c.clock (c.events + 1) cs h) (set_same c.clients i v at) g in
-      date_join c.clock (c.events + 1) c.clients h k i j v w at to ne live
+      let g : Dated old c.clock (c.events + 1) (set c.clients i v) h = quiet v refl refl (λ q. (q, refl, refl)) (λ o. (o, refl, refl)) refl (λ s. s) in
+      let k : Dated old c.clock (c.events + 1) c.clients h = subst (λ cs. Dated old c.clock (c.events + 1) cs h) (set_same c.clients i v at) g in
+      date_join old c.clock (c.events + 1) c.clients h k i j v w at to ne live
+
+by_append : (l k : List Record) → ByPoint l → ByPoint k → ((x y : Record) → In x l → In y k → x.point < y.point) → ByPoint (l ++ k)
+by_append [] k s t f = t
+by_append (x ∷ l) k s t f = (λ r i. ⊎_elim (λ p. s.0 r p) (λ p. f x r (0, refl) p) (in_append l k r i), by_append l k s.1 t (λ y z i j. f y z (suc i.0, i.1) j))
+
+-- what a core keeps through a renewal
+pub record Frame : Type 0 where
+  pub first : List ℕ
+  pub opening : List ℕ
+  pub past : List Record
+
+abbrev pub frame_of : Core → Frame
+frame_of c = record { first = c.first; opening = c.opening; past = c.past }
+
+-- the history of the earlier renewals
+pub record Earlier (old : List Record) (f : Frame) : Type 0 where
+  pub serial : Serial f.first old
+  pub leads : image_after f.first old ≡ f.opening
+  pub ascending : ByPoint old
+  pub all : (r : Record) → In r f.past → In r old
+  pub only : (r : Record) → In r old → In r f.past
+
+frame_stays : (t : Stamp) (lk : ℕ → ℕ) (e : Action) (i : ℕ) (v : Client) (c : Core) → frame_of c ≡ frame_of (stepped t lk e i v c)
+frame_stays t lk begin i v c = refl
+frame_stays t lk (probe k) i v c = refl
+frame_stays t lk (fetch a) i v c = refl
+frame_stays t lk (check a) i v c = refl
+frame_stays t lk (lock k) i v c = refl
+frame_stays t lk (tick f g w) i v c = refl
+frame_stays t lk (validate k) i v c = refl
+frame_stays t lk (put a x) i v c = refl
+frame_stays t lk (release k) i v c = refl
+frame_stays t lk (give_back k) i v c = refl
+frame_stays t lk (finish g) i v c = refl
 
 module _ (lawful : List ℕ → List (ℕ × ℕ) → List (ℕ × ℕ) → Type 0) (lk : ℕ → ℕ) where
-  -- an allowed event keeps the invariant
-  pub event_keeps : (c : Core) (e : Event) → Inv lawful lk c → Allowed lawful lk e c → Inv lawful lk (played lk e c)
+  -- a core beside the history of the earlier renewals and that of the present one
+  pub record Beside (old h : List Record) (c : Core) : Type 0 where
+    pub rule : Rule lawful lk c
+    pub dated : IsDatedBy old h (now c)
+    pub earlier : Earlier old (frame_of c)
+
+  -- a renewal begins a new history
+  module _ (old h : List Record) (c : Core) (b : Beside old h c) (i : ℕ) (v : Client) (at : At c.clients i v) (free : IsFreeHanded v) (others : IsAlone c i) (last : ℕ) where
+    abbrev v' : Client
+    v' = shed c.renewal v
+
+    at' : At (now c).clients i v'
+    at' = at_map (shed c.renewal) c.clients i v at
+
+    is_gone : (j : ℕ) (o : Client) → At c.clients j o → j ≢ i → o ≡ gone
+    is_gone j o e n = b.rule.past.spent j o e (others j o e n)
+
+    abbrev d : Dated old c.clock c.events (now c).clients h
+    d = b.dated
+
+    ahead : Ahead c.opening b.rule.inv.story h c.opening 0
+    ahead = ahead_by lawful lk (now c) b.rule.inv h (ranked_by old c.clock c.events (now c).clients h d h d.ascending (λ r m. m)) (λ r m. d.only r m) (λ j o r e m. d.every j o r e m)
+
+    -- the clients afterwards
+    who : (P : ℕ → Client → Type 0) → P i (shed (c.renewal + 1) (renewing v)) → ((j : ℕ) → P j gone) → (j : ℕ) (o : Client) → At (now (renewed i last v c)).clients j o → P j o
+    who P mine else j o e =
+        let q = at_unmap (shed (c.renewal + 1)) (set c.clients i (renewing v)) j o e in
+        subst (P j) q.2 (⊎_elim (λ p. subst (λ y. P j (shed (c.renewal + 1) y)) p.1 (subst (λ n. P n (shed (c.renewal + 1) (renewing v))) (sym p.0) mine)) (λ p. subst (λ y. P j (shed (c.renewal + 1) y)) (sym (is_gone j q.0 p.1 p.0)) (else j)) (at_set c.clients i j (renewing v) q.0 q.1))
+
+    no_mark : (w : Client) → w.phase ≡ idle → w.wv ≡ 0 → (p : ℕ) → Mark w p → ⊥
+    no_mark w e z p m = ⊎_elim (λ q. (let k : idle ≡ running = sym e ∙ q.0.0 in cc)) (λ q. (let k = q.0.0 in omega (arith, z))) m
+
+    unmarked : (j : ℕ) (o : Client) → At (now (renewed i last v c)).clients j o → (p : ℕ) → Mark o p → ⊥
+    unmarked = who (λ j o. (p : ℕ) → Mark o p → ⊥) (λ p m. no_mark (renewing v) refl refl p m) (λ j p m. no_mark gone refl refl p m)
+
+    same_length : length (now (renewed i last v c)).clients ≡ length (now c).clients
+    same_length = map_length (shed (c.renewal + 1)) (set c.clients i (renewing v)) ∙ (length-set c.clients i (renewing v) ∙ sym (map_length (shed c.renewal) c.clients))
+
+    renew_dates : IsDatedBy (old ++ h) [] (now (renewed i last v c))
+    renew_dates = record {
+      time = λ p. 0;
+      grows = λ p q l. le_refl _;
+      now = refl;
+      stamped = λ r m. absurd (nothing_in r m);
+      each = λ j o e. record { reading = λ q. absurd (unmarked j o e o.began_at (inl (q, refl))); ticking = λ q. absurd (unmarked j o e o.ticked_at (inr (q, refl))) };
+      unused = λ j o p r e m k. absurd (nothing_in r k);
+      apart = λ j k o q p e f n m m'. unmarked j o e p m;
+      ascending = tt;
+      every = λ j o r e m. absurd (let q = at_unmap (shed (c.renewal + 1)) (set c.clients i (renewing v)) j o e in none j q.0 q.1 r (subst (λ (y : Client). In r y.records) (sym q.2) m));
+      only = λ r m. absurd (nothing_in r m);
+      known = λ r m. absurd (nothing_in r m);
+      numbered = λ j o r e s m k. absurd (nothing_in r m);
+      old_past = λ r m. ⊎_elim (λ p. (let q = d.old_past r p in omega arith)) (λ p. (let q = (d.stamped r p).past in omega arith)) (in_append old h r m);
+      old_before = λ r x m k. absurd (nothing_in x k);
+      old_marked = λ j o p r e m k. absurd (unmarked j o e p m);
+      old_known = λ r m. rw same_length (⊎_elim (λ p. d.old_known r p) (λ p. d.known r p) (in_append old h r m));
+      old_numbered = λ j o r e s m k. who (λ n y. y.spent ≡ false → r.client ≡ suc n → (r.attempt ≤ y.attempt) × (r.attempt ≡ y.attempt → is_settled y.phase ≡ true))
+          (λ s' k'. (⊎_elim (λ p. (d.old_numbered i v' r at' free.0 p k').0) (λ p. (d.numbered i v' r at' free.0 p k').0) (in_append old h r m), λ z. refl)) (λ n s'. clash refl s') j o e s k;
+    }
+      where
+        none : (j : ℕ) (o : Client) → At (set c.clients i (renewing v)) j o → (r : Record) → In r (shed (c.renewal + 1) o).records → ⊥
+        none j o e r m = let q = of_is (c.renewal + 1) o.records r m in
+            ⊎_elim (λ p. let k : In r v.records = subst (λ (y : Client). In r y.records) (sym p.1) q.0 in
+            let l = (renew_rules lawful lk c b.rule i v at free others last).past.earlier r k in let z = q.1 in omega arith)
+            (λ p. nothing_in r (subst (λ (y : Client). In r y.records) (is_gone j o p.1 p.0) q.0)) (at_set c.clients i j (renewing v) o e)
+
+    whole_is : v.records ≡ c.past ++ v'.records
+    whole_is = whole lawful lk c b.rule i v at free others last
+
+    nobody_holds : (j : ℕ) (o : Client) → At (now c).clients j o → o.held ≡ []
+    nobody_holds j o e = let q = at_unmap (shed c.renewal) c.clients j o e in
+        dite (ℕ_discrete j i) (λ s. sym (ap (λ (y : Client). y.held) q.2) ∙ (ap (λ (y : Client). y.held) (same_at c.clients i q.0 v (subst (λ n. At c.clients n q.0) s q.1) at) ∙ free.1))
+        (λ n. sym (ap (λ (y : Client). y.held) q.2) ∙ ap (λ (y : Client). y.held) (is_gone j q.0 q.1 n))
+
+    renew_earlier : Earlier (old ++ h) (frame_of (renewed i last v c))
+    renew_earlier = record {
+      serial = serial_append c.first old h b.earlier.serial (subst (λ m. Serial m h) (sym b.earlier.leads) (serial c.opening b.rule.inv.story h c.opening 0 ahead));
+      leads = image_append c.first old h ∙ (ap (λ m. image_after m h) b.earlier.leads ∙ sym (cells_by lawful lk (now c) b.rule.inv h ahead (λ r m. d.only r m) nobody_holds));
+      ascending = by_append old h b.earlier.ascending d.ascending (λ x y m n. d.old_before x y m n);
+      all = λ r m. ⊎_elim (λ p. append_left old h r (b.earlier.all r p)) (λ p. append_right old h r (d.every i v' r at' p)) (in_append c.past v'.records r (subst (In r) whole_is m));
+      only = λ r m. subst (In r) (sym whole_is) (⊎_elim (λ p. append_left c.past v'.records r (b.earlier.only r p)) (λ p. append_right c.past v'.records r (mine r p)) (in_append old h r m));
+    }
+      where
+        mine : (r : Record) → In r h → In r v'.records
+        mine r m = let q = d.only r m in let p = at_unmap (shed c.renewal) c.clients q.0 q.1 q.2 in
+            dite (ℕ_discrete q.0 i) (λ s. subst (λ (y : Client). In r y.records) (same_at (now c).clients i q.1 v' (subst (λ n. At (now c).clients n q.1) s q.2) at') q.3)
+            (λ n. absurd (nothing_in r (let z : In r (shed c.renewal p.0).records = subst (λ (y : Client). In r y.records) (sym p.2) q.3 in subst (λ (y : Client). In r (shed c.renewal y).records) (is_gone q.0 p.0 p.1 n) z)))
+
+    renew_beside : Beside (old ++ h) [] (renewed i last v c)
+    renew_beside = record { rule = renew_rules lawful lk c b.rule i v at free others last; dated = renew_dates; earlier = renew_earlier }
+
+  -- an allowed event keeps the whole rule
+  pub event_keeps : (c : Core) (e : Event) → Rule lawful lk c → Allowed lawful lk e c → Rule lawful lk (played lk e c)
   event_keeps c (acts k e) h may =
-      let v = may.0 in let n : ℕ = k - 1 in
+      let v = may.0 in
       let same : client_of c k ≡ v = get_is c.clients (k - 1) v gone may.1.1 in
-      rw same (step_keeps lawful lk (record { client = k; place = c.events; renewal = c.renewal }) c e (k - 1) v refl h may.1.1 may.2)
-  event_keeps c (splits k) h may = let same : client_of c k ≡ may.0 = get_is c.clients (k - 1) may.0 gone may.1.1 in rw same (split_keeps lawful lk c (k - 1) may.0 h may.1.1 may.2 may.3)
+      rw same (step_rules lawful lk c h (k - 1) v may.1.1 may.2.0 (record { client = k; place = c.events; renewal = c.renewal }) refl e may.2.1)
+  event_keeps c (splits k) h may = let same : client_of c k ≡ may.0 = get_is c.clients (k - 1) may.0 gone may.1.1 in rw same (split_rules lawful lk c h (k - 1) may.0 may.1.1 may.2 may.3)
   event_keeps c (gathers k j) h may =
       let same : client_of c k ≡ may.0 = get_is c.clients (k - 1) may.0 gone may.2.1 in
       let same' : client_of c j ≡ may.1 = get_is c.clients (j - 1) may.1 gone may.3.1 in
-      rw (same, same') (gather_keeps lawful lk c (k - 1) may.0 h may.2.1 (j - 1) may.1 may.3.1 (λ e. may.4 (let a = may.2.0 in let b = may.3.0 in omega arith)) may.5 may.6)
+      rw (same, same') (gather_rules lawful lk c h (k - 1) may.0 may.2.1 (j - 1) may.1 may.3.1 (λ e. may.4 (let a = may.2.0 in let b = may.3.0 in omega arith)) may.5 may.6)
+  event_keeps c (renews k last) h may = let same : client_of c k ≡ may.0 = get_is c.clients (k - 1) may.0 gone may.1.1 in rw same (renew_rules lawful lk c h (k - 1) may.0 may.1.1 may.2 may.3 last)
 
-  -- an allowed event leads to a core beside the history with its decision
-  pub event_dates : (c : Core) (e : Event) (h : List Record) → IsDatedBy h c → Allowed lawful lk e c → IsDatedBy (history_after lk e c h) (played lk e c)
-  event_dates c (acts k e) h d may =
+  found_now : (c : Core) (e : Action) → found lk (now c) e ≡ found lk c e
+  found_now c begin = refl
+  found_now c (probe k) = refl
+  found_now c (fetch a) = refl
+  found_now c (check a) = refl
+  found_now c (lock k) = refl
+  found_now c (tick f g w) = refl
+  found_now c (validate k) = refl
+  found_now c (put a x) = refl
+  found_now c (release k) = refl
+  found_now c (give_back k) = refl
+  found_now c (finish g) = refl
+
+  decision_now : (t : Stamp) (m : ℕ) (e : Action) (n : ℕ) (v : Client) → decision t e n (shed m v) ≡ decision t e n v
+  decision_now t m begin n v = refl
+  decision_now t m (probe k) n v = refl
+  decision_now t m (fetch a) n v = refl
+  decision_now t m (check a) n v = refl
+  decision_now t m (lock k) n v = refl
+  decision_now t m (tick f g w) n v = refl
+  decision_now t m (validate k) n v = refl
+  decision_now t m (put a x) n v = refl
+  decision_now t m (release k) n v = refl
+  decision_now t m (give_back k) n v = refl
+  decision_now t m (finish g) n v = refl
+
+  -- and leads to a core beside the histories with its decision
+  pub event_beside : (c : Core) (e : Event) (old h : List Record) → Beside old h c → Allowed lawful lk e c → Beside (earlier_after e old h) (history_after lk e c h) (played lk e c)
+  event_beside c (acts k e) old h b may =
       let v = may.0 in
+      let v' : Client = shed c.renewal v in
       let same : client_of c k ≡ v = get_is c.clients (k - 1) v gone may.1.1 in
       let number : suc (k - 1) ≡ k = (let a = may.1.0 in omega arith) in
-      let r = act_dates lawful lk c h d (k - 1) v may.1.1 may.2.0 e may.2.1 in
-      rw same (subst (λ n. let t : Stamp = record { client = n; place = c.events; renewal = c.renewal } in IsDatedBy (filed (decision t e (found lk c e) v) h) (stepped t lk e (k - 1) v c)) number r)
-  event_dates c (splits k) h d may = let same : client_of c k ≡ may.0 = get_is c.clients (k - 1) may.0 gone may.1.1 in rw same (split_dates lawful lk c h d (k - 1) may.0 may.1.1 may.2.0)
-  event_dates c (gathers k j) h d may =
-      let same : client_of c k ≡ may.0 = get_is c.clients (k - 1) may.0 gone may.2.1 in
-      let same' : client_of c j ≡ may.1 = get_is c.clients (j - 1) may.1 gone may.3.1 in
-      rw (same, same') (gather_dates lawful lk c h d (k - 1) may.0 may.2.1 may.5.0 (j - 1) may.1 may.3.1 (λ e. may.4 (let a = may.2.0 in let b = may.3.0 in omega arith)))
+      let t : Stamp = record { client = k; place = c.events; renewal = c.renewal } in
+      let r = act_dates lawful lk old (now c) h b.dated (k - 1) v' (at_map (shed c.renewal) c.clients (k - 1) v may.1.1) may.2.0 e (may_shed lawful lk c e v may.2.1) in
+      let r' : IsDatedBy old (filed (decision t e (found lk (now c) e) v') h) (stepped t lk e (k - 1) v' (now c)) =
+      subst (λ n. let s : Stamp = record { client = n; place = c.events; renewal = c.renewal } in IsDatedBy old (filed (decision s e (found lk (now c) e) v') h) (stepped s lk e (k - 1) v' (now c))) number r in
+      let made : decision t e (found lk (now c) e) v' ≡ decision t e (found lk c e) v = ap (λ n. decision t e n v') (found_now c e) ∙ decision_now t c.renewal e (found lk c e) v in
+      rw same (record {
+        rule = step_rules lawful lk c b.rule (k - 1) v may.1.1 may.2.0 t refl e may.2.1;
+        dated = subst (λ rs. IsDatedBy old (filed rs h) (now (stepped t lk e (k - 1) v c))) made (subst (λ x. IsDatedBy old (filed (decision t e (found lk (now c) e) v') h) x) (sym (now_stepped lawful lk c b.rule (k - 1) v may.1.1 may.2.0 t refl e may.2.1)) r');
+        earlier = subst (Earlier old) (frame_stays t lk e (k - 1) v c) b.earlier;
+      })
+  event_beside c (splits k) old h b may =
+      let v = may.0 in
+      let same : client_of c k ≡ v = get_is c.clients (k - 1) v gone may.1.1 in
+      rw same (record {
+        rule = split_rules lawful lk c b.rule (k - 1) v may.1.1 may.2 may.3;
+        dated = subst (λ x. IsDatedBy old h x) (sym (now_divided lawful lk c b.rule (k - 1) v may.1.1 may.2 may.3)) (split_dates lawful lk old (now c) h b.dated (k - 1) (shed c.renewal v) (at_map (shed c.renewal) c.clients (k - 1) v may.1.1) may.2.0);
+        earlier = b.earlier;
+      })
+  event_beside c (gathers k j) old h b may =
+      let v = may.0 in
+      let w = may.1 in
+      let same : client_of c k ≡ v = get_is c.clients (k - 1) v gone may.2.1 in
+      let same' : client_of c j ≡ w = get_is c.clients (j - 1) w gone may.3.1 in
+      let ne : (k - 1) ≢ (j - 1) = λ e. may.4 (let a = may.2.0 in let b' = may.3.0 in omega arith) in
+      rw (same, same') (record {
+        rule = gather_rules lawful lk c b.rule (k - 1) v may.2.1 (j - 1) w may.3.1 ne may.5 may.6;
+        dated = subst (λ x. IsDatedBy old h x) (sym (now_gathered lawful lk c b.rule (k - 1) v may.2.1 (j - 1) w may.3.1 ne may.5 may.6))
+            (gather_dates lawful lk old (now c) h b.dated (k - 1) (shed c.renewal v) (at_map (shed c.renewal) c.clients (k - 1) v may.2.1) may.5.0 (j - 1) (shed c.renewal w) (at_map (shed c.renewal) c.clients (j - 1) w may.3.1) ne);
+        earlier = b.earlier;
+      })
+  event_beside c (renews k last) old h b may =
+      let same : client_of c k ≡ may.0 = get_is c.clients (k - 1) may.0 gone may.1.1 in rw same (renew_beside old h c b (k - 1) may.0 may.1.1 may.2 may.3 last)
 
-  pub opening_dates : (image : List ℕ) (last stripes : ℕ) → Dated 0 0 (opener ∷ []) []
+  pub opening_dates : (image : List ℕ) (last stripes : ℕ) → Dated [] 0 0 (opener ∷ []) []
   opening_dates image last stripes = record {
     time = λ p. 0;
     grows = λ p q l. le_refl _;
@@ -216,6 +408,11 @@ module _ (lawful : List ℕ → List (ℕ × ℕ) → List (ℕ × ℕ) → Type
     only = λ r m. absurd (nothing_in r m);
     known = λ r m. absurd (nothing_in r m);
     numbered = λ i v r e s m. absurd (nothing_in r m);
+    old_past = λ r m. absurd (nothing_in r m);
+    old_before = λ r x m. absurd (nothing_in r m);
+    old_marked = λ i v p r e m k. absurd (nothing_in r k);
+    old_known = λ r m. absurd (nothing_in r m);
+    old_numbered = λ i v r e s m. absurd (nothing_in r m);
   }
     where
       only : (i : ℕ) (v : Client) → At (opener ∷ []) i v → opener ≡ v
@@ -226,41 +423,65 @@ module _ (lawful : List ℕ → List (ℕ × ℕ) → List (ℕ × ℕ) → Type
       one zero v e = refl
       one (suc i) v e = absurd (some-ne-none v (sym e))
 
-  opening_stays : (e : Event) (c : Core) → (played lk e c).opening ≡ c.opening
-  opening_stays (acts k begin) c = refl
-  opening_stays (acts k (probe n)) c = refl
-  opening_stays (acts k (fetch n)) c = refl
-  opening_stays (acts k (check n)) c = refl
-  opening_stays (acts k (lock n)) c = refl
-  opening_stays (acts k (tick f t w)) c = refl
-  opening_stays (acts k (validate n)) c = refl
-  opening_stays (acts k (put a x)) c = refl
-  opening_stays (acts k (release n)) c = refl
-  opening_stays (acts k (give_back n)) c = refl
-  opening_stays (acts k (finish t)) c = refl
-  opening_stays (splits k) c = refl
-  opening_stays (gathers k j) c = refl
+  pub opening_beside : (image : List ℕ) (last stripes : ℕ) → Beside [] [] (opened image last stripes)
+  opening_beside image last stripes = record {
+    rule = opening_rules lawful lk image last stripes;
+    dated = opening_dates image last stripes;
+    earlier = record { serial = tt; leads = refl; ascending = tt; all = λ r m. m; only = λ r m. m };
+  }
 
-  pub leads_keeps : (es : List Event) (c e : Core) (h : List Record) → Inv lawful lk c → Dated c.clock c.events c.clients h → Leads lawful lk c es e → Inv lawful lk e × ((g : List Record) × Dated e.clock e.events e.clients g) × (e.opening ≡ c.opening)
-  leads_keeps [] c e h k d same = (subst (Inv lawful lk) same k, (h, subst (λ (x : Core). Dated x.clock x.events x.clients h) same d), ap (λ (x : Core). x.opening) (sym same))
-  leads_keeps (a ∷ es) c e h k d may =
-      let r = leads_keeps es (played lk a c) e (history_after lk a c h) (event_keeps c a k may.0) (event_dates c a h d may.0) may.1 in (r.0, r.1, r.2 ∙ opening_stays a c)
+  first_stays : (e : Event) (c : Core) → (played lk e c).first ≡ c.first
+  first_stays (acts k e) c = sym (ap (λ (f : Frame). f.first) (frame_stays (record { client = k; place = c.events; renewal = c.renewal }) lk e (k - 1) (client_of c k) c))
+  first_stays (splits k) c = refl
+  first_stays (gathers k j) c = refl
+  first_stays (renews k last) c = refl
 
--- what holds of a core follows from the invariant and its history
-stands : (lk : ℕ → ℕ) (c : Core) (h : List Record) → Inv free_law lk c → Dated c.clock c.events c.clients h → Stands lk c.opening c
-stands lk c h k d =
-    let g = ahead_by free_law lk c k h (ranked_by c.clock c.events c.clients h d h d.ascending (λ r m. m)) (λ r m. d.only r m) (λ i v r e m. d.every i v r e m) in record {
-      invariant = k;
-      history = h;
-      is_history = record { ascending = d.ascending; every = d.every; only = d.only };
-      serial = serial c.opening k.story h c.opening 0 g;
-      newest = image_last c.opening k.story h c.opening c.clock (λ r m. let q = d.only r m in (k.version.sound q.0 q.1 q.2).recorded r q.3);
-      one_version = λ i v e. agrees_by free_law lk c k h g i v e;
-      words = λ f. cells_by free_law lk c k h g (λ r m. d.only r m) f;
-      no_trace = λ i v r e s u m n z. clash ((d.numbered i v r e s m n).1 z) u;
+  pub leads_beside : (es : List Event) (c e : Core) (old h : List Record) → Beside old h c → Leads lawful lk c es e → ((old' : List Record) × (h' : List Record) × Beside old' h' e) × (e.first ≡ c.first)
+  leads_beside [] c e old h b same = ((old, h, subst (λ x. Beside old h x) same b), ap (λ (x : Core). x.first) (sym same))
+  leads_beside (a ∷ es) c e old h b may =
+      let r = leads_beside es (played lk a c) e (earlier_after a old h) (history_after lk a c h) (event_beside c a old h b may.0) may.1 in (r.0, r.1 ∙ first_stays a c)
+
+-- the history of the core
+pub is_history : (lk : ℕ → ℕ) (c : Core) (old h : List Record) → Beside free_law lk old h c → IsHistory c (old ++ h)
+is_history lk c old h b = record { ascending = by_append old h b.earlier.ascending b.dated.ascending (λ x y m n. b.dated.old_before x y m n); every = every; only = only }
+  where
+    every : (i : ℕ) (v : Client) (r : Record) → At c.clients i v → In r v.records → In r (old ++ h)
+    every i v r e m = ⊎_elim (λ p. append_left old h r (b.earlier.all r (past_of (eqb i b.rule.past.keeper) p))) (λ p. append_right old h r (b.dated.every i (shed c.renewal v) r (at_map (shed c.renewal) c.clients i v e) p))
+        (in_append (pre free_law lk c b.rule i) (shed c.renewal v).records r (subst (In r) (b.rule.past.kept i v e) m))
+      where
+        past_of : (x : Bool) → In r (cond x c.past []) → In r c.past
+        past_of true p = p
+        past_of false p = absurd (nothing_in r p)
+
+    only : (r : Record) → In r (old ++ h) → (i : ℕ) × (v : Client) × At c.clients i v × In r v.records
+    only r m = ⊎_elim
+        (λ p. let q = at_below c.clients b.rule.past.keeper b.rule.past.member in
+        (b.rule.past.keeper, q.0, q.1, subst (In r) (sym (b.rule.past.kept b.rule.past.keeper q.0 q.1 ∙ ap (λ x. cond x c.past [] ++ (shed c.renewal q.0).records) (eqb_yes b.rule.past.keeper b.rule.past.keeper refl))) (append_left c.past (shed c.renewal q.0).records r (b.earlier.only r p))))
+        (λ p. let q = b.dated.only r p in let s = at_unmap (shed c.renewal) c.clients q.0 q.1 q.2 in (q.0, s.0, s.1, (of_is c.renewal s.0.records r (subst (λ (y : Client). In r y.records) (sym s.2) q.3)).0)) (in_append old h r m)
+
+-- what holds of a core follows from the rule and its histories
+stands : (lk : ℕ → ℕ) (c : Core) (old h : List Record) → Beside free_law lk old h c → Stands lk c.first c
+stands lk c old h b =
+    let d = b.dated in
+    let k = b.rule.inv in
+    let g = ahead_by free_law lk (now c) k h (ranked_by old c.clock c.events (now c).clients h d h d.ascending (λ r m. m)) (λ r m. d.only r m) (λ i v r e m. d.every i v r e m) in
+    let all : image_after c.first (old ++ h) ≡ image_after c.opening h = image_append c.first old h ∙ ap (λ m. image_after m h) b.earlier.leads in record {
+      rule = b.rule;
+      earlier = old;
+      present = h;
+      is_history = is_history lk c old h b;
+      before = λ r m. b.rule.past.earlier r (b.earlier.only r m);
+      now = λ r m. let q = d.only r m in ((k.filed.filed q.0 q.1 q.2).told r q.3).present;
+      serial = serial_append c.first old h b.earlier.serial (subst (λ m. Serial m h) (sym b.earlier.leads) (serial c.opening k.story h c.opening 0 g));
+      opening = b.earlier.leads;
+      newest = image_last c.opening k.story h c.opening c.clock (λ r m. let q = d.only r m in (k.version.sound q.0 q.1 q.2).recorded r q.3) ∙ sym all;
+      one_version = λ i v e. agrees_by free_law lk (now c) k h g i (shed c.renewal v) (at_map (shed c.renewal) c.clients i v e);
+      lone = λ i v e y z. goes_on free_law lk c k b.rule.lone i v e y z;
+      words = λ f. cells_by free_law lk (now c) k h g (λ r m. d.only r m) (λ i v e. let q = at_unmap (shed c.renewal) c.clients i v e in sym (ap (λ (y : Client). y.held) q.2) ∙ f i q.0 q.1) ∙ sym all;
+      no_trace = λ i v r e s u m n z. ⊎_elim (λ p. clash ((d.old_numbered i (shed c.renewal v) r (at_map (shed c.renewal) c.clients i v e) s p n).1 z) u) (λ p. clash ((d.numbered i (shed c.renewal v) r (at_map (shed c.renewal) c.clients i v e) s p n).1 z) u) (in_append old h r m);
     }
 
 pub every_list_stands : EveryListStands
 every_list_stands image last stripes es c leads =
-    let q = leads_keeps free_law (stripe_of stripes) es (opened image last stripes) c [] (opening_keeps free_law (stripe_of stripes) image last stripes) (opening_dates free_law (stripe_of stripes) image last stripes) leads in
-    subst (λ m. Stands (stripe_of stripes) m c) q.2 (stands (stripe_of stripes) c q.1.0 q.0 q.1.1)
+    let q = leads_beside free_law (stripe_of stripes) es (opened image last stripes) c [] [] (opening_beside free_law (stripe_of stripes) image last stripes) leads in
+    subst (λ m. Stands (stripe_of stripes) m c) q.1 (stands (stripe_of stripes) c q.0.0 q.0.1 q.0.2)

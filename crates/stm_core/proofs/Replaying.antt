@@ -1,10 +1,10 @@
 -- The running core plays a list with numbers for its tags.
 use Rattle.std.proofs.Common.{◌≡◌, ℕ, List, [], ◌∷◌, ◌++◌, map, refl, sym, ap, subst}
 use Rattle.stm_core.specs.Event.{begin, probe, fetch, check, lock, tick, validate, put, release, give_back, finish}
-use Rattle.stm_core.specs.Core.{Core, Event, acts, splits, gathers, Allowed, played, Leads, opened}
+use Rattle.stm_core.specs.Core.{Core, Event, acts, splits, gathers, renews, Allowed, played, Leads, opened}
 use Rattle.stm_core.specs.Theorem.{stripe_of, free_law}
 use Rattle.stm_core.specs.Running.{Running, run_played, run_opened, ran}
-use Rattle.stm_core.specs.declared.event.Event.TheVariants.{Begin, Probe, Fetch, Check, Lock, Tick, Validate, Put, Release, GiveBack, Finish, Split, Gather}
+use Rattle.stm_core.specs.declared.event.Event.TheVariants.{Begin, Probe, Fetch, Check, Lock, Tick, Validate, Put, Release, GiveBack, Finish, Split, Gather, Renew}
 use Rattle.stm_core.specs.Numbered.{numbered_event, numbered_core, EveryEventIsPlayable, MayRun, PlayedWithNumbers}
 use Rattle.stm_core.proofs.Following.{running_follows}
 use Rattle.stm_core.proofs.Numbering.{allowed_with_numbers}
@@ -23,6 +23,7 @@ every_event_is_playable number (acts k (give_back n)) = (GiveBack k n, refl)
 every_event_is_playable number (acts k (finish tag)) = (Finish k (number tag), refl)
 every_event_is_playable number (splits k) = (Split k, refl)
 every_event_is_playable number (gathers k j) = (Gather k j, refl)
+every_event_is_playable number (renews k last) = (Renew k last, refl)
 
 leads_longer : (lk : ℕ → ℕ) (es : List Event) (e : Event) (c d : Core) → Leads free_law lk c es d → Allowed free_law lk e d → Leads free_law lk c (es ++ e ∷ []) (played lk e d)
 leads_longer lk [] e c d h a = (subst (Allowed free_law lk e) (sym h) a, ap (played lk e) h)

@@ -1,20 +1,23 @@
 -- The tags of a list of events: numbers for them, and what is read back by the numbers.
-use Rattle.std.proofs.Common.{◌≡◌, ◌≢◌, ℕ, zero, suc, ◌+◌, ◌<◌, ◌≤◌, ⊎_elim, cond, List, [], ◌∷◌, length, map, refl, sym, ap, ◌∙◌, subst, arith, nat_eq}
+use Rattle.std.proofs.Common.{◌≡◌, ◌≢◌, ℕ, zero, suc, ◌+◌, ◌<◌, ◌≤◌, ⊎_elim, Bool, true, false, cond, eqb, List, [], ◌∷◌, ◌++◌, length, map, refl, sym, ap, ◌∙◌, subst, arith, nat_eq}
 use Rattle.std.specs.Cmp.Lexicographic.{pointwise, same_text, other_text}
 use mathlib.Core.Option.{some, some-injective}
 use Rattle.stm_words.specs.Image.{In, laid}
-use Rattle.stm_core.specs.Client.{Client, Record}
+use Rattle.stm_core.specs.Client.{Client, Record, shed}
 use Rattle.stm_core.specs.Event.{tick, finish}
 use Rattle.stm_core.specs.Core.{Core, Event, acts, Allowed, played, Leads, opened}
 use Rattle.stm_core.specs.Version.{At}
-use Rattle.stm_core.specs.Invariant.{Inv}
+use Rattle.stm_core.specs.Invariant.{Rule}
 use Rattle.stm_core.specs.History.{Serial, ByPoint}
 use Rattle.stm_core.specs.Theorem.{stripe_of, IsHistory, Stands}
 use Rattle.stm_core.specs.Seat.{tag_number}
 use Rattle.stm_core.specs.Numbered.{numbered_event, numbered_record, numbered_client, numbered_core, tags_of, TellsApart, EveryListHasNumbers, IsLegal, LegalHistories}
 use Rattle.stm_core.proofs.Lists.{nothing_in}
 use Rattle.stm_core.proofs.Orders.{in_cons}
-use Rattle.stm_core.proofs.Joining.{opening_keeps}
+use Rattle.stm_core.proofs.Eras.{in_append}
+use Rattle.stm_core.proofs.Lones.{at_map}
+use Rattle.stm_core.proofs.Renewals.{pre}
+use Rattle.stm_core.proofs.Renewing.{opening_rules}
 use Rattle.stm_core.proofs.Playing.{event_keeps, every_list_stands}
 use Rattle.stm_core.proofs.Steps.{by_case}
 use Rattle.stm_core.proofs.Numbering.{elem_map, elem_unmap, allowed_with_numbers}
@@ -69,8 +72,8 @@ module _ (lawful : List ℕ → List (ℕ × ℕ) → List (ℕ × ℕ) → Type
   leads_tagged lk [] c d f h = h
   leads_tagged lk (e ∷ es) c d f h = (event_tagged lk e es c f h.0, leads_tagged lk es (played lk e c) d (λ t i. f t (later_tag e es t i)) h.1)
 
-kept : (lawful : List ℕ → List (ℕ × ℕ) → List (ℕ × ℕ) → Type 0) (lk : ℕ → ℕ) (es : List Event) (c d : Core) → Inv lawful lk c → Leads lawful lk c es d → Inv lawful lk d
-kept lawful lk [] c d k h = subst (Inv lawful lk) h k
+kept : (lawful : List ℕ → List (ℕ × ℕ) → List (ℕ × ℕ) → Type 0) (lk : ℕ → ℕ) (es : List Event) (c d : Core) → Rule lawful lk c → Leads lawful lk c es d → Rule lawful lk d
+kept lawful lk [] c d k h = subst (Rule lawful lk) h k
 kept lawful lk (e ∷ es) c d k h = kept lawful lk es (played lk e c) d (event_keeps lawful lk c e k h.0) h.1
 
 module _ (number : List ℕ → ℕ) where
@@ -121,9 +124,14 @@ module _ (number : List ℕ → ℕ) where
       let a : x ≡ record r { tag = x.tag } = ap (λ (z : Record). record z { tag = x.tag }) e in
       a ∙ ap (λ g. record r { tag = g }) t
 
-module _ (lawful : List ℕ → List (ℕ × ℕ) → List (ℕ × ℕ) → Type 0) (image : List ℕ) (tags : List (List ℕ)) (number : List ℕ → ℕ) (apart : TellsApart number tags) (lk : ℕ → ℕ) (c : Core) (k : Inv (tagged lawful tags) lk c) where
+module _ (lawful : List ℕ → List (ℕ × ℕ) → List (ℕ × ℕ) → Type 0) (image : List ℕ) (tags : List (List ℕ)) (number : List ℕ → ℕ) (apart : TellsApart number tags) (lk : ℕ → ℕ) (c : Core) (k : Rule (tagged lawful tags) lk c) where
   abides : (i : ℕ) (v : Client) (r : Record) → At c.clients i v → In r v.records → lawful r.tag r.reads r.writes × In r.tag tags
-  abides i v r e m = ((k.filed.filed i v e).told r m).abides
+  abides i v r e m = ⊎_elim (λ p. k.past.abides r (past_of (eqb i k.past.keeper) p)) (λ p. ((k.inv.filed.filed i (shed c.renewal v) (at_map (shed c.renewal) c.clients i v e)).told r p).abides)
+      (in_append (pre (tagged lawful tags) lk c k i) (shed c.renewal v).records r (subst (In r) (k.past.kept i v e) m))
+    where
+      past_of : (b : Bool) → In r (cond b c.past []) → In r c.past
+      past_of true p = p
+      past_of false p = absurd (nothing_in r p)
 
   legal : (hs : List Record) → IsHistory (numbered_core number c) hs → Serial image hs → (rs : List Record) × IsLegal lawful image tags c rs
   legal hs h s =
@@ -151,7 +159,7 @@ legal_histories lawful image last stripes es c h =
     let tags = tags_of es in
     let number = place_of tags in
     let lk = stripe_of stripes in
-    let k : Inv (tagged lawful tags) lk c = kept (tagged lawful tags) lk es (opened image last stripes) c (opening_keeps (tagged lawful tags) lk image last stripes) (leads_tagged lawful tags lk es (opened image last stripes) c (λ t i. i) h) in
+    let k : Rule (tagged lawful tags) lk c = kept (tagged lawful tags) lk es (opened image last stripes) c (opening_rules (tagged lawful tags) lk image last stripes) (leads_tagged lawful tags lk es (opened image last stripes) c (λ t i. i) h) in
     let s : Stands lk image (numbered_core number c) = every_list_stands image last stripes (map (numbered_event number) es) (numbered_core number c) (allowed_with_numbers lawful number image last stripes es c h) in
-    let q = legal lawful image tags number (tells_apart tags) lk c k s.history s.is_history s.serial in
+    let q = legal lawful image tags number (tells_apart tags) lk c k (s.earlier ++ s.present) s.is_history s.serial in
     (q.0, q.1, λ other. history_forth other c q.0 q.1.is_history)

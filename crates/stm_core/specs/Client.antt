@@ -183,6 +183,15 @@ abbrev pub merged : List Record → List Record → List Record
 merged xs [] = xs
 merged xs (y ∷ ys) = merged (inserted y xs) ys
 
+-- the records of one renewal
+abbrev pub of_renewal : ℕ → List Record → List Record
+of_renewal n [] = []
+of_renewal n (r ∷ rs) = cond (eqb r.renewal n) (r ∷ of_renewal n rs) (of_renewal n rs)
+
+-- a client without its records of other renewals
+abbrev pub shed : ℕ → Client → Client
+shed n v = record v { records = of_renewal n v.records }
+
 -- what a record's reads agree with: the image of this version
 abbrev pub base : Record → ℕ
 base r = cond r.writer (r.version - 1) r.version

@@ -1,12 +1,16 @@
 -- The state of a whole region as plain data, and what a list of events makes of it.
-use Rattle.std.specs.Prelude.{◌≡◌, ◌≢◌, ℕ, ◌+◌, ◌*◌, ◌-◌, ◌^◌, ◌<◌, cond, eqb, false, List, [], ◌∷◌, ◌++◌, length, slice_index, slice_set, get_or, replicate}
+use Rattle.std.specs.Prelude.{◌≡◌, ◌≢◌, ℕ, ◌+◌, ◌*◌, ◌-◌, ◌^◌, ◌<◌, ◌≤◌, cond, eqb, true, false, List, [], ◌∷◌, ◌++◌, length, slice_index, slice_set, get_or, replicate}
 use mathlib.Core.Option.{some}
 use lib.ListN.{get_elem?}
-use Rattle.stm_core.specs.Client.{Client, Stamp, word_before, old_version}
-use Rattle.stm_core.specs.Event.{Action, begin, probe, fetch, check, lock, tick, validate, put, release, give_back, finish, Bounds, May, after, giving, fresh, taking, gone, opener}
+use Rattle.stm_core.specs.Client.{Client, Record, Stamp, word_before, old_version}
+use Rattle.stm_core.specs.Event.{Action, begin, probe, fetch, check, lock, tick, validate, put, release, give_back, finish, Bounds, May, after, giving, fresh, taking, renewing, gone, opener}
 
 -- the words and the clients' values, with what the region was opened on
 pub record Core : Type 0 where
+  -- what the region was first opened on, and all records of earlier renewals, in order
+  pub first : List ℕ
+  pub past : List Record
+  -- the last version and the opening image of the present renewal
   pub last : ℕ
   pub opening : List ℕ
   -- how many renewals of the clock were made
@@ -75,11 +79,16 @@ divided i v c = record c { clients = slice_set c.clients i (giving v) ++ fresh v
 abbrev pub gathered : ℕ → Client → ℕ → Client → Core → Core
 gathered i v j w c = record c { clients = slice_set (slice_set c.clients i (taking v w)) j gone; events = c.events + 1 }
 
+-- the clock anew, on the same data words: all records there are are of earlier renewals now
+abbrev pub renewed : ℕ → ℕ → Client → Core → Core
+renewed i last v c = record c { past = v.records; last = last; opening = c.cells; renewal = c.renewal + 1; events = c.events + 1; clock = 0; locks = replicate (length c.locks) 0; clients = slice_set c.clients i (renewing v) }
+
 -- an event names its clients by their numbers, from 1 on
 pub data Event : Type 0 where
   acts : (client : ℕ) → Action → Event
   splits : (client : ℕ) → Event
   gathers : (client other : ℕ) → Event
+  renews : (client last : ℕ) → Event
 
 -- v is the value of the client with this number
 abbrev pub IsClient : Core → ℕ → Client → Type 0
@@ -89,11 +98,16 @@ IsClient c k v = (0 < k) × (get_elem? c.clients (k - 1) ≡ some v)
 abbrev pub IsFreeHanded : Client → Type 0
 IsFreeHanded v = (v.spent ≡ false) × (v.held ≡ [])
 
+-- every other client is spent
+abbrev pub IsAlone : Core → ℕ → Type 0
+IsAlone c i = (j : ℕ) (w : Client) → get_elem? c.clients j ≡ some w → j ≢ i → w.spent ≡ true
+
 module _ (lawful : List ℕ → List (ℕ × ℕ) → List (ℕ × ℕ) → Type 0) (lk : ℕ → ℕ) where
   abbrev pub Allowed : Event → Core → Type 0
   Allowed (acts k e) c = (v : Client) × IsClient c k v × May lawful lk (bounds_of c) e v
   Allowed (splits k) c = (v : Client) × IsClient c k v × IsFreeHanded v × (0 < v.grants) × (length c.clients < 2 ^ 32 - 1)
   Allowed (gathers k j) c = (v : Client) × (w : Client) × IsClient c k v × IsClient c j w × (k ≢ j) × IsFreeHanded v × IsFreeHanded w
+  Allowed (renews k last) c = (v : Client) × IsClient c k v × IsFreeHanded v × IsAlone c (k - 1) × (1 ≤ last) × (last < 2 ^ 62) × (c.renewal < 65535)
 
 abbrev pub client_of : Core → ℕ → Client
 client_of c k = get_or c.clients (k - 1) gone
@@ -103,6 +117,7 @@ abbrev pub played : (ℕ → ℕ) → Event → Core → Core
 played lk (acts k e) c = stepped (record { client = k; place = c.events; renewal = c.renewal }) lk e (k - 1) (client_of c k) c
 played lk (splits k) c = divided (k - 1) (client_of c k) c
 played lk (gathers k j) c = gathered (k - 1) (client_of c k) (j - 1) (client_of c j) c
+played lk (renews k last) c = renewed (k - 1) last (client_of c k) c
 
 -- the list of events is allowed one by one from the first core on, and leads to the second
 abbrev pub Leads : (List ℕ → List (ℕ × ℕ) → List (ℕ × ℕ) → Type 0) → (ℕ → ℕ) → Core → List Event → Core → Type 0
@@ -111,4 +126,8 @@ Leads lawful lk c (e ∷ es) d = Allowed lawful lk e c × Leads lawful lk (playe
 
 -- a core just opened on an image
 abbrev pub opened : List ℕ → ℕ → ℕ → Core
-opened image last stripes = record { last = last; opening = image; renewal = 0; events = 0; clock = 0; locks = replicate stripes 0; cells = image; clients = opener ∷ [] }
+opened image last stripes = record { first = image; past = []; last = last; opening = image; renewal = 0; events = 0; clock = 0; locks = replicate stripes 0; cells = image; clients = opener ∷ [] }
+
+-- a core on an image after renewals that began on a first one, with one client, which has all records
+abbrev pub begun_on : List ℕ → List ℕ → ℕ → ℕ → ℕ → Client → Core
+begun_on first image renewal last stripes v = record { first = first; past = v.records; last = last; opening = image; renewal = renewal; events = 0; clock = 0; locks = replicate stripes 0; cells = image; clients = v ∷ [] }

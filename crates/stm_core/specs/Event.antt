@@ -233,6 +233,10 @@ fresh c = record opener { grants = 0; floor = c.floor }
 abbrev pub taking : Client → Client → Client
 taking c d = record c { grants = c.grants + d.grants + 1; floor = max c.floor d.floor; records = merged c.records d.records; last = nothing; gave_back = false; mine = false }
 
+-- a client after a renewal of the clock: it has no attempt, and keeps its grants, its attempt's number and its records
+abbrev pub renewing : Client → Client
+renewing c = record opener { grants = c.grants; attempt = c.attempt; records = c.records }
+
 -- a client that was gathered
 abbrev pub gone : Client
 gone = record opener { grants = 0; spent = true }

@@ -33,7 +33,7 @@ module _ (number : List ℕ → ℕ) where
 
   -- the same core but for the tags of its clients
   abbrev pub numbered_core : Core → Core
-  numbered_core c = record c { clients = map numbered_client c.clients }
+  numbered_core c = record c { past = map numbered_record c.past; clients = map numbered_client c.clients }
 
 -- the tags that a list of events carries
 abbrev pub tags_of : List Event → List (List ℕ)

@@ -3,7 +3,7 @@ use Rattle.std.specs.Prelude.{[], ◌∷◌}
 use Rattle.stm_core.specs.Event as event
 use Rattle.stm_core.specs.Core as core
 use Rattle.stm_core.specs.declared.event.Event.{Event}
-use Rattle.stm_core.specs.declared.event.Event.TheVariants.{Begin, Probe, Fetch, Check, Lock, Tick, Validate, Put, Release, GiveBack, Finish, Split, Gather}
+use Rattle.stm_core.specs.declared.event.Event.TheVariants.{Begin, Probe, Fetch, Check, Lock, Tick, Validate, Put, Release, GiveBack, Finish, Split, Gather, Renew}
 
 abbrev pub event_of : Event → core.Event
 event_of (Begin k) = core.acts k event.begin
@@ -19,3 +19,4 @@ event_of (GiveBack k n) = core.acts k (event.give_back n)
 event_of (Finish k tag) = core.acts k (event.finish (tag ∷ []))
 event_of (Split k) = core.splits k
 event_of (Gather k j) = core.gathers k j
+event_of (Renew k last) = core.renews k last

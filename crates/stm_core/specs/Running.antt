@@ -1,10 +1,10 @@
 -- The running core: its state as far as it is kept, and its decided records.
-use Rattle.std.specs.Prelude.{◌≡◌, ℕ, ◌+◌, ◌-◌, ◌^◌, ◌<◌, Bool, true, false, not, ◌&&◌, ◌==◌, nat_lt, cond, eqb, List, [], ◌∷◌, ◌++◌, length, map, slice_set, replicate, ◌≢◌, ◌≤◌, Option, None}
+use Rattle.std.specs.Prelude.{◌≡◌, ℕ, ◌+◌, ◌-◌, ◌^◌, ◌<◌, Bool, true, false, not, ◌&&◌, ◌==◌, nat_lt, nat_le, zero, suc, cond, eqb, List, [], ◌∷◌, ◌++◌, length, map, slice_set, replicate, ◌≢◌, ◌≤◌, Option, None}
 use Rattle.std.specs.List.{insert}
 use Rattle.stm_words.specs.Image.{In}
 use Rattle.stm_core.specs.Client.{Client, Record, Stamp, found_by, old_version, writes_to, is_committed}
-use Rattle.stm_core.specs.Event.{Action, begin, probe, fetch, check, lock, tick, validate, put, release, give_back, finish, is_empty, versioned, decides_at_once, passes, giving, fresh, taking, gone, opener}
-use Rattle.stm_core.specs.Core.{Core, bounds_of, found, left, written, client_of, Event, acts, splits, gathers}
+use Rattle.stm_core.specs.Event.{Action, begin, probe, fetch, check, lock, tick, validate, put, release, give_back, finish, is_empty, versioned, decides_at_once, passes, giving, fresh, taking, renewing, gone, opener}
+use Rattle.stm_core.specs.Core.{Core, bounds_of, found, left, written, client_of, Event, acts, splits, gathers, renews}
 use Rattle.stm_core.specs.Theorem.{stripe_of}
 use Rattle.stm_core.specs.Seat.{blank, seat_after, tag_number}
 use Rattle.stm_core.specs.Tests.{may_act}
@@ -23,10 +23,21 @@ stripes_of c = stripe_of (length c.locks)
 abbrev pub is_out : Core → ℕ → Bool
 is_out c k = nat_lt 0 k && nat_lt (k - 1) (length c.clients) && not (client_of c k).spent
 
+abbrev pub are_spent : List Client → Bool
+are_spent [] = true
+are_spent (v ∷ vs) = v.spent && are_spent vs
+
+-- every client but the one at a place is spent
+abbrev pub others_spent : List Client → ℕ → Bool
+others_spent [] i = true
+others_spent (v ∷ vs) zero = are_spent vs
+others_spent (v ∷ vs) (suc i) = v.spent && others_spent vs i
+
 abbrev pub may_play : Event → Core → Bool
 may_play (acts k e) c = is_out c k && may_act (bounds_of c) e (client_of c k)
 may_play (splits k) c = is_out c k && is_empty (client_of c k).held && nat_lt 0 (client_of c k).grants && nat_lt (length c.clients) (2 ^ 32 - 1)
 may_play (gathers k j) c = is_out c k && is_out c j && not (k == j) && is_empty (client_of c k).held && is_empty (client_of c j).held
+may_play (renews k last) c = is_out c k && is_empty (client_of c k).held && others_spent c.clients (k - 1) && nat_le 1 last && nat_lt last (2 ^ 62) && nat_lt c.renewal 65535
 
 -- the record that a step decides
 abbrev pub decision : Stamp → Action → ℕ → Client → List Record
@@ -45,7 +56,7 @@ decision t (give_back k) n v = []
 decision t (finish tag) n v = record { tag = tag; reads = v.reads; writes = []; writer = false; version = v.rv; attempt = v.attempt; renewal = t.renewal; point = v.began_at; client = t.client } ∷ []
 
 abbrev pub entry_of : Record → Entry
-entry_of r = record { client = r.client; tag = tag_number r.tag; version = r.version; writer = r.writer }
+entry_of r = record { client = r.client; tag = tag_number r.tag; version = r.version; writer = r.writer; renewal = r.renewal }
 
 abbrev pub entered : List Record → Running → Running
 entered [] s = s
@@ -53,7 +64,7 @@ entered (r ∷ rs) s = record s { order = record { entries = insert s.order.entr
 
 -- the stamp of a client's next step
 abbrev pub stamp_of : Core → ℕ → Stamp
-stamp_of c k = record { client = k; place = c.events; renewal = 0 }
+stamp_of c k = record { client = k; place = c.events; renewal = c.renewal }
 
 -- the running core after an event
 abbrev pub run_acts : ℕ → Action → Running → Running
@@ -68,10 +79,11 @@ abbrev pub run_played : Event → Running → Running
 run_played (acts k e) s = run_acts k e s
 run_played (splits k) s = let c = s.core in record s { core = record c { clients = slice_set c.clients (k - 1) (blank (giving (client_of c k))) ++ blank (fresh (client_of c k)) ∷ []; events = c.events + 1 } }
 run_played (gathers k j) s = let c = s.core in record s { core = record c { clients = slice_set (slice_set c.clients (k - 1) (blank (taking (client_of c k) (client_of c j)))) (j - 1) gone; events = c.events + 1 } }
+run_played (renews k last) s = let c = s.core in record s { core = record c { last = last; renewal = c.renewal + 1; events = c.events + 1; clock = 0; locks = replicate (length c.locks) 0; clients = slice_set c.clients (k - 1) (blank (renewing (client_of c k))) } }
 
 -- the running core just opened
 abbrev pub run_opened : List ℕ → ℕ → ℕ → Running
-run_opened image last stripes = record { core = record { last = last; opening = []; renewal = 0; events = 0; clock = 0; locks = replicate stripes 0; cells = image; clients = opener ∷ [] }; order = record { entries = []; points = [] } }
+run_opened image last stripes = record { core = record { first = []; past = []; last = last; opening = []; renewal = 0; events = 0; clock = 0; locks = replicate stripes 0; cells = image; clients = opener ∷ [] }; order = record { entries = []; points = [] } }
 
 -- the word that the last step of the client with this number found, none where no client has it
 abbrev pub found_of : Core → ℕ → Option ℕ
@@ -89,7 +101,7 @@ pub record IsSane (c : Core) : Type 0 where
 
 -- a core as far as it is kept
 abbrev pub shown : Core → Core
-shown c = record c { opening = []; renewal = 0; clients = map blank c.clients }
+shown c = record c { first = []; past = []; opening = []; clients = map blank c.clients }
 
 -- the running core after a list of events
 abbrev pub ran : List Event → Running → Running

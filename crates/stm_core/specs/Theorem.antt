@@ -1,10 +1,10 @@
 -- What holds of every core that a list of allowed events leads to.
-use Rattle.std.specs.Prelude.{◌≡◌, ◌≢◌, ℕ, suc, ◌%◌, Bool, true, false, List, []}
+use Rattle.std.specs.Prelude.{◌≡◌, ◌≢◌, ℕ, suc, ◌%◌, ◌<◌, Bool, true, false, List, [], ◌++◌}
 use Rattle.stm_words.specs.Image.{In, Agrees}
-use Rattle.stm_core.specs.Client.{Client, Record, Phase, idle, running, ending, committed, finished}
+use Rattle.stm_core.specs.Client.{Client, Record, decided, Phase, idle, running, ending, committed, finished}
 use Rattle.stm_core.specs.Core.{Core, Event, Leads, opened}
 use Rattle.stm_core.specs.Version.{At}
-use Rattle.stm_core.specs.Invariant.{Inv}
+use Rattle.stm_core.specs.Invariant.{Rule, GoesOn}
 use Rattle.stm_core.specs.History.{Serial, image_after, image_at, ByPoint}
 
 -- the lock of an address
@@ -15,9 +15,9 @@ stripe_of stripes a = a % stripes
 abbrev pub free_law : List ℕ → List (ℕ × ℕ) → List (ℕ × ℕ) → Type 0
 free_law tag reads writes = Unit {0}
 
--- the client's last attempt was decided, as a writer or as a reader
+-- the client has no attempt that could still be decided: its last one was decided, as a writer or as a reader, or it has none
 abbrev pub is_settled : Phase → Bool
-is_settled idle = false
+is_settled idle = true
 is_settled running = false
 is_settled ending = false
 is_settled committed = true
@@ -29,22 +29,30 @@ pub record IsHistory (c : Core) (rs : List Record) : Type 0 where
   pub every : (i : ℕ) (v : Client) (r : Record) → At c.clients i v → In r v.records → In r rs
   pub only : (r : Record) → In r rs → (i : ℕ) × (v : Client) × At c.clients i v × In r v.records
 
--- what holds of a core that was opened on an image
+-- what holds of a core that was first opened on an image
 pub record Stands (lk : ℕ → ℕ) (image : List ℕ) (c : Core) : Type 0 where
-  -- the version invariant
-  pub invariant : Inv free_law lk c
-  pub history : List Record
-  pub is_history : IsHistory c history
-  -- the history is serial from the opening image
-  pub serial : Serial image history
+  -- the version invariant, over all renewals
+  pub rule : Rule free_law lk c
+  -- the history: that of the earlier renewals, and then that of the present one
+  pub earlier : List Record
+  pub present : List Record
+  pub is_history : IsHistory c (earlier ++ present)
+  pub before : (r : Record) → In r earlier → r.renewal < c.renewal
+  pub now : (r : Record) → In r present → r.renewal ≡ c.renewal
+  -- the history is serial from the first opening image
+  pub serial : Serial image (earlier ++ present)
+  -- the present renewal was opened on the newest image of the one before
+  pub opening : image_after image earlier ≡ c.opening
   -- the newest image is what laying all its writes gives
-  pub newest : image_at image c.clock history ≡ image_after image history
+  pub newest : image_at c.opening c.clock present ≡ image_after image (earlier ++ present)
   -- every attempt, finished or not, has read one version: what it has read is in the image of its read version
-  pub one_version : (i : ℕ) (v : Client) → At c.clients i v → Agrees (image_at image v.rv history) v.reads
+  pub one_version : (i : ℕ) (v : Client) → At c.clients i v → Agrees (image_at c.opening v.rv present) v.reads
+  -- nothing fails a lone attempt that is not decided
+  pub lone : (i : ℕ) (v : Client) → At c.clients i v → v.lone ≡ true → decided v ≡ false → GoesOn free_law lk c v
   -- when no lock is held the data words are the newest image
-  pub words : ((i : ℕ) (v : Client) → At c.clients i v → v.held ≡ []) → c.cells ≡ image_after image history
+  pub words : ((i : ℕ) (v : Client) → At c.clients i v → v.held ≡ []) → c.cells ≡ image_after image (earlier ++ present)
   -- an attempt that is not decided is in no history, and so in no image
-  pub no_trace : (i : ℕ) (v : Client) (r : Record) → At c.clients i v → v.spent ≡ false → is_settled v.phase ≡ false → In r history → r.client ≡ suc i → r.attempt ≢ v.attempt
+  pub no_trace : (i : ℕ) (v : Client) (r : Record) → At c.clients i v → v.spent ≡ false → is_settled v.phase ≡ false → In r (earlier ++ present) → r.client ≡ suc i → r.attempt ≢ v.attempt
 
 -- every list of allowed events, in any interleaving of any number of clients, leads to a core of which all this holds
 abbrev pub EveryListStands : Type 0

@@ -46,7 +46,7 @@ impl Writes {
     }
 }
 
-/// One atomic step of one client, or a client split off or gathered. Clients are numbered from 1 in the order of
+/// One atomic step of one client, a client split off or gathered, or the clock renewed. Clients are numbered from 1 in the order of
 /// opening and splitting, and no number is used again.
 #[derive(Drop)]
 pub enum Event {
@@ -116,15 +116,23 @@ pub enum Event {
         client: u32,
         other: u32,
     },
+    /// The clock begins anew at 0, on the same data words and with every lock free at version 0; the client is the only
+    /// one that is out, and its attempt has ended.
+    Renew {
+        client: u32,
+        last: u64,
+    },
 }
 
-/// A decided record: who decided it, its tag, its version, and whether it is a writer's.
+/// A decided record: who decided it, its tag, its version, whether it is a writer's, and how many renewals of the clock
+/// came before.
 #[derive(Clone, Copy, Debug, PartialEq, Eq)]
 pub struct Entry {
     pub client: u32,
     pub tag: u64,
     pub version: u64,
     pub writer: bool,
+    pub renewal: u32,
 }
 
 /// Why an event was not played.

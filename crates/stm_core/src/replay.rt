@@ -65,7 +65,7 @@ impl Core {
     }
 
     /// The word that a client's last step found: none before its first step, and after a put, a release, a give back,
-    /// a split and a gather.
+    /// a split, a gather and a renewal.
     pub fn found(&self, client: u32) -> Option<u64>
         ensures { result ≡ found_of self.now.core client }
     {

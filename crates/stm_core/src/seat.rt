@@ -3,7 +3,8 @@ ghost use Rattle.stm_core.specs.Client.{Client};
 ghost use Rattle.stm_core.specs.Seat.{blank, seat_after, tag_number};
 ghost use Rattle.stm_core.specs.Client.{nothing, word_before, value_fetched, found_by, is_committed, old_version};
 ghost use Rattle.stm_core.specs.Tests.{is_reading, has_probed, has_found_free, has_fetched, may_act};
-ghost use Rattle.stm_core.specs.Event.{is_empty, passes, begin, probe, fetch, check, lock, tick, validate, put, release, give_back, finish, giving, taking, opener, fresh, gone};
+ghost use Rattle.stm_core.specs.Event.{is_empty, passes, begin, probe, fetch, check, lock, tick, validate, put, release, give_back, finish, giving, taking, renewing, opener, fresh, gone};
+ghost use Rattle.stm_core.specs.Running.{are_spent, others_spent};
 
 use crate::pairs::{
     all_below, all_stored, behind, has, has_pair, is_next, may_write, names, none, says_free,
@@ -297,6 +298,13 @@ impl Seat {
         self.gave_back = false;
     }
 
+    /// The client after a renewal of the clock: it has no attempt.
+    pub(crate) fn renew(&mut self, alloc: Global)
+        ensures { self.new ≡ blank (renewing self.old) }
+    {
+        *self = Seat::with_grants(alloc, self.grants);
+    }
+
     /// A client that was gathered.
     pub(crate) fn leave(&mut self, alloc: Global)
         ensures { self.new ≡ gone }
@@ -581,5 +589,29 @@ impl Seat {
         ensures { result ≡ (is_empty self.now.reads || eqb (from + 1) (self.now.rv + 1)) }
     {
         none(&self.reads) || from == self.rv
+    }
+}
+
+/// Whether every client but the one at a place is spent.
+pub(crate) fn others_spent(seats: &[Seat], place: usize) -> bool
+    ensures { result ≡ others_spent seats.now place }
+{
+    match seats {
+        [] => true,
+        [first, rest @ ..] => if place == 0 {
+            are_spent(rest)
+        } else {
+            first.spent && others_spent(rest, place - 1)
+        },
+    }
+}
+
+/// Whether every client is spent.
+fn are_spent(seats: &[Seat]) -> bool
+    ensures { result ≡ are_spent seats.now }
+{
+    match seats {
+        [] => true,
+        [first, rest @ ..] => first.spent && are_spent(rest),
     }
 }

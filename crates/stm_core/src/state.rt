@@ -1,5 +1,5 @@
 ghost use Rattle.std.specs.Prelude.{◌≡◌, ◌≢◌, ℕ, ◌<◌, ◌≤◌, ◌+◌, ◌-◌, ◌*◌, ◌^◌, ◌&&◌, true, length, OnOk, OnErr, IfOk, List, [], ◌∷◌};
-ghost use Rattle.stm_core.specs.Core.{client_of, bounds_of, splits, gathers};
+ghost use Rattle.stm_core.specs.Core.{client_of, bounds_of, splits, gathers, renews};
 ghost use Rattle.stm_core.specs.Event.{begin, probe, fetch, check, lock, tick, validate, put, release, give_back, finish};
 ghost use Rattle.stm_core.specs.Client.{old_version, word_before, IsFree};
 ghost use Rattle.stm_core.specs.Played.{event_of};
@@ -7,7 +7,7 @@ ghost use Rattle.stm_core.specs.Running.{Running, IsSane, is_out, may_play, run_
 
 use crate::event::{Entry, Event, Writes};
 use crate::order::{Order, push_in_room};
-use crate::seat::Seat;
+use crate::seat::{Seat, others_spent};
 use std::alloc::{AllocError, Global};
 use std::marker::Model;
 
@@ -15,6 +15,7 @@ use std::marker::Model;
 #[derive(Drop)]
 pub(crate) struct State {
     last: u64,
+    renewal: u32,
     clock: u64,
     stripes: u32,
     locks: Vec<u64>,
@@ -194,6 +195,7 @@ impl State {
             tag,
             version: seat.read_version(),
             writer: false,
+            renewal: self.renewal,
         };
         self.order.enter(entry, seat.began_at())?;
         seat.finish(self.clock);
@@ -218,6 +220,7 @@ impl State {
                 tag: seat.tag(),
                 version: seat.write_version(),
                 writer: true,
+                renewal: self.renewal,
             };
             self.order.enter(entry, seat.ticked_at())?;
         }
@@ -244,6 +247,7 @@ impl State {
                 tag,
                 version: from + 1,
                 writer: true,
+                renewal: self.renewal,
             };
             self.order.enter(entry, place)?;
         }
@@ -286,6 +290,25 @@ impl State {
         seat.take(grants);
         let seat = &mut self.seats[other as usize - 1];
         seat.leave(alloc);
+        push_in_room(&mut self.trace, client);
+        Ok(())
+    }
+
+    /// Renews the clock.
+    fn renew(&mut self, alloc: Global, client: u32, last: u64) -> Result<(), AllocError>
+        requires out { is_out self.old.core client ≡ true }
+        requires few { self.old.core.renewal < 65535 }
+        ensures done { OnOk result (self.new ≡ run_played (renews client last) self.old) }
+        ensures kept { OnErr result (self.new ≡ self.old) }
+    {
+        self.trace.reserve(1)?;
+        let locks = vec![in alloc; 0u64; self.stripes as usize]?;
+        let seat = &mut self.seats[client as usize - 1];
+        seat.renew(alloc);
+        self.locks = locks;
+        self.clock = 0;
+        self.last = last;
+        self.renewal += 1;
         push_in_room(&mut self.trace, client);
         Ok(())
     }
@@ -335,6 +358,7 @@ impl State {
             Event::Finish { client, .. } => self.is_out(*client) && self.seat(*client).may_finish(),
             Event::Split { client } => self.may_split(*client),
             Event::Gather { client, other } => self.may_gather(*client, *other),
+            Event::Renew { client, last } => self.may_renew(*client, *last),
         }
     }
 
@@ -357,6 +381,18 @@ impl State {
             && client != other
             && self.seat(client).holds_none()
             && self.seat(other).holds_none()
+    }
+
+    /// Whether a client may renew the clock.
+    fn may_renew(&self, client: u32, last: u64) -> bool
+        ensures { result ≡ may_play (renews client last) self.now.core }
+    {
+        self.is_out(client)
+            && self.seat(client).holds_none()
+            && others_spent(&self.seats, client as usize - 1)
+            && 1 <= last
+            && last < 1 << 62
+            && self.renewal < 65535
     }
 
     /// Plays an event that is allowed.
@@ -389,6 +425,7 @@ impl State {
             Event::Finish { client, tag } => self.finish(client, tag),
             Event::Split { client } => self.split(alloc, client),
             Event::Gather { client, other } => self.gather(alloc, client, other),
+            Event::Renew { client, last } => self.renew(alloc, client, last),
         }
     }
 
@@ -424,6 +461,7 @@ impl State {
         let _ = seats.push(Seat::opener(alloc));
         Ok(State {
             last,
+            renewal: 0,
             clock: 0,
             stripes,
             locks: vec![in alloc; 0u64; stripes as usize]?,

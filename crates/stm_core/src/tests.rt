@@ -88,6 +88,7 @@ fn a_reader_is_in_the_order(rt: HostRuntime) {
         tag: 7,
         version: 0,
         writer: false,
+        renewal: 0,
     }];
     assert_eq!(rt; core.order(), want.as_slice());
     let _ = refused(&rt, core, Event::Probe { client: 1, lock: 9 });
@@ -136,6 +137,7 @@ fn a_lock_given_back_under_a_read(rt: HostRuntime) {
         tag: 3,
         version: 0,
         writer: false,
+        renewal: 0,
     }];
     assert_eq!(rt; core.order(), want.as_slice());
 }
@@ -203,6 +205,7 @@ fn writer(client: u32, tag: u64, version: u64) -> Entry {
         tag,
         version,
         writer: true,
+        renewal: 0,
     }
 }
 
@@ -279,4 +282,106 @@ fn theorems(_rt: HostRuntime) {
     core_theorem();
     running_theorem();
     law_theorem::<FreeLaw>();
+}
+
+/// Its clock stands at its last version, 1, and word 9 is 5.
+fn spent(rt: &impl Abort, alloc: Global) -> Core {
+    let core = match Core::start(alloc, &[0; 32], 1, 32) {
+        Ok(core) => core,
+        Err(_) => panic!(rt; "no memory for a core"),
+    };
+    let core = played(rt, core, Event::Begin { client: 1 }, 1, Some(0));
+    let core = locked(rt, core, 1, 9);
+    let tick = Event::Tick {
+        client: 1,
+        from: 0,
+        tag: 5,
+        writes: writes(rt, alloc, &[(9, 5)]),
+    };
+    let core = played(rt, core, tick, 1, Some(0));
+    let put = Event::Put {
+        client: 1,
+        addr: 9,
+        value: 5,
+    };
+    let core = played(rt, core, put, 1, None);
+    played(rt, core, Event::Release { client: 1, lock: 9 }, 1, None)
+}
+
+#[test]
+fn a_spent_clock_is_renewed(rt: HostRuntime) {
+    let core = spent(&rt, rt.alloc());
+    let core = played(&rt, core, Event::Begin { client: 1 }, 1, Some(1));
+    let core = played(&rt, core, Event::Probe { client: 1, lock: 9 }, 1, Some(2));
+    let core = played(&rt, core, Event::Lock { client: 1, lock: 9 }, 1, Some(2));
+    let tick = Event::Tick {
+        client: 1,
+        from: 1,
+        tag: 5,
+        writes: writes(&rt, rt.alloc(), &[(9, 6)]),
+    };
+    let core = refused(&rt, core, tick);
+    let core = refused(
+        &rt,
+        core,
+        Event::Renew {
+            client: 1,
+            last: 100,
+        },
+    );
+    let core = played(&rt, core, Event::GiveBack { client: 1, lock: 9 }, 1, None);
+    let core = played(
+        &rt,
+        core,
+        Event::Renew {
+            client: 1,
+            last: 100,
+        },
+        1,
+        None,
+    );
+    let core = played(&rt, core, Event::Begin { client: 1 }, 1, Some(0));
+    let core = played(&rt, core, Event::Probe { client: 1, lock: 9 }, 1, Some(0));
+    let core = played(&rt, core, Event::Fetch { client: 1, addr: 9 }, 1, Some(5));
+    let core = played(&rt, core, Event::Check { client: 1, addr: 9 }, 1, Some(0));
+    let core = played(&rt, core, Event::Finish { client: 1, tag: 6 }, 1, Some(0));
+    let want = [
+        writer(1, 5, 1),
+        Entry {
+            client: 1,
+            tag: 6,
+            version: 0,
+            writer: false,
+            renewal: 1,
+        },
+    ];
+    assert_eq!(rt; core.order(), want.as_slice());
+}
+
+#[test]
+fn a_renewal_is_refused(rt: HostRuntime) {
+    let core = opened(&rt, rt.alloc(), 32);
+    let core = refused(&rt, core, Event::Renew { client: 1, last: 0 });
+    let core = refused(
+        &rt,
+        core,
+        Event::Renew {
+            client: 1,
+            last: 1 << 62,
+        },
+    );
+    let core = played(&rt, core, Event::Split { client: 1 }, 1, None);
+    let core = refused(&rt, core, Event::Renew { client: 1, last: 1 });
+    let core = played(
+        &rt,
+        core,
+        Event::Gather {
+            client: 2,
+            other: 1,
+        },
+        2,
+        None,
+    );
+    let core = played(&rt, core, Event::Renew { client: 2, last: 1 }, 2, None);
+    let _ = refused(&rt, core, Event::Renew { client: 1, last: 1 });
 }

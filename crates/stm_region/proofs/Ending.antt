@@ -4,13 +4,12 @@ use Rattle.std.proofs.lemmas.List.{length-replicate}
 use mathlib.Core.Option.{some}
 use lib.ListN.{get_elem?}
 use Rattle.atomic_table.specs.Table.{State, opening, Final, Seen}
-use Rattle.stm_words.specs.Image.{In}
 use Rattle.stm_core.specs.Client.{Client}
-use Rattle.stm_core.specs.Core.{Core, opened, IsFreeHanded}
-use Rattle.stm_core.specs.Event.{opener}
+use Rattle.stm_core.specs.Core.{Core, opened, begun_on, IsFreeHanded}
+use Rattle.stm_core.specs.Event.{opener, renewing}
 use Rattle.stm_core.specs.History.{Serial, image_after}
-use Rattle.stm_core.proofs.Joining.{opening_keeps}
-use Rattle.stm_core.proofs.Facts.{all_lawful, others_spent, alone, alone_serial}
+use Rattle.stm_core.proofs.Renewing.{opening_rules, begins_rules, past_before}
+use Rattle.stm_core.proofs.Whole.{closes, all_grants, own_sorted}
 use Rattle.stm_region.specs.Shown.{Opened, RegionShown, opened_with, stripe_of}
 use Rattle.stm_region.specs.Layout.{padding, first_cell}
 use Rattle.stm_region.specs.Rule.{listed, Holds}
@@ -36,7 +35,7 @@ laid_out image stripes =
     rw e (ap (λ xs. 0 ∷ xs) (zeros 15 (stripes + padding stripes) image ∙ ap (λ xs. replicate 15 0 ++ xs) (zeros stripes (padding stripes) image)))
 
 module _ (fits : List ℕ → Type 0) (lawful : List ℕ → List (ℕ × ℕ) → List (ℕ × ℕ) → Type 0) where
-  opens : {S : Type 0} (image : List ℕ) (last stripes : ℕ) → fits image → last < 2 ^ 62 → 0 < stripes → Holds {S = S} fits lawful record { image = image; last = last; stripes = stripes } (opening (replicate (first_cell stripes) 0 ++ image) [] opener)
+  opens : {S : Type 0} (image : List ℕ) (last stripes : ℕ) → fits image → last < 2 ^ 62 → 0 < stripes → Holds {S = S} fits lawful record { image = image; last = last; stripes = stripes; first = image; renewal = 0; start = opener } (opening (replicate (first_cell stripes) 0 ++ image) [] opener)
   opens image last stripes f top one = record {
     core = opened image last stripes;
     gap = replicate 15 0;
@@ -48,8 +47,9 @@ module _ (fits : List ℕ → Type 0) (lawful : List ℕ → List (ℕ × ℕ) �
     before_cells = length-replicate (padding stripes) 0;
     last = refl;
     opening = refl;
+    first = refl;
     renewal = refl;
-    inv = opening_keeps lawful (stripe_of stripes) image last stripes;
+    rule = opening_rules lawful (stripe_of stripes) image last stripes;
     fitting = f;
     bounded = top;
     some = one;
@@ -57,10 +57,10 @@ module _ (fits : List ℕ → Type 0) (lawful : List ℕ → List (ℕ × ℕ) �
 
   -- a table of these words meets the rule at its opening
   pub opens_on : {S : Type 0} (image words : List ℕ) (last stripes : ℕ) → fits image → last < 2 ^ 62 → 0 < stripes → words ≡ replicate (first_cell stripes) 0 ++ image
-      → Holds {S = S} fits lawful record { image = drop (first_cell stripes) words; last = last; stripes = stripes } (opening words [] opener)
+      → Holds {S = S} fits lawful record { image = drop (first_cell stripes) words; last = last; stripes = stripes; first = drop (first_cell stripes) words; renewal = 0; start = opener } (opening words [] opener)
   opens_on {S} image words last stripes f top one e =
-      subst (λ ws. Holds {S = S} fits lawful record { image = drop (first_cell stripes) ws; last = last; stripes = stripes } (opening ws [] opener)) (sym e)
-      (subst (λ ys. Holds {S = S} fits lawful record { image = ys; last = last; stripes = stripes } (opening (replicate (first_cell stripes) 0 ++ image) [] opener)) (sym (image_behind image stripes)) (opens image last stripes f top one))
+      subst (λ ws. Holds {S = S} fits lawful record { image = drop (first_cell stripes) ws; last = last; stripes = stripes; first = drop (first_cell stripes) ws; renewal = 0; start = opener } (opening ws [] opener)) (sym e)
+      (subst (λ ys. Holds {S = S} fits lawful record { image = ys; last = last; stripes = stripes; first = ys; renewal = 0; start = opener } (opening (replicate (first_cell stripes) 0 ++ image) [] opener)) (sym (image_behind image stripes)) (opens image last stripes f top one))
 
 -- the data words, from their place on
 cells_behind : (gap pad : List ℕ) (c : Core) (s : ℕ) → length gap ≡ 15 → length c.locks ≡ s → length pad ≡ padding s → drop (first_cell s) (listed gap pad c) ≡ c.cells
@@ -78,21 +78,25 @@ module _ (fits : List ℕ → Type 0) (lawful : List ℕ → List (ℕ × ℕ) �
   ends id v free all s h at =
       let c : Core = h.core in
       let at' : get_elem? c.clients id ≡ some v = subst (λ vs. get_elem? vs id ≡ some v) h.views at in
-      let only = others_spent lawful (stripe_of r.stripes) c h.inv id v at' free.0 all in
-      let both = alone lawful (stripe_of r.stripes) c h.inv id v at' free only in
+      let only = all_grants lawful (stripe_of r.stripes) c h.rule id v at' free.0 all in
+      let known = closes lawful (stripe_of r.stripes) c h.rule id v at' free only in
       let cells : c.cells ≡ drop (first_cell r.stripes) s.words = sym (cells_behind h.gap h.pad c r.stripes h.before_locks h.locks h.before_cells) ∙ ap (drop (first_cell r.stripes)) (sym h.words) in
       record {
         core = c;
-        inv = h.inv;
+        rule = h.rule;
+        first = h.first;
+        renewal = h.renewal;
         opening = h.opening;
         last = h.last;
         number = id;
         member = at';
         clock = sym (ap (λ ws. slice_index ws 0) h.words);
         cells = cells;
-        abides = λ x m. all_lawful lawful (stripe_of r.stripes) c h.inv x (subst (In x) (sym both.0) m);
-        serial = subst (λ image. Serial image v.records) h.opening (alone_serial lawful (stripe_of r.stripes) c h.inv id v at' free only);
-        newest = sym cells ∙ (both.1 ∙ ap (λ image. image_after image v.records) h.opening);
+        abides = known.2;
+        sorted = own_sorted lawful (stripe_of r.stripes) c h.rule id v at';
+        eras = λ x m. (let p = past_before lawful (stripe_of r.stripes) c h.rule id v at' free only 0 x m in let e = h.renewal in omega arith);
+        serial = subst (λ image. Serial image v.records) h.first known.0;
+        newest = sym cells ∙ (sym known.1 ∙ ap (λ image. image_after image v.records) h.first);
       }
 
   pub ends_with : {S : Type 0} (key : Opened) → key ≡ opened_with r → (id : ℕ) (u v : Client) → u ≡ v → IsFreeHanded v → v.grants ≡ 63 → (ws : List ℕ) (xs : List S) → Final (Seen (Holds fits lawful key) id u) ws xs
@@ -102,4 +106,26 @@ module _ (fits : List ℕ → Type 0) (lawful : List ℕ → List (ℕ × ℕ) �
       (ends id v free all f.0 (subst (λ k. Holds {S = S} fits lawful k f.0) e f.1.0) (subst (λ w. get_elem? f.0.views id ≡ some w) q f.1.1)))
 
   pub ends_small : (v : Client) (words : List ℕ) (clock : ℕ) → Ends lawful r v words clock → clock ≤ r.last
-  ends_small v words clock h = let b = h.inv.bounded in let l = h.last in let c = h.clock in omega arith
+  ends_small v words clock h = let b = h.rule.inv.bounded in let l = h.last in let c = h.clock in omega arith
+
+-- what a region ended with, opened anew, meets the rule of the next renewal
+pub reopens : {S : Type 0} (fits : List ℕ → Type 0) (lawful : List ℕ → List (ℕ × ℕ) → List (ℕ × ℕ) → Type 0) (r : RegionShown) (v : Client) (words : List ℕ) (version last : ℕ) → Ends lawful r v words version → v.grants ≡ 63 → fits r.first → last < 2 ^ 62 → 0 < r.stripes
+    → Holds {S = S} fits lawful record { image = words; last = last; stripes = r.stripes; first = r.first; renewal = r.renewal + 1; start = renewing v } (opening (replicate (first_cell r.stripes) 0 ++ words) [] (renewing v))
+reopens {S} fits lawful r v words version last h all f top one = record {
+  core = begun_on r.first words (r.renewal + 1) last r.stripes (renewing v);
+  gap = replicate 15 0;
+  pad = replicate (padding r.stripes) 0;
+  words = laid_out words r.stripes;
+  views = refl;
+  before_locks = refl;
+  locks = length-replicate r.stripes 0;
+  before_cells = length-replicate (padding r.stripes) 0;
+  last = refl;
+  opening = refl;
+  first = refl;
+  renewal = refl;
+  rule = begins_rules lawful (stripe_of r.stripes) r.first words (r.renewal + 1) last r.stripes (renewing v) refl all h.serial (sym h.newest) h.abides h.eras h.sorted;
+  fitting = f;
+  bounded = top;
+  some = one;
+}

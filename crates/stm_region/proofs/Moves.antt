@@ -11,12 +11,15 @@ use Rattle.atomic_table.specs.Seated.{TableId}
 use Rattle.stm_words.specs.Image.{In, Agrees, laid}
 use Rattle.stm_core.specs.Client.{Client, old_version}
 use Rattle.stm_core.specs.Core.{Core, bounds_of, found, left, written, stepped, divided, gathered, IsFreeHanded}
-use Rattle.stm_core.specs.Event.{Action, begin, probe, fetch, check, lock, tick, validate, put, release, give_back, finish, Holds as Holding, May, after, giving, fresh, taking, gone}
+use Rattle.stm_core.specs.Event.{Action, begin, probe, fetch, check, lock, tick, validate, put, release, give_back, finish, Holds as Holding, MayAct, May, after, giving, fresh, taking, gone}
 use Rattle.stm_core.specs.History.{Serial, SomeFits, all_records}
-use Rattle.stm_core.specs.Invariant.{Inv}
-use Rattle.stm_core.proofs.Steps.{step_keeps}
-use Rattle.stm_core.proofs.Joining.{split_keeps, gather_keeps}
-use Rattle.stm_core.proofs.Facts.{all_shared, some_fits, grants_of_two}
+use Rattle.stm_core.specs.Invariant.{now, Rule}
+use Rattle.stm_core.specs.Client.{shed}
+use Rattle.stm_core.proofs.Lones.{at_map, goes_on}
+use Rattle.stm_core.proofs.Renewals.{step_rules}
+use Rattle.stm_core.proofs.Renewing.{split_rules, gather_rules}
+use Rattle.stm_core.proofs.Whole.{whole_shared, opening_fits}
+use Rattle.stm_core.proofs.Facts.{some_fits, grants_of_two}
 use Rattle.stm_region.specs.Shown.{Opened, RegionShown, joined, opened_with, bounds, unplaced, stripe_of}
 use Rattle.stm_region.specs.Layout.{place, first_cell, InRange, IsLaid, IsStore}
 use Rattle.stm_region.specs.Told.{IsLockWord, IsVersion, StandsOn, Decides, Told, acting}
@@ -46,9 +49,9 @@ pub record Runs (words : ℕ) (key : Opened) (r : RegionShown) : Type 0 where
   pub some : 0 < r.stripes
   pub top : r.last < 2 ^ 62
 
-pub runs : (words slots : ℕ) (key : Opened) (size last stripes cells : ℕ) → IsLaid words slots key size last stripes cells → (t : TableId) (r : RegionShown) → record { table = t; size = size; last = last; stripes = stripes; opening = key.image } ≡ r → Runs words key r
+pub runs : (words slots : ℕ) (key : Opened) (size last stripes cells : ℕ) → IsLaid words slots key size last stripes cells → (t : TableId) (r : RegionShown) → record { table = t; size = size; last = last; stripes = stripes; opening = key.image; first = key.first; renewal = key.renewal; start = key.start } ≡ r → Runs words key r
 runs words slots key size last stripes cells h t r e = subst (λ x. Runs words key x) e record {
-  key_is = (let l = h.last in let s = h.same in λ i. record { image = key.image; last = l i; stripes = s i });
+  key_is = (let l = h.last in let s = h.same in λ i. record { image = key.image; last = l i; stripes = s i; first = key.first; renewal = key.renewal; start = key.start });
   size = h.image;
   total = (let b = h.behind in h.total ∙ ap (λ n. n + size) b);
   some = h.some;
@@ -63,13 +66,14 @@ either_is false x y = refl
 pub record Matches (o : Opened) (c : Core) : Type 0 where
   pub last : c.last ≡ o.last
   pub opening : c.opening ≡ o.image
-  pub renewal : c.renewal ≡ 0
+  pub first : c.first ≡ o.first
+  pub renewal : c.renewal ≡ o.renewal
   pub locks : length c.locks ≡ o.stripes
 
 -- the bound on the grants takes none away
-pub joined_all : (lawful : List ℕ → List (ℕ × ℕ) → List (ℕ × ℕ) → Type 0) (l : ℕ → ℕ) (c : Core) → Inv lawful l c → (i j : ℕ) (v w : Client) → i ≢ j → get_elem? c.clients i ≡ some v → get_elem? c.clients j ≡ some w → v.spent ≡ false → w.spent ≡ false → joined v w ≡ taking v w
+pub joined_all : (lawful : List ℕ → List (ℕ × ℕ) → List (ℕ × ℕ) → Type 0) (l : ℕ → ℕ) (c : Core) → Rule lawful l c → (i j : ℕ) (v w : Client) → i ≢ j → get_elem? c.clients i ≡ some v → get_elem? c.clients j ≡ some w → v.spent ≡ false → w.spent ≡ false → joined v w ≡ taking v w
 joined_all lawful l c inv i j v w ne at to un un' =
-    let n = grants_of_two lawful l c inv i j v w ne at to un un' in
+    let n = grants_of_two lawful l (now c) inv.inv i j (shed c.renewal v) (shed c.renewal w) ne (at_map (shed c.renewal) c.clients i v at) (at_map (shed c.renewal) c.clients j w to) un un' in
     let e : min (v.grants + w.grants + 1) 63 ≡ v.grants + w.grants + 1 = omega arith in λ k. record (taking v w) { grants = e k }
 
 module _ (fits : List ℕ → Type 0) (lawful : List ℕ → List (ℕ × ℕ) → List (ℕ × ℕ) → Type 0) (law : Keeping fits lawful) (r : RegionShown) where
@@ -79,54 +83,62 @@ module _ (fits : List ℕ → Type 0) (lawful : List ℕ → List (ℕ × ℕ) �
   abbrev o : Opened
   o = opened_with r
 
-  decides_of : (c : Core) → Matches o c → fits r.opening → Inv lawful lk c → (i : ℕ) (v : Client) → get_elem? c.clients i ≡ some v → Decides fits lawful r.opening v
-  decides_of c m f inv i v at = record {
-    clients = c.clients;
-    number = i;
-    member = at;
-    fitting = f;
-    abides = (all_shared lawful lk c inv i v at).abides;
-    serial = subst (λ image. Serial image (all_records c.clients)) m.opening (all_shared lawful lk c inv i v at).serial;
-    among = (all_shared lawful lk c inv i v at).among;
-  }
+  decides_of : (c : Core) → Matches o c → fits r.first → Rule lawful lk c → (i : ℕ) (v : Client) → get_elem? c.clients i ≡ some v → Decides fits lawful r v
+  decides_of c m f h i v at =
+      let all = whole_shared lawful lk c h i v at in record {
+        core = c;
+        rule = h;
+        first = m.first;
+        renewal = m.renewal;
+        number = i;
+        member = at;
+        fitting = f;
+        abides = all.abides;
+        serial = subst (λ image. Serial image (all_records c.clients)) m.first all.serial;
+        among = all.among;
+      }
 
   stands_on : (image : List ℕ) (reads : List (ℕ × ℕ)) → SomeFits fits (length image) reads → StandsOn fits (length image) reads
   stands_on image reads h = record { image = h.0; length_is = h.2; fitting = h.1; agrees = h.3 }
 
-  stands_of : (c : Core) → Matches o c → length r.opening ≡ r.size → fits r.opening → Inv lawful lk c → (i : ℕ) (v : Client) → get_elem? c.clients i ≡ some v → StandsOn fits r.size v.reads
-  stands_of c m z f inv i v at = subst (λ n. StandsOn fits n v.reads) z (subst (λ image. fits image → StandsOn fits (length image) v.reads) m.opening (λ g. stands_on c.opening v.reads (some_fits lawful lk c inv fits law g i v at)) f)
+  stands_of : (c : Core) → Matches o c → length r.opening ≡ r.size → fits r.first → Rule lawful lk c → (i : ℕ) (v : Client) → get_elem? c.clients i ≡ some v → StandsOn fits r.size v.reads
+  stands_of c m z f h i v at =
+      let k : fits c.opening = opening_fits lawful lk c h fits law (subst fits (sym m.first) f) in
+      subst (λ n. StandsOn fits n v.reads) (ap length m.opening ∙ z) (stands_on c.opening v.reads (some_fits lawful lk (now c) h.inv fits law k i (shed c.renewal v) (at_map (shed c.renewal) c.clients i v at)))
 
-  lock_word : (c : Core) → Matches o c → r.last < 2 ^ 62 → Inv lawful lk c → (k : ℕ) → IsLockWord r.last (slice_index c.locks k)
+  lock_word : (c : Core) → Matches o c → r.last < 2 ^ 62 → Rule lawful lk c → (k : ℕ) → IsLockWord r.last (slice_index c.locks k)
   lock_word c m top inv k =
-      let h = inv.version.versions k in
-      let b = inv.bounded in
+      let h = inv.inv.version.versions k in
+      let b = inv.inv.bounded in
       let e = m.last in
       let n : ℕ = slice_index c.locks k in
       let h' : n / 2 ≤ c.clock = h in record { version = omega arith; small = omega arith }
 
-  clock : (c : Core) → Matches o c → r.last < 2 ^ 62 → Inv lawful lk c → IsVersion r.last c.clock
-  clock c m top inv = let b = inv.bounded in let e = m.last in record { known = omega arith; small = omega arith }
+  clock : (c : Core) → Matches o c → r.last < 2 ^ 62 → Rule lawful lk c → IsVersion r.last c.clock
+  clock c m top inv = let b = inv.inv.bounded in let e = m.last in record { known = omega arith; small = omega arith }
 
-  opening_stands : length r.opening ≡ r.size → fits r.opening → StandsOn fits r.size []
-  opening_stands z f = record { image = r.opening; length_is = z; fitting = f; agrees = λ a x m. absurd (not_in (a, x) m) }
+  opening_stands : (c : Core) → Matches o c → length r.opening ≡ r.size → fits r.first → Rule lawful lk c → StandsOn fits r.size []
+  opening_stands c m z f h = record { image = c.opening; length_is = ap length m.opening ∙ z; fitting = opening_fits lawful lk c h fits law (subst fits (sym m.first) f); agrees = λ a x k. absurd (not_in (a, x) k) }
 
-  later : (c : Core) → Inv lawful lk c → (i : ℕ) (v : Client) → get_elem? c.clients i ≡ some v → 0 < v.wv → v.rv < v.wv
-  later c inv i v at = (inv.books.booked i v at).later
+  later : (c : Core) → Rule lawful lk c → (i : ℕ) (v : Client) → get_elem? c.clients i ≡ some v → 0 < v.wv → v.rv < v.wv
+  later c h i v at = (h.inv.books.booked i (shed c.renewal v) (at_map (shed c.renewal) c.clients i v at)).later
 
   -- what a step tells, of the core before it and of the one after it
-  told_of : (c d : Core) → Matches o c → Matches o d → length r.opening ≡ r.size → r.last < 2 ^ 62 → fits r.opening → Inv lawful lk c → Inv lawful lk d → (i : ℕ) (v w : Client) → get_elem? c.clients i ≡ some v → get_elem? d.clients i ≡ some w → (e : Action)
-      → Told fits lawful r e (found lk c e) v w
-  told_of c d m m' z top f inv inv' i v w was at begin = (clock c m top inv, (inv.version.sound i v was).floor, opening_stands z f)
-  told_of c d m m' z top f inv inv' i v w was at (probe k) = lock_word c m top inv k
-  told_of c d m m' z top f inv inv' i v w was at (fetch a) = tt
-  told_of c d m m' z top f inv inv' i v w was at (check a) = (lock_word c m top inv (lk a), stands_of d m' z f inv' i w at)
-  told_of c d m m' z top f inv inv' i v w was at (lock k) = lock_word c m top inv k
-  told_of c d m m' z top f inv inv' i v w was at (tick from tag writes) = (clock c m top inv, later d inv' i w at, λ s. decides_of d m' f inv' i w at)
-  told_of c d m m' z top f inv inv' i v w was at (validate k) = (lock_word c m top inv k, λ s. decides_of d m' f inv' i w at)
-  told_of c d m m' z top f inv inv' i v w was at (put a x) = tt
-  told_of c d m m' z top f inv inv' i v w was at (release k) = tt
-  told_of c d m m' z top f inv inv' i v w was at (give_back k) = tt
-  told_of c d m m' z top f inv inv' i v w was at (finish tag) = decides_of d m' f inv' i w at
+  told_of : (c d : Core) → Matches o c → Matches o d → length r.opening ≡ r.size → r.last < 2 ^ 62 → fits r.first → Rule lawful lk c → Rule lawful lk d → (i : ℕ) (v : Client) (e : Action) → get_elem? c.clients i ≡ some v
+      → get_elem? d.clients i ≡ some (after (unplaced r.renewal) lk e (found lk c e) v) → MayAct lawful lk (bounds_of c) e v → Told fits lawful r e (found lk c e) v (after (unplaced r.renewal) lk e (found lk c e) v)
+  told_of c d m m' z top f h h' i v begin was at may = (clock c m top h, (h.inv.version.sound i (shed c.renewal v) (at_map (shed c.renewal) c.clients i v was)).floor, opening_stands c m z f h)
+  told_of c d m m' z top f h h' i v (probe k) was at may = (lock_word c m top h k, λ y. (goes_on lawful lk c h.inv h.lone i v was y.0 y.1).probes k)
+  told_of c d m m' z top f h h' i v (fetch a) was at may = tt
+  told_of c d m m' z top f h h' i v (check a) was at may = (lock_word c m top h (lk a), stands_of d m' z f h' i (after (unplaced r.renewal) lk (check a) (found lk c (check a)) v) at, λ y. (goes_on lawful lk c h.inv h.lone i v was y.0 y.1).checks a may)
+  told_of c d m m' z top f h h' i v (lock k) was at may = (lock_word c m top h k, λ y. (goes_on lawful lk c h.inv h.lone i v was y.0 y.1).locks k may)
+  told_of c d m m' z top f h h' i v (tick from tag writes) was at may =
+      let w = after (unplaced r.renewal) lk (tick from tag writes) c.clock v in
+      (clock c m top h, later d h' i w at, (λ s. decides_of d m' f h' i w at), λ y. let g = (goes_on lawful lk c h.inv h.lone i v was y.0 y.1).ticks from tag writes may in (g.0, g.1 (unplaced r.renewal)))
+  told_of c d m m' z top f h h' i v (validate k) was at may = (lock_word c m top h k, λ s. decides_of d m' f h' i (after (unplaced r.renewal) lk (validate k) (found lk c (validate k)) v) at)
+  told_of c d m m' z top f h h' i v (put a x) was at may = tt
+  told_of c d m m' z top f h h' i v (release k) was at may = tt
+  told_of c d m m' z top f h h' i v (give_back k) was at may = tt
+  told_of c d m m' z top f h h' i v (finish tag) was at may = decides_of d m' f h' i (after (unplaced r.renewal) lk (finish tag) c.clock v) at
 
   in_clients : (cs : List Client) (i : ℕ) (v w : Client) → get_elem? cs i ≡ some v → get_elem? (set cs i w) i ≡ some w
   in_clients [] i v w e = absurd (some-ne-none v (sym e))
@@ -134,44 +146,44 @@ module _ (fits : List ℕ → Type 0) (lawful : List ℕ → List (ℕ × ℕ) �
   in_clients (x ∷ xs) (suc i) v w e = in_clients xs i v w e
 
   -- a held lock word less 1 is the free word of its old version
-  less_one : (c : Core) (id k : ℕ) (v : Client) → Inv lawful lk c → get_elem? c.clients id ≡ some v → Holding v.held k → slice_index c.locks k < 18446744073709551616
+  less_one : (c : Core) (id k : ℕ) (v : Client) → Rule lawful lk c → get_elem? c.clients id ≡ some v → Holding v.held k → slice_index c.locks k < 18446744073709551616
       → (slice_index c.locks k + (18446744073709551616 - 1)) % 18446744073709551616 ≡ 2 * old_version v.held k
   less_one c id k v inv at w lt =
-      let e = (inv.books.booked id v at).listed k (old_version v.held k) (old_there v.held k w.0 w.1) in
+      let e = (inv.inv.books.booked id (shed c.renewal v) (at_map (shed c.renewal) c.clients id v at)).listed k (old_version v.held k) (old_there v.held k w.0 w.1) in
       let n : ℕ = slice_index c.locks k in
       let u : ℕ = old_version v.held k in
       let e' : n ≡ 2 * u + 1 = e in omega arith
 
   module _ {S : Type 0} where
-    abbrev Rule : State S Client → Type 0
-    Rule s = Holds fits lawful o s
+    abbrev Kept : State S Client → Type 0
+    Kept s = Holds fits lawful o s
 
-    pub matches : (s : State S Client) (h : Rule s) → Matches o h.core
-    matches s h = record { last = h.last; opening = h.opening; renewal = h.renewal; locks = h.locks }
+    pub matches : (s : State S Client) (h : Kept s) → Matches o h.core
+    matches s h = record { last = h.last; opening = h.opening; first = h.first; renewal = h.renewal; locks = h.locks }
 
     -- a step at its place, whose word becomes f of what it was
     acts_allowed : (slots id : ℕ) (me : Me S Client) (e : Action) (word : ℕ) (f : ℕ → ℕ) (told : ℕ → Me S Client → Type 0)
         → length r.opening ≡ r.size → word ≡ place r.stripes e → InRange r.stripes r.size e → May lawful lk (bounds r) e me.0
-        → ((c : Core) → Inv lawful lk c → get_elem? c.clients id ≡ some me.0 → found lk c e < 18446744073709551616 → f (found lk c e) ≡ left e (found lk c e) me.0)
-        → ((n : ℕ) → Told fits lawful r e n me.0 (after unplaced lk e n me.0) → told n (after unplaced lk e n me.0, me.1))
-        → Allows Rule slots id me word f told
+        → ((c : Core) → Rule lawful lk c → get_elem? c.clients id ≡ some me.0 → found lk c e < 18446744073709551616 → f (found lk c e) ≡ left e (found lk c e) me.0)
+        → ((n : ℕ) → Told fits lawful r e n me.0 (after (unplaced r.renewal) lk e n me.0) → told n (after (unplaced r.renewal) lk e n me.0, me.1))
+        → Allows Kept slots id me word f told
     acts_allowed slots id me e word f told z is range may does tells s h len at lt =
         let v : Client = me.0 in
         let c : Core = h.core in
         let there : slice_index s.words word ≡ found lk c e = rw (is, h.words) (found_there h.gap h.pad c r.stripes h.before_locks h.locks h.before_cells e h.some r.size range) in
         let at' : get_elem? c.clients id ≡ some v = subst (λ vs. get_elem? vs id ≡ some v) h.views at in
-        let same : bounds_of c ≡ bounds r = (let l = h.last in let k = h.locks in let w = h.inv.size ∙ (ap length h.opening ∙ z) in λ i. record { last = l i; stripes = k i; size = w i }) in
+        let same : bounds_of c ≡ bounds r = (let l = h.last in let k = h.locks in let w = h.rule.inv.size ∙ (ap length h.opening ∙ z) in λ i. record { last = l i; stripes = k i; size = w i }) in
         let may' : May lawful lk (bounds_of c) e v = subst (λ b. May lawful lk b e v) (sym same) may in
-        let inv' : Inv lawful lk (stepped unplaced lk e id v c) = step_keeps lawful lk unplaced c e id v (sym h.renewal) h.inv at' may' in
+        let inv' : Rule lawful lk (stepped (unplaced r.renewal) lk e id v c) = step_rules lawful lk c h.rule id v at' may'.0 (unplaced r.renewal) (sym h.renewal) e may'.1 in
         let st : Stays c (written e (left e (found lk c e) v) c) = stays c e (left e (found lk c e) v) in
-        let m' : Matches o (stepped unplaced lk e id v c) = record { last = st.last ∙ h.last; opening = st.opening ∙ h.opening; renewal = st.renewal ∙ h.renewal; locks = st.locks ∙ h.locks } in
-        let here : get_elem? (stepped unplaced lk e id v c).clients id ≡ some (after unplaced lk e (found lk c e) v) = in_clients c.clients id v _ at' in
-        let does' : f (slice_index s.words word) ≡ left e (found lk c e) v = ap f there ∙ does c h.inv at' (subst (λ n. n < 18446744073709551616) there lt) in (
-          after unplaced lk e (slice_index s.words word) v,
+        let m' : Matches o (stepped (unplaced r.renewal) lk e id v c) = record { last = st.last ∙ h.last; opening = st.opening ∙ h.opening; first = st.first ∙ h.first; renewal = st.renewal ∙ h.renewal; locks = st.locks ∙ h.locks } in
+        let here : get_elem? (stepped (unplaced r.renewal) lk e id v c).clients id ≡ some (after (unplaced r.renewal) lk e (found lk c e) v) = in_clients c.clients id v _ at' in
+        let does' : f (slice_index s.words word) ≡ left e (found lk c e) v = ap f there ∙ does c h.rule at' (subst (λ n. n < 18446744073709551616) there lt) in (
+          after (unplaced r.renewal) lk e (slice_index s.words word) v,
           keeps,
           tt,
           record {
-            core = stepped unplaced lk e id v c;
+            core = stepped (unplaced r.renewal) lk e id v c;
             gap = h.gap;
             pad = h.pad;
             words = rw (does', h.words, is) (left_there h.gap h.pad c r.stripes h.before_locks h.locks h.before_cells e h.some r.size range v);
@@ -181,20 +193,21 @@ module _ (fits : List ℕ → Type 0) (lawful : List ℕ → List (ℕ × ℕ) �
             before_cells = h.before_cells;
             last = m'.last;
             opening = m'.opening;
+            first = m'.first;
             renewal = m'.renewal;
-            inv = inv';
+            rule = inv';
             fitting = h.fitting;
             bounded = h.bounded;
             some = h.some;
           },
-          tells (slice_index s.words word) (rw there (told_of c (stepped unplaced lk e id v c) (matches s h) m' z h.bounded h.fitting h.inv inv' id v (after unplaced lk e (found lk c e) v) at' here e)),
+          tells (slice_index s.words word) (rw there (told_of c (stepped (unplaced r.renewal) lk e id v c) (matches s h) m' z h.bounded h.fitting h.rule inv' id v e at' here may'.1)),
         )
 
     -- the same at a table that was told what the region was opened with
     acts_in : (words : ℕ) (key : Opened) → Runs words key r → (slots id : ℕ) (me : Me S Client) (e : Action) (word : ℕ) (f : ℕ → ℕ) (told : ℕ → Me S Client → Type 0)
         → word ≡ place r.stripes e → InRange r.stripes r.size e → May lawful lk (bounds r) e me.0
-        → ((c : Core) → Inv lawful lk c → get_elem? c.clients id ≡ some me.0 → found lk c e < 18446744073709551616 → f (found lk c e) ≡ left e (found lk c e) me.0)
-        → ((n : ℕ) → Told fits lawful r e n me.0 (after unplaced lk e n me.0) → told n (after unplaced lk e n me.0, me.1))
+        → ((c : Core) → Rule lawful lk c → get_elem? c.clients id ≡ some me.0 → found lk c e < 18446744073709551616 → f (found lk c e) ≡ left e (found lk c e) me.0)
+        → ((n : ℕ) → Told fits lawful r e n me.0 (after (unplaced r.renewal) lk e n me.0) → told n (after (unplaced r.renewal) lk e n me.0, me.1))
         → (word < words) × Allows (Holds fits lawful key) slots id me word f told
     acts_in words key run slots id me e word f told is range may does tells = (
       subst (λ n. n < words) (sym is) (in_table r.stripes r.size words e run.total run.some range),
@@ -209,7 +222,7 @@ module _ (fits : List ℕ → Type 0) (lawful : List ℕ → List (ℕ × ℕ) �
         (acts_in words key run slots id me e word f (acting fits lawful r e (step 0 0 0 0 none) me) is range may (λ c i a l. sym (does (found lk c e))) (λ n t. (refl, t)))
 
     -- a store, whose effect does not depend on the word found
-    stored : (me : Me S Client) (e : Action) → IsStore e → (n new : ℕ) → Told fits lawful r e n me.0 (after unplaced lk e n me.0) → acting fits lawful r e (step 0 0 0 0 none) me new (after unplaced lk e n me.0, me.1)
+    stored : (me : Me S Client) (e : Action) → IsStore e → (n new : ℕ) → Told fits lawful r e n me.0 (after (unplaced r.renewal) lk e n me.0) → acting fits lawful r e (step 0 0 0 0 none) me new (after (unplaced r.renewal) lk e n me.0, me.1)
     stored me begin s n new t = absurd s
     stored me (probe k) s n new t = absurd s
     stored me (fetch a) s n new t = absurd s
@@ -239,7 +252,7 @@ module _ (fits : List ℕ → Type 0) (lawful : List ℕ → List (ℕ × ℕ) �
         (λ c i a l. less_one c id k me.0 i a may.1.1 l) (λ n t. (refl, t))))
 
     -- a client splits off another
-    split_allowed : (id : ℕ) (v : Client) → IsFreeHanded v → 0 < v.grants → Splits Rule id v (giving v) (fresh v)
+    split_allowed : (id : ℕ) (v : Client) → IsFreeHanded v → 0 < v.grants → Splits Kept id v (giving v) (fresh v)
     split_allowed id v free gr s h at =
         let at' : get_elem? h.core.clients id ≡ some v = subst (λ vs. get_elem? vs id ≡ some v) h.views at in record {
           core = divided id v h.core;
@@ -252,8 +265,9 @@ module _ (fits : List ℕ → Type 0) (lawful : List ℕ → List (ℕ × ℕ) �
           before_cells = h.before_cells;
           last = h.last;
           opening = h.opening;
+          first = h.first;
           renewal = h.renewal;
-          inv = split_keeps lawful lk h.core id v h.inv at' free gr;
+          rule = split_rules lawful lk h.core h.rule id v at' free gr;
           fitting = h.fitting;
           bounded = h.bounded;
           some = h.some;
@@ -263,12 +277,12 @@ module _ (fits : List ℕ → Type 0) (lawful : List ℕ → List (ℕ × ℕ) �
     splits_here words key run id v free gr = (let t = run.total in omega arith, subst (λ k. Splits (Holds {S = S} fits lawful k) id v (giving v) (fresh v)) (sym run.key_is) (split_allowed id v free gr))
 
     -- a client takes in another
-    join_allowed : (id : ℕ) (v : Client) (other : ℕ) (w : Client) → IsFreeHanded v → IsFreeHanded w → Joins Rule id v other w (joined v w) gone
+    join_allowed : (id : ℕ) (v : Client) (other : ℕ) (w : Client) → IsFreeHanded v → IsFreeHanded w → Joins Kept id v other w (joined v w) gone
     join_allowed id v other w free free' s h at ne to =
         let at' : get_elem? h.core.clients id ≡ some v = subst (λ vs. get_elem? vs id ≡ some v) h.views at in
         let to' : get_elem? (set h.core.clients id (joined v w)) other ≡ some w = subst (λ vs. get_elem? (set vs id (joined v w)) other ≡ some w) h.views to in
         let was : get_elem? h.core.clients other ≡ some w = sym (set_else h.core.clients id other (joined v w) ne) ∙ to' in
-        let all : joined v w ≡ taking v w = joined_all lawful lk h.core h.inv id other v w (λ e. ne (sym e)) at' was free.0 free'.0 in record {
+        let all : joined v w ≡ taking v w = joined_all lawful lk h.core h.rule id other v w (λ e. ne (sym e)) at' was free.0 free'.0 in record {
           core = gathered id v other w h.core;
           gap = h.gap;
           pad = h.pad;
@@ -279,8 +293,9 @@ module _ (fits : List ℕ → Type 0) (lawful : List ℕ → List (ℕ × ℕ) �
           before_cells = h.before_cells;
           last = h.last;
           opening = h.opening;
+          first = h.first;
           renewal = h.renewal;
-          inv = gather_keeps lawful lk h.core id v h.inv at' other w was (λ e. ne (sym e)) free free';
+          rule = gather_rules lawful lk h.core h.rule id v at' other w was (λ e. ne (sym e)) free free';
           fitting = h.fitting;
           bounded = h.bounded;
           some = h.some;

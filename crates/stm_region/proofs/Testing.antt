@@ -48,7 +48,7 @@ locked_one r c d k n w free e = subst (λ (x : ClientShown). HasOne k n x.value)
     b : Client
     b = (acted r (probe k) w (acted r begin n c)).value
 
-    taken : after unplaced (stripe_of r.stripes) (lock k) w b ≡ stepping (locked k w w) (holding k (w / 2) b)
+    taken : after (unplaced r.renewal) (stripe_of r.stripes) (lock k) w b ≡ stepping (locked k w w) (holding k (w / 2) b)
     taken = rw (same_number w) refl
 
 pub took_one : (r : RegionShown) (c c' c'' d : ClientShown) (k n m w : ℕ) → IsFreeHanded c.value → n ≡ m → c' ≡ acted r begin m c → c'' ≡ acted r (probe k) w c' → d ≡ acted r (lock k) (word_before c''.value.last) c'' → HasOne k n d.value
@@ -97,7 +97,7 @@ may_give_back r d k h = (h.alive, (inl h.phase, holds_one d.value.held k h.old h
 pub lost_one : (r : RegionShown) (c d : ClientShown) (k n m : ℕ) (tag : List ℕ) (pairs : List (ℕ × ℕ)) → HasOne k n c.value → m ≢ n → d ≡ acted r (tick n tag pairs) m c → HasLock k d.value
 lost_one r c d k n m tag pairs h ne e = subst (λ (x : ClientShown). HasLock k x.value) (sym e) (subst (λ v. HasLock k v) (sym lost) record { alive = h.alive; phase = h.phase; old = h.old; held = h.held })
   where
-    lost : after unplaced (stripe_of r.stripes) (tick n tag pairs) m c.value ≡ record (stepping (ticked n m) c.value) { ticks = c.value.ticks + 1; next_from = m }
+    lost : after (unplaced r.renewal) (stripe_of r.stripes) (tick n tag pairs) m c.value ≡ record (stepping (ticked n m) c.value) { ticks = c.value.ticks + 1; next_from = m }
     lost = rw (ne_eqb m n ne) refl
 
 -- a decided client with one word to write
@@ -112,7 +112,7 @@ pub record HasDecided (k a x : ℕ) (v : Client) : Type 0 where
 pub won_one : (r : RegionShown) (c d : ClientShown) (k n a x : ℕ) (tag : List ℕ) (pairs : List (ℕ × ℕ)) → HasOne k n c.value → pairs ≡ (a, x) ∷ [] → d ≡ acted r (tick n tag pairs) n c → HasDecided k a x d.value
 won_one r c d k n a x tag pairs h one e = subst (λ (y : ClientShown). HasDecided k a x y.value) (sym e) (subst (λ v. HasDecided k a x v) (sym won) record { alive = h.alive; phase = refl; writes = one; stored = refl; old = h.old; held = h.held })
   where
-    won : after unplaced (stripe_of r.stripes) (tick n tag pairs) n c.value ≡ record (stepping (ticked n n) (committed_by unplaced (versioned unplaced (n + 1) tag pairs c.value))) { ticks = c.value.ticks + 1; next_from = n }
+    won : after (unplaced r.renewal) (stripe_of r.stripes) (tick n tag pairs) n c.value ≡ record (stepping (ticked n n) (committed_by (unplaced r.renewal) (versioned (unplaced r.renewal) (n + 1) tag pairs c.value))) { ticks = c.value.ticks + 1; next_from = n }
     won = rw (same_number n, h.reads) refl
 
 pub may_put : (r : RegionShown) (d : ClientShown) (k a x : ℕ) → HasDecided k a x d.value → k ≡ stripe_of r.stripes a → IsAllowed Free r (put_word a x) d

@@ -1,18 +1,20 @@
 -- What is known of the words and the records once a region was closed.
-use Rattle.std.specs.Prelude.{◌≡◌, ℕ, List}
+use Rattle.std.specs.Prelude.{◌≡◌, ℕ, ◌+◌, ◌<◌, List}
 use mathlib.Core.Option.{some}
 use lib.ListN.{get_elem?}
 use Rattle.stm_words.specs.Image.{In}
 use Rattle.stm_core.specs.Client.{Client, Record}
 use Rattle.stm_core.specs.Core.{Core}
-use Rattle.stm_core.specs.Invariant.{Inv}
+use Rattle.stm_core.specs.Invariant.{Rule, Sorted}
 use Rattle.stm_core.specs.History.{Serial, image_after}
 use Rattle.stm_region.specs.Shown.{RegionShown, stripe_of}
 
--- the words and the version are those of a last core state, in which the closing client had this value, and its records are all there are: lawful, and serial from the opening image to the words
+-- the words and the version are those of a last core state, in which the closing client had this value, and its records are all there are: lawful, and serial from the first opening image to the words
 pub record Ends (lawful : List ℕ → List (ℕ × ℕ) → List (ℕ × ℕ) → Type 0) (region : RegionShown) (v : Client) (words : List ℕ) (version : ℕ) : Type 0 where
   pub core : Core
-  pub inv : Inv lawful (stripe_of region.stripes) core
+  pub rule : Rule lawful (stripe_of region.stripes) core
+  pub first : core.first ≡ region.first
+  pub renewal : core.renewal ≡ region.renewal
   pub opening : core.opening ≡ region.opening
   pub last : core.last ≡ region.last
   pub number : ℕ
@@ -20,5 +22,8 @@ pub record Ends (lawful : List ℕ → List (ℕ × ℕ) → List (ℕ × ℕ) �
   pub clock : core.clock ≡ version
   pub cells : core.cells ≡ words
   pub abides : (r : Record) → In r v.records → lawful r.tag r.reads r.writes
-  pub serial : Serial region.opening v.records
-  pub newest : words ≡ image_after region.opening v.records
+  pub serial : Serial region.first v.records
+  pub newest : words ≡ image_after region.first v.records
+  -- and they stand in order, each of this renewal or an earlier one
+  pub sorted : Sorted v.records
+  pub eras : (r : Record) → In r v.records → r.renewal < region.renewal + 1

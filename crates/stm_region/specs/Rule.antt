@@ -3,7 +3,7 @@ use Rattle.std.specs.Prelude.{◌≡◌, ℕ, ◌<◌, ◌^◌, List, ◌∷◌,
 use Rattle.atomic_table.specs.Table.{State}
 use Rattle.stm_core.specs.Client.{Client}
 use Rattle.stm_core.specs.Core.{Core}
-use Rattle.stm_core.specs.Invariant.{Inv}
+use Rattle.stm_core.specs.Invariant.{Rule}
 use Rattle.stm_region.specs.Shown.{Opened, stripe_of}
 use Rattle.stm_region.specs.Layout.{padding}
 
@@ -23,8 +23,9 @@ pub record Holds {S : Type 0} (fits : List ℕ → Type 0) (lawful : List ℕ �
   pub before_cells : length pad ≡ padding o.stripes
   pub last : core.last ≡ o.last
   pub opening : core.opening ≡ o.image
-  pub renewal : core.renewal ≡ 0
-  pub inv : Inv lawful (stripe_of o.stripes) core
-  pub fitting : fits o.image
+  pub first : core.first ≡ o.first
+  pub renewal : core.renewal ≡ o.renewal
+  pub rule : Rule lawful (stripe_of o.stripes) core
+  pub fitting : fits o.first
   pub bounded : o.last < 2 ^ 62
   pub some : 0 < o.stripes

@@ -32,7 +32,7 @@ impl<L: Law, A: Allocator> Region<L, A> {
         requires allowed { May L.lawful (stripe_of self.now.stripes) (bounds self.now) T.action seat.old.me.0 }
         requires loads { (n : ℕ) → left T.action n seat.old.me.0 ≡ n }
         ensures table { seat.new.table_id ≡ seat.old.table_id }
-        ensures me { seat.new.me ≡ (after unplaced (stripe_of self.now.stripes) T.action result seat.old.me.0, seat.old.me.1) }
+        ensures me { seat.new.me ≡ (after (unplaced self.now.renewal) (stripe_of self.now.stripes) T.action result seat.old.me.0, seat.old.me.1) }
         ensures told { Told L.fits L.lawful self.now T.action result seat.old.me.0 seat.new.me.0 }
     {
         let _ = number;
@@ -56,7 +56,7 @@ impl<L: Law, A: Allocator> Region<L, A> {
         requires allowed { May L.lawful (stripe_of self.now.stripes) (bounds self.now) T.action seat.old.me.0 }
         requires exchanges { Exchanges T.action from seat.old.me.0 }
         ensures table { seat.new.table_id ≡ seat.old.table_id }
-        ensures me { seat.new.me ≡ (after unplaced (stripe_of self.now.stripes) T.action result seat.old.me.0, seat.old.me.1) }
+        ensures me { seat.new.me ≡ (after (unplaced self.now.renewal) (stripe_of self.now.stripes) T.action result seat.old.me.0, seat.old.me.1) }
         ensures told { Told L.fits L.lawful self.now T.action result seat.old.me.0 seat.new.me.0 }
     {
         let _ = number;
@@ -81,7 +81,7 @@ impl<L: Law, A: Allocator> Region<L, A> {
         requires allowed { May L.lawful (stripe_of self.now.stripes) (bounds self.now) T.action seat.old.me.0 }
         requires stores { Stores T.action new seat.old.me.0 }
         ensures table { seat.new.table_id ≡ seat.old.table_id }
-        ensures me { seat.new.me ≡ (after unplaced (stripe_of self.now.stripes) T.action new seat.old.me.0, seat.old.me.1) }
+        ensures me { seat.new.me ≡ (after (unplaced self.now.renewal) (stripe_of self.now.stripes) T.action new seat.old.me.0, seat.old.me.1) }
     {
         let _ = number;
         self.table.shared.store::<Acts<L, T>>(seat, word, new)
@@ -102,7 +102,7 @@ impl<L: Law, A: Allocator> Region<L, A> {
         requires place { word ≡ 16 + number }
         requires allowed { May L.lawful (stripe_of self.now.stripes) (bounds self.now) (gives_back number) seat.old.me.0 }
         ensures table { seat.new.table_id ≡ seat.old.table_id }
-        ensures me { seat.new.me ≡ (after unplaced (stripe_of self.now.stripes) (gives_back number) 0 seat.old.me.0, seat.old.me.1) }
+        ensures me { seat.new.me ≡ (after (unplaced self.now.renewal) (stripe_of self.now.stripes) (gives_back number) 0 seat.old.me.0, seat.old.me.1) }
     {
         let _ = number;
         self.table.shared.fetch_sub::<Acts<L, T>>(seat, word, 1);
@@ -123,7 +123,7 @@ impl<L: Law, A: Allocator> Region<L, A> {
         requires room { from + 1 < 2 ^ 64 }
         requires allowed { May L.lawful (stripe_of self.now.stripes) (bounds self.now) S.action seat.old.me.0 }
         ensures table { seat.new.table_id ≡ seat.old.table_id }
-        ensures me { seat.new.me ≡ (after unplaced (stripe_of self.now.stripes) S.action result seat.old.me.0, seat.old.me.1) }
+        ensures me { seat.new.me ≡ (after (unplaced self.now.renewal) (stripe_of self.now.stripes) S.action result seat.old.me.0, seat.old.me.1) }
         ensures told { Told L.fits L.lawful self.now S.action result seat.old.me.0 seat.new.me.0 }
     {
         let _ = tag;
@@ -139,7 +139,7 @@ impl<L: Law, A: Allocator> Region<L, A> {
         requires own { seat.old.table_id ≡ self.now.table }
         requires allowed { May L.lawful (stripe_of self.now.stripes) (bounds self.now) S.action seat.old.me.0 }
         ensures table { seat.new.table_id ≡ seat.old.table_id }
-        ensures me { seat.new.me ≡ (after unplaced (stripe_of self.now.stripes) S.action result seat.old.me.0, seat.old.me.1) }
+        ensures me { seat.new.me ≡ (after (unplaced self.now.renewal) (stripe_of self.now.stripes) S.action result seat.old.me.0, seat.old.me.1) }
         ensures told { Told L.fits L.lawful self.now S.action result seat.old.me.0 seat.new.me.0 }
     {
         let _ = tag;

@@ -1,4 +1,5 @@
 ghost use Rattle.std.specs.Prelude.{◌≡◌, ◌≤◌, []};
+ghost use Rattle.stm_core.specs.Invariant.{Sorted};
 
 use crate::view::View;
 use atomic_table::Seat;
@@ -19,13 +20,14 @@ pub struct Client<L: Law> {
 
 impl<L: Law> Model for Client<L> {
     ghost use Rattle.std.specs.Prelude.{◌≡◌, ◌≤◌, ◌<◌, ◌^◌, []};
+    ghost use Rattle.stm_core.specs.Invariant.{Sorted};
     ghost use Rattle.stm_region.specs.Shown.{ClientShown, KeepsProbe};
 
     ghost Value = { ClientShown };
 
     ghost view = { λ c. record { table = c.seat.table_id; value = c.seat.me.0 } };
 
-    ghost invariant = { λ c. (c.seat.me.1 ≡ []) × (c.grants ≡ c.seat.me.0.grants) × (c.grants ≤ 63) × (c.version ≡ c.seat.me.0.wv) × (c.version < 2 ^ 62) × KeepsProbe c.probed c.seat.me.0.last };
+    ghost invariant = { λ c. (c.seat.me.1 ≡ []) × (c.grants ≡ c.seat.me.0.grants) × (c.grants ≤ 63) × (c.version ≡ c.seat.me.0.wv) × (c.version < 2 ^ 62) × KeepsProbe c.probed c.seat.me.0.last × Sorted c.seat.me.0.records };
 }
 
 impl<L: Law> Client<L> {
@@ -33,6 +35,7 @@ impl<L: Law> Client<L> {
     pub(crate) fn into_parts(self) -> (Seat<(), View>, u64)
         ensures seat { (result.0.table_id ≡ self.table) × (result.0.me ≡ (self.value, [])) }
         ensures grants { (result.1 ≡ self.value.grants) × (result.1 ≤ 63) }
+        ensures sorted { Sorted self.value.records }
     {
         let Self {
             seat,

@@ -1,8 +1,7 @@
-ghost use Rattle.stm_core.specs.Event.{opener};
 ghost use Rattle.stm_region.specs.Rule.{Holds};
 
 use crate::view::View;
-use atomic_table::TableRule;
+use atomic_table::{Seat, TableRule};
 use std::alloc::{Allocator, Global};
 use std::marker::{Model, PhantomData};
 use std::snapshot::Snapshot;
@@ -15,16 +14,21 @@ pub struct Opening<A: Allocator = Global> {
     pub(crate) words: Snapshot<Vec<u64, A>>,
     pub(crate) last: u64,
     pub(crate) stripes: u32,
+    pub(crate) first: Snapshot<Vec<u64, A>>,
+    pub(crate) renewal: u32,
+    pub(crate) start: Option<Snapshot<Seat<(), View>>>,
 }
 
 impl<A: Allocator> Model for Opening<A> {
     ghost use Rattle.std.specs.Prelude.{drop};
     ghost use Rattle.stm_region.specs.Shown.{Opened};
     ghost use Rattle.stm_region.specs.Layout.{first_cell};
+    ghost use Rattle.std.specs.Prelude.{option_map};
+    ghost use Rattle.stm_region.specs.Shown.{started};
 
     ghost Value = { Opened };
 
-    ghost view = { λ o. record { image = drop (first_cell o.stripes) o.words.value.items; last = o.last; stripes = o.stripes } };
+    ghost view = { λ o. record { image = drop (first_cell o.stripes) o.words.value.items; last = o.last; stripes = o.stripes; first = drop (first_cell o.stripes) o.first.value.items; renewal = o.renewal; start = started (option_map (λ s. s.value.me.0) o.start) } };
 }
 
 /// The table's words and the clients' values are a core state that meets the version invariant.
@@ -35,5 +39,5 @@ pub struct RegionRule<L> {
 impl<L: Law, A: Allocator> TableRule<(), View, Opening<A>> for RegionRule<L> {
     ghost holds = { λ o s. Holds L.fits L.lawful o s };
 
-    ghost first = { λ _. opener };
+    ghost first = { λ o. o.start };
 }

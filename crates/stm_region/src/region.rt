@@ -1,6 +1,10 @@
 //! The region: its opening, and the splitting and gathering of its clients.
 ghost use Rattle.std.specs.Prelude.{◌≡◌, ◌+◌, ◌<◌, ◌≤◌, ◌^◌, length, IfOk, IfErr};
 ghost use Rattle.stm_region.specs.declared.fault.RegionFault.TheVariants.{Clients};
+ghost use Rattle.std.specs.Prelude.{◌⊎◌};
+ghost use Rattle.stm_words.specs.Image.{In};
+ghost use Rattle.stm_core.specs.Client.{Record};
+ghost use Rattle.stm_core.specs.History.{Sub};
 ghost use Rattle.stm_core.specs.Core.{IsFreeHanded};
 ghost use Rattle.stm_core.specs.Event.{opener, giving, fresh};
 ghost use Rattle.stm_region.specs.Shown.{joined, opened_with, stripe_of};
@@ -39,7 +43,7 @@ impl<L: Law, A: Allocator> Model for Region<L, A> {
 
     ghost Value = { RegionShown };
 
-    ghost view = { λ r. record { table = r.table.shared.table_id; size = r.size; last = r.last; stripes = r.stripes; opening = r.table.shared.key.image } };
+    ghost view = { λ r. record { table = r.table.shared.table_id; size = r.size; last = r.last; stripes = r.stripes; opening = r.table.shared.key.image; first = r.table.shared.key.first; renewal = r.table.shared.key.renewal; start = r.table.shared.key.start } };
 
     ghost invariant = { λ r. IsLaid r.table.shared.table_id.words r.table.shared.table_id.slots r.table.shared.key r.size r.last r.stripes r.cells };
 }
@@ -83,7 +87,7 @@ impl<L: Law, A: Allocator + Copy> Region<L, A> {
         stripes: u32,
     ) -> Result<(Region<L, A>, Client<L>), RegionFault>
         requires { L.fits image.now }
-        ensures region { IfOk result (λ r. r.0 ≡ record { table = r.0.table; size = length image.now; last = last; stripes = stripes; opening = image.now }) }
+        ensures region { IfOk result (λ r. r.0 ≡ record { table = r.0.table; size = length image.now; last = last; stripes = stripes; opening = image.now; first = image.now; renewal = 0; start = opener }) }
         ensures client { IfOk result (λ r. r.1 ≡ record { table = r.0.table; value = opener }) }
         ensures ranges { IfOk result (λ r. IsSize (length image.now) × IsLast last × IsStripes stripes) }
         ensures refused { IfErr result (λ fault. OpensNot (length image.now) last stripes fault) }
@@ -102,6 +106,9 @@ impl<L: Law, A: Allocator + Copy> Region<L, A> {
             words: Snapshot::of(&words),
             last,
             stripes,
+            first: Snapshot::of(&words),
+            renewal: 0,
+            start: None,
         };
         let (table, seat) = Table::of_words(alloc, words.as_slice(), &opening)?;
         let region = Region {
@@ -180,7 +187,10 @@ impl<L: Law, A: Allocator> Region<L, A> {
     pub fn gather(&self, client: &mut Client<L>, other: Client<L>)
         requires own { (client.old.table ≡ self.now.table) × (other.table ≡ self.now.table) }
         requires free_handed { IsFreeHanded client.old.value × IsFreeHanded other.value }
-        ensures { client.new ≡ record client.old { value = joined client.old.value other.value } }
+        ensures client { client.new ≡ record client.old { value = joined client.old.value other.value } }
+        ensures mine { Sub client.old.value.records client.new.value.records }
+        ensures theirs { Sub other.value.records client.new.value.records }
+        ensures only { (r : Record) → In r client.new.value.records → In r client.old.value.records ⊎ In r other.value.records }
     {
         let (seat, grants) = other.into_parts();
         self.table.shared.join_seat::<Takes>(&mut client.seat, seat);

@@ -1,10 +1,13 @@
 //! The steps: each is one atomic step on one word, and one event of the core.
-ghost use Rattle.std.specs.Prelude.{◌≡◌, ◌≢◌, ℕ, ◌+◌, ◌*◌, ◌/◌, ◌<◌, ◌≤◌, ◌^◌, ◌==◌, true, [], MatchResult};
+ghost use Rattle.std.specs.Prelude.{◌≡◌, ◌≢◌, ℕ, ◌+◌, ◌*◌, ◌/◌, ◌<◌, ◌≤◌, ◌^◌, ◌==◌, true, [], MatchResult, IfErr, IsOk};
 ghost use Rattle.stm_core.specs.Client.{word_before, decided};
 ghost use Rattle.stm_core.specs.Event.{begin as begins, probe as probes, fetch as fetches, check as checks, lock as locks, tick as ticks, validate as validates, put as puts, release as releases, give_back as gives_back, finish as finishes};
 ghost use Rattle.stm_logs.specs.Log.{log_pairs};
 ghost use Rattle.stm_region.specs.Shown.{IsAllowed, acted};
-ghost use Rattle.stm_region.specs.Told.{IsLockWord, StandsOn, Decides};
+ghost use Rattle.stm_region.specs.Told.{IsLockWord, IsLoneOpen, StandsOn, Decides};
+ghost use Rattle.std.specs.Prelude.{◌⊎◌};
+ghost use Rattle.stm_core.specs.Client.{version_of, IsFree};
+ghost use Rattle.stm_core.specs.Event.{Holds};
 
 use crate::client::Client;
 use crate::region::{FIRST_LOCK, Region};
@@ -39,6 +42,7 @@ impl<L: Law, A: Allocator> Region<L, A> {
         requires allowed { IsAllowed L.lawful self.now (probes lock) client.old }
         ensures client { client.new ≡ acted self.now (probes lock) result client.old }
         ensures word { IsLockWord self.now.last result }
+        ensures lone { IsLoneOpen client.old.value → (IsFree result ⊎ Holds client.old.value.held lock) × (version_of result ≤ client.old.value.rv) }
     {
         let found = self.load_as::<Brand>(&mut client.seat, FIRST_LOCK + lock as usize, lock);
         client.probed = found;
@@ -64,6 +68,7 @@ impl<L: Law, A: Allocator> Region<L, A> {
         ensures client { client.new ≡ acted self.now (checks addr.0) result client.old }
         ensures word { IsLockWord self.now.last result }
         ensures stands { StandsOn L.fits self.now.size client.new.value.reads }
+        ensures lone { IsLoneOpen client.old.value → result ≡ word_before client.old.value.last }
     {
         let lock = self.lock_of(addr);
         self.load_as::<Brand>(&mut client.seat, FIRST_LOCK + lock as usize, addr.0)
@@ -77,6 +82,7 @@ impl<L: Law, A: Allocator> Region<L, A> {
         requires allowed { IsAllowed L.lawful self.now (locks lock) client.old }
         ensures client { MatchResult result (λ _. client.new ≡ acted self.now (locks lock) (word_before client.old.value.last) client.old) (λ found. (found ≢ word_before client.old.value.last) × (client.new ≡ acted self.now (locks lock) found client.old)) }
         ensures word { MatchResult result (λ _. IsLockWord self.now.last (word_before client.old.value.last)) (λ found. IsLockWord self.now.last found) }
+        ensures lone { IfErr result (λ _. IsLoneOpen client.old.value → ⊥) }
     {
         let word = client.probed;
         let found = self.exchange_as::<Brand>(
@@ -104,8 +110,9 @@ impl<L: Law, A: Allocator> Region<L, A> {
         requires allowed { IsAllowed L.lawful self.now (ticks from (T.numbers tag.now) (log_pairs writes.now)) client.old }
         ensures client { MatchResult result (λ _. client.new ≡ acted self.now (ticks from (T.numbers tag.now) (log_pairs writes.now)) from client.old) (λ found. (found ≢ from) × (client.new ≡ acted self.now (ticks from (T.numbers tag.now) (log_pairs writes.now)) found client.old)) }
         ensures version { MatchResult result (λ _. from + 1 ≤ self.now.last) (λ found. found ≤ self.now.last) }
+        ensures lone { IsLoneOpen client.old.value → IsOk result × (decided client.new.value ≡ true) }
         ensures later { 0 < client.new.value.wv → client.new.value.rv < client.new.value.wv }
-        ensures decides { decided client.new.value ≡ true → Decides L.fits L.lawful self.now.opening client.new.value }
+        ensures decides { decided client.new.value ≡ true → Decides L.fits L.lawful self.now client.new.value }
     {
         prove!(from < self.last);
         let found = self.tick_as::<Brand, T, B>(&mut client.seat, from, tag, writes);
@@ -124,7 +131,7 @@ impl<L: Law, A: Allocator> Region<L, A> {
         requires allowed { IsAllowed L.lawful self.now (validates lock) client.old }
         ensures client { client.new ≡ acted self.now (validates lock) result client.old }
         ensures word { IsLockWord self.now.last result }
-        ensures decides { decided client.new.value ≡ true → Decides L.fits L.lawful self.now.opening client.new.value }
+        ensures decides { decided client.new.value ≡ true → Decides L.fits L.lawful self.now client.new.value }
     {
         prove!(lock < self.stripes);
         self.load_as::<Brand>(&mut client.seat, FIRST_LOCK + lock as usize, lock)
@@ -176,7 +183,7 @@ impl<L: Law, A: Allocator> Region<L, A> {
         requires own { client.old.table ≡ self.now.table }
         requires allowed { IsAllowed L.lawful self.now (finishes (T.numbers tag.now)) client.old }
         ensures client { (found : ℕ) × (client.new ≡ acted self.now (finishes (T.numbers tag.now)) found client.old) }
-        ensures decides { Decides L.fits L.lawful self.now.opening client.new.value }
+        ensures decides { Decides L.fits L.lawful self.now client.new.value }
     {
         self.finish_as::<Brand, T>(&mut client.seat, tag);
     }

@@ -297,6 +297,7 @@ impl Decided {
                 tag: player.tag,
                 version: if writer { player.wv } else { player.rv },
                 writer,
+                renewal: 0,
             },
             point: if writer { player.ticked } else { player.began },
             reads: Vec::from_slice(alloc, &player.reads)?,

@@ -1,0 +1,196 @@
+-- The whole rule, event by event: what is kept within one renewal holds beside the records of earlier ones.
+use Rattle.std.proofs.Common.{◌≡◌, ◌≢◌, ℕ, suc, ◌+◌, ◌<◌, ⊎_elim, Bool, true, false, cond, eqb, List, [], ◌∷◌, ◌++◌, length, length-set, map, set, refl, sym, ap, ◌∙◌, subst, arith}
+use Rattle.std.proofs.lemmas.Bool.Decides.{nat_tests}
+use Rattle.std.proofs.lemmas.List.{map-set}
+use Rattle.stm_words.specs.Image.{In}
+use Rattle.stm_core.specs.Client.{Client, Record, Stamp, of_renewal, shed, looked, ticked, checked, locked, word_before, value_fetched, version_of}
+use Rattle.stm_core.specs.Event.{Action, begin, probe, fetch, check, lock, tick, validate, put, release, give_back, finish, MayAct, committed_by, stepping, failing, read_too, holding, versioned, decides_at_once, won, passes, passing, after}
+use Rattle.stm_core.specs.Core.{Core, bounds_of, found, stepped}
+use Rattle.stm_core.specs.Version.{At}
+use Rattle.stm_core.specs.Invariant.{Inv, now, Past, Rule}
+use Rattle.stm_core.proofs.Lists.{at_set, set_here, clash, nothing_in}
+use Rattle.stm_core.proofs.Eras.{AllOf, AllBefore, of_is, of_padded, pad, shed_pad, after_pad}
+use Rattle.stm_core.proofs.Lones.{at_map, act_lone}
+use Rattle.stm_core.proofs.Steps.{by_case, step_keeps}
+
+-- the core with other clients
+abbrev with_clients : Core → List Client → Core
+with_clients c cs = record c { clients = cs }
+
+renewal_stays : (t : Stamp) (lk : ℕ → ℕ) (e : Action) (i : ℕ) (v : Client) (c : Core) → (stepped t lk e i v c).renewal ≡ c.renewal
+renewal_stays t lk begin i v c = refl
+renewal_stays t lk (probe k) i v c = refl
+renewal_stays t lk (fetch a) i v c = refl
+renewal_stays t lk (check a) i v c = refl
+renewal_stays t lk (lock k) i v c = refl
+renewal_stays t lk (tick f g w) i v c = refl
+renewal_stays t lk (validate k) i v c = refl
+renewal_stays t lk (put a x) i v c = refl
+renewal_stays t lk (release k) i v c = refl
+renewal_stays t lk (give_back k) i v c = refl
+renewal_stays t lk (finish g) i v c = refl
+
+clients_stay : (t : Stamp) (lk : ℕ → ℕ) (e : Action) (i : ℕ) (v : Client) (c : Core) → (stepped t lk e i v c).clients ≡ set c.clients i (after t lk e (found lk c e) v)
+clients_stay t lk begin i v c = refl
+clients_stay t lk (probe k) i v c = refl
+clients_stay t lk (fetch a) i v c = refl
+clients_stay t lk (check a) i v c = refl
+clients_stay t lk (lock k) i v c = refl
+clients_stay t lk (tick f g w) i v c = refl
+clients_stay t lk (validate k) i v c = refl
+clients_stay t lk (put a x) i v c = refl
+clients_stay t lk (release k) i v c = refl
+clients_stay t lk (give_back k) i v c = refl
+clients_stay t lk (finish g) i v c = refl
+
+-- a step does not look at the records
+pub may_shed : (lawful : List ℕ → List (ℕ × ℕ) → List (ℕ × ℕ) → Type 0) (lk : ℕ → ℕ) (c : Core) (e : Action) (v : Client) → MayAct lawful lk (bounds_of c) e v → MayAct lawful lk (bounds_of (now c)) e (shed c.renewal v)
+may_shed lawful lk c begin v m = m
+may_shed lawful lk c (probe k) v m = m
+may_shed lawful lk c (fetch a) v m = m
+may_shed lawful lk c (check a) v m = m
+may_shed lawful lk c (lock k) v m = m
+may_shed lawful lk c (tick f g w) v m = m
+may_shed lawful lk c (validate k) v m = m
+may_shed lawful lk c (put a x) v m = m
+may_shed lawful lk c (release k) v m = m
+may_shed lawful lk c (give_back k) v m = m
+may_shed lawful lk c (finish g) v m = m
+
+after_spent : (t : Stamp) (lk : ℕ → ℕ) (e : Action) (n : ℕ) (v : Client) → (after t lk e n v).spent ≡ v.spent
+after_spent t lk begin n v = refl
+after_spent t lk (probe k) n v = refl
+after_spent t lk (fetch a) n v = refl
+after_spent t lk (check a) n v = by_case (λ b. (stepping (checked a (word_before v.last) n) (cond b (read_too a (value_fetched v.last) v) (failing v))).spent ≡ v.spent) (eqb n (word_before v.last)) (λ _. refl) (λ _. refl)
+after_spent t lk (lock k) n v = by_case (λ b. (stepping (locked k (word_before v.last) n) (cond b (holding k (version_of n) v) (failing v))).spent ≡ v.spent) (eqb n (word_before v.last)) (λ _. refl) (λ _. refl)
+after_spent t lk (tick f g w) n v =
+    let w0 : Client = versioned t (f + 1) g w v in
+    by_case (λ b. (stepping (ticked f n) (cond b (won t (f + 1) g w v) v)).spent ≡ v.spent) (eqb n f) (λ _. by_case (λ b. (stepping (ticked f n) (cond b (committed_by t w0) w0)).spent ≡ v.spent) (decides_at_once w0) (λ _. refl) (λ _. refl)) (λ _. refl)
+after_spent t lk (validate k) n v =
+    let w0 : Client = record v { passed = v.passed + 1 } in
+    by_case (λ b. (stepping (looked k n) (cond b (passing t v) (failing v))).spent ≡ v.spent) (passes k n v) (λ _. by_case (λ b. (stepping (looked k n) (cond b (committed_by t w0) w0)).spent ≡ v.spent) (eqb w0.passed (length v.reads)) (λ _. refl) (λ _. refl)) (λ _. refl)
+after_spent t lk (put a x) n v = refl
+after_spent t lk (release k) n v = refl
+after_spent t lk (give_back k) n v = refl
+after_spent t lk (finish g) n v = refl
+
+cond_in : {A : Type 0} (P : A → Type 0) (b : Bool) (l : List A) → ((x : A) → In x l → P x) → (x : A) → In x (cond b l []) → P x
+cond_in P true l f x i = f x i
+cond_in P false l f x i = absurd (nothing_in x i)
+
+pub map_append : {A B : Type 0} (f : A → B) (l m : List A) → map f (l ++ m) ≡ map f l ++ map f m
+map_append f [] m = refl
+map_append f (x ∷ l) m = ap (λ k. f x ∷ k) (map_append f l m)
+
+pub map_length : {A B : Type 0} (f : A → B) (l : List A) → length (map f l) ≡ length l
+map_length f [] = refl
+map_length f (x ∷ l) = ap suc (map_length f l)
+
+pub eqb_no : (m n : ℕ) → m ≢ n → eqb m n ≡ false
+eqb_no m n e = grind (arith, nat_tests)
+
+pub eqb_yes : (m n : ℕ) → m ≡ n → eqb m n ≡ true
+eqb_yes m n e = grind (arith, nat_tests)
+
+module _ (lawful : List ℕ → List (ℕ × ℕ) → List (ℕ × ℕ) → Type 0) (lk : ℕ → ℕ) (c : Core) (h : Rule lawful lk c) where
+  -- the earlier records that stand with the client at a place
+  abbrev pub pre : ℕ → List Record
+  pre i = cond (eqb i h.past.keeper) c.past []
+
+  pub pre_before : (i : ℕ) → AllBefore c.renewal (pre i)
+  pre_before i = cond_in (λ (r : Record). r.renewal < c.renewal) (eqb i h.past.keeper) c.past h.past.earlier
+
+  pub own_of : (v : Client) → AllOf c.renewal (of_renewal c.renewal v.records)
+  own_of v r m = (of_is c.renewal v.records r m).1
+
+  module _ (i : ℕ) (v : Client) (at : At c.clients i v) (live : v.spent ≡ false) where
+    abbrev u : Client
+    u = shed c.renewal v
+
+    is_pad : v ≡ pad (pre i) u
+    is_pad = ap (λ l. record v { records = l }) (h.past.kept i v at)
+
+    at_now : At (now c).clients i u
+    at_now = at_map (shed c.renewal) c.clients i v at
+
+    -- another client in its place, with the same earlier records
+    set_now : (w : Client) → AllOf c.renewal w.records → map (shed c.renewal) (set c.clients i (pad (pre i) w)) ≡ set (map (shed c.renewal) c.clients) i w
+    set_now w f = map-set (shed c.renewal) c.clients i (pad (pre i) w) ∙ ap (λ z. set (map (shed c.renewal) c.clients) i z) (shed_pad c.renewal (pre i) w (pre_before i) f)
+
+    set_past : (w : Client) → AllOf c.renewal w.records → w.spent ≡ false → Past lawful c.first c.opening c.past c.renewal (set c.clients i (pad (pre i) w))
+    set_past w f s = record {
+      serial = h.past.serial;
+      leads = h.past.leads;
+      abides = h.past.abides;
+      earlier = h.past.earlier;
+      sorted = h.past.sorted;
+      keeper = h.past.keeper;
+      member = rw (length-set c.clients i (pad (pre i) w)) h.past.member;
+      kept = λ j o e. ⊎_elim (λ p. subst (λ (z : Client). z.records ≡ pre j ++ of_renewal c.renewal z.records) p.1 (subst (λ n. pre i ++ w.records ≡ pre n ++ of_renewal c.renewal (pre i ++ w.records)) (sym p.0) (ap (λ l. pre i ++ l) (sym (of_padded c.renewal (pre i) w.records (pre_before i) f))))) (λ p. h.past.kept j o p.1) (at_set c.clients i j (pad (pre i) w) o e);
+      spent = λ j o e y. ⊎_elim (λ p. clash y (sym (ap (λ (z : Client). z.spent) p.1) ∙ s)) (λ p. h.past.spent j o p.1 y) (at_set c.clients i j (pad (pre i) w) o e);
+    }
+
+    module _ (t : Stamp) (era : t.renewal ≡ c.renewal) (e : Action) (may : MayAct lawful lk (bounds_of c) e v) where
+      abbrev word : ℕ
+      word = found lk c e
+
+      now_keeps : Inv lawful lk (stepped t lk e i u (now c))
+      now_keeps = step_keeps lawful lk t (now c) e i u era h.inv at_now (live, may_shed lawful lk c e v may)
+
+      after_is : (n : ℕ) → after t lk e n v ≡ pad (pre i) (after t lk e n u)
+      after_is n = ap (λ z. after t lk e n z) is_pad ∙ after_pad t lk e n (pre i) u (λ r m. rw era (pre_before i r m))
+
+      after_of : AllOf c.renewal (after t lk e (found lk (now c) e) u).records
+      after_of r m =
+          let w : Client = after t lk e (found lk (now c) e) u in
+          let here : At (stepped t lk e i u (now c)).clients i w = rw (clients_stay t lk e i u (now c)) (set_here (now c).clients i u w at_now) in
+          ((now_keeps.filed.filed i w here).told r m).present ∙ renewal_stays t lk e i u (now c)
+
+module _ (lawful : List ℕ → List (ℕ × ℕ) → List (ℕ × ℕ) → Type 0) (lk : ℕ → ℕ) (c : Core) (h : Rule lawful lk c) (i : ℕ) (v : Client) (at : At c.clients i v) (live : v.spent ≡ false) (t : Stamp) (era : t.renewal ≡ c.renewal) where
+  abbrev v' : Client
+  v' = shed c.renewal v
+
+  -- the clients as they are within the present renewal, after a step
+  step_clients : (e : Action) → MayAct lawful lk (bounds_of c) e v → found lk (now c) e ≡ found lk c e → map (shed c.renewal) (set c.clients i (after t lk e (found lk c e) v)) ≡ set (map (shed c.renewal) c.clients) i (after t lk e (found lk c e) v')
+  step_clients e may same =
+      ap (λ z. map (shed c.renewal) (set c.clients i z)) (after_is lawful lk c h i v at live t era e may (found lk c e))
+      ∙ set_now lawful lk c h i v at live (after t lk e (found lk c e) v') (subst (λ n. AllOf c.renewal (after t lk e n v').records) same (after_of lawful lk c h i v at live t era e may))
+
+  step_past : (e : Action) → MayAct lawful lk (bounds_of c) e v → found lk (now c) e ≡ found lk c e → Past lawful c.first c.opening c.past c.renewal (set c.clients i (after t lk e (found lk c e) v))
+  step_past e may same =
+      subst (λ z. Past lawful c.first c.opening c.past c.renewal (set c.clients i z)) (sym (after_is lawful lk c h i v at live t era e may (found lk c e)))
+      (set_past lawful lk c h i v at live (after t lk e (found lk c e) v') (subst (λ n. AllOf c.renewal (after t lk e n v').records) same (after_of lawful lk c h i v at live t era e may)) (after_spent t lk e (found lk c e) v' ∙ live))
+
+  pub now_stepped : (e : Action) → MayAct lawful lk (bounds_of c) e v → now (stepped t lk e i v c) ≡ stepped t lk e i v' (now c)
+  now_stepped begin may = ap (with_clients (stepped t lk begin i v' (now c))) (step_clients begin may refl)
+  now_stepped (probe k) may = ap (with_clients (stepped t lk (probe k) i v' (now c))) (step_clients (probe k) may refl)
+  now_stepped (fetch a) may = ap (with_clients (stepped t lk (fetch a) i v' (now c))) (step_clients (fetch a) may refl)
+  now_stepped (check a) may = ap (with_clients (stepped t lk (check a) i v' (now c))) (step_clients (check a) may refl)
+  now_stepped (lock k) may = ap (with_clients (stepped t lk (lock k) i v' (now c))) (step_clients (lock k) may refl)
+  now_stepped (tick f g w) may = ap (with_clients (stepped t lk (tick f g w) i v' (now c))) (step_clients (tick f g w) may refl)
+  now_stepped (validate k) may = ap (with_clients (stepped t lk (validate k) i v' (now c))) (step_clients (validate k) may refl)
+  now_stepped (put a x) may = ap (with_clients (stepped t lk (put a x) i v' (now c))) (step_clients (put a x) may refl)
+  now_stepped (release k) may = ap (with_clients (stepped t lk (release k) i v' (now c))) (step_clients (release k) may refl)
+  now_stepped (give_back k) may = ap (with_clients (stepped t lk (give_back k) i v' (now c))) (step_clients (give_back k) may refl)
+  now_stepped (finish g) may = ap (with_clients (stepped t lk (finish g) i v' (now c))) (step_clients (finish g) may refl)
+
+  past_stepped : (e : Action) → MayAct lawful lk (bounds_of c) e v → Past lawful (stepped t lk e i v c).first (stepped t lk e i v c).opening (stepped t lk e i v c).past (stepped t lk e i v c).renewal (stepped t lk e i v c).clients
+  past_stepped begin may = step_past begin may refl
+  past_stepped (probe k) may = step_past (probe k) may refl
+  past_stepped (fetch a) may = step_past (fetch a) may refl
+  past_stepped (check a) may = step_past (check a) may refl
+  past_stepped (lock k) may = step_past (lock k) may refl
+  past_stepped (tick f g w) may = step_past (tick f g w) may refl
+  past_stepped (validate k) may = step_past (validate k) may refl
+  past_stepped (put a x) may = step_past (put a x) may refl
+  past_stepped (release k) may = step_past (release k) may refl
+  past_stepped (give_back k) may = step_past (give_back k) may refl
+  past_stepped (finish g) may = step_past (finish g) may refl
+
+  -- a step of a client keeps the whole rule
+  pub step_rules : (e : Action) → MayAct lawful lk (bounds_of c) e v → Rule lawful lk (stepped t lk e i v c)
+  step_rules e may = record {
+    inv = subst (Inv lawful lk) (sym (now_stepped e may)) (now_keeps lawful lk c h i v at live t era e may);
+    lone = act_lone lawful lk c h.inv h.lone i v at live t e may;
+    past = past_stepped e may;
+  }

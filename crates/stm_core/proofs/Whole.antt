@@ -1,0 +1,172 @@
+-- What the whole rule says of the records of all renewals.
+use Rattle.std.proofs.Common.{◌+◌, append_assoc, append-nil, ◌≡◌, ℕ, zero, suc, ◌<◌, ⊎_elim, Bool, true, false, cond, eqb, List, [], ◌∷◌, ◌++◌, length, map, refl, sym, ap, ◌∙◌, subst, arith}
+use Rattle.std.proofs.lemmas.Bool.Decides.{nat_tests}
+use Rattle.stm_words.specs.Image.{In, Agrees, laid}
+use Rattle.stm_core.specs.Client.{Client, Record, before, inserted, merged, of_renewal, shed}
+use Rattle.stm_core.specs.Client.{Stamp, version_of, word_before, value_fetched, checked, locked, ticked, looked}
+use Rattle.stm_core.specs.Event.{Action, begin, probe, fetch, check, lock, tick, validate, put, release, give_back, finish, committed_by, stepping, failing, read_too, holding, versioned, decides_at_once, won, passes, passing, after, taking}
+use Rattle.stm_core.specs.Core.{Core, IsFreeHanded, IsAlone}
+use Rattle.stm_core.proofs.Steps.{by_case}
+use Rattle.stm_core.specs.Version.{At}
+use Rattle.stm_core.specs.History.{Serial, image_after, Sub, done, keep, skip, all_records, IsShared}
+use Rattle.stm_core.specs.Invariant.{now, Sorted, Rule}
+use Rattle.stm_core.proofs.Lists.{nothing_in, by_bool, clash, in_snoc}
+use Rattle.stm_core.proofs.Orders.{in_cons, in_inserted, in_merged, before_asym, behind, before_le}
+use Rattle.stm_core.proofs.Merging.{in_sub, sub_left}
+use Rattle.stm_core.proofs.Histories.{laid_length}
+use Rattle.stm_core.proofs.Facts.{all_serial, all_lawful, all_shared, others_spent}
+use Rattle.stm_core.proofs.Eras.{AllOf, AllBefore, in_append, of_is, not_before, merged_padded, merged_late}
+use Rattle.stm_core.proofs.Lones.{at_map}
+use Rattle.stm_core.proofs.Renewals.{pre, pre_before, own_of, eqb_no, eqb_yes}
+use Rattle.stm_core.proofs.Renewing.{serial_append, past_serial, past_leads, past_lawful, sorted_of, sorted_append}
+
+-- an inserted record keeps a sorted list sorted, and of two sorted lists joined to one each keeps its order
+pub inserted_sorted : (r : Record) (l : List Record) → Sorted l → Sorted (inserted r l)
+inserted_sorted r [] o = (λ y i. absurd (nothing_in y i), tt)
+inserted_sorted r (x ∷ xs) o = go (before r x) refl (inserted_sorted r xs o.1)
+  where
+    go : (b : Bool) → before r x ≡ b → Sorted (inserted r xs) → Sorted (cond b (r ∷ x ∷ xs) (x ∷ inserted r xs))
+    go true t k = (λ y i. ⊎_elim (λ e. subst (λ z. before z r ≡ false) e (before_asym r x t)) (λ j. behind r x y t (o.0 y j)) (in_cons x y xs i), o)
+    go false t k = (λ y i. ⊎_elim (λ e. subst (λ z. before z x ≡ false) e t) (λ j. o.0 y j) (in_inserted r xs y i), k)
+
+pub merged_sorted : (l m : List Record) → Sorted l → Sorted (merged l m)
+merged_sorted l [] o = o
+merged_sorted l (y ∷ m) o = merged_sorted (inserted y l) m (inserted_sorted y l o)
+
+one_in : (y : Record) (l : List Record) → Sub (y ∷ []) (inserted y l)
+one_in y [] = keep y done
+one_in y (x ∷ l) = go (before y x) (one_in y l)
+  where
+    go : (b : Bool) → Sub (y ∷ []) (inserted y l) → Sub (y ∷ []) (cond b (y ∷ x ∷ l) (x ∷ inserted y l))
+    go true p = keep y done
+    go false p = skip x p
+
+-- what comes last among some records comes after them where it is put in
+put_last : {p l : List Record} (y : Record) → Sub p l → Sorted l → ((x : Record) → In x p → before y x ≡ false) → Sub (p ++ y ∷ []) (inserted y l)
+put_last {l = l} y done o f = one_in y l
+put_last y (keep x s) o f = rw (f x (0, refl)) (keep x (put_last y s o.1 (λ z i. f z (suc i.0, i.1))))
+put_last y (skip z {xs = p} {ys = l} s) o f = go (before y z) refl p s f (put_last y s o.1 f)
+  where
+    go : (b : Bool) → before y z ≡ b → (p' : List Record) → Sub p' l → ((x : Record) → In x p' → before y x ≡ false) → Sub (p' ++ y ∷ []) (inserted y l) → Sub (p' ++ y ∷ []) (cond b (y ∷ z ∷ l) (z ∷ inserted y l))
+    go true e [] s' f' k = keep y done
+    go true e (x ∷ p') s' f' k = clash (before_le y z x e (o.0 x (in_sub x s' (0, refl)))) (f' x (0, refl))
+    go false e p' s' f' k = skip z k
+
+put_all : (p l m : List Record) → Sub p l → Sorted l → Sorted m → ((x y : Record) → In x p → In y m → before y x ≡ false) → Sub (p ++ m) (merged l m)
+put_all p l [] s o q g = rw (append-nil p) s
+put_all p l (y ∷ m) s o q g =
+    subst (λ k. Sub k (merged (inserted y l) m)) (append_assoc p (y ∷ []) m)
+    (put_all (p ++ y ∷ []) (inserted y l) m (put_last y s o (λ x i. g x y i (0, refl))) (inserted_sorted y l o) q.1
+    (λ x z i j. ⊎_elim (λ k. g x z k (suc j.0, j.1)) (λ e. subst (λ k. before z k ≡ false) e (q.0 z j)) (in_snoc p y x i)))
+
+-- the second of two joined lists keeps its order where both are sorted; the first always does
+pub sorted_right : (l m : List Record) → Sorted l → Sorted m → Sub m (merged l m)
+sorted_right l m o q = put_all [] l m done o q (λ x y i. absurd (nothing_in x i))
+
+sub_behind : (l m n : List Record) → Sub m n → Sub m (l ++ n)
+sub_behind [] m n s = s
+sub_behind (x ∷ l) m n s = skip x (sub_behind l m n s)
+
+sub_append : (l m n : List Record) → Sub m n → Sub (l ++ m) (l ++ n)
+sub_append [] m n s = s
+sub_append (x ∷ l) m n s = keep x (sub_append l m n s)
+
+all_of_era : (n : ℕ) (cs : List Client) → AllOf n (all_records (map (shed n) cs))
+all_of_era n [] r m = absurd (nothing_in r m)
+all_of_era n (v ∷ cs) r m = ⊎_elim (λ p. (of_is n v.records r p).1) (λ p. all_of_era n cs r p) (in_merged (of_renewal n v.records) (all_records (map (shed n) cs)) r m)
+
+none_kept : (n : ℕ) (cs : List Client) → ((i : ℕ) (v : Client) → At cs i v → v.records ≡ of_renewal n v.records) → all_records cs ≡ all_records (map (shed n) cs)
+none_kept n [] f = refl
+none_kept n (v ∷ cs) f = ap (λ l. merged l (all_records cs)) (f 0 v refl) ∙ ap (merged (of_renewal n v.records)) (none_kept n cs (λ i w e. f (suc i) w e))
+
+eqb_suc : (i k : ℕ) → eqb (suc i) (suc k) ≡ eqb i k
+eqb_suc i k = by_bool (eqb i k) (λ t. eqb_yes (suc i) (suc k) (let e : i ≡ k = grind (arith, nat_tests) in ap suc e) ∙ sym t) (λ f. eqb_no (suc i) (suc k) (λ z. clash (eqb_yes i k (omega arith)) f) ∙ sym f)
+
+one_kept : (n : ℕ) (past : List Record) (k : ℕ) (cs : List Client) → AllBefore n past → Sorted past → k < length cs → ((i : ℕ) (v : Client) → At cs i v → v.records ≡ cond (eqb i k) past [] ++ of_renewal n v.records) → all_records cs ≡ past ++ all_records (map (shed n) cs)
+one_kept n past k [] b s l f = absurd (omega arith)
+one_kept n past zero (v ∷ cs) b s l f =
+    ap (λ m. merged m (all_records cs)) (f 0 v refl ∙ ap (λ x. cond x past [] ++ of_renewal n v.records) (eqb_yes 0 0 refl))
+    ∙ (ap (merged (past ++ of_renewal n v.records)) (none_kept n cs (λ i w e. f (suc i) w e ∙ ap (λ x. cond x past [] ++ of_renewal n w.records) (eqb_no (suc i) 0 (λ z. (let q : suc i ≡ 0 = z in omega arith)))))
+    ∙ merged_padded n past (of_renewal n v.records) (all_records (map (shed n) cs)) b (all_of_era n cs))
+one_kept n past (suc k) (v ∷ cs) b s l f =
+    ap (λ m. merged m (all_records cs)) (f 0 v refl ∙ ap (λ x. cond x past [] ++ of_renewal n v.records) (eqb_no 0 (suc k) (λ z. (let q : 0 ≡ suc k = z in omega arith))))
+    ∙ (ap (merged (of_renewal n v.records)) (one_kept n past k cs b s (omega arith) (λ i w e. f (suc i) w e ∙ ap (λ x. cond x past [] ++ of_renewal n w.records) (eqb_suc i k)))
+    ∙ merged_late n (of_renewal n v.records) past (all_records (map (shed n) cs)) (λ r m. (of_is n v.records r m).1) b (all_of_era n cs) s)
+
+module _ (lawful : List ℕ → List (ℕ × ℕ) → List (ℕ × ℕ) → Type 0) (lk : ℕ → ℕ) (c : Core) (h : Rule lawful lk c) where
+  -- the records of all clients: those of the earlier renewals, and then those of the present one
+  pub all_are : all_records c.clients ≡ c.past ++ all_records (now c).clients
+  all_are = one_kept c.renewal c.past h.past.keeper c.clients h.past.earlier h.past.sorted h.past.member h.past.kept
+
+  pub whole_serial : Serial c.first (all_records c.clients)
+  whole_serial = subst (Serial c.first) (sym all_are) (serial_append c.first c.past (all_records (now c).clients) h.past.serial (subst (λ m. Serial m (all_records (now c).clients)) (sym h.past.leads) (all_serial lawful lk (now c) h.inv)))
+
+  pub whole_lawful : (r : Record) → In r (all_records c.clients) → lawful r.tag r.reads r.writes
+  whole_lawful r m = ⊎_elim (λ p. h.past.abides r p) (λ p. all_lawful lawful lk (now c) h.inv r p) (in_append c.past (all_records (now c).clients) r (subst (In r) all_are m))
+
+  -- they are serial from the first opening image, lawful, and each client's own stand among them in their order
+  pub whole_shared : (i : ℕ) (v : Client) → At c.clients i v → IsShared lawful c.first v.records (all_records c.clients)
+  whole_shared i v at = record {
+    serial = whole_serial;
+    abides = whole_lawful;
+    among = subst (λ l. Sub l (all_records c.clients)) (sym (h.past.kept i v at)) (subst (Sub (pre lawful lk c h i ++ of_renewal c.renewal v.records)) (sym all_are)
+        (go (eqb i h.past.keeper) (all_shared lawful lk (now c) h.inv i (shed c.renewal v) (at_map (shed c.renewal) c.clients i v at)).among));
+  }
+    where
+      go : (b : Bool) → Sub (of_renewal c.renewal v.records) (all_records (now c).clients) → Sub (cond b c.past [] ++ of_renewal c.renewal v.records) (c.past ++ all_records (now c).clients)
+      go true s = sub_append c.past (of_renewal c.renewal v.records) (all_records (now c).clients) s
+      go false s = sub_behind c.past (of_renewal c.renewal v.records) (all_records (now c).clients) s
+
+  -- each client's records are sorted, over all renewals
+  pub own_sorted : (i : ℕ) (v : Client) → At c.clients i v → Sorted v.records
+  own_sorted i v at = subst Sorted (sym (h.past.kept i v at)) (sorted_append (pre lawful lk c h i) (of_renewal c.renewal v.records) (go (eqb i h.past.keeper)) (sorted_of (of_renewal c.renewal v.records) (h.inv.filed.filed i (shed c.renewal v) (at_map (shed c.renewal) c.clients i v at)).ordered)
+      (λ x y m k. not_before y x (let a = pre_before lawful lk c h i x m in let b = own_of lawful lk c h v y k in omega arith)))
+    where
+      go : (b : Bool) → Sorted (cond b c.past [])
+      go true = h.past.sorted
+      go false = tt
+
+  -- where one image fits the first opening, one fits the present opening
+  pub opening_fits : (fits : List ℕ → Type 0) → ((tag m : List ℕ) (reads writes : List (ℕ × ℕ)) → fits m → Agrees m reads → lawful tag reads writes → fits (laid m writes)) → fits c.first → fits c.opening
+  opening_fits fits law f = subst fits h.past.leads (go c.first c.past h.past.serial h.past.abides f)
+    where
+      go : (m : List ℕ) (l : List Record) → Serial m l → ((r : Record) → In r l → lawful r.tag r.reads r.writes) → fits m → fits (image_after m l)
+      go m [] s a k = k
+      go m (r ∷ l) s a k = go (laid m r.writes) l s.1 (λ x i. a x (suc i.0, i.1)) (law r.tag m r.reads r.writes k s.0 (a r (0, refl)))
+
+  pub opening_length : length c.opening ≡ length c.first
+  opening_length = sym (ap (λ (m : List ℕ). length m) h.past.leads) ∙ go c.first c.past
+    where
+      go : (m : List ℕ) (l : List Record) → length (image_after m l) ≡ length m
+      go m [] = refl
+      go m (r ∷ l) = go (laid m r.writes) l ∙ laid_length m r.writes
+
+  -- what a region that is closed has: the one client that is out has all records, serial from the first opening image to the data words
+  pub closes : (i : ℕ) (v : Client) → At c.clients i v → IsFreeHanded v → IsAlone c i → Serial c.first v.records × (image_after c.first v.records ≡ c.cells) × ((r : Record) → In r v.records → lawful r.tag r.reads r.writes)
+  closes i v at free others = (past_serial lawful lk c h i v at free others 0, past_leads lawful lk c h i v at free others 0, past_lawful lawful lk c h i v at free others 0)
+
+  -- a client with all grants is the only one out
+  pub all_grants : (i : ℕ) (v : Client) → At c.clients i v → v.spent ≡ false → v.grants ≡ 63 → IsAlone c i
+  all_grants i v at live all j w to ne = others_spent lawful lk (now c) h.inv i (shed c.renewal v) (at_map (shed c.renewal) c.clients i v at) live all j (shed c.renewal w) (at_map (shed c.renewal) c.clients j w to) ne
+
+-- a client's records stay sorted through its steps, and where two clients' come together
+pub after_sorted : (t : Stamp) (lk : ℕ → ℕ) (e : Action) (n : ℕ) (v : Client) → Sorted v.records → Sorted (after t lk e n v).records
+after_sorted t lk begin n v s = s
+after_sorted t lk (probe k) n v s = s
+after_sorted t lk (fetch a) n v s = s
+after_sorted t lk (check a) n v s = by_case (λ b. Sorted (stepping (checked a (word_before v.last) n) (cond b (read_too a (value_fetched v.last) v) (failing v))).records) (eqb n (word_before v.last)) (λ _. s) (λ _. s)
+after_sorted t lk (lock k) n v s = by_case (λ b. Sorted (stepping (locked k (word_before v.last) n) (cond b (holding k (version_of n) v) (failing v))).records) (eqb n (word_before v.last)) (λ _. s) (λ _. s)
+after_sorted t lk (tick f g w) n v s =
+    let w0 : Client = versioned t (f + 1) g w v in
+    by_case (λ b. Sorted (stepping (ticked f n) (cond b (won t (f + 1) g w v) v)).records) (eqb n f) (λ _. by_case (λ b. Sorted (stepping (ticked f n) (cond b (committed_by t w0) w0)).records) (decides_at_once w0) (λ _. inserted_sorted _ v.records s) (λ _. s)) (λ _. s)
+after_sorted t lk (validate k) n v s =
+    let w0 : Client = record v { passed = v.passed + 1 } in
+    by_case (λ b. Sorted (stepping (looked k n) (cond b (passing t v) (failing v))).records) (passes k n v) (λ _. by_case (λ b. Sorted (stepping (looked k n) (cond b (committed_by t w0) w0)).records) (eqb w0.passed (length v.reads)) (λ _. inserted_sorted _ v.records s) (λ _. s)) (λ _. s)
+after_sorted t lk (put a x) n v s = s
+after_sorted t lk (release k) n v s = s
+after_sorted t lk (give_back k) n v s = s
+after_sorted t lk (finish g) n v s = inserted_sorted _ v.records s
+
+-- joining keeps both lists, each in its order
+pub joined_both : (v w : Client) → Sorted v.records → Sorted w.records → Sub v.records (taking v w).records × Sub w.records (taking v w).records × Sorted (taking v w).records
+joined_both v w s t = (sub_left v.records w.records, sorted_right v.records w.records s t, merged_sorted v.records w.records s)

@@ -1,0 +1,19 @@
+use Rattle.std.proofs.Common.{rules, sym, ap, subst}
+use Rattle.stm_core.specs.Event.{finish}
+use Rattle.stm_core.specs.Invariant.{Sorted}
+use Rattle.stm_core.proofs.Whole.{after_sorted}
+use Rattle.stm_region.specs.Shown.{unplaced, stripe_of}
+use Rattle.stm_region.proofs.region.Region.finish.Goals as goal
+
+pub invariant_of-client : goal.invariant_of-client
+invariant_of-client g c =
+    let r = c.args.self.now in
+    let v = c.client.inside.seat.me.0 in (
+      search rules,
+      search rules,
+      search rules,
+      search rules,
+      search rules,
+      search rules,
+      subst Sorted (sym (ap (λ m. m.0.records) c.finish_as.ensures.me)) (after_sorted (unplaced r.renewal) (stripe_of r.stripes) (finish (g.T.Tag.numbers c.args.tag.now)) c.finish_as.result v c.client.invariant.6),
+    )
