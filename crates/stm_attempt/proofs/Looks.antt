@@ -18,8 +18,8 @@ use Rattle.stm_attempt.proofs.Parity.{parity, says_held}
 use Rattle.stm_attempt.proofs.Writing.{own_lock}
 
 -- what the client is after a look, by whether it passed
-pub by_look : (lk : ℕ → ℕ) (lock : ℕ) (passed : Bool) (v v' : Client) (look : HasLookedAt lk lock passed v v') → v' ≡ record (stepping (looked lock look.0) (cond passed (passing unplaced v) (failing v))) { mine = writes_to v.held lock }
-by_look lk lock passed v v' look = look.1 ∙ ap (λ (t : Bool). record (stepping (looked lock look.0) (cond t (passing unplaced v) (failing v))) { mine = writes_to v.held lock }) look.2
+pub by_look : (region : RegionShown) (lock : ℕ) (passed : Bool) (v v' : Client) (look : HasLookedAt region lock passed v v') → v' ≡ record (stepping (looked lock look.0) (cond passed (passing (unplaced region.renewal) v) (failing v))) { mine = writes_to v.held lock }
+by_look region lock passed v v' look = look.1 ∙ ap (λ (t : Bool). record (stepping (looked lock look.0) (cond t (passing (unplaced region.renewal) v) (failing v))) { mine = writes_to v.held lock }) look.2
 
 -- the word is free, or held by the client itself
 pub own_look : (word : ℕ) (held : List (ℕ × ℕ)) (lock : ℕ) (w : LogValue) → addresses held ≡ log_locks w → (has : Bool) → IsTrue has ↔ ((a : ℕ) × (get w.locks a ≡ Some lock)) → has ≡ true → (is_free word || writes_to held lock) ≡ true
@@ -41,9 +41,9 @@ module _ (word version : ℕ) (held : Bool) (free : (u : ℕ) → word ≡ free_
 
   module _ (region : RegionShown) (c c' : ClientShown) (lock : ℕ) (stepped : c' ≡ acted region (validate lock) word c) (w : LogValue) (held_are : addresses c.value.held ≡ log_locks w) where
     abbrev Looks : Bool → Type 0
-    Looks passed = HasLookedAt (stripe_of region.stripes) lock passed c.value c'.value
+    Looks passed = HasLookedAt region lock passed c.value c'.value
 
-    value_is : c'.value ≡ after unplaced (stripe_of region.stripes) (validate lock) word c.value
+    value_is : c'.value ≡ after (unplaced region.renewal) (stripe_of region.stripes) (validate lock) word c.value
     value_is = ap (λ (x : ClientShown). x.value) stepped
 
     mine : c'.value.mine ≡ writes_to c.value.held lock
@@ -69,7 +69,7 @@ module _ (word version : ℕ) (held : Bool) (free : (u : ℕ) → word ≡ free_
 
       pub shown_newer : rv < version → IsLookConflict lock (Newer lock version rv) c'.value
       shown_newer newer =
-          let same : c'.value.rv ≡ c.value.rv = ap (λ (x : Client). x.rv) (by_look (stripe_of region.stripes) lock false c.value c'.value (refused_newer newer)) in
+          let same : c'.value.rv ≡ c.value.rv = ap (λ (x : Client). x.rv) (by_look region lock false c.value c'.value (refused_newer newer)) in
           (refl, (word, last, ap (λ (t : Bool). is_free word || t) mine ∙ ours, version_said, sym from ∙ sym same, newer))
 
       pub has_passed : version ≤ rv → Looks true

@@ -37,8 +37,8 @@ once_is v logged n rv version e l r =
     let count : eqb n 0 ≡ is_empty v.reads = ap (λ (k : ℕ). eqb k 0) (e ∙ ap length l) ∙ none_read v.reads in
     rw (count, r) refl
 
-module _ (tag : List ℕ) (writes : List (ℕ × ℕ)) (v t : Client) (version : ℕ) (ticked : HasTicked tag writes v t version) (later : v.rv < version) (few : t.steps ≤ v.steps + 16) where
-  pub decided_at_once : is_at_once v version ≡ true → IsDecided tag writes v t version
+module _ (region : RegionShown) (tag : List ℕ) (writes : List (ℕ × ℕ)) (v t : Client) (version : ℕ) (ticked : HasTicked region tag writes v t version) (later : v.rv < version) (few : t.steps ≤ v.steps + 16) where
+  pub decided_at_once : is_at_once v version ≡ true → IsDecided region tag writes v t version
   decided_at_once once = record {
     same = ticked.same;
     held = ticked.held;
@@ -46,12 +46,12 @@ module _ (tag : List ℕ) (writes : List (ℕ × ℕ)) (v t : Client) (version :
     known = ticked.known;
     unstored = ticked.unstored;
     phase = ticked.phase ∙ ap (λ (b : Bool). cond b committed running) once;
-    records = ticked.records ∙ ap (λ (b : Bool). cond b (inserted (writer_record tag v writes version) v.records) v.records) once;
+    records = ticked.records ∙ ap (λ (b : Bool). cond b (inserted (writer_record region tag v writes version) v.records) v.records) once;
     later = later;
     steps = omega (arith, few);
   }
 
-  module _ (d : Client) (looked : HasLooked t d) (not_once : is_at_once v version ≡ false) where
+  module _ (d : Client) (looked : HasLooked region t d) (not_once : is_at_once v version ≡ false) where
     reads_same : t.reads ≡ v.reads
     reads_same = ap (λ (x : Client). x.reads) ticked.same
 
@@ -59,12 +59,12 @@ module _ (tag : List ℕ) (writes : List (ℕ × ℕ)) (v t : Client) (version :
     attempt_same = ap (λ (x : Client). x.attempt) ticked.same
 
     old_records : t.records ≡ v.records
-    old_records = ticked.records ∙ ap (λ (b : Bool). cond b (inserted (writer_record tag v writes version) v.records) v.records) not_once
+    old_records = ticked.records ∙ ap (λ (b : Bool). cond b (inserted (writer_record region tag v writes version) v.records) v.records) not_once
 
-    same_record : writer_record t.tag t t.writes t.wv ≡ writer_record tag v writes version
+    same_record : writer_record region t.tag t t.writes t.wv ≡ writer_record region tag v writes version
     same_record = rw (ticked.tagged, ticked.writing, ticked.versioned, reads_same, attempt_same) refl
 
-    pub decided_after_looks : IsDecided tag writes v d version
+    pub decided_after_looks : IsDecided region tag writes v d version
     decided_after_looks = record {
       same = looked.same ∙ ticked.same;
       held = looked.held ∙ ticked.held;
@@ -72,7 +72,7 @@ module _ (tag : List ℕ) (writes : List (ℕ × ℕ)) (v t : Client) (version :
       known = looked.known ∙ ticked.known;
       unstored = looked.unstored;
       phase = looked.phase;
-      records = looked.records ∙ ap (λ (r : Record). inserted r t.records) same_record ∙ ap (inserted (writer_record tag v writes version)) old_records;
+      records = looked.records ∙ ap (λ (r : Record). inserted r t.records) same_record ∙ ap (inserted (writer_record region tag v writes version)) old_records;
       later = later;
       steps = let n : length t.reads ≡ length v.reads = ap length reads_same in omega (arith, few, looked.steps, n);
     }
@@ -113,9 +113,9 @@ pub err_not_ok : {X E A : Type 0} (r : Result X E) (e : E) → r ≡ Err e → i
 err_not_ok (Ok x) e same is = cc
 err_not_ok (Err f) e same is = cc
 
-record_of_writer : (tag : List ℕ) (v : Client) (writes : List (ℕ × ℕ)) (version : ℕ) → writes ≢ [] → writer_record tag v writes version ≡ commit_record tag v writes version
-record_of_writer tag v [] version some = absurd (some refl)
-record_of_writer tag v (p ∷ ps) version some = refl
+record_of_writer : (region : RegionShown) (tag : List ℕ) (v : Client) (writes : List (ℕ × ℕ)) (version : ℕ) → writes ≢ [] → writer_record region tag v writes version ≡ commit_record region tag v writes version
+record_of_writer region tag v [] version some = absurd (some refl)
+record_of_writer region tag v (p ∷ ps) version some = refl
 
 version_of_writer : (v : Client) (writes : List (ℕ × ℕ)) (version : ℕ) → writes ≢ [] → v.rv < version → IsCommitVersion v writes version
 version_of_writer v [] version some later = absurd (some refl)
@@ -127,17 +127,17 @@ short (suc n) [] = omega arith
 short (suc n) (x ∷ xs) = let l = short n xs in omega (arith, l)
 
 -- the first of the parts left the client as it was but for its locks
-module _ (tag : List ℕ) (writes : List (ℕ × ℕ)) (v l d e : Client) (version : ℕ) (locked : unheld l ≡ unheld v) (decided : IsDecided tag writes l d version) (settled : HasSettled d e) (some : writes ≢ []) where
-  record_same : writer_record tag l writes version ≡ commit_record tag v writes version
+module _ (region : RegionShown) (tag : List ℕ) (writes : List (ℕ × ℕ)) (v l d e : Client) (version : ℕ) (locked : unheld l ≡ unheld v) (decided : IsDecided region tag writes l d version) (settled : HasSettled d e) (some : writes ≢ []) where
+  record_same : writer_record region tag l writes version ≡ commit_record region tag v writes version
   record_same =
       let reads : l.reads ≡ v.reads = ap (λ (x : Client). x.reads) locked in
       let attempt : l.attempt ≡ v.attempt = ap (λ (x : Client). x.attempt) locked in
-      let same : writer_record tag l writes version ≡ writer_record tag v writes version = rw (reads, attempt) refl in
-      same ∙ record_of_writer tag v writes version some
+      let same : writer_record region tag l writes version ≡ writer_record region tag v writes version = rw (reads, attempt) refl in
+      same ∙ record_of_writer region tag v writes version some
 
-  pub has_committed : HasCommitted tag writes v e version
+  pub has_committed : HasCommitted region tag writes v e version
   has_committed = record {
-    records = ap (λ (x : Client). x.records) settled.same ∙ decided.records ∙ ap (λ (r : Record). inserted r l.records) record_same ∙ ap (λ (x : Client). inserted (commit_record tag v writes version) x.records) locked;
+    records = ap (λ (x : Client). x.records) settled.same ∙ decided.records ∙ ap (λ (r : Record). inserted r l.records) record_same ∙ ap (λ (x : Client). inserted (commit_record region tag v writes version) x.records) locked;
     versioned = version_of_writer v writes version some (subst (λ (n : ℕ). n < version) (ap (λ (x : Client). x.rv) locked) decided.later);
     known = ap (λ (x : Client). x.floor) settled.same ∙ decided.known;
     free = settled.free;
@@ -215,12 +215,12 @@ module _ (region : RegionShown) (log : LogValue) (v l : Client) (some : log_pair
   }
 
 -- an attempt that wrote nothing is finished as a reader
-pub has_finished : (tag : List ℕ) (writes : List (ℕ × ℕ)) (v e : Client) (rv found : ℕ) (lk : ℕ → ℕ) → writes ≡ [] → IsBegun v rv → e ≡ after unplaced lk (finish tag) found v → HasCommitted tag writes v e rv
-has_finished tag [] v e rv found lk none begun is = record {
+pub has_finished : (region : RegionShown) (tag : List ℕ) (writes : List (ℕ × ℕ)) (v e : Client) (rv found : ℕ) → writes ≡ [] → IsBegun v rv → e ≡ after (unplaced region.renewal) (stripe_of region.stripes) (finish tag) found v → HasCommitted region tag writes v e rv
+has_finished region tag [] v e rv found none begun is = record {
   records = ap (λ (x : Client). x.records) is;
   versioned = sym begun.begun_at;
   known = ap (λ (x : Client). x.floor) is ∙ begun.known;
   free = ap (λ (x : Client). x.held) is ∙ begun.free;
   same = ap apart is;
 }
-has_finished tag (p ∷ ps) v e rv found lk none begun is = cc
+has_finished region tag (p ∷ ps) v e rv found none begun is = cc

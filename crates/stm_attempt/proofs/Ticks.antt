@@ -2,7 +2,7 @@
 use Rattle.std.proofs.Common.{◌≡◌, ◌≢◌, refl, ap, ◌∙◌, ℕ, ◌+◌, ◌<◌, Bool, true, false, cond, List, eq-eqb}
 use Rattle.stm_core.specs.Client.{Client, running, committed, nothing, ticked, inserted}
 use Rattle.stm_core.specs.Event.{tick, after, won, versioned, committed_by, stepping, IsReading}
-use Rattle.stm_region.specs.Shown.{unplaced}
+use Rattle.stm_region.specs.Shown.{RegionShown, stripe_of, unplaced}
 use Rattle.stm_attempt.specs.Committing.{HasTicked, apart, writer_record, is_at_once}
 
 -- the client's value without what a lost tick changes
@@ -18,12 +18,12 @@ pub record IsTicking (v v' : Client) (count from : ℕ) : Type 0 where
   pub lost : 0 < count → (before : ℕ) × (v'.last ≡ ticked before from) × (before ≢ from)
 
 -- the tick was won
-module _ (lk : ℕ → ℕ) (tag : List ℕ) (writes : List (ℕ × ℕ)) (v w : Client) (count from : ℕ) (ticking : IsTicking v w count from) (reading : IsReading v) where
+module _ (region : RegionShown) (tag : List ℕ) (writes : List (ℕ × ℕ)) (v w : Client) (count from : ℕ) (ticking : IsTicking v w count from) (reading : IsReading v) where
   abbrev with_version : Client
-  with_version = versioned unplaced (from + 1) tag writes w
+  with_version = versioned (unplaced region.renewal) (from + 1) tag writes w
 
   -- the same by whether it decides
-  won_by : (d : Bool) (v' : Client) → v' ≡ record (stepping (ticked from from) (cond d (committed_by unplaced with_version) with_version)) { ticks = w.ticks + 1; next_from = from } → d ≡ is_at_once v (from + 1) → HasTicked tag writes v v' (from + 1)
+  won_by : (d : Bool) (v' : Client) → v' ≡ record (stepping (ticked from from) (cond d (committed_by (unplaced region.renewal) with_version) with_version)) { ticks = w.ticks + 1; next_from = from } → d ≡ is_at_once v (from + 1) → HasTicked region tag writes v v' (from + 1)
   won_by true v' stepped at_once = record {
     same = ap apart stepped ∙ ap apart ticking.same;
     held = ap (λ (x : Client). x.held) stepped ∙ ap (λ (x : Client). x.held) ticking.same;
@@ -35,7 +35,7 @@ module _ (lk : ℕ → ℕ) (tag : List ℕ) (writes : List (ℕ × ℕ)) (v w :
     unlooked = ap (λ (x : Client). x.passed) stepped;
     unplaced = ap (λ (x : Client). x.ticked_at) stepped;
     phase = ap (λ (x : Client). x.phase) stepped ∙ ap (λ (t : Bool). cond t committed running) at_once;
-    records = ap (λ (x : Client). x.records) stepped ∙ ap (λ (x : Client). inserted (writer_record tag x writes (from + 1)) x.records) ticking.same ∙ ap (λ (t : Bool). cond t (inserted (writer_record tag v writes (from + 1)) v.records) v.records) at_once;
+    records = ap (λ (x : Client). x.records) stepped ∙ ap (λ (x : Client). inserted (writer_record region tag x writes (from + 1)) x.records) ticking.same ∙ ap (λ (t : Bool). cond t (inserted (writer_record region tag v writes (from + 1)) v.records) v.records) at_once;
   }
   won_by false v' stepped at_once = record {
     same = ap apart stepped ∙ ap apart ticking.same;
@@ -48,8 +48,8 @@ module _ (lk : ℕ → ℕ) (tag : List ℕ) (writes : List (ℕ × ℕ)) (v w :
     unlooked = ap (λ (x : Client). x.passed) stepped;
     unplaced = ap (λ (x : Client). x.ticked_at) stepped;
     phase = ap (λ (x : Client). x.phase) stepped ∙ ap (λ (x : Client). x.phase) ticking.same ∙ reading.0 ∙ ap (λ (t : Bool). cond t committed running) at_once;
-    records = ap (λ (x : Client). x.records) stepped ∙ ap (λ (x : Client). x.records) ticking.same ∙ ap (λ (t : Bool). cond t (inserted (writer_record tag v writes (from + 1)) v.records) v.records) at_once;
+    records = ap (λ (x : Client). x.records) stepped ∙ ap (λ (x : Client). x.records) ticking.same ∙ ap (λ (t : Bool). cond t (inserted (writer_record region tag v writes (from + 1)) v.records) v.records) at_once;
   }
 
-  pub has_won : (v' : Client) → v' ≡ after unplaced lk (tick from tag writes) from w → HasTicked tag writes v v' (from + 1)
-  has_won v' stepped = won_by (is_at_once w (from + 1)) v' (stepped ∙ ap (λ (t : Bool). record (stepping (ticked from from) (cond t (won unplaced (from + 1) tag writes w) w)) { ticks = w.ticks + 1; next_from = from }) (eq-eqb from from refl)) (ap (λ (x : Client). is_at_once x (from + 1)) ticking.same)
+  pub has_won : (v' : Client) → v' ≡ after (unplaced region.renewal) (stripe_of region.stripes) (tick from tag writes) from w → HasTicked region tag writes v v' (from + 1)
+  has_won v' stepped = won_by (is_at_once w (from + 1)) v' (stepped ∙ ap (λ (t : Bool). record (stepping (ticked from from) (cond t (won (unplaced region.renewal) (from + 1) tag writes w) w)) { ticks = w.ticks + 1; next_from = from }) (eq-eqb from from refl)) (ap (λ (x : Client). is_at_once x (from + 1)) ticking.same)

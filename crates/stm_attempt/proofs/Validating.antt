@@ -6,7 +6,7 @@ use mathlib.Core.Option.{some}
 use lib.ListN.{get_elem?}
 use Rattle.stm_core.specs.Client.{Client, Record, running, nothing, looked, inserted, writes_to}
 use Rattle.stm_core.specs.Event.{Bounds, May, validate, committed_by, stepping}
-use Rattle.stm_region.specs.Shown.{unplaced}
+use Rattle.stm_region.specs.Shown.{RegionShown, stripe_of, unplaced}
 use Rattle.stm_attempt.specs.Running.{addresses, address_of}
 use Rattle.stm_attempt.specs.Committing.{HasLooked, AreInside, aside, apart, writer_record}
 use Rattle.stm_attempt.specs.Shown.{IsReadLock}
@@ -18,16 +18,16 @@ abbrev pub unlooked : Client → Client
 unlooked v = record v { phase = running; last = nothing; gave_back = false; mine = false; passed = 0; stored = []; steps = 0; records = [] }
 
 -- the record of an attempt, for a tick at this place
-abbrev pub recorded : Client → ℕ → Record
-recorded v place = record (writer_record v.tag v v.writes v.wv) { point = place }
+abbrev pub recorded : RegionShown → Client → ℕ → Record
+recorded region v place = record (writer_record region v.tag v v.writes v.wv) { point = place }
 
 -- so many looks were made, and all passed; the last of all decided the attempt
-pub record IsLooking (v v' : Client) (count : ℕ) : Type 0 where
+pub record IsLooking (region : RegionShown) (v v' : Client) (count : ℕ) : Type 0 where
   pub same : unlooked v' ≡ unlooked v
   pub passed : v'.passed ≡ count
   pub steps : v'.steps ≡ v.steps + count
   pub runs : count < length v.reads → (v'.phase ≡ running) × (aside v' ≡ aside v)
-  pub done : count ≡ length v.reads → HasLooked v v'
+  pub done : count ≡ length v.reads → HasLooked region v v'
 
 pub next_less : (log : List ℕ) (reads : List (ℕ × ℕ)) (i : ℕ) → log ≡ addresses reads → i < length log → i < length reads
 next_less log reads i logged less = omega (arith, ap length logged, length-map reads address_of)
@@ -44,7 +44,7 @@ read_at (p ∷ ps) (suc i) l = read_at ps i (omega arith)
 pub read_inside : (size : ℕ) (reads : List (ℕ × ℕ)) (i : ℕ) → AreInside size reads → i < length reads → slice_index (addresses reads) i < size
 read_inside size reads i inside l = let at = read_at reads i l in inside (slice_index (addresses reads) i) at.0 (i, at.1)
 
-module _ (v w : Client) (count : ℕ) (looking : IsLooking v w count) (less : count < length v.reads) where
+module _ (region : RegionShown) (v w : Client) (count : ℕ) (looking : IsLooking region v w count) (less : count < length v.reads) where
   -- the next look may be made
   pub may_look : (lawful : List ℕ → List (ℕ × ℕ) → List (ℕ × ℕ) → Type 0) (lk : ℕ → ℕ) (b : Bounds) → v.spent ≡ false → 0 < v.wv → (a k : ℕ) → a ≡ slice_index (addresses v.reads) count → k ≡ lk a → May lawful lk b (validate k) w
   may_look lawful lk b unspent versioned a k address lock =
@@ -55,7 +55,7 @@ module _ (v w : Client) (count : ℕ) (looking : IsLooking v w count) (less : co
       (ap (λ (x : Client). x.spent) looking.same ∙ unspent, ((looking.runs less).0, omega (arith, version), (a, at.0, here, sym lock)))
 
   -- one look more passed, by whether it was the last of all
-  looked_by : (d : Bool) (w' : Client) (lock word : ℕ) → w' ≡ record (stepping (looked lock word) (let x = record w { passed = w.passed + 1 } in cond d (committed_by unplaced x) x)) { mine = writes_to w.held lock } → eqb (count + 1) (length v.reads) ≡ d → v.ticked_at ≡ 0 → IsLooking v w' (count + 1)
+  looked_by : (d : Bool) (w' : Client) (lock word : ℕ) → w' ≡ record (stepping (looked lock word) (let x = record w { passed = w.passed + 1 } in cond d (committed_by (unplaced region.renewal) x) x)) { mine = writes_to w.held lock } → eqb (count + 1) (length v.reads) ≡ d → v.ticked_at ≡ 0 → IsLooking region v w' (count + 1)
   looked_by true w' lock word stepped last at_zero =
       let all : count + 1 ≡ length v.reads = eqb-true (count + 1) (length v.reads) last in
       let records_were : w.records ≡ v.records = ap (λ (x : Client). x.records) (looking.runs less).1 in
@@ -73,7 +73,7 @@ module _ (v w : Client) (count : ℕ) (looking : IsLooking v w count) (less : co
           known = ap (λ (x : Client). x.floor) stepped ∙ ap (λ (x : Client). x.floor) looking.same;
           unstored = ap (λ (x : Client). x.stored) stepped;
           phase = ap (λ (x : Client). x.phase) stepped;
-          records = ap (λ (x : Client). x.records) stepped ∙ ap (λ (x : Client). inserted (recorded x x.ticked_at) w.records) looking.same ∙ ap (λ (n : ℕ). inserted (recorded v n) w.records) at_zero ∙ ap (inserted (recorded v 0)) records_were;
+          records = ap (λ (x : Client). x.records) stepped ∙ ap (λ (x : Client). inserted (recorded region x x.ticked_at) w.records) looking.same ∙ ap (λ (n : ℕ). inserted (recorded region v n) w.records) at_zero ∙ ap (inserted (recorded region v 0)) records_were;
           steps = omega (arith, looking.steps);
         };
       }
@@ -88,14 +88,14 @@ module _ (v w : Client) (count : ℕ) (looking : IsLooking v w count) (less : co
         done = λ all. absurd (some_left all);
       }
 
-  pub looked_on : (lk : ℕ → ℕ) (lock : ℕ) (w' : Client) → HasLookedAt lk lock true w w' → v.ticked_at ≡ 0 → IsLooking v w' (count + 1)
-  looked_on lk lock w' look at_zero =
+  pub looked_on : (lock : ℕ) (w' : Client) → HasLookedAt region lock true w w' → v.ticked_at ≡ 0 → IsLooking region v w' (count + 1)
+  looked_on lock w' look at_zero =
       let test : eqb (w.passed + 1) (length w.reads) ≡ eqb (count + 1) (length v.reads) = ap (λ (x : Client). eqb (w.passed + 1) (length x.reads)) looking.same ∙ ap (λ (n : ℕ). eqb (n + 1) (length v.reads)) looking.passed in
-      looked_by (eqb (w.passed + 1) (length w.reads)) w' lock look.0 (by_look lk lock true w w' look) (sym test) at_zero
+      looked_by (eqb (w.passed + 1) (length w.reads)) w' lock look.0 (by_look region lock true w w' look) (sym test) at_zero
 
   -- a look that failed was at the lock of a read
-  pub looked_at_read : (lk : ℕ → ℕ) (a k : ℕ) → a ≡ slice_index (addresses v.reads) count → k ≡ lk a → (w' : Client) → HasLookedAt lk k false w w' → IsReadLock lk w'.reads k
-  looked_at_read lk a k address lock w' look =
+  pub looked_at_read : (a k : ℕ) → a ≡ slice_index (addresses v.reads) count → k ≡ stripe_of region.stripes a → (w' : Client) → HasLookedAt region k false w w' → IsReadLock (stripe_of region.stripes) w'.reads k
+  looked_at_read a k address lock w' look =
       let at = read_at v.reads count less in
-      let same : w'.reads ≡ v.reads = ap (λ (x : Client). x.reads) (by_look lk k false w w' look) ∙ ap (λ (x : Client). x.reads) looking.same in
+      let same : w'.reads ≡ v.reads = ap (λ (x : Client). x.reads) (by_look region k false w w' look) ∙ ap (λ (x : Client). x.reads) looking.same in
       (a, at.0, (count, ap (λ (rs : List (ℕ × ℕ)). get_elem? rs count) same ∙ at.1 ∙ ap (λ (n : ℕ). some (n, at.0)) (sym address)), lock)

@@ -71,11 +71,11 @@ pub record IsReturning (v v' : Client) (count left : ℕ) (rest all : List ℕ) 
   pub steps : v'.steps + left ≡ v.steps + count
 
 -- the record of a writer, and that of an attempt that wrote nothing
-abbrev pub writer_record : List ℕ → Client → List (ℕ × ℕ) → ℕ → Record
-writer_record tag v writes version = record { tag = tag; reads = v.reads; writes = writes; writer = true; version = version; attempt = v.attempt; renewal = 0; point = 0; client = 0 }
+abbrev pub writer_record : RegionShown → List ℕ → Client → List (ℕ × ℕ) → ℕ → Record
+writer_record region tag v writes version = record { tag = tag; reads = v.reads; writes = writes; writer = true; version = version; attempt = v.attempt; renewal = region.renewal; point = 0; client = 0 }
 
-abbrev pub reader_record : List ℕ → Client → Record
-reader_record tag v = record { tag = tag; reads = v.reads; writes = []; writer = false; version = v.rv; attempt = v.attempt; renewal = 0; point = v.began_at; client = 0 }
+abbrev pub reader_record : RegionShown → List ℕ → Client → Record
+reader_record region tag v = record { tag = tag; reads = v.reads; writes = []; writer = false; version = v.rv; attempt = v.attempt; renewal = region.renewal; point = v.began_at; client = 0 }
 
 -- the client's value without what a commit changes
 abbrev pub apart : Client → Client
@@ -86,7 +86,7 @@ abbrev pub is_at_once : Client → ℕ → Bool
 is_at_once v version = is_empty v.reads || eqb version (v.rv + 1)
 
 -- the clock was ticked to the write version, for a record of this tag and these writes
-pub record HasTicked (tag : List ℕ) (writes : List (ℕ × ℕ)) (v v' : Client) (version : ℕ) : Type 0 where
+pub record HasTicked (region : RegionShown) (tag : List ℕ) (writes : List (ℕ × ℕ)) (v v' : Client) (version : ℕ) : Type 0 where
   pub same : apart v' ≡ apart v
   pub held : v'.held ≡ v.held
   pub versioned : v'.wv ≡ version
@@ -97,7 +97,7 @@ pub record HasTicked (tag : List ℕ) (writes : List (ℕ × ℕ)) (v v' : Clien
   pub unlooked : v'.passed ≡ 0
   pub unplaced : v'.ticked_at ≡ 0
   pub phase : v'.phase ≡ cond (is_at_once v version) committed running
-  pub records : v'.records ≡ cond (is_at_once v version) (inserted (writer_record tag v writes version) v.records) v.records
+  pub records : v'.records ≡ cond (is_at_once v version) (inserted (writer_record region tag v writes version) v.records) v.records
 
 -- why a commit stopped: a conflict that is shown, or a clock that was found at the last version while ticks were left, so that no tick is made from it
 abbrev pub IsCommitStop : RegionShown → LogValue → Stop → Client → Type 0
@@ -112,7 +112,7 @@ IsCounted (Conflicting conflict) steps v = Unit {0}
 IsCounted (Spent version) steps v = v.steps ≡ steps + v.ticks
 
 -- the locks of all reads were looked at, and the last look decided the attempt
-pub record HasLooked (v v' : Client) : Type 0 where
+pub record HasLooked (region : RegionShown) (v v' : Client) : Type 0 where
   pub same : apart v' ≡ apart v
   pub held : v'.held ≡ v.held
   pub versioned : v'.wv ≡ v.wv
@@ -120,7 +120,7 @@ pub record HasLooked (v v' : Client) : Type 0 where
   pub known : v'.floor ≡ v.floor
   pub unstored : v'.stored ≡ []
   pub phase : v'.phase ≡ committed
-  pub records : v'.records ≡ inserted (writer_record v.tag v v.writes v.wv) v.records
+  pub records : v'.records ≡ inserted (writer_record region v.tag v v.writes v.wv) v.records
   pub steps : v'.steps ≡ v.steps + length v.reads
 
 -- a look failed: the attempt can only give back what it holds
@@ -160,14 +160,14 @@ pub record HasReleased (v v' : Client) : Type 0 where
   pub steps : v'.steps ≡ v.steps + length v.held
 
 -- the attempt is decided, with its record
-pub record IsDecided (tag : List ℕ) (writes : List (ℕ × ℕ)) (v v' : Client) (version : ℕ) : Type 0 where
+pub record IsDecided (region : RegionShown) (tag : List ℕ) (writes : List (ℕ × ℕ)) (v v' : Client) (version : ℕ) : Type 0 where
   pub same : apart v' ≡ apart v
   pub held : v'.held ≡ v.held
   pub writing : v'.writes ≡ writes
   pub known : v'.floor ≡ version
   pub unstored : v'.stored ≡ []
   pub phase : v'.phase ≡ committed
-  pub records : v'.records ≡ inserted (writer_record tag v writes version) v.records
+  pub records : v'.records ≡ inserted (writer_record region tag v writes version) v.records
   pub later : v.rv < version
   pub steps : v'.steps ≤ v.steps + length v.reads + 16
 
@@ -192,9 +192,9 @@ pub record HasSettled (v v' : Client) : Type 0 where
   pub steps : v'.steps ≡ v.steps + length v.writes + length v.held
 
 -- the record of a commit: a reader's where nothing was written
-abbrev pub commit_record : List ℕ → Client → List (ℕ × ℕ) → ℕ → Record
-commit_record tag v [] version = reader_record tag v
-commit_record tag v (p ∷ ps) version = writer_record tag v (p ∷ ps) version
+abbrev pub commit_record : RegionShown → List ℕ → Client → List (ℕ × ℕ) → ℕ → Record
+commit_record region tag v [] version = reader_record region tag v
+commit_record region tag v (p ∷ ps) version = writer_record region tag v (p ∷ ps) version
 
 -- the version of a commit: the read version where nothing was written, else a later one
 abbrev pub IsCommitVersion : Client → List (ℕ × ℕ) → ℕ → Type 0
@@ -202,8 +202,8 @@ IsCommitVersion v [] version = version ≡ v.rv
 IsCommitVersion v (p ∷ ps) version = v.rv < version
 
 -- the commit added exactly one record, and no lock is held
-pub record HasCommitted (tag : List ℕ) (writes : List (ℕ × ℕ)) (v v' : Client) (version : ℕ) : Type 0 where
-  pub records : v'.records ≡ inserted (commit_record tag v writes version) v.records
+pub record HasCommitted (region : RegionShown) (tag : List ℕ) (writes : List (ℕ × ℕ)) (v v' : Client) (version : ℕ) : Type 0 where
+  pub records : v'.records ≡ inserted (commit_record region tag v writes version) v.records
   pub versioned : IsCommitVersion v writes version
   pub known : v'.floor ≡ version
   pub free : v'.held ≡ []
@@ -219,7 +219,7 @@ pub record HasStopped (region : RegionShown) (log : LogValue) (stop : Stop) (v v
   pub same : aside v' ≡ aside v
 
 -- at the step that decided the attempt, with these records of its client, the records of all clients were lawful and serial, the client's own among them
-pub record WasDecided (fits : List ℕ → Type 0) (lawful : List ℕ → List (ℕ × ℕ) → List (ℕ × ℕ) → Type 0) (image : List ℕ) (v : Client) : Type 0 where
+pub record WasDecided (fits : List ℕ → Type 0) (lawful : List ℕ → List (ℕ × ℕ) → List (ℕ × ℕ) → Type 0) (region : RegionShown) (v : Client) : Type 0 where
   pub then : Client
   pub records : then.records ≡ v.records
-  pub decides : Decides fits lawful image then
+  pub decides : Decides fits lawful region then

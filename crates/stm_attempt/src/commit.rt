@@ -54,9 +54,9 @@ fn decide<L: Law, R: Allocator, A: Allocator + Copy, T: Tag, G: Gate>(
     requires written { len logs.now.writes.words ≢ 0 }
     requires same { SameAddresses logs.now.writes }
     ensures own { client.new.table ≡ client.old.table }
-    ensures ok { IfOk result (λ version. IsDecided (T.numbers tag.now) (log_pairs logs.now.writes) client.old.value client.new.value version) }
+    ensures ok { IfOk result (λ version. IsDecided region.now (T.numbers tag.now) (log_pairs logs.now.writes) client.old.value client.new.value version) }
     ensures version { IfOk result (λ version. version ≤ region.now.last) }
-    ensures decides { IfOk result (λ _. Decides L.fits L.lawful region.now.opening client.new.value) }
+    ensures decides { IfOk result (λ _. Decides L.fits L.lawful region.now client.new.value) }
     ensures failed { IfErr result (λ stop. HasFailedDeciding region.now logs.now.writes stop client.old.value client.new.value) }
 {
     gate.at(Point::Locked);
@@ -109,9 +109,9 @@ fn commit_writes<L: Law, R: Allocator, A: Allocator + Copy, T: Tag, G: Gate>(
     requires placed { IsPlaced region.now logs.now.writes }
     requires written { len logs.now.writes.words ≢ 0 }
     ensures own { client.new.table ≡ client.old.table }
-    ensures ok { IfOk result (λ version. HasCommitted (T.numbers tag.now) (log_pairs logs.now.writes) client.old.value client.new.value version) }
+    ensures ok { IfOk result (λ version. HasCommitted region.now (T.numbers tag.now) (log_pairs logs.now.writes) client.old.value client.new.value version) }
     ensures version { IfOk result (λ version. version ≤ region.now.last) }
-    ensures decides { IfOk result (λ _. WasDecided L.fits L.lawful region.now.opening client.new.value) }
+    ensures decides { IfOk result (λ _. WasDecided L.fits L.lawful region.now client.new.value) }
     ensures stopped { IfErr result (λ stop. HasStopped region.now logs.now.writes stop client.old.value client.new.value) }
     ensures steps { client.new.value.steps ≤ client.old.value.steps + length client.old.value.reads + 4 * len logs.now.writes.words + 16 }
 {
@@ -151,9 +151,9 @@ fn end<L: Law, R: Allocator, A: Allocator + Copy, T: Tag, G: Gate>(
     ensures free_handed { IsFreeHanded client.new.value }
     ensures over { logs.new.in_use ≡ false }
     ensures again { (conflict : Conflict) → stopped ≡ Some conflict → (result ≡ Err (conflicting conflict)) × (client.new ≡ client.old) }
-    ensures ok { IfOk result (λ version. HasCommitted (T.numbers tag.now) (log_pairs logs.old.writes) client.old.value client.new.value version) }
+    ensures ok { IfOk result (λ version. HasCommitted region.now (T.numbers tag.now) (log_pairs logs.old.writes) client.old.value client.new.value version) }
     ensures version { IfOk result (λ version. version ≤ region.now.last) }
-    ensures decides { IfOk result (λ _. WasDecided L.fits L.lawful region.now.opening client.new.value) }
+    ensures decides { IfOk result (λ _. WasDecided L.fits L.lawful region.now client.new.value) }
     ensures refused { stopped ≡ None → IfErr result (λ stop. HasStopped region.now logs.old.writes stop client.old.value client.new.value) }
     ensures logs { IfErr result (λ _. (logs.new.reads ≡ []) × (logs.new.writes ≡ empty_log)) }
     ensures steps { client.new.value.steps ≤ client.old.value.steps + length client.old.value.reads + 4 * len logs.old.writes.words + 16 }
@@ -187,9 +187,9 @@ impl<'a, L: Law, R: Allocator, A: Allocator + Copy> Attempt<'a, L, R, A> {
         ensures own { self.exit.1.0.now.table ≡ self.entry.client.now.table }
         ensures free_handed { IsFreeHanded self.exit.1.0.now.value }
         ensures again { (conflict : Conflict) → self.entry.stopped ≡ Some conflict → (result ≡ Err (conflicting conflict)) × (self.exit.1.0.now ≡ self.entry.client.now) }
-        ensures ok { IfOk result (λ version. HasCommitted (T.numbers tag.now) (log_pairs self.entry.logs.now.writes) self.entry.client.now.value self.exit.1.0.now.value version) }
+        ensures ok { IfOk result (λ version. HasCommitted self.entry.region.now (T.numbers tag.now) (log_pairs self.entry.logs.now.writes) self.entry.client.now.value self.exit.1.0.now.value version) }
         ensures version { IfOk result (λ version. version ≤ self.entry.region.now.last) }
-        ensures decides { IfOk result (λ _. WasDecided L.fits L.lawful self.entry.region.now.opening self.exit.1.0.now.value) }
+        ensures decides { IfOk result (λ _. WasDecided L.fits L.lawful self.entry.region.now self.exit.1.0.now.value) }
         ensures refused { self.entry.stopped ≡ None → IfErr result (λ stop. HasStopped self.entry.region.now self.entry.logs.now.writes stop self.entry.client.now.value self.exit.1.0.now.value) }
         ensures logs { IfErr result (λ _. (self.exit.1.1.0.now.reads ≡ []) × (self.exit.1.1.0.now.writes ≡ empty_log)) }
         ensures steps { self.exit.1.0.now.value.steps ≤ most_steps (length self.entry.client.now.value.reads + refused self.entry.stopped) (len self.entry.logs.now.writes.words) }

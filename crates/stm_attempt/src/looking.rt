@@ -31,9 +31,9 @@ fn look_at<L: Law, R: Allocator, A: Allocator + Copy>(
     requires version { client.old.value.rv ≡ rv }
     requires held { addresses client.old.value.held ≡ log_locks writes.now }
     ensures own { client.new.table ≡ client.old.table }
-    ensures passed { IfOk result (λ _. HasLookedAt (stripe_of region.now.stripes) lock true client.old.value client.new.value) }
-    ensures decides { IfOk result (λ _. decided client.new.value ≡ true → Decides L.fits L.lawful region.now.opening client.new.value) }
-    ensures failed { IfErr result (λ _. HasLookedAt (stripe_of region.now.stripes) lock false client.old.value client.new.value) }
+    ensures passed { IfOk result (λ _. HasLookedAt region.now lock true client.old.value client.new.value) }
+    ensures decides { IfOk result (λ _. decided client.new.value ≡ true → Decides L.fits L.lawful region.now client.new.value) }
+    ensures failed { IfErr result (λ _. HasLookedAt region.now lock false client.old.value client.new.value) }
     ensures shown { IfErr result (λ conflict. IsLookConflict lock conflict client.new.value) }
 {
     let word = region.validate(client, lock);
@@ -62,8 +62,8 @@ pub(crate) fn look_at_reads<L: Law, R: Allocator, A: Allocator + Copy>(
     requires inside { AreInside region.now.size client.old.value.reads }
     requires held { addresses client.old.value.held ≡ log_locks logs.now.writes }
     ensures own { client.new.table ≡ client.old.table }
-    ensures ok { IfOk result (λ _. HasLooked client.old.value client.new.value) }
-    ensures decides { IfOk result (λ _. Decides L.fits L.lawful region.now.opening client.new.value) }
+    ensures ok { IfOk result (λ _. HasLooked region.now client.old.value client.new.value) }
+    ensures decides { IfOk result (λ _. Decides L.fits L.lawful region.now client.new.value) }
     ensures failed { IfErr result (λ _. HasFailedLooking client.old.value client.new.value) }
     ensures shown { IfErr result (λ conflict. (lock : ℕ) × IsReadLock (stripe_of region.now.stripes) client.new.value.reads lock × IsLookConflict lock conflict client.new.value) }
 {

@@ -75,7 +75,7 @@ impl<'a, L: Law, R: Allocator> ReadAttempt<'a, L, R> {
         ensures version { result ≡ self.entry.rv }
         ensures client { (found : ℕ) × (self.exit.1.0.now ≡ acted self.entry.region.now (finishes (T.numbers tag.now)) found self.entry.client.now) }
         ensures free_handed { IsFreeHanded self.exit.1.0.now.value }
-        ensures decides { Decides L.fits L.lawful self.entry.region.now.opening self.exit.1.0.now.value }
+        ensures decides { Decides L.fits L.lawful self.entry.region.now self.exit.1.0.now.value }
         ensures steps { self.exit.1.0.now.value.steps ≤ most_steps (length self.entry.client.now.value.reads) 0 }
     {
         let Self {

@@ -41,9 +41,9 @@ pub(crate) fn tick<L: Law, R: Allocator, A: Allocator + Copy, T: Tag>(
     requires writes { MayWrite (stripe_of region.now.stripes) region.now.size client.old.value.held (log_pairs writes.now) }
     requires lawful { L.lawful (T.numbers tag.now) client.old.value.reads (log_pairs writes.now) }
     ensures own { client.new.table ≡ client.old.table }
-    ensures won { IfOk result (λ version. HasTicked (T.numbers tag.now) (log_pairs writes.now) client.old.value client.new.value version) }
+    ensures won { IfOk result (λ version. HasTicked region.now (T.numbers tag.now) (log_pairs writes.now) client.old.value client.new.value version) }
     ensures version { IfOk result (λ version. (rv < version) × (version ≤ region.now.last)) }
-    ensures decides { IfOk result (λ _. decided client.new.value ≡ true → Decides L.fits L.lawful region.now.opening client.new.value) }
+    ensures decides { IfOk result (λ _. decided client.new.value ≡ true → Decides L.fits L.lawful region.now client.new.value) }
     ensures failed { IfErr result (λ _. HasFailed client.old.value client.new.value) }
     ensures shown { IfErr result (λ stop. IsCommitStop region.now writes.now stop client.new.value) }
     ensures counted { IfErr result (λ stop. IsCounted stop client.old.value.steps client.new.value) }

@@ -22,11 +22,11 @@ returns-then-is_ok-clause-ok g c =
     let e = c.settle.new.client.value in
     let some = some_pairs c.args.logs.now.writes c.requires.written in
     elim c.match-lock_all.branch [
-      | in-Ok w ↦ subst (λ r. IfOk r (λ version. HasCommitted tag pairs v e version)) (sym w.answer-is)
-          (map_ok w.decide-answer.result (λ version. IsDecided tag pairs l w.decide-answer.new.client.value version) (λ version. HasCommitted tag pairs v e version)
-          (λ version decided. has_committed tag pairs v l w.decide-answer.new.client.value e version w.in-Ok.ensures.all.0 decided (subst (λ (s : ClientShown). HasSettled s.value e) w.client-is c.settle.ensures.settled) some)
+      | in-Ok w ↦ subst (λ r. IfOk r (λ version. HasCommitted c.args.region.now tag pairs v e version)) (sym w.answer-is)
+          (map_ok w.decide-answer.result (λ version. IsDecided c.args.region.now tag pairs l w.decide-answer.new.client.value version) (λ version. HasCommitted c.args.region.now tag pairs v e version)
+          (λ version decided. has_committed c.args.region.now tag pairs v l w.decide-answer.new.client.value e version w.in-Ok.ensures.all.0 decided (subst (λ (s : ClientShown). HasSettled s.value e) w.client-is c.settle.ensures.settled) some)
           w.decide-answer.ensures.ok)
-      | in-Err w ↦ subst (λ r. IfOk r (λ version. HasCommitted tag pairs v e version)) (sym w.answer-is) tt
+      | in-Err w ↦ subst (λ r. IfOk r (λ version. HasCommitted c.args.region.now tag pairs v e version)) (sym w.answer-is) tt
     ]
 
 pub returns-then-is_ok-clause-steps : goal.returns-then-is_ok-clause-steps
@@ -39,8 +39,8 @@ returns-then-is_ok-clause-steps g c =
     let some = some_pairs c.args.logs.now.writes c.requires.written in
     elim c.match-lock_all.branch [
       | in-Ok w ↦
-          (let ok = ok_of w.decide-answer.result (λ version. IsDecided tag pairs l w.decide-answer.new.client.value version) (ap is_ok (sym w.answer-is) ∙ sym c.if-is_ok.ensures.value) w.decide-answer.ensures.ok in
-          steps_committed tag pairs v l w.decide-answer.new.client.value e ok.0 w.in-Ok.ensures.all.0 ok.2 (subst (λ (s : ClientShown). HasSettled s.value e) w.client-is c.settle.ensures.settled) some
+          (let ok = ok_of w.decide-answer.result (λ version. IsDecided c.args.region.now tag pairs l w.decide-answer.new.client.value version) (ap is_ok (sym w.answer-is) ∙ sym c.if-is_ok.ensures.value) w.decide-answer.ensures.ok in
+          steps_committed c.args.region.now tag pairs v l w.decide-answer.new.client.value e ok.0 w.in-Ok.ensures.all.0 ok.2 (subst (λ (s : ClientShown). HasSettled s.value e) w.client-is c.settle.ensures.settled) some
           c.args.logs.now.writes c.lock_all.new.taken refl c.same_addresses.ensures w.in-Ok.ensures.held w.in-Ok.ensures.all.1 w.in-Ok.ensures.all.2)
       | in-Err w ↦ err_not_ok c.match-lock_all.answer _ w.answer-is (sym c.if-is_ok.ensures.value)
     ]

@@ -21,9 +21,9 @@ returns-clause-ok g c =
     let later : c.args.client.now.value.rv < c.in_ok-version.version = omega (arith, c.in_ok-version.ensures.version.0, c.requires.version.0) in
     elim c.if-not-decides_at_once.branch [
       | then-not-decides_at_once+in_default w ↦
-          subst (λ (s : ClientShown). IsDecided (g.T.Tag.numbers c.args.tag.now) (log_pairs c.args.logs.now.writes) c.args.client.now.value s.value c.in_ok-version.version) (sym w.client-is)
-          (decided_after_looks (g.T.Tag.numbers c.args.tag.now) (log_pairs c.args.logs.now.writes) c.args.client.now.value c.tick.new.client.value c.in_ok-version.version c.in_ok-version.ensures.won later c.tick.ensures.steps w.look_at_reads.new.client.value w.in_default.ensures.ok (sym once ∙ sym c.decides_at_once.ensures ∙ w.if-not-decides_at_once.true))
+          subst (λ (s : ClientShown). IsDecided c.args.region.now (g.T.Tag.numbers c.args.tag.now) (log_pairs c.args.logs.now.writes) c.args.client.now.value s.value c.in_ok-version.version) (sym w.client-is)
+          (decided_after_looks c.args.region.now (g.T.Tag.numbers c.args.tag.now) (log_pairs c.args.logs.now.writes) c.args.client.now.value c.tick.new.client.value c.in_ok-version.version c.in_ok-version.ensures.won later c.tick.ensures.steps w.look_at_reads.new.client.value w.in_default.ensures.ok (sym once ∙ sym c.decides_at_once.ensures ∙ w.if-not-decides_at_once.true))
       | else-not-decides_at_once w ↦
-          subst (λ (s : ClientShown). IsDecided (g.T.Tag.numbers c.args.tag.now) (log_pairs c.args.logs.now.writes) c.args.client.now.value s.value c.in_ok-version.version) (sym w.client-is)
-          (decided_at_once (g.T.Tag.numbers c.args.tag.now) (log_pairs c.args.logs.now.writes) c.args.client.now.value c.tick.new.client.value c.in_ok-version.version c.in_ok-version.ensures.won later c.tick.ensures.steps (sym once ∙ sym c.decides_at_once.ensures ∙ w.if-not-decides_at_once.false))
+          subst (λ (s : ClientShown). IsDecided c.args.region.now (g.T.Tag.numbers c.args.tag.now) (log_pairs c.args.logs.now.writes) c.args.client.now.value s.value c.in_ok-version.version) (sym w.client-is)
+          (decided_at_once c.args.region.now (g.T.Tag.numbers c.args.tag.now) (log_pairs c.args.logs.now.writes) c.args.client.now.value c.tick.new.client.value c.in_ok-version.version c.in_ok-version.ensures.won later c.tick.ensures.steps (sym once ∙ sym c.decides_at_once.ensures ∙ w.if-not-decides_at_once.false))
     ]

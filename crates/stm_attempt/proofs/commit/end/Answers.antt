@@ -1,6 +1,6 @@
 use Rattle.std.proofs.Common.{sym, subst, ap, ◌∙◌, IfOk}
 use Rattle.stm_logs.specs.Log.{log_pairs}
-use Rattle.stm_region.specs.Shown.{ClientShown, stripe_of}
+use Rattle.stm_region.specs.Shown.{ClientShown}
 use Rattle.stm_attempt.specs.Committing.{HasCommitted}
 use Rattle.stm_attempt.proofs.Parts.{no_pairs, has_finished}
 use Rattle.stm_attempt.proofs.commit.end.Goals as goal
@@ -23,10 +23,10 @@ returns-else-is_err-clause-ok g c =
     let pairs = log_pairs c.args.logs.now.writes in
     let v = c.args.client.now.value in
     elim c.match-stopped.branch [
-      | in-Some w ↦ subst (λ r. IfOk r (λ version. HasCommitted tag pairs v c.match-stopped.client.value version)) (sym w.answer-is) tt
-      | in-None+then-len-eq0 w ↦ subst (λ r. IfOk r (λ version. HasCommitted tag pairs v c.match-stopped.client.value version)) (sym w.answer-is)
-          (has_finished tag pairs v c.match-stopped.client.value c.args.rv w.finish.ensures.client.0 (stripe_of c.args.region.now.stripes) (no_pairs c.args.logs.now.writes (sym w.len.ensures ∙ w.if-len-eq0.true)) c.requires.begun
+      | in-Some w ↦ subst (λ r. IfOk r (λ version. HasCommitted c.args.region.now tag pairs v c.match-stopped.client.value version)) (sym w.answer-is) tt
+      | in-None+then-len-eq0 w ↦ subst (λ r. IfOk r (λ version. HasCommitted c.args.region.now tag pairs v c.match-stopped.client.value version)) (sym w.answer-is)
+          (has_finished c.args.region.now tag pairs v c.match-stopped.client.value c.args.rv w.finish.ensures.client.0 (no_pairs c.args.logs.now.writes (sym w.len.ensures ∙ w.if-len-eq0.true)) c.requires.begun
           (ap (λ (s : ClientShown). s.value) w.client-is ∙ ap (λ (s : ClientShown). s.value) w.finish.ensures.client.1))
-      | in-None+else-len-eq0 w ↦ subst (λ r. IfOk r (λ version. HasCommitted tag pairs v c.match-stopped.client.value version)) (sym w.answer-is)
-          (subst (λ (s : ClientShown). IfOk w.commit_writes.result (λ version. HasCommitted tag pairs v s.value version)) (sym w.client-is) w.commit_writes.ensures.ok)
+      | in-None+else-len-eq0 w ↦ subst (λ r. IfOk r (λ version. HasCommitted c.args.region.now tag pairs v c.match-stopped.client.value version)) (sym w.answer-is)
+          (subst (λ (s : ClientShown). IfOk w.commit_writes.result (λ version. HasCommitted c.args.region.now tag pairs v s.value version)) (sym w.client-is) w.commit_writes.ensures.ok)
     ]

@@ -15,13 +15,13 @@ pub look_at-requires-clause-allowed : goal.look_at-requires-clause-allowed
 look_at-requires-clause-allowed g c =
     let less = next_less c.args.logs.now.reads c.args.client.now.value.reads c.loop-i.i c.requires.logged (omega arith) in
     let address = address_at c.args.logs.now.reads c.args.client.now.value.reads c.loop-i.i c.get.result.0 c.requires.logged c.get.ensures in
-    may_look c.args.client.now.value c.loop-i.client.value c.loop-i.i c.loop-i.invariant.1 less g.L.Law.lawful (stripe_of c.args.region.now.stripes) (bounds c.args.region.now) c.requires.ready.0 c.requires.ready.2 c.get.result.0 c.lock_of-lock.result address c.lock_of-lock.ensures.value
+    may_look c.args.region.now c.args.client.now.value c.loop-i.client.value c.loop-i.i c.loop-i.invariant.1 less g.L.Law.lawful (stripe_of c.args.region.now.stripes) (bounds c.args.region.now) c.requires.ready.0 c.requires.ready.2 c.get.result.0 c.lock_of-lock.result address c.lock_of-lock.ensures.value
 
 pub loop-i-preserved : goal.loop-i-preserved
 loop-i-preserved g c =
     let less = next_less c.args.logs.now.reads c.args.client.now.value.reads c.loop-i.i c.requires.logged (omega arith) in (
       c.in_ok-look_at.ensures.own ∙ c.loop-i.invariant.0,
-      looked_on c.args.client.now.value c.loop-i.client.value c.loop-i.i c.loop-i.invariant.1 less (stripe_of c.args.region.now.stripes) c.lock_of-lock.result c.look_at.new.client.value c.in_ok-look_at.ensures.passed c.requires.ready.4,
+      looked_on c.args.region.now c.args.client.now.value c.loop-i.client.value c.loop-i.i c.loop-i.invariant.1 less c.lock_of-lock.result c.look_at.new.client.value c.in_ok-look_at.ensures.passed c.requires.ready.4,
       c.in_ok-look_at.ensures.decides,
     )
 
@@ -30,4 +30,4 @@ returns-in_err-look_at-clause-shown g c =
     let less = next_less c.args.logs.now.reads c.args.client.now.value.reads c.loop-i.i c.requires.logged (omega arith) in
     let address = address_at c.args.logs.now.reads c.args.client.now.value.reads c.loop-i.i c.get.result.0 c.requires.logged c.get.ensures in
     handed_on c.from_residual.result c.in_err-look_at.field-0.0 (λ conflict. (lock : ℕ) × IsReadLock (stripe_of c.args.region.now.stripes) c.look_at.new.client.value.reads lock × IsLookConflict lock conflict c.look_at.new.client.value) c.from_residual.ensures.1
-    (c.lock_of-lock.result, looked_at_read c.args.client.now.value c.loop-i.client.value c.loop-i.i c.loop-i.invariant.1 less (stripe_of c.args.region.now.stripes) c.get.result.0 c.lock_of-lock.result address c.lock_of-lock.ensures.value c.look_at.new.client.value c.in_err-look_at.ensures.failed, c.in_err-look_at.ensures.shown)
+    (c.lock_of-lock.result, looked_at_read c.args.region.now c.args.client.now.value c.loop-i.client.value c.loop-i.i c.loop-i.invariant.1 less c.get.result.0 c.lock_of-lock.result address c.lock_of-lock.ensures.value c.look_at.new.client.value c.in_err-look_at.ensures.failed, c.in_err-look_at.ensures.shown)

@@ -7,5 +7,5 @@ use Rattle.stm_attempt.proofs.looking.look_at_reads.Given as goal
 abbrev pub invariant-loop-i : goal.invariant-loop-i
 invariant-loop-i g l =
     (l.client.table ≡ l.initial.client.table) ×
-    IsLooking l.initial.client.value l.client.value l.i ×
-    (decided l.client.value ≡ true → Decides g.L.Law.fits g.L.Law.lawful l.region.opening l.client.value)
+    IsLooking l.region l.initial.client.value l.client.value l.i ×
+    (decided l.client.value ≡ true → Decides g.L.Law.fits g.L.Law.lawful l.region l.client.value)
