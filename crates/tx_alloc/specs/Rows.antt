@@ -1,0 +1,44 @@
+-- Rows: the keys of a structure with their blocks, by ascending key.
+use Rattle.std.specs.Prelude.{◌≡◌, ◌≢◌, ◌⊎◌, ℕ, ◌+◌, ◌<◌, ◌≤◌, cond, List, [], ◌∷◌, nat_eq, nat_lt}
+
+abbrev pub Rows : Type 0
+Rows = List (ℕ × ℕ)
+
+-- how often rows have a block
+abbrev pub times : ℕ → Rows → ℕ
+times x [] = 0
+times x (r ∷ rs) = cond (nat_eq r.1 x) 1 0 + times x rs
+
+-- the rows with a row put in its place
+abbrev pub put_row : Rows → ℕ → ℕ → Rows
+put_row [] key b = (key, b) ∷ []
+put_row (r ∷ rs) key b = cond (nat_lt r.0 key) (r ∷ put_row rs key b) ((key, b) ∷ (r ∷ rs))
+
+-- the block at a key, or 0
+abbrev pub block_at : Rows → ℕ → ℕ
+block_at [] key = 0
+block_at (r ∷ rs) key = cond (nat_eq r.0 key) r.1 (block_at rs key)
+
+-- the rows without the row of a key
+abbrev pub cut_row : Rows → ℕ → Rows
+cut_row [] key = []
+cut_row (r ∷ rs) key = cond (nat_eq r.0 key) rs (r ∷ cut_row rs key)
+
+-- all keys are below k
+abbrev pub AllBelow : ℕ → Rows → Type 0
+AllBelow k [] = Unit {0}
+AllBelow k (r ∷ rs) = (r.0 < k) × AllBelow k rs
+
+-- the keys ascend, from lo on
+abbrev pub IsFrom : ℕ → Rows → Type 0
+IsFrom lo [] = Unit {0}
+IsFrom lo (r ∷ rs) = (lo ≤ r.0) × IsFrom (r.0 + 1) rs
+
+-- the first four words of a block are as before
+abbrev pub SameLinks : (ℕ → ℕ) → (ℕ → ℕ) → ℕ → Type 0
+SameLinks m m' a = (k : ℕ) → k < 4 → m' (a + k) ≡ m (a + k)
+
+-- nothing was written but the root and, of blocks of these rows, the words from first to 3
+pub record Relinks (m m' : ℕ → ℕ) (first root : ℕ) (rs : Rows) : Type 0 where
+  pub others : (x : ℕ) → x ≢ root →
+      ((a : ℕ) → 0 < times a rs → (x < a + first) ⊎ (a + 4 ≤ x)) → m' x ≡ m x

@@ -1,0 +1,18 @@
+//! Blocks of eight words in a transactional memory: which are free, in eight lists, and which are
+//! taken.
+//!
+//! Words 8 to 15 are the heads of the lists, and block b starts at word 16 + 8 * b.
+//!
+//! A pointer is the place of a block's first word, or 0 for none. A free block's first word leads
+//! to the next free block of its list.
+#![tactic(auto)]
+
+mod fresh;
+pub mod place;
+mod pool;
+
+pub use fresh::fresh_words;
+pub use pool::{Block, give, take};
+
+#[cfg(test)]
+mod tests;

@@ -1,0 +1,16 @@
+//! Where the words of a heap stand.
+
+/// How many lists of free blocks there are.
+pub const LISTS: u32 = 8;
+
+/// The word that leads to the first block of list 0. Those of the other lists follow.
+pub const FIRST_HEAD: u32 = 8;
+
+/// The first word of block 0.
+pub const FIRST_BLOCK: u32 = 16;
+
+/// How many words a block has.
+pub const BLOCK_WORDS: u32 = 8;
+
+/// The most blocks of a heap.
+pub const MOST_BLOCKS: usize = 262_144;

@@ -1,0 +1,54 @@
+//! Taking blocks and giving them back.
+
+ghost use Rattle.std.specs.Prelude.{◌≡◌, ◌<◌, IfOk, MatchOption};
+ghost use Rattle.tx_alloc.specs.Pool.{HasPool, HasUsed, NoneFree, Taken, Given};
+
+use crate::place::{FIRST_HEAD, LISTS};
+use stm_words::{Addr, TxMem, load, store};
+
+/// A block, by its first word.
+#[derive(Clone, Copy, Debug, PartialEq, Eq)]
+pub struct Block(pub Addr);
+
+/// Takes the first block of the first list that has one. The lists are looked at from `start` on,
+/// and list 0 follows list 7. `None` says that all eight are empty.
+///
+/// The block's words are as they were when it was given back: its first word is the next free
+/// block's place.
+pub fn take<M: TxMem>(memory: &mut M, start: u32) -> Result<Option<Block>, M::Stop>
+    requires start { start < LISTS }
+    requires pool { HasPool (M.view memory.old) }
+    ensures origin { M.origin memory.new ≡ M.origin memory.old }
+    ensures answer { IfOk result (λ taken. MatchOption taken
+        (NoneFree (M.view memory.old) (M.view memory.new))
+        (λ block. Taken (M.view memory.old) (M.view memory.new) start block.0.0)) }
+{
+    for i in 0..LISTS {
+        let head = Addr(FIRST_HEAD + (start + i) % LISTS);
+        let first = load(memory, head)?;
+        if first != 0 {
+            let block = Addr(first as u32);
+            let next = load(memory, block)?;
+            store(memory, head, next)?;
+            return Ok(Some(Block(block)));
+        }
+    }
+    Ok(None)
+}
+
+/// Gives back a block that is taken and that nothing leads to any more. It becomes the first of
+/// list `start`.
+pub fn give<M: TxMem>(memory: &mut M, start: u32, block: Block) -> Result<(), M::Stop>
+    requires start { start < LISTS }
+    requires used { HasUsed (M.view memory.old) block.0.0 }
+    ensures origin { M.origin memory.new ≡ M.origin memory.old }
+    ensures answer { IfOk result (λ _.
+        Given (M.view memory.old) (M.view memory.new) start block.0.0) }
+{
+    let Block(addr) = block;
+    let head = Addr(FIRST_HEAD + start);
+    let first = load(memory, head)?;
+    store(memory, addr, first)?;
+    store(memory, head, addr.0 as u64)?;
+    Ok(())
+}
