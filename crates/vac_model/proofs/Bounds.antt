@@ -7,9 +7,17 @@ use Rattle.vac_model.specs.declared.items.Kind.{Kind}
 use Rattle.vac_model.specs.declared.items.Kind.TheVariants.{Car, Flight, Room}
 use Rattle.vac_model.specs.declared.items.Item.{Item}
 use Rattle.vac_model.specs.State.{State, Booking, Bookings, table_of, bookings_of, units_booked, bill_of, size}
-use Rattle.vac_model.specs.Fits.{IsSmall, HasSmallSums}
+use Rattle.vac_model.specs.Fits.{IsSmall}
 use Rattle.vac_model.proofs.Sums.{sum_le, sum_le_by, sum-remove}
 use Rattle.vac_model.proofs.Places.{place_cmp_total, place_cmp-IsAntisymmetric}
+
+-- a state whose sums stay far below 2 ^ 64
+pub record HasSmallSums (s : State) : Type 0 where
+  pub used : (kind : Kind) → sum_by (λ i. i.used) (values (table_of s kind)) < 2 ^ 60
+  pub free : (kind : Kind) → sum_by (λ i. i.free) (values (table_of s kind)) < 2 ^ 60
+  pub total : (kind : Kind) → sum_by (λ i. i.total) (values (table_of s kind)) < 2 ^ 60
+  pub units : sum_by units_booked (values s.customers) < 2 ^ 60
+  pub bills : sum_by bill_of (values s.customers) < 2 ^ 60
 
 -- a table has no more entries than the state
 table_size : (s : State) (kind : Kind) → len (table_of s kind) ≤ size s

@@ -1,5 +1,6 @@
 -- The ranges of single numbers in commands and tasks. They are this product's own.
 use Rattle.std.specs.Prelude.{ℕ, ◌^◌, Bool, true, false, ◌&&◌, Option, Some, None, nat_le, nat_lt}
+use Rattle.vac_model.specs.declared.limits.TheConstants.{MOST_AMOUNT, MOST_UNITS_AT_ONCE, MOST_PARTS}
 use Rattle.vac_model.specs.declared.items.Kind.{Kind}
 use Rattle.vac_model.specs.declared.items.Kind.TheVariants.{Car, Flight, Room}
 
@@ -9,7 +10,7 @@ is_id n = nat_le 1 n && nat_lt n (2 ^ 32)
 
 -- a count or a price is 0 to 1,000,000
 abbrev pub is_amount : ℕ → Bool
-is_amount n = nat_le n 1000000
+is_amount n = nat_le n MOST_AMOUNT
 
 -- a price that is given is 0 to 1,000,000
 abbrev pub is_optional_amount : Option ℕ → Bool
@@ -18,7 +19,7 @@ is_optional_amount (Some n) = is_amount n
 
 -- a reservation is for 1 to 100 units
 abbrev pub is_unit_count : ℕ → Bool
-is_unit_count n = nat_le 1 n && nat_le n 100
+is_unit_count n = nat_le 1 n && nat_le n MOST_UNITS_AT_ONCE
 
 -- units can be deleted of cars and rooms; a flight is dropped as a whole
 abbrev pub has_deletable_units : Kind → Bool
@@ -28,4 +29,4 @@ has_deletable_units Room = true
 
 -- a trip has 1 to 32 asks, an update 1 to 32 changes
 abbrev pub is_list_length : ℕ → Bool
-is_list_length n = nat_le 1 n && nat_le n 32
+is_list_length n = nat_le 1 n && nat_le n MOST_PARTS

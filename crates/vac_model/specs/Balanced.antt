@@ -1,6 +1,7 @@
 -- When the parts of a state fit one another.
 use Rattle.std.specs.Prelude.{◌≡◌, ℕ, ◌+◌, ◌*◌, ◌^◌, ◌<◌, ◌≤◌, Some, IsSome}
 use Rattle.std.specs.FinMap.{get}
+use Rattle.vac_model.specs.declared.limits.TheConstants.{MOST_AMOUNT}
 use Rattle.vac_model.specs.declared.items.Kind.{Kind}
 use Rattle.vac_model.specs.declared.items.Item.{Item}
 use Rattle.vac_model.specs.State.{State, Booking, Bookings, item_of, bookings_of, units_held, size}
@@ -16,7 +17,7 @@ pub record IsItem (s : State) (kind : Kind) (id : ℕ) (item : Item) : Type 0 wh
   pub id_range : IsId id
   pub some_units : 1 ≤ item.total
   pub few_units : item.total ≤ total_limit
-  pub price_range : item.price ≤ 1000000
+  pub price_range : item.price ≤ MOST_AMOUNT
   pub counts : item.used + item.free ≡ item.total
   pub held : item.used ≡ units_held s (kind, id)
 
@@ -25,7 +26,7 @@ pub record IsBooking (s : State) (kind : Kind) (id : ℕ) (b : Booking) : Type 0
   pub item : IsSome (item_of s kind id)
   pub some_units : 1 ≤ b.units
   pub few_units : b.units ≤ unit_limit
-  pub sum_range : b.sum ≤ b.units * 1000000
+  pub sum_range : b.sum ≤ b.units * MOST_AMOUNT
 
 -- a state whose entries fit one another, and are no more than its capacity
 pub record IsBalanced (s : State) : Type 0 where

@@ -1,16 +1,16 @@
 -- What the plain manager's arithmetic needs of a state.
-use Rattle.std.specs.Prelude.{◌≡◌, ℕ, ◌+◌, ◌*◌, ◌^◌, ◌<◌, ◌≤◌, Some, List, [], ◌∷◌, sum_by, if◌then◌else◌}
-use Rattle.std.specs.FinMap.{values}
+use Rattle.std.specs.Prelude.{◌≡◌, ℕ, ◌+◌, ◌*◌, ◌≤◌, Some, List, [], ◌∷◌, if◌then◌else◌}
 use Rattle.std.specs.Ordering.{eq_by_cmp}
+use Rattle.vac_model.specs.declared.limits.TheConstants.{MOST_BLOCKS, MOST_AMOUNT}
 use Rattle.vac_model.specs.declared.items.Kind.{Kind}
 use Rattle.vac_model.specs.declared.items.Item.{Item}
-use Rattle.vac_model.specs.State.{State, Booking, Place, place_cmp, table_of, item_of, units_booked, bill_of}
+use Rattle.vac_model.specs.State.{State, Booking, Place, place_cmp, item_of}
 use Rattle.vac_model.specs.Step.{total_limit, unit_limit}
 use Rattle.vac_model.specs.Balanced.{IsBalanced}
 
 -- the most entries that a plain manager may have
 abbrev pub most_blocks : ℕ
-most_blocks = 262144
+most_blocks = MOST_BLOCKS
 
 -- a balanced state that is not too large
 pub record IsSmall (s : State) : Type 0 where
@@ -20,7 +20,7 @@ pub record IsSmall (s : State) : Type 0 where
 -- an item whose numbers are in their ranges
 pub record IsItemInRange (item : Item) : Type 0 where
   pub few_units : item.total ≤ total_limit
-  pub price_range : item.price ≤ 1000000
+  pub price_range : item.price ≤ MOST_AMOUNT
   pub counts : item.used + item.free ≡ item.total
 
 -- how many units of an item are among these bookings
@@ -36,12 +36,4 @@ pub record CanGiveBack (s : State) (bookings : List (Place × Booking)) : Type 0
 -- a booking whose numbers are in their ranges
 pub record IsBookingInRange (b : Booking) : Type 0 where
   pub few_units : b.units ≤ unit_limit
-  pub sum_range : b.sum ≤ b.units * 1000000
-
--- a state whose sums stay far below 2 ^ 64
-pub record HasSmallSums (s : State) : Type 0 where
-  pub used : (kind : Kind) → sum_by (λ i. i.used) (values (table_of s kind)) < 2 ^ 60
-  pub free : (kind : Kind) → sum_by (λ i. i.free) (values (table_of s kind)) < 2 ^ 60
-  pub total : (kind : Kind) → sum_by (λ i. i.total) (values (table_of s kind)) < 2 ^ 60
-  pub units : sum_by units_booked (values s.customers) < 2 ^ 60
-  pub bills : sum_by bill_of (values s.customers) < 2 ^ 60
+  pub sum_range : b.sum ≤ b.units * MOST_AMOUNT

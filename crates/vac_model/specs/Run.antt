@@ -1,6 +1,7 @@
 -- What a task does: one command, or a trip, a leave or an update, which are made of commands. The kinds of task are those of
 -- STAMP's client; the picks of a trip are this product's own.
 use Rattle.std.specs.Prelude.{ℕ, ◌-◌, ◌||◌, Option, Some, None, is_some, List, [], ◌∷◌, ◌++◌, length, fold, replicate, nat_lt, ◌==◌, if◌then◌else◌}
+use Rattle.vac_model.specs.declared.limits.TheConstants.{MOST_PARTS}
 use Rattle.vac_model.specs.declared.items.Kind.{Kind}
 use Rattle.vac_model.specs.declared.items.Kind.TheVariants.{Car, Flight, Room}
 use Rattle.vac_model.specs.declared.commands.Command.{Command}
@@ -93,7 +94,7 @@ steps s (c ∷ cs) =
 abbrev pub update : State → List Command → Outcome
 update s changes =
     let after = steps s changes in
-    (after.0, reply.Update (record { len = length changes; refused = after.1 ++ replicate (32 - length changes) None }))
+    (after.0, reply.Update (record { len = length changes; refused = after.1 ++ replicate (MOST_PARTS - length changes) None }))
 
 -- the outcome of a task
 abbrev pub run : State → Task → Outcome

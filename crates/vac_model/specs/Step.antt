@@ -3,6 +3,7 @@
 use Rattle.std.specs.Prelude.{ℕ, ◌+◌, ◌-◌, ◌*◌, Option, Some, None, List, unwrap_or, fold, nat_lt, ◌==◌, if◌then◌else◌}
 use Rattle.std.specs.Option.{option_map}
 use Rattle.std.specs.FinMap.{empty, get, insert, remove, entries}
+use Rattle.vac_model.specs.declared.limits.TheConstants.{MOST_TOTAL, MOST_UNITS}
 use Rattle.vac_model.specs.declared.items.Kind.{Kind}
 use Rattle.vac_model.specs.declared.items.Kind.TheVariants.{Flight}
 use Rattle.vac_model.specs.declared.items.Item.{Item}
@@ -16,11 +17,11 @@ use Rattle.vac_model.specs.State.{State, Booking, Bookings, Place, item_of, with
 
 -- the greatest total of an item
 abbrev pub total_limit : ℕ
-total_limit = 1000000000
+total_limit = MOST_TOTAL
 
 -- the most units that one booking has
 abbrev pub unit_limit : ℕ
-unit_limit = 10000
+unit_limit = MOST_UNITS
 
 -- the state after a command, and the reply
 abbrev pub Outcome : Type 0

@@ -5,6 +5,7 @@ ghost use Rattle.vac_model.specs.Ranges as Ranges;
 ghost use Rattle.vac_model.specs.Amounts as amounts;
 
 use crate::items::Kind;
+use crate::limits::{MOST_AMOUNT, MOST_UNITS_AT_ONCE};
 
 /// One step of the manager of reservations.
 ///
@@ -121,7 +122,7 @@ pub(crate) fn is_id(id: u32) -> bool
 fn is_amount(amount: u32) -> bool
     ensures { result ≡ amounts.is_amount amount }
 {
-    amount <= 1_000_000
+    amount <= MOST_AMOUNT
 }
 
 fn is_optional_amount(amount: Option<u32>) -> bool
@@ -136,7 +137,7 @@ fn is_optional_amount(amount: Option<u32>) -> bool
 fn is_unit_count(num: u32) -> bool
     ensures { result ≡ amounts.is_unit_count num }
 {
-    1 <= num && num <= 100
+    1 <= num && num <= MOST_UNITS_AT_ONCE
 }
 
 fn has_deletable_units(kind: Kind) -> bool

@@ -1,22 +1,26 @@
 //! Laws of commands and tasks. Each is the contract of a function that does nothing.
 
-ghost use Rattle.std.specs.Prelude.{◌≡◌, ℕ, ◌≤◌, IsTrue, Option, Some};
+ghost use Rattle.std.specs.Prelude.{◌≡◌, ℕ, ◌≤◌, ◌++◌, ◌∷◌, [], IsTrue, Option, Some, None, replicate};
 ghost use Rattle.std.specs.Option.{option_map};
 ghost use Rattle.std.specs.FinMap.{get};
 ghost use Rattle.vac_model.specs.declared.items.Kind.{Kind};
+ghost use Rattle.vac_model.specs.declared.items.Kind.TheVariants.{Car, Flight, Room};
 ghost use Rattle.vac_model.specs.declared.items.Item.{Item};
 ghost use Rattle.vac_model.specs.declared.commands.Command.{Command};
 ghost use Rattle.vac_model.specs.declared.commands.Command.TheVariants as command;
 ghost use Rattle.vac_model.specs.declared.commands.Why.{Why};
-ghost use Rattle.vac_model.specs.declared.commands.Why.TheVariants.{Full};
+ghost use Rattle.vac_model.specs.declared.commands.Why.TheVariants.{NeedsCountAndPrice, TotalLimit, Full, NoItem, NotFree, InUse, Exists, NoCustomer, SoldOut, NotBooked, UnitLimit};
 ghost use Rattle.vac_model.specs.declared.replies.Reply.{Reply};
 ghost use Rattle.vac_model.specs.declared.replies.Reply.TheVariants as reply;
+ghost use Rattle.vac_model.specs.declared.replies.Joined.TheVariants as joined;
 ghost use Rattle.vac_model.specs.declared.tasks.Task.{Task};
+ghost use Rattle.vac_model.specs.declared.tasks.Task.TheVariants as task;
 ghost use Rattle.vac_model.specs.State.{State, Booking, Bookings, empty_state, item_of, bookings_of, units_of, size, report};
 ghost use Rattle.vac_model.specs.Step.{step, given_back};
 ghost use Rattle.vac_model.specs.Run.{run};
+ghost use Rattle.vac_model.specs.Amounts.{is_id};
 ghost use Rattle.vac_model.specs.Ranges.{is_task};
-ghost use Rattle.vac_model.specs.Balanced.{IsBalanced};
+ghost use Rattle.vac_model.specs.Balanced.{IsId, IsBalanced};
 ghost use Rattle.vac_model.specs.Code.{code};
 ghost use Rattle.vac_model.specs.Laws.{NeedsEntry, IsOne, IsBilled};
 
@@ -75,4 +79,56 @@ pub fn used_units_are_booked()
 /// The code of a task and a reply determines both.
 pub fn codes_determine_tasks_and_replies()
     ensures { (t u : Task) (r q : Reply) → code t r ≡ code u q → (t ≡ u) × (r ≡ q) }
+{}
+
+/// The ids of a balanced state are exactly those that can be asked for.
+pub fn ids_can_be_asked_for()
+    ensures only { (n : ℕ) → IsId n → IsTrue (is_id n) }
+    ensures all { (n : ℕ) → IsTrue (is_id n) → IsId n }
+{}
+
+/// Codes of commands and their replies, worked out by hand.
+pub fn codes_of_commands()
+    ensures add { code (task.One (command.Add Car 7 100 (Some 50))) reply.Done
+        ≡ 0 ∷ 0 ∷ 0 ∷ 7 ∷ 100 ∷ 1 ∷ 50 ∷ 0 ∷ [] }
+    ensures add_without_price { code (task.One (command.Add Room 9 5 None)) (reply.No NeedsCountAndPrice)
+        ≡ 0 ∷ 0 ∷ 2 ∷ 9 ∷ 5 ∷ 0 ∷ 3 ∷ 0 ∷ [] }
+    ensures delete { code (task.One (command.Delete Room 4 2)) (reply.No NotFree)
+        ≡ 0 ∷ 1 ∷ 2 ∷ 4 ∷ 2 ∷ 3 ∷ 4 ∷ [] }
+    ensures drop_flight { code (task.One (command.DropFlight 6)) (reply.No InUse)
+        ≡ 0 ∷ 2 ∷ 6 ∷ 3 ∷ 5 ∷ [] }
+    ensures new_customer { code (task.One (command.NewCustomer 8)) (reply.No Exists)
+        ≡ 0 ∷ 3 ∷ 8 ∷ 3 ∷ 6 ∷ [] }
+    ensures drop_customer { code (task.One (command.DropCustomer 8)) (reply.No NoCustomer)
+        ≡ 0 ∷ 4 ∷ 8 ∷ 3 ∷ 7 ∷ [] }
+    ensures free { code (task.One (command.Free Flight 2)) (reply.Number (Some 5))
+        ≡ 0 ∷ 5 ∷ 1 ∷ 2 ∷ 1 ∷ 1 ∷ 5 ∷ [] }
+    ensures price { code (task.One (command.Price Car 9)) (reply.Number None)
+        ≡ 0 ∷ 6 ∷ 0 ∷ 9 ∷ 1 ∷ 0 ∷ [] }
+    ensures bill { code (task.One (command.Bill 3)) (reply.Number (Some 340))
+        ≡ 0 ∷ 7 ∷ 3 ∷ 1 ∷ 1 ∷ 340 ∷ [] }
+    ensures reserve { code (task.One (command.Reserve 3 Flight 7 2)) (reply.No SoldOut)
+        ≡ 0 ∷ 8 ∷ 3 ∷ 1 ∷ 7 ∷ 2 ∷ 3 ∷ 8 ∷ [] }
+    ensures reserve_more { code (task.One (command.Reserve 3 Car 7 1)) (reply.No UnitLimit)
+        ≡ 0 ∷ 8 ∷ 3 ∷ 0 ∷ 7 ∷ 1 ∷ 3 ∷ 10 ∷ [] }
+    ensures cancel { code (task.One (command.Cancel 3 Room 9)) (reply.No NotBooked)
+        ≡ 0 ∷ 9 ∷ 3 ∷ 2 ∷ 9 ∷ 3 ∷ 9 ∷ [] }
+    ensures audit { code (task.One command.Audit) (reply.Report (record { cars = 1; flights = 2; rooms = 3; customers = 4; bookings = 5; used = 6; free = 7; total = 13; billed = 90 }))
+        ≡ 0 ∷ 10 ∷ 2 ∷ 1 ∷ 2 ∷ 3 ∷ 4 ∷ 5 ∷ 6 ∷ 7 ∷ 13 ∷ 90 ∷ [] }
+{}
+
+/// Codes of the other tasks and their replies, worked out by hand.
+pub fn codes_of_tasks()
+    ensures trip { code (task.Trip 3 ((Car, 1) ∷ (Room, 9) ∷ []))
+        (reply.Trip (record { joined = joined.Added; picks = Some (record { id = 1; price = 50; refused = None }) ∷ None ∷ Some (record { id = 9; price = 70; refused = Some NoItem }) ∷ [] }))
+        ≡ 1 ∷ 3 ∷ 2 ∷ 0 ∷ 1 ∷ 2 ∷ 9 ∷ 4 ∷ 1 ∷ 3 ∷ 1 ∷ 1 ∷ 50 ∷ 0 ∷ 0 ∷ 1 ∷ 9 ∷ 70 ∷ 1 ∷ 3 ∷ [] }
+    ensures refused_trip { code (task.Trip 3 ((Flight, 2) ∷ []))
+        (reply.Trip (record { joined = joined.Refused Full; picks = None ∷ Some (record { id = 2; price = 50; refused = Some NoCustomer }) ∷ None ∷ [] }))
+        ≡ 1 ∷ 3 ∷ 1 ∷ 1 ∷ 2 ∷ 4 ∷ 2 ∷ 2 ∷ 3 ∷ 0 ∷ 1 ∷ 2 ∷ 50 ∷ 1 ∷ 7 ∷ 0 ∷ [] }
+    ensures empty_trip { code (task.Trip 3 ((Room, 9) ∷ [])) (reply.Trip (record { joined = joined.NotAsked; picks = None ∷ None ∷ None ∷ [] }))
+        ≡ 1 ∷ 3 ∷ 1 ∷ 2 ∷ 9 ∷ 4 ∷ 0 ∷ 3 ∷ 0 ∷ 0 ∷ 0 ∷ [] }
+    ensures leave { code (task.Leave 3) (reply.Number (Some 100)) ≡ 2 ∷ 3 ∷ 1 ∷ 1 ∷ 100 ∷ [] }
+    ensures update { code (task.Update (command.Add Car 1 5 None ∷ command.DropFlight 2 ∷ []))
+        (reply.Update (record { len = 2; refused = Some TotalLimit ∷ replicate 31 None }))
+        ≡ (3 ∷ 2 ∷ 0 ∷ 0 ∷ 1 ∷ 5 ∷ 0 ∷ 2 ∷ 2 ∷ 5 ∷ 2 ∷ 32 ∷ 1 ∷ 1 ∷ []) ++ replicate 31 0 }
 {}

@@ -9,19 +9,17 @@
 mod commands;
 mod items;
 pub mod laws;
+pub mod limits;
 mod maps;
 mod replies;
-mod runs;
 mod sequential;
 mod steps;
 mod tables;
+mod task_runs;
 mod tasks;
 
 pub use commands::{Command, Why};
 pub use items::{Booking, Item, Kind};
 pub use replies::{Joined, Pick, Reply, Report, TripReply, UpdateReply};
 pub use sequential::{Sequential, SequentialFault};
-pub use tasks::{Asks, Changes, Task};
-
-#[cfg(test)]
-mod tests;
+pub use tasks::{Asks, Changes, INLINE_ASKS, INLINE_CHANGES, Task};

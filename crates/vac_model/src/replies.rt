@@ -1,6 +1,7 @@
 //! What a task answers. Every reply has a fixed size.
 
 use crate::commands::Why;
+use crate::limits::MOST_PARTS;
 
 /// The answer to a task.
 #[derive(Clone, Copy, Debug, PartialEq, Eq)]
@@ -64,5 +65,5 @@ pub struct Pick {
 #[derive(Clone, Copy, Debug, PartialEq, Eq)]
 pub struct UpdateReply {
     pub len: u8,
-    pub refused: [Option<Why>; 32],
+    pub refused: [Option<Why>; MOST_PARTS],
 }

@@ -2,6 +2,7 @@
 
 ghost use Rattle.std.specs.Prelude.{◌≡◌, ◌≤◌, ◌<◌, ◌↔◌, false, IfOk, OnOk, OnErr};
 
+use crate::limits::MOST_BLOCKS;
 use crate::replies::{Reply, Report};
 use crate::tables::Tables;
 use crate::tasks::Task;
@@ -49,11 +50,11 @@ impl Sequential {
     /// A manager with no entries that may have so many, 1 to 262,144.
     pub fn new(alloc: Global, blocks: u32) -> Result<Sequential, SequentialFault>
         ensures ok { IfOk result (λ manager. manager ≡ empty_state blocks) }
-        ensures in_range { OnOk result ((1 ≤ blocks) × (blocks ≤ 262144)) }
+        ensures in_range { OnOk result ((1 ≤ blocks) × (blocks ≤ MOST_BLOCKS)) }
         ensures arguments { OnErr result (result ≡ Err SequentialFault.Arguments) }
-        ensures out_of_range { OnErr result ((1 ≤ blocks) × (blocks ≤ 262144) → ⊥) }
+        ensures out_of_range { OnErr result ((1 ≤ blocks) × (blocks ≤ MOST_BLOCKS) → ⊥) }
     {
-        if blocks < 1 || 262_144 < blocks {
+        if blocks < 1 || MOST_BLOCKS < blocks {
             return Err(SequentialFault::Arguments);
         }
         Ok(Sequential {

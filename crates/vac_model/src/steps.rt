@@ -1,111 +1,20 @@
-//! The commands.
+//! What each command does to the tables, and when it is refused.
 
-ghost use Rattle.std.specs.Prelude.{◌≡◌, ◌<◌, ◌≤◌, ◌+◌, ◌-◌, ◌*◌, ◌^◌, IsTrue, IsSome, IfOk, OnOk, OnErr};
+ghost use Rattle.std.specs.Prelude.{◌≡◌, ◌≤◌, IsTrue, IsSome, IfOk, OnOk, OnErr};
 ghost use Rattle.std.specs.Option.{option_copied, option_map};
 ghost use Rattle.std.specs.FinMap as map;
+ghost use Rattle.vac_model.specs.declared.limits.TheConstants.{MOST_UNITS_AT_ONCE};
 ghost use Rattle.vac_model.specs.Step as rules;
 ghost use Rattle.vac_model.specs.Fits.{IsSmall, IsItemInRange, IsBookingInRange, CanGiveBack};
 ghost use Rattle.vac_model.specs.Ranges.{is_command};
 
 use crate::commands::{Command, Why};
 use crate::items::{Booking, Item, Kind};
+use crate::limits::{MOST_TOTAL, MOST_UNITS};
 use crate::maps::BookingMap;
 use crate::replies::Reply;
 use crate::tables::Tables;
 use std::alloc::AllocError;
-
-/// The most units of an item.
-const TOTAL_LIMIT: u64 = 1_000_000_000;
-
-/// The most units of a booking.
-const UNIT_LIMIT: u64 = 10_000;
-
-impl Item {
-    fn new(num: u32, price: u32) -> Item
-        ensures { result ≡ rules.new_item num price }
-    {
-        Item {
-            used: 0,
-            free: num as u64,
-            total: num as u64,
-            price: price as u64,
-        }
-    }
-
-    fn added(self, num: u32, price: Option<u32>) -> Item
-        requires { IsItemInRange self }
-        ensures { result ≡ rules.added self num price }
-    {
-        Item {
-            used: self.used,
-            free: self.free + num as u64,
-            total: self.total + num as u64,
-            price: match price {
-                Some(price) => price as u64,
-                None => self.price,
-            },
-        }
-    }
-
-    fn deleted(self, num: u32) -> Item
-        requires range { IsItemInRange self }
-        requires free { num ≤ self.free }
-        ensures { result ≡ rules.deleted self num }
-    {
-        Item {
-            free: self.free - num as u64,
-            total: self.total - num as u64,
-            ..self
-        }
-    }
-
-    fn taken(self, num: u32) -> Item
-        requires range { IsItemInRange self }
-        requires free { num ≤ self.free }
-        ensures { result ≡ rules.taken self num }
-    {
-        Item {
-            used: self.used + num as u64,
-            free: self.free - num as u64,
-            ..self
-        }
-    }
-
-    fn given_back(self, units: u64) -> Item
-        requires range { IsItemInRange self }
-        requires used { units ≤ self.used }
-        ensures { result ≡ rules.given_back self units }
-    {
-        Item {
-            used: self.used - units,
-            free: self.free + units,
-            ..self
-        }
-    }
-}
-
-impl Booking {
-    fn new(num: u32, price: u64) -> Booking
-        requires { price ≤ 1000000 }
-        ensures { result ≡ rules.new_booking num price }
-    {
-        Booking {
-            units: num as u64,
-            sum: num as u64 * price,
-        }
-    }
-
-    fn extended(self, num: u32, price: u64) -> Booking
-        requires range { IsBookingInRange self }
-        requires price { price ≤ 1000000 }
-        ensures { result ≡ rules.extended self num price }
-    {
-        Booking {
-            units: self.units + num as u64,
-            sum: self.sum + num as u64 * price,
-        }
-    }
-}
 
 impl Tables {
     ghost use Rattle.std.specs.Prelude.{Some};
@@ -157,7 +66,7 @@ impl Tables {
         requires range { IsItemInRange item }
         ensures { rules.add_more self.old kind id num price item ≡ (self.new, result) }
     {
-        if item.total + num as u64 > TOTAL_LIMIT {
+        if item.total + num as u64 > MOST_TOTAL {
             return Reply::No(Why::TotalLimit);
         }
         self.replace_item(kind, id, item.added(num, price));
@@ -219,7 +128,7 @@ impl Tables {
         num: u32,
     ) -> Result<Reply, AllocError>
         requires small { IsSmall self.old }
-        requires count { num ≤ 100 }
+        requires count { num ≤ MOST_UNITS_AT_ONCE }
         ensures ok { IfOk result (λ reply. rules.reserve self.old customer kind id num ≡ (self.new, reply)) }
         ensures err { OnErr result (self.new ≡ self.old) }
     {
@@ -248,7 +157,7 @@ impl Tables {
         item: Item,
     ) -> Result<Reply, AllocError>
         requires small { IsSmall self.old }
-        requires count { num ≤ 100 }
+        requires count { num ≤ MOST_UNITS_AT_ONCE }
         requires customer { IsSome (bookings_of self.old customer) }
         requires item { item_of self.old kind id ≡ Some item }
         requires free { num ≤ item.free }
@@ -274,7 +183,7 @@ impl Tables {
         booking: Booking,
     ) -> Result<Reply, AllocError>
         requires small { IsSmall self.old }
-        requires count { num ≤ 100 }
+        requires count { num ≤ MOST_UNITS_AT_ONCE }
         requires customer { IsSome (bookings_of self.old customer) }
         requires item { item_of self.old kind id ≡ Some item }
         requires free { num ≤ item.free }
@@ -283,7 +192,7 @@ impl Tables {
             → rules.book_more self.old customer kind id num bookings item booking ≡ (self.new, reply)) }
         ensures err { OnErr result (self.new ≡ self.old) }
     {
-        if booking.units + num as u64 > UNIT_LIMIT {
+        if booking.units + num as u64 > MOST_UNITS {
             return Ok(Reply::No(Why::UnitLimit));
         }
         self.put_booking(customer, kind, id, booking.extended(num, item.price))?;

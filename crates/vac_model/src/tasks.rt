@@ -1,21 +1,27 @@
 //! Tasks: what a client asks for at once.
 
-ghost use Rattle.std.specs.Prelude.{◌≡◌, IfOk};
-ghost use Rattle.std.specs.Prelude.{◌&&◌};
+ghost use Rattle.std.specs.Prelude.{◌≡◌, ◌≤◌, ◌&&◌, IfOk, IsOk, length};
 ghost use Rattle.std.specs.List.{list_all};
 ghost use Rattle.vac_model.specs.Amounts as amounts;
 ghost use Rattle.vac_model.specs.Ranges.{is_change, is_command, is_task};
 
 use crate::commands::{Command, is_id};
 use crate::items::Kind;
+use crate::limits::MOST_PARTS;
 use smallvec::SmallVec;
 use std::alloc::{AllocError, Global};
 use std::marker::Model;
 
-/// The asks of a trip, in their order. Up to eight need no allocation.
+/// The most asks that are kept without an allocation.
+pub const INLINE_ASKS: usize = 8;
+
+/// The most changes that are kept without an allocation.
+pub const INLINE_CHANGES: usize = 4;
+
+/// The asks of a trip, in their order.
 #[derive(Drop)]
 pub struct Asks {
-    items: SmallVec<(Kind, u32), 8>,
+    items: SmallVec<(Kind, u32), INLINE_ASKS>,
 }
 
 impl Model for Asks {
@@ -36,10 +42,10 @@ impl Asks {
     }
 }
 
-/// The changes of an update, in their order. Up to four need no allocation.
+/// The changes of an update, in their order.
 #[derive(Drop)]
 pub struct Changes {
-    commands: SmallVec<Command, 4>,
+    commands: SmallVec<Command, INLINE_CHANGES>,
 }
 
 impl Model for Changes {
@@ -93,9 +99,10 @@ impl Task {
         }
     }
 
-    /// The trip with these asks. Only memory can be refused.
+    /// The trip with these asks. Only memory can be refused, and none is asked for up to eight.
     pub fn trip(alloc: Global, customer: u32, asks: &[(Kind, u32)]) -> Result<Task, AllocError>
-        ensures { IfOk result (λ task. task ≡ Task.Trip customer asks.now) }
+        ensures ok { IfOk result (λ task. task ≡ Task.Trip customer asks.now) }
+        ensures inline { length asks.now ≤ INLINE_ASKS → IsOk result }
     {
         let items = SmallVec::from_slice(alloc, asks)?;
         Ok(Task::Trip {
@@ -104,9 +111,10 @@ impl Task {
         })
     }
 
-    /// The update with these changes. Only memory can be refused.
+    /// The update with these changes. Only memory can be refused, and none is asked for up to four.
     pub fn update(alloc: Global, changes: &[Command]) -> Result<Task, AllocError>
-        ensures { IfOk result (λ task. task ≡ Task.Update changes.now) }
+        ensures ok { IfOk result (λ task. task ≡ Task.Update changes.now) }
+        ensures inline { length changes.now ≤ INLINE_CHANGES → IsOk result }
     {
         let commands = SmallVec::from_slice(alloc, changes)?;
         Ok(Task::Update {
@@ -118,7 +126,7 @@ impl Task {
 fn is_list_length(len: usize) -> bool
     ensures { result ≡ amounts.is_list_length len }
 {
-    1 <= len && len <= 32
+    1 <= len && len <= MOST_PARTS
 }
 
 fn have_ids(asks: &[(Kind, u32)]) -> bool

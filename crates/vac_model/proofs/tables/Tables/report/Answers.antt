@@ -1,7 +1,6 @@
 use Rattle.std.proofs.Common.{sym, subst, arith}
-use Rattle.vac_model.specs.Fits.{HasSmallSums}
 use Rattle.vac_model.specs.declared.items.Kind.TheVariants.{Car, Flight, Room}
-use Rattle.vac_model.proofs.Bounds.{small_sums}
+use Rattle.vac_model.proofs.Bounds.{HasSmallSums, small_sums}
 use Rattle.vac_model.proofs.tables.Tables.report.Goals as goal
 
 pub units-requires : goal.units-requires

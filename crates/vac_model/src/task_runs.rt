@@ -1,4 +1,4 @@
-//! The tasks.
+//! What each task does to the tables.
 
 ghost use Rattle.std.specs.Prelude.{◌≡◌, ◌≤◌, ◌==◌, ◌&&◌, IsTrue, IfOk, OnOk, IfSome, length};
 ghost use Rattle.std.specs.List.{list_all};
@@ -10,6 +10,7 @@ ghost use Rattle.vac_model.specs.Fits.{IsSmall};
 
 use crate::commands::{Command, Why};
 use crate::items::Kind;
+use crate::limits::MOST_PARTS;
 use crate::replies::{Joined, Pick, Reply, TripReply, UpdateReply};
 use crate::tables::Tables;
 use crate::tasks::Task;
@@ -160,12 +161,12 @@ impl Tables {
 
     fn update(&mut self, changes: &[Command]) -> Result<Reply, AllocError>
         requires small { IsSmall self.old }
-        requires short { length changes.now ≤ 32 }
+        requires short { length changes.now ≤ MOST_PARTS }
         requires changes { IsTrue (list_all (λ c. is_change c && is_command c) changes.now) }
         ensures ok { IfOk result (λ reply. tasks.update self.old changes.now ≡ (self.new, reply)) }
         ensures stays_small { OnOk result (IsSmall self.new) }
     {
-        let mut refused = [None; 32];
+        let mut refused = [None; MOST_PARTS];
         for i in 0..changes.len() {
             let reply = self.step(&changes[i])?;
             refused[i] = refusal(&reply);

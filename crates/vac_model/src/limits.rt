@@ -1,0 +1,20 @@
+//! The limits of the reservation system. Each number stands here alone; code, contracts and
+//! definitions cite it by its name.
+
+/// The most blocks that a manager has, which is the most entries of a state.
+pub const MOST_BLOCKS: u32 = 262_144;
+
+/// The most of a count or of a price in a command.
+pub const MOST_AMOUNT: u32 = 1_000_000;
+
+/// The most units of one reservation.
+pub const MOST_UNITS_AT_ONCE: u32 = 100;
+
+/// The most units of one booking.
+pub const MOST_UNITS: u64 = 10_000;
+
+/// The most units of an item, free and used together.
+pub const MOST_TOTAL: u64 = 1_000_000_000;
+
+/// The most asks of a trip, and the most changes of an update.
+pub const MOST_PARTS: usize = 32;

@@ -1,0 +1,30 @@
+//! What cannot be asked for.
+
+use crate::scripts::{add_command, delete_command, reserve_command};
+use std::alloc::Global;
+use vac_model::Kind::{Car, Flight};
+use vac_model::{Command, Sequential, Task};
+
+#[test]
+fn arguments(rt: HostRuntime) {
+    assert!(rt; Sequential::new(rt.alloc(), 0).is_err());
+    assert!(rt; Sequential::new(rt.alloc(), 262_145).is_err());
+    let mut manager = Sequential::new(rt.alloc(), 262_144).expect(&rt, "the blocks are in range");
+    for command in [
+        delete_command(Flight, 2, 1),
+        Command::Free { kind: Car, id: 0 },
+        add_command(Car, 1, 1_000_001, Some(1)),
+        add_command(Car, 1, 1, Some(1_000_001)),
+        reserve_command(3, Car, 7, 0),
+        reserve_command(3, Car, 7, 101),
+    ] {
+        assert!(rt; manager.run(&Task::One(command)).is_err(), "at {command:?}");
+    }
+    let none = Task::trip(rt.alloc(), 3, &[]).expect(&rt, "there is memory");
+    let many = Task::trip(rt.alloc(), 3, &[(Car, 1); 33]).expect(&rt, "there is memory");
+    let change = Command::Free { kind: Car, id: 1 };
+    let other = Task::update(rt.alloc(), &[change]).expect(&rt, "there is memory");
+    for task in [none, many, other] {
+        assert!(rt; manager.run(&task).is_err());
+    }
+}
