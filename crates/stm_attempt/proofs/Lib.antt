@@ -10,4 +10,5 @@ pub mod Ticks
 pub mod Writing
 pub mod Validating
 pub mod Looks
+pub mod Lone
 pub mod Parts

@@ -9,6 +9,12 @@ use Rattle.stm_attempt.specs.declared.conflict.Stop.TheVariants.{Memory, Spent, 
 use Rattle.stm_attempt.specs.Running.{HasReadWord}
 use Rattle.stm_attempt.specs.Shown.{IsReadConflict}
 
+-- the clock is at the last version, as far as the answer tells
+abbrev pub IsSpent : Stop → Type 0
+IsSpent Memory = ⊥
+IsSpent (Conflicting conflict) = ⊥
+IsSpent (Spent version) = Unit {0}
+
 -- a read of the region answered a value that entered the reads; or nothing but the log's growth was refused; or a conflict was shown, which the attempt keeps
 abbrev pub HasReadRegion : (ℕ → ℕ) → ℕ → Client → Client → Option Conflict → Result ℕ Stop → Type 0
 HasReadRegion lk address v v' stopped (Ok x) = HasReadWord v v' address x × (stopped ≡ None)

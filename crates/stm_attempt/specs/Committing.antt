@@ -218,8 +218,8 @@ pub record HasStopped (region : RegionShown) (log : LogValue) (stop : Stop) (v v
   pub floor : v.floor ≤ v'.floor
   pub same : aside v' ≡ aside v
 
--- at the step that decided the attempt, with these records of its client, the records of all clients were lawful and serial, the client's own among them
+-- at the step that decided the attempt its client was as it is now, but for its last step, what it had stored, the locks it held and its steps, and the records of all clients were lawful and serial, the client's own among them
 pub record WasDecided (fits : List ℕ → Type 0) (lawful : List ℕ → List (ℕ × ℕ) → List (ℕ × ℕ) → Type 0) (region : RegionShown) (v : Client) : Type 0 where
   pub then : Client
-  pub records : then.records ≡ v.records
+  pub same : settling v ≡ settling then
   pub decides : Decides fits lawful region then

@@ -1,5 +1,5 @@
 -- What a running attempt is, in terms of its client's value.
-use Rattle.std.specs.Prelude.{◌≡◌, ℕ, ◌+◌, ◌<◌, Bool, List, [], ◌∷◌, ◌++◌, map, true, false, Some}
+use Rattle.std.specs.Prelude.{◌≡◌, ℕ, ◌+◌, ◌<◌, Bool, List, [], ◌∷◌, ◌++◌, map, true, false, Option, None, Some}
 use Rattle.std.specs.FinMap.{get}
 use Rattle.stm_core.specs.Client.{Client, Phase, idle, running, ending, committed, finished, nothing}
 use Rattle.stm_logs.specs.Log.{LogValue}
@@ -24,6 +24,10 @@ pub record HasReadWord (v v' : Client) (address x : ℕ) : Type 0 where
   pub reads : v'.reads ≡ v.reads ++ (address, x) ∷ []
   pub runs : v'.phase ≡ running
   pub steps : v'.steps ≡ v.steps + 3
+
+-- an attempt that is lone was not stopped
+abbrev pub IsUnstopped : {A : Type 0} → Client → Option A → Type 0
+IsUnstopped v stopped = v.lone ≡ true → stopped ≡ None
 
 abbrev pub address_of : ℕ × ℕ → ℕ
 address_of p = p.0

@@ -56,6 +56,10 @@ IsReadLock lk reads lock = (address x : ℕ) × In (address, x) reads × (lock �
 abbrev pub IsCommitConflict : (ℕ → ℕ) → LogValue → Conflict → Client → Type 0
 IsCommitConflict lk log conflict v = ((lock : ℕ) × IsWriteLock log lock × IsLockConflict lock conflict v) ⊎ (((lock : ℕ) × IsReadLock lk v.reads lock × IsLookConflict lock conflict v) ⊎ IsTickConflict conflict v)
 
+-- a read of the attempt met the conflict, and it is shown
+abbrev pub HasMet : (ℕ → ℕ) → Option Conflict → Client → Type 0
+HasMet lk stopped v = (conflict : Conflict) → stopped ≡ Some conflict → ∥ ((address : ℕ) × IsReadConflict lk address conflict v) ∥₁
+
 -- how many reads a conflict ended: one, where there is one
 abbrev pub refused : Option Conflict → ℕ
 refused None = 0

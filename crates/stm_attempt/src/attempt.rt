@@ -1,5 +1,5 @@
 //! An attempt: one transaction of one client.
-ghost use Rattle.std.specs.Prelude.{◌≡◌, ◌≢◌, ℕ, ◌+◌, ◌*◌, ◌<◌, ◌≤◌, [], length, IsOk, MatchResult, Option, None, Some, Ok, Err, true};
+ghost use Rattle.std.specs.Prelude.{◌≡◌, ◌≢◌, ◌↔◌, ℕ, ◌+◌, ◌*◌, ◌<◌, ◌≤◌, [], length, IsOk, MatchResult, Option, None, Some, Ok, Err, true};
 ghost use Rattle.std.specs.FinMap.{get, insert, len};
 ghost use Rattle.stm_words.specs.View.{SameFrame, HasRead};
 ghost use Rattle.stm_core.specs.Client.{running};
@@ -7,8 +7,8 @@ ghost use Rattle.stm_core.specs.Core.{IsFreeHanded};
 ghost use Rattle.stm_core.specs.Event.{begin as begins};
 ghost use Rattle.stm_logs.specs.Log.{empty_log};
 ghost use Rattle.stm_region.specs.Shown.{acted, stripe_of};
-ghost use Rattle.stm_attempt.specs.Running.{IsBegun, IsPlaced, addresses};
-ghost use Rattle.stm_attempt.specs.Shown.{IsReadConflict, refused, most_steps};
+ghost use Rattle.stm_attempt.specs.Running.{IsBegun, IsPlaced, IsUnstopped, addresses};
+ghost use Rattle.stm_attempt.specs.Shown.{HasMet, refused, most_steps};
 ghost use Rattle.stm_attempt.specs.Committing.{AreInside};
 ghost use Rattle.stm_attempt.specs.declared.conflict.Conflict.{Conflict};
 ghost use Rattle.stm_attempt.specs.declared.conflict.Stop.TheVariants.{Conflict as conflicting};
@@ -39,7 +39,8 @@ pub struct Attempt<'a, L: Law, R: Allocator = Global, A: Allocator + Copy = Glob
     ghost runs: { logs.now.in_use ≡ true → stopped ≡ None → client.now.value.phase ≡ running },
     ghost stands: { logs.now.in_use ≡ true → (standing.size.value ≡ region.now.size) × (standing.client.value.value.reads ≡ client.now.value.reads) },
     ghost inside: { logs.now.in_use ≡ true → AreInside region.now.size client.now.value.reads },
-    ghost shown: { logs.now.in_use ≡ true → (conflict : Conflict) → stopped ≡ Some conflict → ∥ ((address : ℕ) × IsReadConflict (stripe_of region.now.stripes) address conflict client.now.value) ∥₁ },
+    ghost shown: { logs.now.in_use ≡ true → HasMet (stripe_of region.now.stripes) stopped client.now.value },
+    ghost lone: { logs.now.in_use ≡ true → IsUnstopped client.now.value stopped },
     ghost steps: { logs.now.in_use ≡ true → client.now.value.steps ≤ 1 + 3 * (length client.now.value.reads + refused stopped) },
     ghost logged: { logs.now.in_use ≡ true → stopped ≡ None → logs.now.reads ≡ addresses client.now.value.reads },
     ghost placed: { logs.now.in_use ≡ true → IsPlaced region.now logs.now.writes },
@@ -73,6 +74,7 @@ impl<'a, L: Law, R: Allocator, A: Allocator + Copy> Attempt<'a, L, R, A> {
         ensures version { client.old.value.floor ≤ result.rv }
         ensures empty { (result.logs.now.reads ≡ []) × (result.logs.now.writes ≡ empty_log) × (result.logs.now.in_use ≡ true) }
         ensures running { result.stopped ≡ None }
+        ensures lone { (result.client.now.value.lone ≡ true) ↔ (client.old.value.grants ≡ 63) }
     {
         logs.clear();
         logs.in_use = true;
@@ -92,7 +94,8 @@ impl<'a, L: Law, R: Allocator, A: Allocator + Copy> Attempt<'a, L, R, A> {
     pub fn stopped(&self) -> Option<Conflict>
         requires { self.now.logs.now.in_use ≡ true }
         ensures value { result ≡ self.now.stopped }
-        ensures shown { (conflict : Conflict) → result ≡ Some conflict → ∥ ((address : ℕ) × IsReadConflict (stripe_of self.now.region.now.stripes) address conflict self.now.client.now.value) ∥₁ }
+        ensures shown { HasMet (stripe_of self.now.region.now.stripes) result self.now.client.now.value }
+        ensures lone { IsUnstopped self.now.client.now.value result }
     {
         let Self { stopped, .. } = self;
         *stopped
@@ -117,14 +120,14 @@ impl<'a, L: Law, R: Allocator, A: Allocator + Copy> Attempt<'a, L, R, A> {
 }
 
 impl<'a, L: Law, R: Allocator, A: Allocator + Copy> TxRead for Attempt<'a, L, R, A> {
-    ghost use Rattle.std.specs.Prelude.{◌≡◌, ◌≢◌, ℕ, ◌+◌, ◌<◌, Some, None, Ok, Err, MatchResult};
+    ghost use Rattle.std.specs.Prelude.{◌≡◌, ◌≢◌, ℕ, ◌+◌, ◌<◌, Some, None, Ok, Err, MatchResult, IfErr, true};
     ghost use Rattle.std.specs.FinMap.{get};
     ghost use Rattle.stm_words.specs.View.{SameFrame, HasRead};
     ghost use Rattle.stm_region.specs.Shown.{stripe_of};
     ghost use Rattle.stm_attempt.specs.Seen.{memory_of, Origin, origin_of, attempt_seen};
     ghost use Rattle.stm_attempt.specs.Answers.{HasReadRegion};
     ghost use Rattle.stm_attempt.specs.declared.conflict.Conflict.{Conflict};
-    ghost use Rattle.stm_attempt.specs.declared.conflict.Stop.TheVariants.{Conflict as conflicting};
+    ghost use Rattle.stm_attempt.specs.declared.conflict.Stop.TheVariants.{Memory, Conflict as conflicting};
 
     type Stop = Stop;
 
@@ -147,6 +150,7 @@ impl<'a, L: Law, R: Allocator, A: Allocator + Copy> TxRead for Attempt<'a, L, R,
         ensures log { self.new.logs.now.writes ≡ self.old.logs.now.writes }
         ensures again { (conflict : Conflict) → self.old.stopped ≡ Some conflict → (result ≡ Err (conflicting conflict)) × (self.new.client.now ≡ self.old.client.now) × (self.new.stopped ≡ self.old.stopped) }
         ensures own { self.old.stopped ≡ None → (value : ℕ) → get self.old.logs.now.writes.words addr.0 ≡ Some value → (result ≡ Ok value) × (self.new.client.now ≡ self.old.client.now) × (self.new.stopped ≡ None) }
+        ensures lone { self.old.client.now.value.lone ≡ true → IfErr result (λ stop. stop ≡ Memory) }
         ensures region { self.old.stopped ≡ None → get self.old.logs.now.writes.words addr.0 ≡ None → HasReadRegion (stripe_of self.old.region.now.stripes) addr.0 self.old.client.now.value self.new.client.now.value self.new.stopped result }
     {
         if let Some(conflict) = self.stopped {

@@ -6,9 +6,11 @@ ghost use Rattle.stm_core.specs.Client.{running, committed};
 ghost use Rattle.stm_core.specs.Core.{IsFreeHanded};
 ghost use Rattle.stm_core.specs.Event.{IsReading};
 ghost use Rattle.stm_logs.specs.Log.{SameAddresses, empty_log, log_pairs, log_locks};
+ghost use Rattle.stm_region.specs.Shown.{stripe_of};
 ghost use Rattle.stm_region.specs.Told.{Decides};
-ghost use Rattle.stm_attempt.specs.Running.{IsBegun, IsPlaced, addresses};
-ghost use Rattle.stm_attempt.specs.Shown.{refused, most_steps};
+ghost use Rattle.stm_attempt.specs.Running.{IsBegun, IsPlaced, IsUnstopped, addresses};
+ghost use Rattle.stm_attempt.specs.Shown.{HasMet, refused, most_steps};
+ghost use Rattle.stm_attempt.specs.Answers.{IsSpent};
 ghost use Rattle.stm_attempt.specs.Committing.{AreInside, IsDecided, HasFailedDeciding, HasSettled, HasCommitted, HasStopped, WasDecided};
 ghost use Rattle.stm_attempt.specs.declared.conflict.Conflict.{Conflict};
 ghost use Rattle.stm_attempt.specs.declared.conflict.Stop.TheVariants.{Conflict as conflicting};
@@ -57,6 +59,7 @@ fn decide<L: Law, R: Allocator, A: Allocator + Copy, T: Tag, G: Gate>(
     ensures ok { IfOk result (λ version. IsDecided region.now (T.numbers tag.now) (log_pairs logs.now.writes) client.old.value client.new.value version) }
     ensures version { IfOk result (λ version. version ≤ region.now.last) }
     ensures decides { IfOk result (λ _. Decides L.fits L.lawful region.now client.new.value) }
+    ensures lone { client.old.value.lone ≡ true → IfErr result (λ stop. IsSpent stop) }
     ensures failed { IfErr result (λ stop. HasFailedDeciding region.now logs.now.writes stop client.old.value client.new.value) }
 {
     gate.at(Point::Locked);
@@ -112,6 +115,7 @@ fn commit_writes<L: Law, R: Allocator, A: Allocator + Copy, T: Tag, G: Gate>(
     ensures ok { IfOk result (λ version. HasCommitted region.now (T.numbers tag.now) (log_pairs logs.now.writes) client.old.value client.new.value version) }
     ensures version { IfOk result (λ version. version ≤ region.now.last) }
     ensures decides { IfOk result (λ _. WasDecided L.fits L.lawful region.now client.new.value) }
+    ensures lone { client.old.value.lone ≡ true → IfErr result (λ stop. IsSpent stop) }
     ensures stopped { IfErr result (λ stop. HasStopped region.now logs.now.writes stop client.old.value client.new.value) }
     ensures steps { client.new.value.steps ≤ client.old.value.steps + length client.old.value.reads + 4 * len logs.now.writes.words + 16 }
 {
@@ -142,6 +146,7 @@ fn end<L: Law, R: Allocator, A: Allocator + Copy, T: Tag, G: Gate>(
     requires own { client.old.table ≡ region.now.table }
     requires begun { IsBegun client.old.value rv }
     requires runs { stopped ≡ None → client.old.value.phase ≡ running }
+    requires unstopped { IsUnstopped client.old.value stopped }
     requires known { rv ≤ region.now.last }
     requires lawful { stopped ≡ None → L.lawful (T.numbers tag.now) client.old.value.reads (log_pairs logs.old.writes) }
     requires logged { stopped ≡ None → logs.old.reads ≡ addresses client.old.value.reads }
@@ -155,6 +160,7 @@ fn end<L: Law, R: Allocator, A: Allocator + Copy, T: Tag, G: Gate>(
     ensures version { IfOk result (λ version. version ≤ region.now.last) }
     ensures decides { IfOk result (λ _. WasDecided L.fits L.lawful region.now client.new.value) }
     ensures refused { stopped ≡ None → IfErr result (λ stop. HasStopped region.now logs.old.writes stop client.old.value client.new.value) }
+    ensures lone { client.old.value.lone ≡ true → IfErr result (λ stop. IsSpent stop) }
     ensures logs { IfErr result (λ _. (logs.new.reads ≡ []) × (logs.new.writes ≡ empty_log)) }
     ensures steps { client.new.value.steps ≤ client.old.value.steps + length client.old.value.reads + 4 * len logs.old.writes.words + 16 }
 {
@@ -187,6 +193,8 @@ impl<'a, L: Law, R: Allocator, A: Allocator + Copy> Attempt<'a, L, R, A> {
         ensures own { self.exit.1.0.now.table ≡ self.entry.client.now.table }
         ensures free_handed { IsFreeHanded self.exit.1.0.now.value }
         ensures again { (conflict : Conflict) → self.entry.stopped ≡ Some conflict → (result ≡ Err (conflicting conflict)) × (self.exit.1.0.now ≡ self.entry.client.now) }
+        ensures met { HasMet (stripe_of self.entry.region.now.stripes) self.entry.stopped self.exit.1.0.now.value }
+        ensures lone { self.entry.client.now.value.lone ≡ true → IfErr result (λ stop. IsSpent stop) }
         ensures ok { IfOk result (λ version. HasCommitted self.entry.region.now (T.numbers tag.now) (log_pairs self.entry.logs.now.writes) self.entry.client.now.value self.exit.1.0.now.value version) }
         ensures version { IfOk result (λ version. version ≤ self.entry.region.now.last) }
         ensures decides { IfOk result (λ _. WasDecided L.fits L.lawful self.entry.region.now self.exit.1.0.now.value) }

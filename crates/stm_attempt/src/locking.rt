@@ -1,5 +1,5 @@
 //! The locks of a commit: taken in ascending order, and given back.
-ghost use Rattle.std.specs.Prelude.{◌≡◌, ◌+◌, ◌<◌, ◌≤◌, ◌*◌, ◌⊎◌, [], true, false, length, take, IfOk, IfErr};
+ghost use Rattle.std.specs.Prelude.{◌≡◌, ◌+◌, ◌<◌, ◌≤◌, ◌*◌, ◌⊎◌, [], true, false, length, take, IfOk, IfErr, IsOk};
 ghost use Rattle.stm_core.specs.Event.{IsReading};
 ghost use Rattle.stm_logs.specs.Log.{log_locks};
 ghost use Rattle.stm_region.specs.Shown.{stripe_of};
@@ -29,6 +29,7 @@ fn lock_one<L: Law, R: Allocator>(
     ensures taken { IfOk result (λ _. HasTaken client.old.value client.new.value lock) }
     ensures failed { IfErr result (λ _. HasFailed client.old.value client.new.value) }
     ensures shown { IfErr result (λ conflict. IsLockConflict lock conflict client.new.value) }
+    ensures lone { client.old.value.lone ≡ true → IsOk result }
     ensures steps { IfErr result (λ _. client.new.value.steps ≤ client.old.value.steps + 2) }
 {
     let word = region.probe(client, lock);
@@ -58,6 +59,7 @@ pub(crate) fn lock_all<L: Law, R: Allocator, A: Allocator + Copy>(
     ensures failed { IfErr result (λ _. HasFailedLocking client.old.value client.new.value taken.new) }
     ensures few { IfErr result (λ _. taken.new < length (log_locks writes.now)) }
     ensures shown { IfErr result (λ conflict. IsCommitConflict (stripe_of region.now.stripes) writes.now conflict client.new.value) }
+    ensures lone { client.old.value.lone ≡ true → IsOk result }
 {
     let count = writes.lock_count();
     for lock in writes.locks() {

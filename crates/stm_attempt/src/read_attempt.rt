@@ -1,12 +1,12 @@
 //! A transaction that only reads.
-ghost use Rattle.std.specs.Prelude.{◌≡◌, ℕ, ◌+◌, ◌*◌, ◌<◌, ◌≤◌, [], length, Option, None, Some, true};
+ghost use Rattle.std.specs.Prelude.{◌≡◌, ◌↔◌, ℕ, ◌+◌, ◌*◌, ◌<◌, ◌≤◌, [], length, Option, None, Some, true};
 ghost use Rattle.stm_core.specs.Client.{running};
 ghost use Rattle.stm_core.specs.Core.{IsFreeHanded};
 ghost use Rattle.stm_core.specs.Event.{begin as begins, finish as finishes};
 ghost use Rattle.stm_region.specs.Shown.{acted, stripe_of};
 ghost use Rattle.stm_region.specs.Told.{Decides};
-ghost use Rattle.stm_attempt.specs.Running.{IsBegun, is_unfinished};
-ghost use Rattle.stm_attempt.specs.Shown.{IsReadConflict, refused, most_steps};
+ghost use Rattle.stm_attempt.specs.Running.{IsBegun, IsUnstopped, is_unfinished};
+ghost use Rattle.stm_attempt.specs.Shown.{HasMet, refused, most_steps};
 ghost use Rattle.stm_attempt.specs.declared.conflict.Conflict.{Conflict};
 
 use crate::conflict::Conflict;
@@ -30,7 +30,8 @@ pub struct ReadAttempt<'a, L: Law, R: Allocator = Global> {
     ghost begun: { IsBegun client.now.value rv },
     ghost runs: { is_unfinished client.now.value.phase ≡ true → stopped ≡ None → client.now.value.phase ≡ running },
     ghost stands: { is_unfinished client.now.value.phase ≡ true → (standing.size.value ≡ region.now.size) × (standing.client.value.value.reads ≡ client.now.value.reads) },
-    ghost shown: { is_unfinished client.now.value.phase ≡ true → (conflict : Conflict) → stopped ≡ Some conflict → ∥ ((address : ℕ) × IsReadConflict (stripe_of region.now.stripes) address conflict client.now.value) ∥₁ },
+    ghost shown: { is_unfinished client.now.value.phase ≡ true → HasMet (stripe_of region.now.stripes) stopped client.now.value },
+    ghost lone: { is_unfinished client.now.value.phase ≡ true → IsUnstopped client.now.value stopped },
     ghost steps: { is_unfinished client.now.value.phase ≡ true → client.now.value.steps ≤ 1 + 3 * (length client.now.value.reads + refused stopped) },
 }
 
@@ -44,6 +45,7 @@ impl<'a, L: Law, R: Allocator> ReadAttempt<'a, L, R> {
         ensures value { result.client.now ≡ acted region.now begins result.rv client.old }
         ensures version { client.old.value.floor ≤ result.rv }
         ensures running { result.stopped ≡ None }
+        ensures lone { (result.client.now.value.lone ≡ true) ↔ (client.old.value.grants ≡ 63) }
     {
         let rv = region.begin(client);
         let standing = Standing::of(region, client);
@@ -60,7 +62,8 @@ impl<'a, L: Law, R: Allocator> ReadAttempt<'a, L, R> {
     pub fn stopped(&self) -> Option<Conflict>
         requires { is_unfinished self.now.client.now.value.phase ≡ true }
         ensures value { result ≡ self.now.stopped }
-        ensures shown { (conflict : Conflict) → result ≡ Some conflict → ∥ ((address : ℕ) × IsReadConflict (stripe_of self.now.region.now.stripes) address conflict self.now.client.now.value) ∥₁ }
+        ensures shown { HasMet (stripe_of self.now.region.now.stripes) result self.now.client.now.value }
+        ensures lone { IsUnstopped self.now.client.now.value result }
     {
         let Self { stopped, .. } = self;
         *stopped
@@ -107,7 +110,7 @@ impl<'a, L: Law, R: Allocator> ReadAttempt<'a, L, R> {
 }
 
 impl<'a, L: Law, R: Allocator> TxRead for ReadAttempt<'a, L, R> {
-    ghost use Rattle.std.specs.Prelude.{◌≡◌, ◌<◌, ℕ, Some, None, Ok, Err, MatchResult, true};
+    ghost use Rattle.std.specs.Prelude.{◌≡◌, ◌<◌, ℕ, Some, None, Ok, Err, MatchResult, IsOk, true};
     ghost use Rattle.std.specs.FinMap.{empty};
     ghost use Rattle.stm_words.specs.View.{SameFrame, HasRead};
     ghost use Rattle.stm_logs.specs.Log.{empty_log};
@@ -135,6 +138,7 @@ impl<'a, L: Law, R: Allocator> TxRead for ReadAttempt<'a, L, R> {
         ensures writes { (memory_of (is_unfinished self.new.client.now.value.phase) self.new.region.now L.fits self.new.client.now.value empty_log).writes ≡ (memory_of (is_unfinished self.old.client.now.value.phase) self.old.region.now L.fits self.old.client.now.value empty_log).writes }
         ensures answer { MatchResult result (λ v. HasRead (memory_of (is_unfinished self.old.client.now.value.phase) self.old.region.now L.fits self.old.client.now.value empty_log) (memory_of (is_unfinished self.new.client.now.value.phase) self.new.region.now L.fits self.new.client.now.value empty_log) addr.0 v) (λ _. (memory_of (is_unfinished self.new.client.now.value.phase) self.new.region.now L.fits self.new.client.now.value empty_log).reads ≡ (memory_of (is_unfinished self.old.client.now.value.phase) self.old.region.now L.fits self.old.client.now.value empty_log).reads) }
         ensures again { (conflict : Conflict) → self.old.stopped ≡ Some conflict → (result ≡ Err conflict) × (self.new.client.now ≡ self.old.client.now) × (self.new.stopped ≡ self.old.stopped) }
+        ensures lone { self.old.client.now.value.lone ≡ true → IsOk result }
         ensures region { self.old.stopped ≡ None → HasReadOnly (stripe_of self.old.region.now.stripes) addr.0 self.old.client.now.value self.new.client.now.value self.new.stopped result }
     {
         if let Some(conflict) = self.stopped {

@@ -1,5 +1,5 @@
 //! One read of a word of the region.
-ghost use Rattle.std.specs.Prelude.{◌≡◌, ◌+◌, ◌<◌, ◌≤◌, ◌^◌, IfOk, IfErr, IfSome, IfNone, true};
+ghost use Rattle.std.specs.Prelude.{◌≡◌, ◌+◌, ◌<◌, ◌≤◌, ◌^◌, IfOk, IfErr, IfSome, IfNone, IsOk, true};
 ghost use Rattle.stm_words.specs.LockWord.{free_word};
 ghost use Rattle.stm_core.specs.Client.{running};
 ghost use Rattle.stm_region.specs.Shown.{stripe_of};
@@ -43,6 +43,7 @@ pub(crate) fn read_word<L: Law, R: Allocator>(
     ensures stands { IfOk result (λ _. StandsOn L.fits region.now.size client.new.value.reads) }
     ensures conflict { IfErr result (λ conflict. IsReadConflict (stripe_of region.now.stripes) addr.0 conflict client.new.value) }
     ensures reads { IfErr result (λ _. client.new.value.reads ≡ client.old.value.reads) }
+    ensures lone { client.old.value.lone ≡ true → IsOk result }
     ensures steps { IfErr result (λ _. client.new.value.steps ≤ client.old.value.steps + 3) }
 {
     let lock = region.lock_of(addr);

@@ -1,10 +1,11 @@
 //! The tick of a commit.
-ghost use Rattle.std.specs.Prelude.{◌≡◌, ◌+◌, ◌<◌, ◌≤◌, ◌^◌, true, false, IfOk, IfErr};
+ghost use Rattle.std.specs.Prelude.{◌≡◌, ◌+◌, ◌<◌, ◌≤◌, ◌^◌, true, false, IfOk, IfErr, MatchResult};
 ghost use Rattle.stm_core.specs.Client.{decided};
 ghost use Rattle.stm_core.specs.Event.{IsReading, MayWrite};
 ghost use Rattle.stm_logs.specs.Log.{log_pairs};
 ghost use Rattle.stm_region.specs.Shown.{stripe_of};
 ghost use Rattle.stm_region.specs.Told.{Decides};
+ghost use Rattle.stm_attempt.specs.Answers.{IsSpent};
 ghost use Rattle.stm_attempt.specs.Committing.{HasTicked, HasFailed, IsCommitStop, IsCounted};
 
 use crate::conflict::{Conflict, Stop};
@@ -47,6 +48,7 @@ pub(crate) fn tick<L: Law, R: Allocator, A: Allocator + Copy, T: Tag>(
     ensures failed { IfErr result (λ _. HasFailed client.old.value client.new.value) }
     ensures shown { IfErr result (λ stop. IsCommitStop region.now writes.now stop client.new.value) }
     ensures counted { IfErr result (λ stop. IsCounted stop client.old.value.steps client.new.value) }
+    ensures lone { client.old.value.lone ≡ true → MatchResult result (λ _. decided client.new.value ≡ true) (λ stop. IsSpent stop) }
     ensures steps { client.new.value.steps ≤ client.old.value.steps + 16 }
 {
     let last = region.last();

@@ -1,0 +1,16 @@
+-- What a lone attempt finds: nothing that could stop it.
+use Rattle.std.proofs.Common.{◌≡◌, ◌⊎◌, inl, inr, ap, ℕ, ◌<◌, true, arith}
+use Rattle.stm_core.specs.Client.{Client, IsFree, is_committed}
+use Rattle.stm_core.specs.Event.{Holds, IsReading}
+use Rattle.stm_region.specs.Told.{IsLoneOpen}
+use Rattle.stm_attempt.specs.Shown.{IsHeld}
+use Rattle.stm_attempt.specs.Committing.{IsAbove}
+
+-- an attempt that reads is not decided
+pub open_reading : (v : Client) → v.lone ≡ true → IsReading v → IsLoneOpen v
+open_reading v lone reading = (lone, ap is_committed reading.0)
+
+-- a lock word is not held that is free, or the client's own below this lock
+pub none_held : {A : Type 0} (v : Client) (lock word : ℕ) → IsAbove v lock → IsFree word ⊎ Holds v.held lock → IsHeld word → A
+none_held v lock word above (inl free) held = absurd (omega (arith, free, held))
+none_held v lock word above (inr own) held = let below : lock < lock = above lock own.0 own.1 in absurd (omega (arith, below))
