@@ -12,3 +12,4 @@ pub mod Validating
 pub mod Looks
 pub mod Lone
 pub mod Parts
+pub mod Leading

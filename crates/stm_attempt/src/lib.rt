@@ -16,6 +16,7 @@ mod read_attempt;
 mod reading;
 mod standing;
 mod storing;
+mod theorem;
 mod ticking;
 
 pub use attempt::Attempt;
@@ -23,6 +24,7 @@ pub use conflict::{Conflict, Stop};
 pub use gate::{Gate, NoGate, Point};
 pub use logs::Logs;
 pub use read_attempt::ReadAttempt;
+pub use theorem::records_keep_fitting;
 
 #[cfg(test)]
 mod tests;
