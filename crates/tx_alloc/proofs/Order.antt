@@ -1,5 +1,6 @@
 -- Rows in ascending order, put together from what is in front of a place and what is behind it.
-use Rattle.std.proofs.Common.{◌≡◌, ◌≢◌, inl, inr, ℕ, ◌+◌, ◌<◌, ◌≤◌, true, false, nat_eq, nat_lt, [], ◌∷◌, ◌++◌, refl, ap, arith}
+use Rattle.std.proofs.Common.{◌≡◌, ◌≢◌, inl, inr, ℕ, ◌+◌, ◌<◌, ◌≤◌, true, false, nat_eq, nat_lt, [], ◌∷◌, cond, ◌++◌, refl, ap, arith}
+use Rattle.std.proofs.lemmas.Bool.{cases_lt}
 use Rattle.std.proofs.lemmas.Bool.Decides.{nat_tests}
 use Rattle.stm_words.specs.Seen.{same_or}
 use Rattle.tx_alloc.specs.Rows.{Rows, times, put_row, cut_row, block_at, AllBelow, IsFrom}
@@ -81,3 +82,21 @@ cut_absent (r ∷ rs) key some e = elim (same_or r.0 key) [
   | inl same ↦ absurd (some r.1 (grind (arith, nat_tests)) (let t : nat_eq r.0 key ≡ true = grind (arith, nat_tests) in rw t at e))
   | inr other ↦ (let t : nat_eq r.0 key ≡ false = grind (arith, nat_tests) in rw t (ap (λ (z : Rows). r ∷ z) (cut_absent rs key (λ x l. some x (omega arith)) (rw t at e))))
 ]
+
+-- rows as a finite map
+pub at_put : (rs : Rows) (key b q : ℕ) → block_at (put_row rs key b) q ≡ cond (nat_eq key q) b (block_at rs q)
+at_put [] key b q = refl
+at_put (r ∷ rs) key b q =
+    let ih = at_put rs key b q in
+    elim (cases_lt r.0 key) [ inl below ↦ grind (arith, nat_tests) | inr here ↦ grind (arith, nat_tests) ]
+
+pub at_cut : (rs : Rows) (lo key q : ℕ) → IsFrom lo rs → block_at (cut_row rs key) q ≡ cond (nat_eq key q) 0 (block_at rs q)
+at_cut [] lo key q h = grind (arith, nat_tests)
+at_cut (r ∷ rs) lo key q h =
+    elim (same_or r.0 key) [
+      | inl e ↦ elim (same_or key q) [
+        | inl here ↦ (let none = none_above (r.0 + 1) rs q (omega arith) h.1 in grind (arith, nat_tests))
+        | inr other ↦ grind (arith, nat_tests)
+      ]
+      | inr ne ↦ (let ih = at_cut rs (r.0 + 1) key q h.1 in grind (arith, nat_tests))
+    ]

@@ -1,3 +1,4 @@
 pub mod Steps
 pub mod Pool
 pub mod Rows
+pub mod Pointer

@@ -42,3 +42,14 @@ SameLinks m m' a = (k : ℕ) → k < 4 → m' (a + k) ≡ m (a + k)
 pub record Relinks (m m' : ℕ → ℕ) (first root : ℕ) (rs : Rows) : Type 0 where
   pub others : (x : ℕ) → x ≢ root →
       ((a : ℕ) → 0 < times a rs → (x < a + first) ⊎ (a + 4 ≤ x)) → m' x ≡ m x
+
+-- rows as a finite map from keys to blocks: what is put in is found at its key, and nothing else
+-- changes
+abbrev pub PutLaw : Type 0
+PutLaw = (rs : Rows) (key b q : ℕ) →
+    block_at (put_row rs key b) q ≡ cond (nat_eq key q) b (block_at rs q)
+
+-- what is cut out of ascending rows is not found at its key, and nothing else changes
+abbrev pub CutLaw : Type 0
+CutLaw = (rs : Rows) (key q : ℕ) → IsFrom 0 rs →
+    block_at (cut_row rs key) q ≡ cond (nat_eq key q) 0 (block_at rs q)

@@ -2,7 +2,7 @@ ghost use Rattle.std.specs.Prelude.{◌≡◌, ◌<◌, ◌≤◌, IfOk};
 ghost use Rattle.tx_alloc.specs.Pool.{HasPool};
 
 use super::place::LISTS;
-use super::{Block, fresh_words, give, take};
+use super::{Block, fresh_words, give, rows_are_a_map, take};
 use std::alloc::{AllocError, Global};
 use std::test::Fail;
 use stm_words::{Addr, Flat, TxMem};
@@ -19,6 +19,7 @@ fn filled(alloc: Global, words: &[u64]) -> Result<Vec<(usize, u64)>, AllocError>
 
 #[test]
 fn words_of_heaps_without_entries(rt: HostRuntime) -> Result<(), Fail> {
+    rows_are_a_map();
     let one = fresh_words(rt.alloc(), 1)?;
     let ten = fresh_words(rt.alloc(), 10)?;
     let lengths = [one.len(), ten.len()];

@@ -1,0 +1,67 @@
+-- What a memory is after a call, so that calls follow one another.
+use Rattle.std.proofs.Common.{◌≡◌, ◌≢◌, inl, inr, ℕ, ◌<◌, [], ◌∷◌, Option, Some, subst, arith}
+use Rattle.std.proofs.lemmas.Bool.Decides.{nat_tests}
+use Rattle.stm_words.specs.Seen.{same_or}
+use Rattle.stm_words.specs.View.{View, Kept}
+use Rattle.tx_alloc.specs.declared.pool.Block.{Block}
+use Rattle.tx_alloc.specs.Rows.{Rows, times, put_row, cut_row}
+use Rattle.tx_alloc.specs.Steps.{mem}
+use Rattle.tx_list.specs.Bookings.{first_block, block_behind}
+use Rattle.tx_list.specs.Lists.{HasList, HasBooking, First, Next, Inserted, Removed}
+
+-- only reads were made
+pub list_read : (s s' : View) (head : ℕ) → Kept s s' → s'.writes ≡ s.writes → HasList s head → HasList s' head
+list_read s s' head k w h = record {
+  small = omega (arith, h.small, k.size);
+  room = omega (arith, h.room, k.size);
+  under = λ image i. rw w (h.under image (k.seen image i));
+}
+
+pub list_inserted : (s s' : View) (head key b : ℕ) → HasList s head → Inserted s s' head key b → HasList s' head
+list_inserted s s' head key b h d = record {
+  small = omega (arith, h.small, d.kept.size);
+  room = omega (arith, h.room, d.kept.size);
+  under = λ image i. let t = h.under image (d.kept.seen image i) in record { entries = put_row t.entries key b; is = d.list image t.entries i t.is };
+}
+
+pub list_removed : (s s' : View) (head key : ℕ) (removed : Option Block) → HasList s head → Removed s s' head key removed → HasList s' head
+list_removed s s' head key removed h d = record {
+  small = omega (arith, h.small, d.kept.size);
+  room = omega (arith, h.room, d.kept.size);
+  under = λ image i. let t = h.under image (d.kept.seen image i) in record { entries = cut_row t.entries key; is = d.list image t.entries i t.is };
+}
+
+-- the first block of a list and the block behind one are blocks of it
+first_has : (rs : Rows) (b : ℕ) → b ≡ first_block rs → b ≢ 0 → 0 < times b rs
+first_has [] b e ne = absurd (ne e)
+first_has ((k, a) ∷ rs) b e ne = grind (arith, nat_tests)
+
+behind_has : (rs : Rows) (b c : ℕ) → c ≡ block_behind rs b → c ≢ 0 → 0 < times c rs
+behind_has [] b c e ne = absurd (ne e)
+behind_has ((k, a) ∷ rs) b c e ne =
+    elim (same_or a b) [
+      | inl q ↦ (let at : c ≡ first_block rs = grind (arith, nat_tests) in omega (arith, first_has rs c at ne))
+      | inr q ↦ (let at : c ≡ block_behind rs b = grind (arith, nat_tests) in omega (arith, behind_has rs b c at ne))
+    ]
+
+pub first_booking : (s s' : View) (head : ℕ) (found : Option Block) (b : Block) → HasList s head → First s s' head found → found ≡ Some b → HasBooking s' b.0.0
+first_booking s s' head found b h f e =
+    let g = subst (λ (o : Option Block). First s s' head o) e f in
+    record {
+      small = omega (arith, h.small, g.kept.size);
+      under = λ image i.
+          let t = h.under image (g.kept.seen image i) in
+          let has = first_has t.entries b.0.0 (g.is image t.entries i t.is) (omega (arith, g.within.0)) in
+          rw g.writes (record { start = mem s image head; entries = t.entries; list = t.is.list; has = has });
+    }
+
+pub next_booking : (s s' : View) (a : ℕ) (found : Option Block) (b : Block) → HasBooking s a → Next s s' a found → found ≡ Some b → HasBooking s' b.0.0
+next_booking s s' a found b h f e =
+    let g = subst (λ (o : Option Block). Next s s' a o) e f in
+    record {
+      small = omega (arith, h.small, g.kept.size);
+      under = λ image i.
+          let t = h.under image (g.kept.seen image i) in
+          let has = behind_has t.entries a b.0.0 (g.is image t.start t.entries i t.list t.has) (omega (arith, g.within.0)) in
+          rw g.writes (record { start = t.start; entries = t.entries; list = t.list; has = has });
+    }

@@ -1,0 +1,182 @@
+-- An insertion and a removal, over every memory that there may be.
+use Rattle.std.proofs.Common.{◌≡◌, ◌≢◌, ◌⊎◌, inl, inr, ℕ, ◌+◌, ◌<◌, ◌≤◌, [], ◌∷◌, List, length, Option, Some, None, refl, sym, ap, ◌∙◌, subst, arith}
+use Rattle.std.proofs.lemmas.Bool.Decides.{nat_tests}
+use Rattle.std.proofs.lemmas.Bool.{cases_lt}
+use Rattle.stm_words.specs.Seen.{some_le, same_or}
+use Rattle.stm_words.specs.View.{View, Sees, Stands, Loaded, Stored, IsWrite}
+use Rattle.tx_alloc.specs.declared.pool.Block.{Block}
+use Rattle.tx_alloc.specs.Pointer.{pointer, IsWithin}
+use Rattle.tx_alloc.specs.Rows.{Rows, times, put_row, cut_row, block_at, Relinks}
+use Rattle.tx_alloc.specs.Steps.{mem, kept_both, at_start, write_at_start}
+use Rattle.tx_alloc.proofs.Times.{times_put, times_cut, cut_is, cut_else}
+use Rattle.tx_list.specs.Bookings.{code_of, IsKey, Linked, link_of}
+use Rattle.tx_list.specs.declared.key.Key.{Key}
+use Rattle.tx_list.specs.declared.search.Spot.{Spot}
+use Rattle.tx_list.specs.Lists.{IsOutside, IsListAt, HasList, Fresh, IsFresh, Inserted, Removed}
+use Rattle.tx_list.specs.Search.{Sought}
+use Rattle.tx_list.proofs.Links.{SparesAll, outside_spares, link_is, Puts, Keyed, put_linked, Cuts, cut_linked, cut_none}
+use Rattle.tx_list.proofs.Open.{none_below}
+use Rattle.tx_list.proofs.Reading.{Inside}
+
+list_spares : (m : ℕ → ℕ) (n head : ℕ) (rs : Rows) → IsListAt m n head rs → SparesAll head rs
+list_spares m n head rs h a i = outside_spares head a (h.outside a i)
+
+-- a row that was put in is the new one or an old one
+put_has : (x key b : ℕ) (rs : Rows) → 0 < times x (put_row rs key b) → (b ≡ x) ⊎ (0 < times x rs)
+put_has x key b rs i =
+    let t = times_put x key b rs in
+    elim (same_or b x) [ inl e ↦ inl e | inr ne ↦ inr (grind (arith, nat_tests)) ]
+
+put_new : (key b : ℕ) (rs : Rows) → 0 < times b (put_row rs key b)
+put_new key b rs = let t = times_put b key b rs in grind (arith, nat_tests)
+
+put_old : (x key b : ℕ) (rs : Rows) → 0 < times x rs → 0 < times x (put_row rs key b)
+put_old x key b rs i = omega (arith, i, times_put x key b rs)
+
+cut_has : (x key b : ℕ) (rs : Rows) → block_at rs key ≡ b → b ≢ 0 → 0 < times x (cut_row rs key) → 0 < times x rs
+cut_has x key b rs e ne i = omega (arith, i, times_cut x key b rs e ne)
+
+-- the word that leads to the key's place is none of a block that the list does not have
+place_apart : (head key b : ℕ) (rs : Rows) → IsOutside head b → times b rs ≡ 0 → link_of head rs key ≢ b + 3
+place_apart head key b rs out loose e = elim (link_is head key rs) [
+  | inl at ↦ elim out [ inl below ↦ absurd (omega (arith, at, e, below)) | inr above ↦ absurd (omega (arith, at, e, above)) ]
+  | inr (a, (at, i)) ↦ (let same : a ≡ b = omega (arith, at, e) in absurd (omega (arith, i, loose, ap (λ (z : ℕ). times z rs) same)))
+]
+
+-- two writes put b in at the word l
+puts_by : (m m1 m2 : ℕ → ℕ) (b l p : ℕ) → IsWrite m m1 (b + 3) p → IsWrite m1 m2 l b → m l ≡ p → l ≢ b + 3 → Puts m m2 b l
+puts_by m m1 m2 b l p w w' at ne = record {
+  here = w'.here;
+  next = w'.others (b + 3) (λ e. ne (sym e)) ∙ (w.here ∙ sym at);
+  others = λ x nl nb. w'.others x nl ∙ w.others x nb;
+}
+
+fresh_keyed : (m : ℕ → ℕ) (n head : ℕ) (rs : Rows) (key : Key) (b : ℕ) → IsKey key → Fresh m n head rs key b → Keyed m n (code_of key) b
+fresh_keyed m n head rs key b k f = record {
+  block = f.block;
+  kind = omega (arith, f.kind_is, k.0);
+  id = omega (arith, f.id_is, k.1);
+  code = omega (arith, f.kind_is, f.id_is);
+}
+
+put_list : (m m' : ℕ → ℕ) (n head : ℕ) (rs : Rows) (key : Key) (b : ℕ) → IsListAt m n head rs → IsKey key → Fresh m n head rs key b → Puts m m' b (link_of head rs (code_of key)) → IsListAt m' n head (put_row rs (code_of key) b)
+put_list m m' n head rs key b h k f w = record {
+  list = record {
+    linked = put_linked m m' n head 0 (code_of key) b rs h.list.linked (list_spares m n head rs h) (outside_spares head b f.outside) (fresh_keyed m n head rs key b k f) f.loose (omega arith) f.absent w;
+  };
+  outside = λ a i. elim (put_has a (code_of key) b rs i) [
+    | inl e ↦ subst (λ (x : ℕ). IsOutside head x) e f.outside
+    | inr old ↦ h.outside a old
+  ];
+}
+
+put_relinks : (m m' : ℕ → ℕ) (head key b : ℕ) (rs : Rows) → Puts m m' b (link_of head rs key) → Relinks m m' 3 head (put_row rs key b)
+put_relinks m m' head key b rs w = record {
+  others = λ x nh away. w.others x
+      (λ e. elim (link_is head key rs) [
+        | inl at ↦ nh (e ∙ at)
+        | inr (a, (at, i)) ↦ elim (away a (put_old a key b rs i)) [ inl below ↦ absurd (omega (arith, e, at, below)) | inr above ↦ absurd (omega (arith, e, at, above)) ]
+      ])
+      (λ e. elim (away b (put_new key b rs)) [ inl below ↦ absurd (omega (arith, e, below)) | inr above ↦ absurd (omega (arith, e, above)) ]);
+}
+
+pub inserted : (s s1 s2 s3 : View) (head : ℕ) (key : Key) (b : ℕ) (spot : Spot) → IsKey key → IsFresh s head key b → Sought s s1 head (code_of key) spot → Stored s1 s2 (b + 3) spot.word → Stored s2 s3 spot.link.0 b → Inserted s s3 head (code_of key) b
+inserted s s1 s2 s3 head key b spot is_key f k w w' =
+    let seen1 : (image : List ℕ) → Sees s3 image → Sees s1 image = λ image seen. w.kept.seen image (w'.kept.seen image seen) in
+    let fresh : (image : List ℕ) (rs : Rows) → Sees s3 image → IsListAt (mem s image) (length image) head rs → Fresh (mem s image) (length image) head rs key b = λ image rs seen h.
+    f.under image rs (k.kept.seen image (seen1 image seen)) h in
+    let puts : (image : List ℕ) (rs : Rows) → Sees s3 image → IsListAt (mem s image) (length image) head rs → Puts (mem s image) (mem s3 image) b (link_of head rs (code_of key)) = λ image rs seen h.
+    let at = k.link image rs (seen1 image seen) h in
+    let o = fresh image rs seen h in
+    let one : IsWrite (mem s image) (mem s2 image) (b + 3) spot.word = write_at_start s s1 s2 (b + 3) spot.word k.writes w image (w'.kept.seen image seen) in
+    let ne : spot.link.0 ≢ b + 3 = λ e. place_apart head (code_of key) b rs o.outside o.loose (sym at ∙ e) in
+    subst (λ (x : ℕ). Puts (mem s image) (mem s3 image) b x) at (puts_by (mem s image) (mem s2 image) (mem s3 image) b spot.link.0 spot.word one (w'.written image) (k.word image (seen1 image seen)) ne) in
+    record {
+      kept = kept_both s s2 s3 (kept_both s s1 s2 k.kept w.kept) w'.kept;
+      list = λ image rs seen h. put_list (mem s image) (mem s3 image) (length image) head rs key b h is_key (fresh image rs seen h) (puts image rs seen h);
+      relinks = λ image rs seen h. put_relinks (mem s image) (mem s3 image) head (code_of key) b rs (puts image rs seen h);
+    }
+
+-- a block that has room for eight words can be written
+pub fresh_in : (s : View) (head : ℕ) (key : Key) (b : ℕ) → HasList s head → IsFresh s head key b → ∥ ((image : List ℕ) × Stands s image) ∥₁ → Inside s b
+fresh_in s head key b has f ws =
+    let fresh : (w : (image : List ℕ) × Stands s image) → (rs : Rows) × Fresh (mem s w.0) (length w.0) head rs key b = λ w.
+    let t = has.under w.0 w.1.sees in (t.entries, f.under w.0 t.entries w.1.sees t.is) in
+    let room : b + 8 ≤ s.size = some_le (b + 8) s.size ws (λ w. omega (arith, (fresh w).1.block.1.0, w.1.size)) in
+    record {
+      low = some_le 16 b ws (λ w. omega (arith, (fresh w).1.block.1.1));
+      room = room;
+      small = omega (arith, room, has.small);
+    }
+
+-- the word that leads to the key's place leads to its block
+link_leads : (m : ℕ → ℕ) (n l lo key : ℕ) (rs : Rows) → Linked m n (m l) lo rs → block_at rs key ≢ 0 → m (link_of l rs key) ≡ block_at rs key
+link_leads m n l lo key [] h ne = absurd (ne refl)
+link_leads m n l lo key ((k, a) ∷ rs) (r, h) ne =
+    elim (cases_lt k key) [
+      | inl below ↦ (
+          let e : link_of l ((k, a) ∷ rs) key ≡ link_of (a + 3) rs key = grind (arith, nat_tests) in
+          let there : block_at ((k, a) ∷ rs) key ≡ block_at rs key = grind (arith, nat_tests) in
+          ap m e ∙ (link_leads m n (a + 3) (k + 1) key rs h (λ z. ne (there ∙ z)) ∙ sym there))
+      | inr here ↦ elim (same_or k key) [
+        | inl q ↦ (
+            let e : link_of l ((k, a) ∷ rs) key ≡ l = grind (arith, nat_tests) in
+            ap m e ∙ (r.at ∙ sym (cut_is k a key rs q).1))
+        | inr other ↦ absurd (ne ((cut_else k a key rs other).1 ∙ none_below m n (m (a + 3)) (k + 1) rs h key (omega arith)))
+      ]
+    ]
+
+cut_list : (m m' : ℕ → ℕ) (n head key b : ℕ) (rs : Rows) → IsListAt m n head rs → block_at rs key ≡ b → b ≢ 0 → Cuts m m' (link_of head rs key) → IsListAt m' n head (cut_row rs key)
+cut_list m m' n head key b rs h e ne w = record {
+  list = record { linked = cut_linked m m' n head 0 key rs h.list.linked (list_spares m n head rs h) (λ z. ne (sym e ∙ z)) w };
+  outside = λ a i. h.outside a (cut_has a key b rs e ne i);
+}
+
+cut_relinks : (m m' : ℕ → ℕ) (head key : ℕ) (rs : Rows) → Cuts m m' (link_of head rs key) → Relinks m m' 3 head rs
+cut_relinks m m' head key rs w = record {
+  others = λ x nh away. w.others x (λ e. elim (link_is head key rs) [
+    | inl at ↦ nh (e ∙ at)
+    | inr (a, (at, i)) ↦ elim (away a i) [ inl below ↦ absurd (omega (arith, e, at, below)) | inr above ↦ absurd (omega (arith, e, at, above)) ]
+  ]);
+}
+
+pub removed_none : (s s1 : View) (head key : ℕ) (spot : Spot) → Sought s s1 head key spot → spot.entry ≡ None → Removed s s1 head key None
+removed_none s s1 head key spot k e =
+    let is : (image : List ℕ) (rs : Rows) → Sees s1 image → IsListAt (mem s image) (length image) head rs → 0 ≡ block_at rs key = λ image rs seen h.
+    sym (ap pointer e) ∙ k.entry image rs seen h in
+    record {
+      kept = k.kept;
+      none = λ _. k.writes;
+      within = tt;
+      is = is;
+      list = λ image rs seen h. rw (k.writes, cut_none (mem s image) (length image) (mem s image head) 0 key rs h.list.linked (sym (is image rs seen h))) h;
+      relinks = λ image rs seen h. record { others = λ x nh away. rw k.writes refl };
+    }
+
+some_none : (b : Block) → Some b ≡ None → ⊥
+some_none b e = cc
+
+pub removed : (s s1 s2 s3 : View) (head key next : ℕ) (b : Block) (spot : Spot) → Sought s s1 head key spot → spot.entry ≡ Some b → Loaded s1 s2 (b.0.0 + 3) next → Stored s2 s3 spot.link.0 next → Removed s s3 head key (Some b)
+removed s s1 s2 s3 head key next b spot k e l w =
+    let inside : IsWithin s1 (Some b) = subst (λ (o : Option Block). IsWithin s1 o) e k.within in
+    let seen1 : (image : List ℕ) → Sees s3 image → Sees s1 image = λ image seen. l.kept.seen image (w.kept.seen image seen) in
+    let is : (image : List ℕ) (rs : Rows) → Sees s3 image → IsListAt (mem s image) (length image) head rs → b.0.0 ≡ block_at rs key = λ image rs seen h.
+    sym (ap pointer e) ∙ k.entry image rs (seen1 image seen) h in
+    let some : b.0.0 ≢ 0 = omega (arith, inside.0) in
+    let cuts : (image : List ℕ) (rs : Rows) → Sees s3 image → IsListAt (mem s image) (length image) head rs → Cuts (mem s image) (mem s3 image) (link_of head rs key) = λ image rs seen h.
+    let at = k.link image rs (seen1 image seen) h in
+    let leads : mem s image (link_of head rs key) ≡ b.0.0 = link_leads (mem s image) (length image) head 0 key rs h.list.linked (λ z. some (is image rs seen h ∙ z)) ∙ sym (is image rs seen h) in
+    let behind : mem s image (b.0.0 + 3) ≡ next = at_start s s1 s2 (b.0.0 + 3) next k.writes l image (w.kept.seen image seen) in
+    let put : IsWrite (mem s image) (mem s3 image) spot.link.0 next = write_at_start s s2 s3 spot.link.0 next (l.writes ∙ k.writes) w image seen in
+    subst (λ (x : ℕ). Cuts (mem s image) (mem s3 image) x) at (record {
+      here = put.here ∙ (sym behind ∙ ap (λ (x : ℕ). mem s image (x + 3)) (sym (ap (mem s image) at ∙ leads)));
+      others = put.others;
+    }) in
+    record {
+      kept = kept_both s s2 s3 (kept_both s s1 s2 k.kept l.kept) w.kept;
+      none = λ z. absurd (some_none b z);
+      within = (inside.0, omega (arith, inside.1, l.kept.size, w.kept.size));
+      is = is;
+      list = λ image rs seen h. cut_list (mem s image) (mem s3 image) (length image) head key b.0.0 rs h (sym (is image rs seen h)) some (cuts image rs seen h);
+      relinks = λ image rs seen h. cut_relinks (mem s image) (mem s3 image) head key rs (cuts image rs seen h);
+    }

@@ -1,0 +1,9 @@
+pub mod Frame
+pub mod Open
+mod Trail
+mod Links
+mod Reading
+mod Order
+mod Seeking
+mod Changing
+pub mod After

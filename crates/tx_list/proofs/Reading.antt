@@ -1,0 +1,117 @@
+-- Pointers of a list, read over every memory that there may be.
+use Rattle.std.proofs.Common.{◌≡◌, ◌≢◌, inl, inr, ℕ, ◌+◌, ◌<◌, ◌≤◌, ◌^◌, List, [], ◌∷◌, length, Some, None, sym, ap, ◌∙◌, subst, arith}
+use Rattle.std.proofs.lemmas.Bool.Decides.{nat_tests}
+use Rattle.stm_words.specs.Seen.{some_le, same_or}
+use Rattle.stm_words.specs.View.{View, Stands, Loaded}
+use Rattle.tx_alloc.specs.Pool.{IsBlock}
+use Rattle.tx_alloc.specs.Rows.{Rows, times}
+use Rattle.tx_alloc.specs.Steps.{mem}
+use Rattle.tx_list.specs.Bookings.{Linked, first_block, block_behind}
+use Rattle.tx_list.specs.Lists.{HasList, HasBooking, First, Next}
+use Rattle.tx_list.specs.Search.{Leads, Followed}
+use Rattle.tx_list.proofs.Frame.{list_block}
+use Rattle.tx_list.proofs.Open.{open_list}
+
+-- a pointer that was read leads to a block of the memory
+pub record Inside (s : View) (p : ℕ) : Type 0 where
+  pub low : 16 ≤ p
+  pub room : p + 8 ≤ s.size
+  pub small : p + 8 ≤ 2 ^ 32
+
+pub followed_in : (s s' : View) (link p : ℕ) → Leads s link → Loaded s s' link p → p ≢ 0 → ∥ ((image : List ℕ) × Stands s' image) ∥₁ → Inside s' p
+followed_in s s' link p has l ne ws =
+    let block : (w : (image : List ℕ) × Stands s' image) → IsBlock (length w.0) p = λ w.
+    let at = l.answer w.0 w.1.sees in
+    subst (λ (x : ℕ). IsBlock (length w.0) x) at (has.under w.0 (l.kept.seen w.0 w.1.sees) (λ z. ne (sym at ∙ z))) in
+    let room : p + 8 ≤ s'.size = some_le (p + 8) s'.size ws (λ w. omega (arith, (block w).1.0, w.1.size)) in
+    record {
+      low = some_le 16 p ws (λ w. omega (arith, (block w).1.1));
+      room = room;
+      small = omega (arith, room, l.kept.size, has.small);
+    }
+
+pub followed_none : (s s' : View) (link p : ℕ) → Loaded s s' link p → p ≡ 0 → Followed s s' link None
+followed_none s s' link p l z = record { kept = l.kept; writes = l.writes; within = tt; is = λ image seen. l.answer image seen ∙ z }
+
+pub followed_some : (s s' : View) (link p : ℕ) → Leads s link → Loaded s s' link p → p ≢ 0 → ∥ ((image : List ℕ) × Stands s' image) ∥₁ → Followed s s' link (Some (record { 0 = record { 0 = p } }))
+followed_some s s' link p has l ne ws = let i = followed_in s s' link p has l ne ws in record {
+  kept = l.kept;
+  writes = l.writes;
+  within = (i.low, i.room);
+  is = l.answer;
+}
+
+-- the head of a list leads to its first block
+pub head_leads : (s : View) (head : ℕ) → HasList s head → Leads s head
+head_leads s head has = record {
+  small = has.small;
+  room = has.room;
+  under = λ image seen ne. let t = has.under image seen in
+      (open_list (mem s image) (length image) (mem s image head) 0 t.entries t.is.list.linked ne).block;
+}
+
+pub linked_first : (m : ℕ → ℕ) (n p lo : ℕ) (rs : Rows) → Linked m n p lo rs → p ≡ first_block rs
+linked_first m n p lo [] h = h
+linked_first m n p lo (r ∷ rs) h = h.0.at
+
+pub first_followed : (s s' : View) (head : ℕ) (found : _) → Followed s s' head found → First s s' head found
+first_followed s s' head found f = record {
+  kept = f.kept;
+  writes = f.writes;
+  within = f.within;
+  is = λ image rs seen h. sym (f.is image seen) ∙ linked_first (mem s image) (length image) (mem s image head) 0 rs h.list.linked;
+}
+
+-- the word of a block that leads on leads to the block behind it
+pub linked_behind : (m : ℕ → ℕ) (n p lo b : ℕ) (rs : Rows) → Linked m n p lo rs → 0 < times b rs → m (b + 3) ≡ block_behind rs b
+linked_behind m n p lo b [] h i = absurd (omega arith)
+linked_behind m n p lo b ((k, a) ∷ rs) (r, h) i =
+    elim (same_or a b) [
+      | inl e ↦ (
+          let first = linked_first m n (m (a + 3)) (k + 1) rs h in
+          let same : m (b + 3) ≡ m (a + 3) = ap (λ (x : ℕ). m (x + 3)) (sym e) in
+          grind (arith, nat_tests))
+      | inr ne ↦ (
+          let more : 0 < times b rs = grind (arith, nat_tests) in
+          let ih = linked_behind m n (m (a + 3)) (k + 1) b rs h more in
+          grind (arith, nat_tests))
+    ]
+
+pub behind_block : (m : ℕ → ℕ) (n p lo b : ℕ) (rs : Rows) → Linked m n p lo rs → 0 < times b rs → m (b + 3) ≢ 0 → IsBlock n (m (b + 3))
+behind_block m n p lo b [] h i ne = absurd (omega arith)
+behind_block m n p lo b ((k, a) ∷ rs) (r, h) i ne =
+    elim (same_or a b) [
+      | inl e ↦ (
+          let at : m (a + 3) ≡ m (b + 3) = ap (λ (x : ℕ). m (x + 3)) e in
+          let leads : Linked m n (m (b + 3)) (k + 1) rs = subst (λ (x : ℕ). Linked m n x (k + 1) rs) at h in
+          (open_list m n (m (b + 3)) (k + 1) rs leads ne).block)
+      | inr other ↦ behind_block m n (m (a + 3)) (k + 1) b rs h (grind (arith, nat_tests)) ne
+    ]
+
+pub booking_in : (s : View) (b : ℕ) → HasBooking s b → ∥ ((image : List ℕ) × Stands s image) ∥₁ → Inside s b
+booking_in s b has ws =
+    let block : (w : (image : List ℕ) × Stands s image) → IsBlock (length w.0) b = λ w.
+    let t = has.under w.0 w.1.sees in
+    list_block (mem s w.0) (length w.0) t.start b t.entries t.list t.has in
+    let room : b + 8 ≤ s.size = some_le (b + 8) s.size ws (λ w. omega (arith, (block w).1.0, w.1.size)) in
+    record {
+      low = some_le 16 b ws (λ w. omega (arith, (block w).1.1));
+      room = room;
+      small = omega (arith, room, has.small);
+    }
+
+pub next_leads : (s : View) (b : ℕ) → HasBooking s b → ∥ ((image : List ℕ) × Stands s image) ∥₁ → Leads s (b + 3)
+next_leads s b has ws = record {
+  small = has.small;
+  room = let i = booking_in s b has ws in omega (arith, i.room);
+  under = λ image seen ne. let t = has.under image seen in
+      behind_block (mem s image) (length image) t.start 0 b t.entries t.list.linked t.has ne;
+}
+
+pub next_followed : (s s' : View) (b : ℕ) (found : _) → Followed s s' (b + 3) found → Next s s' b found
+next_followed s s' b found f = record {
+  kept = f.kept;
+  writes = f.writes;
+  within = f.within;
+  is = λ image start rs seen h i. sym (f.is image seen) ∙ linked_behind (mem s image) (length image) start 0 b rs h.linked i;
+}

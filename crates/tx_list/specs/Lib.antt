@@ -1,0 +1,3 @@
+pub mod Bookings
+pub mod Lists
+pub mod Search

@@ -1,0 +1,107 @@
+-- What the calls on a list of bookings need, and what they do.
+use Rattle.std.specs.Prelude.{◌≡◌, ◌⊎◌, ℕ, ◌+◌, ◌<◌, ◌≤◌, ◌^◌, List, length, Option, None}
+use Rattle.stm_words.specs.View.{View, Sees, Kept}
+use Rattle.tx_alloc.specs.declared.place.TheConstants.{BLOCK_WORDS}
+use Rattle.tx_alloc.specs.declared.pool.Block.{Block}
+use Rattle.tx_alloc.specs.Pointer.{pointer, IsWithin}
+use Rattle.tx_alloc.specs.Pool.{IsBlock}
+use Rattle.tx_alloc.specs.Rows.{Rows, times, put_row, cut_row, block_at, Relinks}
+use Rattle.tx_alloc.specs.Steps.{mem}
+use Rattle.tx_list.specs.Bookings.{IsList, code_of, first_block, block_behind}
+use Rattle.tx_list.specs.declared.key.Key.{Key}
+use Rattle.tx_list.specs.declared.place.TheConstants.{KIND, ID, NEXT}
+
+-- the word is none of this block
+abbrev pub IsOutside : ℕ → ℕ → Type 0
+IsOutside word block = (word < block) ⊎ (block + BLOCK_WORDS ≤ word)
+
+-- the word head leads to a list of these bookings, and is in none of their blocks
+pub record IsListAt (m : ℕ → ℕ) (n head : ℕ) (rs : Rows) : Type 0 where
+  pub list : IsList m n (m head) rs
+  pub outside : (a : ℕ) → 0 < times a rs → IsOutside head a
+
+pub record SomeList (m : ℕ → ℕ) (n head : ℕ) : Type 0 where
+  pub entries : Rows
+  pub is : IsListAt m n head entries
+
+-- under each image that there may be the word head leads to a list. Addresses fit 32 bits.
+pub record HasList (s : View) (head : ℕ) : Type 0 where
+  pub small : s.size ≤ 2 ^ 32
+  pub room : head < s.size
+  pub under : (image : List ℕ) → Sees s image → SomeList (mem s image) (length image) head
+
+-- only reads were made, and the answer is the block at the key
+pub record Found (s s' : View) (head key : ℕ) (found : Option Block) : Type 0 where
+  pub kept : Kept s s'
+  pub writes : s'.writes ≡ s.writes
+  pub within : IsWithin s' found
+  pub is : (image : List ℕ) (rs : Rows) → Sees s' image →
+      IsListAt (mem s image) (length image) head rs → pointer found ≡ block_at rs key
+
+-- only reads were made, and the answer is the first block
+pub record First (s s' : View) (head : ℕ) (found : Option Block) : Type 0 where
+  pub kept : Kept s s'
+  pub writes : s'.writes ≡ s.writes
+  pub within : IsWithin s' found
+  pub is : (image : List ℕ) (rs : Rows) → Sees s' image →
+      IsListAt (mem s image) (length image) head rs → pointer found ≡ first_block rs
+
+pub record SomeBooking (m : ℕ → ℕ) (n b : ℕ) : Type 0 where
+  pub start : ℕ
+  pub entries : Rows
+  pub list : IsList m n start entries
+  pub has : 0 < times b entries
+
+-- under each image that there may be b is a block of a list. Addresses fit 32 bits.
+pub record HasBooking (s : View) (b : ℕ) : Type 0 where
+  pub small : s.size ≤ 2 ^ 32
+  pub under : (image : List ℕ) → Sees s image → SomeBooking (mem s image) (length image) b
+
+-- only reads were made, and the answer is the block behind b in each list that has b
+pub record Next (s s' : View) (b : ℕ) (found : Option Block) : Type 0 where
+  pub kept : Kept s s'
+  pub writes : s'.writes ≡ s.writes
+  pub within : IsWithin s' found
+  pub is : (image : List ℕ) (start : ℕ) (rs : Rows) → Sees s' image →
+      IsList (mem s image) (length image) start rs → 0 < times b rs →
+      pointer found ≡ block_behind rs b
+
+-- b is a block with this key that the list does not have, and the list has no row of the key
+pub record Fresh (m : ℕ → ℕ) (n head : ℕ) (rs : Rows) (key : Key) (b : ℕ) : Type 0 where
+  pub block : IsBlock n b
+  pub outside : IsOutside head b
+  pub absent : block_at rs (code_of key) ≡ 0
+  pub loose : times b rs ≡ 0
+  pub kind_is : m (b + KIND) ≡ key.kind
+  pub id_is : m (b + ID) ≡ key.id
+
+pub record IsFresh (s : View) (head : ℕ) (key : Key) (b : ℕ) : Type 0 where
+  pub under : (image : List ℕ) (rs : Rows) → Sees s image →
+      IsListAt (mem s image) (length image) head rs →
+      Fresh (mem s image) (length image) head rs key b
+
+-- the block came into the list under its key, and no word was changed but the head and the words
+-- of its blocks that lead on
+pub record Inserted (s s' : View) (head key b : ℕ) : Type 0 where
+  pub kept : Kept s s'
+  pub list : (image : List ℕ) (rs : Rows) → Sees s' image →
+      IsListAt (mem s image) (length image) head rs →
+      IsListAt (mem s' image) (length image) head (put_row rs key b)
+  pub relinks : (image : List ℕ) (rs : Rows) → Sees s' image →
+      IsListAt (mem s image) (length image) head rs →
+      Relinks (mem s image) (mem s' image) NEXT head (put_row rs key b)
+
+-- the row of the key is gone, if there was one, and the answer is its block. No word was changed
+-- but the head and the words of the list's blocks that lead on, and none where there was no row.
+pub record Removed (s s' : View) (head key : ℕ) (removed : Option Block) : Type 0 where
+  pub kept : Kept s s'
+  pub none : removed ≡ None → s'.writes ≡ s.writes
+  pub within : IsWithin s' removed
+  pub is : (image : List ℕ) (rs : Rows) → Sees s' image →
+      IsListAt (mem s image) (length image) head rs → pointer removed ≡ block_at rs key
+  pub list : (image : List ℕ) (rs : Rows) → Sees s' image →
+      IsListAt (mem s image) (length image) head rs →
+      IsListAt (mem s' image) (length image) head (cut_row rs key)
+  pub relinks : (image : List ℕ) (rs : Rows) → Sees s' image →
+      IsListAt (mem s image) (length image) head rs →
+      Relinks (mem s image) (mem s' image) NEXT head rs

@@ -1,0 +1,45 @@
+-- What the steps of a search say.
+use Rattle.std.specs.Prelude.{◌≡◌, ◌≢◌, ℕ, ◌+◌, ◌<◌, ◌≤◌, ◌^◌, List, length, Option}
+use Rattle.stm_words.specs.View.{View, Sees, Kept}
+use Rattle.tx_alloc.specs.declared.pool.Block.{Block}
+use Rattle.tx_alloc.specs.Pointer.{pointer, IsWithin}
+use Rattle.tx_alloc.specs.Pool.{IsBlock}
+use Rattle.tx_alloc.specs.Rows.{Rows, block_at}
+use Rattle.tx_alloc.specs.Steps.{mem}
+use Rattle.tx_list.specs.Bookings.{link_of}
+use Rattle.tx_list.specs.Lists.{IsListAt}
+use Rattle.tx_list.specs.declared.place.TheConstants.{KIND, ID}
+use Rattle.tx_list.specs.declared.search.Spot.{Spot}
+
+-- only reads were made, and the block b has this kind and id
+pub record HasKey (s s' : View) (b kind id : ℕ) : Type 0 where
+  pub kept : Kept s s'
+  pub writes : s'.writes ≡ s.writes
+  pub kind_is : (image : List ℕ) → Sees s' image → mem s image (b + KIND) ≡ kind
+  pub id_is : (image : List ℕ) → Sees s' image → mem s image (b + ID) ≡ id
+
+-- the word at the link is the pointer to a block, or to none
+pub record Leads (s : View) (link : ℕ) : Type 0 where
+  pub small : s.size ≤ 2 ^ 32
+  pub room : link < s.size
+  pub under : (image : List ℕ) → Sees s image → mem s image link ≢ 0 →
+      IsBlock (length image) (mem s image link)
+
+-- only reads were made, and the word at the link leads to the answer
+pub record Followed (s s' : View) (link : ℕ) (found : Option Block) : Type 0 where
+  pub kept : Kept s s'
+  pub writes : s'.writes ≡ s.writes
+  pub within : IsWithin s' found
+  pub is : (image : List ℕ) → Sees s' image → mem s image link ≡ pointer found
+
+-- only reads were made, and the search for the key came to this spot
+pub record Sought (s s' : View) (head key : ℕ) (spot : Spot) : Type 0 where
+  pub kept : Kept s s'
+  pub writes : s'.writes ≡ s.writes
+  pub room : spot.link.0 < s'.size
+  pub within : IsWithin s' spot.entry
+  pub link : (image : List ℕ) (rs : Rows) → Sees s' image →
+      IsListAt (mem s image) (length image) head rs → spot.link.0 ≡ link_of head rs key
+  pub word : (image : List ℕ) → Sees s' image → mem s image spot.link.0 ≡ spot.word
+  pub entry : (image : List ℕ) (rs : Rows) → Sees s' image →
+      IsListAt (mem s image) (length image) head rs → pointer spot.entry ≡ block_at rs key

@@ -1,0 +1,18 @@
+//! A customer's bookings in a transactional memory, as a list of blocks in ascending order of kind
+//! and id.
+//!
+//! A word that is in none of the blocks, the head, leads to the first of them. A block's words are
+//! kind, id, sum, next and units. No call looks at sum or units, and no call takes memory.
+#![tactic(auto)]
+
+mod change;
+mod key;
+pub mod place;
+mod search;
+
+pub use change::{insert, remove};
+pub use key::Key;
+pub use search::{find, first, next};
+
+#[cfg(test)]
+mod tests;

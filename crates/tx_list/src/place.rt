@@ -1,0 +1,19 @@
+//! Where the words of a booking stand in its block. The three behind them are spare.
+
+/// 0 for a car, 1 for a flight and 2 for a room.
+pub const KIND: u32 = 0;
+
+/// The id of what is booked.
+pub const ID: u32 = 1;
+
+/// The prices of the units, each as it was when the unit was booked, added up.
+pub const SUM: u32 = 2;
+
+/// The pointer to the next booking of the list.
+pub const NEXT: u32 = 3;
+
+/// How many units are booked.
+pub const UNITS: u32 = 4;
+
+/// How many kinds there are.
+pub const KINDS: u64 = 3;

@@ -1,0 +1,117 @@
+//! Finding bookings.
+
+ghost use Rattle.std.specs.Prelude.{◌≡◌, IfOk};
+ghost use Rattle.tx_list.specs.Bookings.{IsKey, code_of};
+ghost use Rattle.tx_list.specs.Lists.{HasList, HasBooking, Found, First, Next};
+ghost use Rattle.tx_list.specs.Search.{Leads, Followed, Sought};
+
+use crate::key::{Key, load_key};
+use crate::place::NEXT;
+use std::cmp::Ordering;
+use stm_words::{Addr, TxRead, load};
+use tx_alloc::Block;
+
+/// Where a key stands in a list, or would stand.
+#[derive(Clone, Copy)]
+pub(crate) struct Spot {
+    /// The word that leads there.
+    pub link: Addr,
+    /// What that word holds: the pointer to the first booking that is not before the key.
+    pub word: u64,
+    /// The block of the booking with the key.
+    pub entry: Option<Block>,
+}
+
+/// The booking of a key in the list at `head`.
+pub fn find<M: TxRead>(memory: &mut M, head: Addr, key: Key) -> Result<Option<Block>, M::Stop>
+    requires list { HasList (M.view memory.old) head.0 }
+    requires key { IsKey key }
+    ensures origin { M.origin memory.new ≡ M.origin memory.old }
+    ensures answer { IfOk result (λ found.
+        Found (M.view memory.old) (M.view memory.new) head.0 (code_of key) found) }
+{
+    let spot = seek(memory, head, key)?;
+    Ok(spot.entry)
+}
+
+/// The first booking of the list at `head`.
+pub fn first<M: TxRead>(memory: &mut M, head: Addr) -> Result<Option<Block>, M::Stop>
+    requires list { HasList (M.view memory.old) head.0 }
+    ensures origin { M.origin memory.new ≡ M.origin memory.old }
+    ensures answer { IfOk result (λ found.
+        First (M.view memory.old) (M.view memory.new) head.0 found) }
+{
+    let found = follow(memory, head)?;
+    Ok(found)
+}
+
+/// The booking behind the one in this block.
+pub fn next<M: TxRead>(memory: &mut M, block: Block) -> Result<Option<Block>, M::Stop>
+    requires booking { HasBooking (M.view memory.old) block.0.0 }
+    ensures origin { M.origin memory.new ≡ M.origin memory.old }
+    ensures answer { IfOk result (λ found.
+        Next (M.view memory.old) (M.view memory.new) block.0.0 found) }
+{
+    let Block(addr) = block;
+    let found = follow(memory, Addr(addr.0 + NEXT))?;
+    Ok(found)
+}
+
+// What the pointer at a word leads to.
+fn follow<M: TxRead>(memory: &mut M, link: Addr) -> Result<Option<Block>, M::Stop>
+    requires leads { Leads (M.view memory.old) link.0 }
+    ensures origin { M.origin memory.new ≡ M.origin memory.old }
+    ensures answer { IfOk result (λ found.
+        Followed (M.view memory.old) (M.view memory.new) link.0 found) }
+{
+    let word = load(memory, link)?;
+    if word == 0 {
+        return Ok(None);
+    }
+    Ok(Some(Block(Addr(word as u32))))
+}
+
+/// Where a key stands in the list at `head`, or would stand.
+pub(crate) fn seek<M: TxRead>(memory: &mut M, head: Addr, key: Key) -> Result<Spot, M::Stop>
+    requires list { HasList (M.view memory.old) head.0 }
+    requires key { IsKey key }
+    ensures origin { M.origin memory.new ≡ M.origin memory.old }
+    ensures answer { IfOk result (λ spot.
+        Sought (M.view memory.old) (M.view memory.new) head.0 (code_of key) spot) }
+{
+    let mut link = head;
+    // The last key that was passed. It is there for the proof alone: the walk ends since keys rise.
+    let mut passed = None;
+    loop {
+        let _ = passed;
+        let word = load(memory, link)?;
+        if word == 0 {
+            return Ok(Spot {
+                link,
+                word,
+                entry: None,
+            });
+        }
+        let block = Addr(word as u32);
+        let found = load_key(memory, block)?;
+        match found.cmp(&key) {
+            Ordering::Less => {}
+            Ordering::Equal => {
+                return Ok(Spot {
+                    link,
+                    word,
+                    entry: Some(Block(block)),
+                });
+            }
+            Ordering::Greater => {
+                return Ok(Spot {
+                    link,
+                    word,
+                    entry: None,
+                });
+            }
+        }
+        passed = Some(found);
+        link = Addr(block.0 + NEXT);
+    }
+}
