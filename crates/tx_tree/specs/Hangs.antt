@@ -1,0 +1,67 @@
+-- A tree in a flat memory. A block has key, left, right and colour in its first four words.
+use Rattle.std.specs.Prelude.{◌≡◌, ◌≢◌, ◌⊎◌, ℕ, ◌+◌, ◌-◌, ◌<◌, ◌≤◌, Bool, true, false, not, cond, nat_eq, [], ◌∷◌}
+use Rattle.stm_words.specs.View.{IsWrite}
+use Rattle.tx_alloc.specs.Pool.{IsBlock}
+use Rattle.tx_alloc.specs.Rows.{times}
+use Rattle.tx_tree.specs.Tree.{Tree, leaf, node}
+use Rattle.tx_tree.specs.Way.{Way, top, step}
+
+-- p is the block of the row r, of this colour
+pub record IsNode (m : ℕ → ℕ) (n p : ℕ) (c : Bool) (r : ℕ × ℕ) : Type 0 where
+  pub at : p ≡ r.1
+  pub block : IsBlock n r.1
+  pub key : m r.1 ≡ r.0
+  pub colour : m (r.1 + 3) ≡ cond c 1 0
+
+-- p leads to the tree
+abbrev pub Hangs : (ℕ → ℕ) → ℕ → ℕ → Tree → Type 0
+Hangs m n p leaf = p ≡ 0
+Hangs m n p (node c l r t) = IsNode m n p c r × (Hangs m n (m (r.1 + 1)) l × Hangs m n (m (r.1 + 2)) t)
+
+-- how often a tree has a block
+abbrev pub has : ℕ → Tree → ℕ
+has x leaf = 0
+has x (node c l r t) = times x (r ∷ []) + (has x l + has x t)
+
+-- the place of a child in its node's block
+abbrev pub off : Bool → ℕ
+off false = 1
+off true = 2
+
+-- the word that leads to the hole
+abbrev pub link_of : ℕ → Way → ℕ
+link_of root top = root
+link_of root (step right c r o w) = r.1 + off right
+
+-- the nodes of a way, and what they pass by, hang from the root word on
+abbrev pub HangsWay : (ℕ → ℕ) → ℕ → ℕ → Way → Type 0
+HangsWay m n root top = Unit {0}
+HangsWay m n root (step right c r o w) = IsNode m n (m (link_of root w)) c r × (Hangs m n (m (r.1 + off (not right))) o × HangsWay m n root w)
+
+abbrev pub way_has : ℕ → Way → ℕ
+way_has x top = 0
+way_has x (step right c r o w) = times x (r ∷ []) + (has x o + way_has x w)
+
+-- the way and the tree at its end hang in the memory; total says how often each block is there, at most once
+pub record Zip (m : ℕ → ℕ) (n root : ℕ) (total : ℕ → ℕ) (w : Way) (t : Tree) : Type 0 where
+  pub way : HangsWay m n root w
+  pub tree : Hangs m n (m (link_of root w)) t
+  pub count : (x : ℕ) → way_has x w + has x t ≡ total x
+  pub once : (x : ℕ) → total x ≤ 1
+  pub low : root < 16
+
+-- nothing was written but the root and words 1 to 3 of these blocks
+pub record Touches (m m' : ℕ → ℕ) (root : ℕ) (total : ℕ → ℕ) : Type 0 where
+  pub others : (x : ℕ) → x ≢ root → ((a : ℕ) → 0 < total a → (x < a + 1) ⊎ (a + 4 ≤ x)) → m' x ≡ m x
+
+-- the child c at p's side s came up to the link, and p hangs on c's other side
+pub record Turning (m m' : ℕ → ℕ) (link p c s : ℕ) : Type 0 where
+  pub m1 : ℕ → ℕ
+  pub m2 : ℕ → ℕ
+  pub inner : IsWrite m m1 (p + s) (m (c + (3 - s)))
+  pub outer : IsWrite m1 m2 (c + (3 - s)) p
+  pub up : IsWrite m2 m' link c
+
+-- counts of blocks with one block less
+abbrev pub without : (ℕ → ℕ) → ℕ → ℕ → ℕ
+without total b x = total x - cond (nat_eq b x) 1 0

@@ -1,0 +1,11 @@
+pub mod Tree
+pub mod Way
+pub mod Hangs
+pub mod Balance
+pub mod Table
+pub mod Steps
+pub mod Mending
+pub mod Lifting
+pub mod Removal
+pub mod Lowest
+pub mod Next

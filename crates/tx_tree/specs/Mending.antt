@@ -1,0 +1,115 @@
+-- What the steps that mend a tree say.
+use Rattle.std.specs.Prelude.{◌≡◌, ◌≢◌, ℕ, ◌+◌, ◌-◌, ◌%◌, ◌<◌, ◌≤◌, ◌^◌, List, length, slice_index, Bool, true, false}
+use Rattle.stm_words.specs.View.{View, Sees, Kept, IsWrite}
+use Rattle.tx_alloc.specs.Steps.{mem}
+use Rattle.tx_alloc.specs.Rows.{Rows}
+use Rattle.tx_tree.specs.Tree.{Tree, node, rows, IsEven, IsApart, is_red}
+use Rattle.tx_tree.specs.Way.{Way, top, plug, depth}
+use Rattle.tx_tree.specs.Balance.{Raised, Short}
+use Rattle.tx_tree.specs.Hangs.{Zip, Touches, Turning}
+use Rattle.tx_tree.specs.Steps.{IsPath}
+
+-- the child came up, and both got colours
+pub record Rising (m m' : ℕ → ℕ) (link p c side v v' : ℕ) : Type 0 where
+  pub m1 : ℕ → ℕ
+  pub m2 : ℕ → ℕ
+  pub turning : Turning m m1 link p c side
+  pub child : IsWrite m1 m2 (c + 3) v
+  pub parent : IsWrite m2 m' (p + 3) v'
+
+pub record Raising (s s' : View) (link p c side v v' : ℕ) : Type 0 where
+  pub kept : Kept s s'
+  pub rising : (image : List ℕ) → Sees s' image → Rising (mem s image) (mem s' image) link p c side v v'
+
+pub record Rotated (s s' : View) (link p c side : ℕ) : Type 0 where
+  pub kept : Kept s s'
+  pub turning : (image : List ℕ) → Sees s' image → Turning (mem s image) (mem s' image) link p c side
+
+-- the path leads through a tree
+pub record WayAt (m : ℕ → ℕ) (n : ℕ) (xs : List ℕ) (d : ℕ) : Type 0 where
+  pub root : ℕ
+  pub total : ℕ → ℕ
+  pub way : Way
+  pub tree : Tree
+  pub zip : Zip m n root total way tree
+  pub path : IsPath xs root way
+  pub deep : d ≡ depth way
+
+pub record HasWay (s : View) (xs : List ℕ) (d : ℕ) : Type 0 where
+  pub small : s.size ≤ 2 ^ 32
+  pub room : 16 ≤ s.size
+  pub size : length xs ≡ 40
+  pub deep : d < 40
+  pub under : (image : List ℕ) → Sees s image → WayAt (mem s image) (length image) xs d
+
+-- the whole tree is as it should be, and has these rows; nothing but linking words was written
+pub record Ends (m m' : ℕ → ℕ) (n root : ℕ) (total : ℕ → ℕ) (rs : Rows) : Type 0 where
+  pub tree : Tree
+  pub zip : Zip m' n root total top tree
+  pub even : IsEven tree
+  pub apart : IsApart tree
+  pub black : is_red tree ≡ false
+  pub is : rows tree ≡ rs
+  pub touches : Touches m m' root total
+
+-- at the end of the path is the red node b, and the one above it may be red, too
+pub record RaisedAt (m : ℕ → ℕ) (n root : ℕ) (total : ℕ → ℕ) (xs : List ℕ) (d b : ℕ) (w : Way) (l : Tree) (k : ℕ) (o : Tree) (h : ℕ) : Type 0 where
+  pub zip : Zip m n root total w (node true l (k, b) o)
+  pub path : IsPath xs root w
+  pub deep : d ≡ depth w
+  pub raised : Raised w (node true l (k, b) o) h
+
+pub record SomeRaised (m : ℕ → ℕ) (n : ℕ) (xs : List ℕ) (d b : ℕ) : Type 0 where
+  pub root : ℕ
+  pub total : ℕ → ℕ
+  pub way : Way
+  pub left : Tree
+  pub key : ℕ
+  pub right : Tree
+  pub blacks : ℕ
+  pub at : RaisedAt m n root total xs d b way left key right blacks
+
+pub record HasRaised (s : View) (xs : List ℕ) (d b : ℕ) : Type 0 where
+  pub small : s.size ≤ 2 ^ 32
+  pub room : 16 ≤ s.size
+  pub size : length xs ≡ 40
+  pub deep : d < 40
+  pub under : (image : List ℕ) → Sees s image → SomeRaised (mem s image) (length image) xs d b
+
+pub record Settled (s s' : View) (xs : List ℕ) (d b : ℕ) : Type 0 where
+  pub kept : Kept s s'
+  pub ends : (image : List ℕ) → Sees s' image → (root : ℕ) (total : ℕ → ℕ) (w : Way) (l : Tree) (k : ℕ) (o : Tree) (h : ℕ) → RaisedAt (mem s image) (length image) root total xs d b w l k o h → Ends (mem s image) (mem s' image) (length image) root total (rows (plug w (node true l (k, b) o)))
+
+-- the node above is red, and the one beside that is not
+pub record IsToTurn (m : ℕ → ℕ) (l u : ℕ) : Type 0 where
+  pub parent : m (l - l % 8 + 3) ≡ 1
+  pub uncle : m (u - u % 8 + (3 - u % 8)) ≢ 0 → m (m (u - u % 8 + (3 - u % 8)) + 3) ≢ 1
+
+pub record NeedsTurn (s : View) (xs : List ℕ) (d : ℕ) : Type 0 where
+  pub under : (image : List ℕ) → Sees s image → IsToTurn (mem s image) (slice_index xs d) (slice_index xs (d - 1))
+
+-- at the end of the path is a tree that lacks a black node, and has no red root
+pub record ShortAt (m : ℕ → ℕ) (n root : ℕ) (total : ℕ → ℕ) (xs : List ℕ) (d : ℕ) (w : Way) (t : Tree) (h : ℕ) : Type 0 where
+  pub zip : Zip m n root total w t
+  pub path : IsPath xs root w
+  pub deep : d ≡ depth w
+  pub short : Short w t h
+
+pub record SomeShort (m : ℕ → ℕ) (n : ℕ) (xs : List ℕ) (d : ℕ) : Type 0 where
+  pub root : ℕ
+  pub total : ℕ → ℕ
+  pub way : Way
+  pub tree : Tree
+  pub blacks : ℕ
+  pub at : ShortAt m n root total xs d way tree blacks
+
+pub record HasShort (s : View) (xs : List ℕ) (d : ℕ) : Type 0 where
+  pub small : s.size ≤ 2 ^ 32
+  pub room : 16 ≤ s.size
+  pub size : length xs ≡ 40
+  pub deep : d < 40
+  pub under : (image : List ℕ) → Sees s image → SomeShort (mem s image) (length image) xs d
+
+pub record Mended (s s' : View) (xs : List ℕ) (d : ℕ) : Type 0 where
+  pub kept : Kept s s'
+  pub ends : (image : List ℕ) → Sees s' image → (root : ℕ) (total : ℕ → ℕ) (w : Way) (t : Tree) (h : ℕ) → ShortAt (mem s image) (length image) root total xs d w t h → Ends (mem s image) (mem s' image) (length image) root total (rows (plug w t))

@@ -1,0 +1,63 @@
+-- What the steps of a call say.
+use Rattle.std.specs.Prelude.{◌≡◌, ◌≢◌, ℕ, ◌+◌, ◌<◌, ◌≤◌, ◌^◌, List, length, slice_index, Bool, true, false}
+use Rattle.stm_words.specs.View.{View, Sees, Kept, Loaded}
+use Rattle.tx_alloc.specs.Pool.{IsBlock}
+use Rattle.tx_alloc.specs.Steps.{mem}
+use Rattle.tx_alloc.specs.Rows.{Rows, times, AllBelow, IsFrom}
+use Rattle.tx_tree.specs.Tree.{Tree, rows, IsEven, IsApart, is_red}
+use Rattle.tx_tree.specs.Way.{Way, top, step, plug, depth, front, behind}
+use Rattle.tx_tree.specs.Hangs.{off, link_of, Zip, Turning}
+use Rattle.tx_tree.specs.Table.{Table}
+
+-- the word at the link leads to a block, or to none
+pub record Leads (s : View) (link : ℕ) : Type 0 where
+  pub small : s.size ≤ 2 ^ 32
+  pub room : link < s.size
+  pub under : (image : List ℕ) → Sees s image → mem s image link ≢ 0 → IsBlock (length image) (mem s image link)
+
+-- the link leads to p
+pub record Reached (s s' : View) (link p : ℕ) : Type 0 where
+  pub loaded : Loaded s s' link p
+  pub room : p ≢ 0 → (16 ≤ p) × (p + 8 ≤ s'.size)
+
+-- the node p is red, or it is none, or black
+pub record Coloured (s s' : View) (p : ℕ) (red : Bool) : Type 0 where
+  pub kept : Kept s s'
+  pub writes : s'.writes ≡ s.writes
+  pub there : red ≡ true → p ≢ 0
+  pub is_one : red ≡ true → (image : List ℕ) → Sees s' image → mem s image (p + 3) ≡ 1
+  pub is_none : red ≡ false → p ≢ 0 → (image : List ℕ) → Sees s' image → mem s image (p + 3) ≢ 1
+
+-- the words of a way from the root on
+abbrev pub IsPath : List ℕ → ℕ → Way → Type 0
+IsPath xs root top = slice_index xs 0 ≡ root
+IsPath xs root (step right c r o w) = (slice_index xs (depth w + 1) ≡ r.1 + off right) × IsPath xs root w
+
+-- the search for a key came to a tree that has its row, if the table has it
+pub record Place (m : ℕ → ℕ) (n root key : ℕ) (xs : List ℕ) (d : ℕ) (rs : Rows) : Type 0 where
+  pub way : Way
+  pub tree : Tree
+  pub zip : Zip m n root (λ x. times x rs) way tree
+  pub path : IsPath xs root way
+  pub deep : d ≡ depth way
+  pub is : rows (plug way tree) ≡ rs
+  pub even : IsEven (plug way tree)
+  pub apart : IsApart (plug way tree)
+  pub black : is_red (plug way tree) ≡ false
+  pub below : AllBelow key (front way)
+  pub above : IsFrom (key + 1) (behind way)
+
+-- the same so far
+pub record Seeking (s s' : View) (root key : ℕ) (xs : List ℕ) (d : ℕ) : Type 0 where
+  pub kept : Kept s s'
+  pub writes : s'.writes ≡ s.writes
+  pub deep : d < 40
+  pub size : length xs ≡ 40
+  pub place : (image : List ℕ) (rs : Rows) → Sees s' image → Table (mem s image) (length image) root rs → Place (mem s image) (length image) root key xs d rs
+
+-- the search came to its end: there is no tree, or its root has the key
+pub record Sought (s s' : View) (root key : ℕ) (xs : List ℕ) (d p : ℕ) : Type 0 where
+  pub seeking : Seeking s s' root key xs d
+  pub there : p ≢ 0 → (16 ≤ p) × (p + 8 ≤ s'.size)
+  pub is : (image : List ℕ) → Sees s' image → mem s image (slice_index xs d) ≡ p
+  pub key_is : p ≢ 0 → (image : List ℕ) → Sees s' image → mem s image p ≡ key

@@ -1,0 +1,85 @@
+-- A table by key. What stands above uses the lemmas on IsTable alone, and not its fields.
+use Rattle.std.specs.Prelude.{◌≡◌, ◌≢◌, ℕ, ◌+◌, ◌<◌, ◌≤◌, ◌^◌, List, [], ◌∷◌, length, Bool, true, false, cond, nat_lt, zero, suc, Option, Some, None}
+use Rattle.stm_words.specs.View.{View, Sees, Kept, Loaded}
+use Rattle.tx_alloc.specs.Pool.{IsBlock}
+use Rattle.tx_alloc.specs.Steps.{mem}
+use Rattle.tx_tree.specs.declared.search.Entry.{Entry}
+use Rattle.tx_alloc.specs.Rows.{Rows, times, put_row, cut_row, block_at, Relinks, IsFrom}
+use Rattle.tx_tree.specs.Tree.{Tree, rows, IsEven, IsApart, is_red}
+use Rattle.tx_tree.specs.Hangs.{Hangs}
+
+-- p leads to a table of these rows
+pub record IsTable (m : ℕ → ℕ) (n p : ℕ) (rs : Rows) : Type 0 where
+  pub tree : Tree
+  pub hangs : Hangs m n p tree
+  pub is : rows tree ≡ rs
+  pub even : IsEven tree
+  pub apart : IsApart tree
+  pub black : is_red tree ≡ false
+  pub ascending : IsFrom 0 rs
+  pub once : (x : ℕ) → times x rs ≤ 1
+
+-- h nodes on a way down from p, each in the left or the right word of the one before
+abbrev pub Descends : (ℕ → ℕ) → ℕ → ℕ → Type 0
+Descends m p zero = Unit {0}
+Descends m p (suc h) = (p ≢ 0) × ((side : ℕ) × (((1 ≤ side) × (side ≤ 2)) × Descends m (m (p + side)) h))
+
+-- the root word leads to a table of these rows, at most 262,144
+pub record Table (m : ℕ → ℕ) (n root : ℕ) (rs : Rows) : Type 0 where
+  pub table : IsTable m n (m root) rs
+  pub few : length rs ≤ 262144
+
+pub record SomeTable (m : ℕ → ℕ) (n root : ℕ) : Type 0 where
+  pub entries : Rows
+  pub is : Table m n root entries
+
+-- under each image that there may be the root word leads to a table. Addresses fit 32 bits.
+pub record HasTable (s : View) (root : ℕ) : Type 0 where
+  pub small : s.size ≤ 2 ^ 32
+  pub room : 16 ≤ s.size
+  pub low : root < 16
+  pub under : (image : List ℕ) → Sees s image → SomeTable (mem s image) (length image) root
+
+-- p is the block at the key, or 0
+pub record Found (s s' : View) (root key p : ℕ) : Type 0 where
+  pub kept : Kept s s'
+  pub writes : s'.writes ≡ s.writes
+  pub is : (image : List ℕ) (rs : Rows) → Sees s' image → Table (mem s image) (length image) root rs → p ≡ block_at rs key
+
+-- the row of an entry, if there is one
+abbrev pub row_of : Option Entry → Option (ℕ × ℕ)
+row_of None = None
+row_of (Some entry) = Some (entry.key, entry.block.0.0)
+
+-- the first of the rows with a key above this one
+abbrev pub row_above : Rows → ℕ → Option (ℕ × ℕ)
+row_above [] key = None
+row_above (r ∷ rs) key = cond (nat_lt key r.0) (Some r) (row_above rs key)
+
+-- this is the row of the least key above, or None, and only reads were made
+pub record NextFound (s s' : View) (root key : ℕ) (next : Option (ℕ × ℕ)) : Type 0 where
+  pub kept : Kept s s'
+  pub writes : s'.writes ≡ s.writes
+  pub is : (image : List ℕ) (rs : Rows) → Sees s' image → Table (mem s image) (length image) root rs → row_above rs key ≡ next
+
+-- b is a block whose first word is a key that the table does not have
+pub record Fresh (m : ℕ → ℕ) (n : ℕ) (rs : Rows) (key b : ℕ) : Type 0 where
+  pub block : IsBlock n b
+  pub absent : block_at rs key ≡ 0
+  pub key_is : m b ≡ key
+
+pub record IsFresh (s : View) (root key b : ℕ) : Type 0 where
+  pub under : (image : List ℕ) (rs : Rows) → Sees s image → Table (mem s image) (length image) root rs → Fresh (mem s image) (length image) rs key b
+
+-- the block came into the table under its key
+pub record Inserted (s s' : View) (root key b : ℕ) : Type 0 where
+  pub kept : Kept s s'
+  pub table : (image : List ℕ) (rs : Rows) → Sees s' image → Table (mem s image) (length image) root rs → IsTable (mem s' image) (length image) (mem s' image root) (put_row rs key b)
+  pub relinks : (image : List ℕ) (rs : Rows) → Sees s' image → Table (mem s image) (length image) root rs → Relinks (mem s image) (mem s' image) 1 root (put_row rs key b)
+
+-- the row of the key was there and is gone, and p is its block
+pub record Removed (s s' : View) (root key p : ℕ) : Type 0 where
+  pub kept : Kept s s'
+  pub is : (image : List ℕ) (rs : Rows) → Sees s' image → Table (mem s image) (length image) root rs → p ≡ block_at rs key
+  pub table : (image : List ℕ) (rs : Rows) → Sees s' image → Table (mem s image) (length image) root rs → IsTable (mem s' image) (length image) (mem s' image root) (cut_row rs key)
+  pub relinks : (image : List ℕ) (rs : Rows) → Sees s' image → Table (mem s image) (length image) root rs → Relinks (mem s image) (mem s' image) 1 root rs

@@ -1,0 +1,43 @@
+-- Red-black trees of (key, block).
+use Rattle.std.specs.Prelude.{◌≡◌, ℕ, ◌+◌, ◌<◌, ◌≤◌, Bool, true, false, cond, max, [], ◌∷◌, ◌++◌}
+use Rattle.tx_alloc.specs.Rows.{Rows}
+
+pub data Tree : Type 0 where
+  leaf : Tree
+  node : (red : Bool) → (l : Tree) → (r : ℕ × ℕ) → (t : Tree) → Tree
+
+-- a node with its sides given as the near one and the far one: the near one is the left side, or (true) the right side
+abbrev pub join : Bool → Bool → Tree → ℕ × ℕ → Tree → Tree
+join false c near r far = node c near r far
+join true c near r far = node c far r near
+
+-- the rows in order
+abbrev pub rows : Tree → Rows
+rows leaf = []
+rows (node c l r t) = rows l ++ (r ∷ rows t)
+
+-- how many black nodes are on the way down to the left
+abbrev pub blacks : Tree → ℕ
+blacks leaf = 0
+blacks (node c l r t) = blacks l + cond c 0 1
+
+-- each way down has as many black nodes
+abbrev pub IsEven : Tree → Type 0
+IsEven leaf = Unit {0}
+IsEven (node c l r t) = (blacks l ≡ blacks t) × IsEven l × IsEven t
+
+abbrev pub EvenAt : Tree → ℕ → Type 0
+EvenAt t h = IsEven t × (blacks t ≡ h)
+
+abbrev pub is_red : Tree → Bool
+is_red leaf = false
+is_red (node c l r t) = c
+
+-- no red node has a red child
+abbrev pub IsApart : Tree → Type 0
+IsApart leaf = Unit {0}
+IsApart (node c l r t) = (c ≡ true → (is_red l ≡ false) × (is_red t ≡ false)) × IsApart l × IsApart t
+
+abbrev pub height : Tree → ℕ
+height leaf = 0
+height (node c l r t) = 1 + max (height l) (height t)

@@ -1,0 +1,119 @@
+ghost use Rattle.std.specs.Prelude.{◌≡◌, IfOk, MatchOption};
+ghost use Rattle.tx_tree.specs.Table.{HasTable, Found, NextFound, row_of};
+ghost use Rattle.tx_tree.specs.Steps.{Sought};
+ghost use Rattle.tx_tree.specs.Lowest.{HasSpan, Lowest};
+
+use crate::nodes::{LEFT, RIGHT, load_node};
+use stm_words::{Addr, TxRead, load};
+use tx_alloc::Block;
+
+/// One more than the greatest number of nodes on a way down a tree of 262,144 nodes, and a few.
+pub const LEVELS: usize = 40;
+
+/// An entry of a table: its key and its block.
+#[derive(Clone, Copy, Debug, PartialEq, Eq)]
+pub struct Entry {
+    pub key: u64,
+    pub block: Block,
+}
+
+/// The block of a key in the table at `root`.
+pub fn find<M: TxRead>(memory: &mut M, root: Addr, key: u64) -> Result<Option<Block>, M::Stop>
+    requires table { HasTable (M.view memory.old) root.0 }
+    ensures origin { M.origin memory.new ≡ M.origin memory.old }
+    ensures answer { IfOk result (λ found. MatchOption found (Found (M.view memory.old) (M.view memory.new) root.0 key 0) (λ block. Found (M.view memory.old) (M.view memory.new) root.0 key block.0.0)) }
+{
+    let mut link = root.0;
+    for _ in 0..LEVELS {
+        let node = load_node(memory, link)?;
+        if node == 0 {
+            return Ok(None);
+        }
+        let found = load(memory, Addr(node))?;
+        if found == key {
+            return Ok(Some(Block(Addr(node))));
+        }
+        let side = if key < found { LEFT } else { RIGHT };
+        link = node + side;
+    }
+    Ok(None)
+}
+
+/// The entry with the least key above `key` in the table at `root`.
+pub fn least_above<M: TxRead>(memory: &mut M, root: Addr, key: u64) -> Result<Option<Entry>, M::Stop>
+    requires table { HasTable (M.view memory.old) root.0 }
+    ensures origin { M.origin memory.new ≡ M.origin memory.old }
+    ensures answer { IfOk result (λ next. NextFound (M.view memory.old) (M.view memory.new) root.0 key (row_of next)) }
+{
+    let mut link = root.0;
+    let mut least = None;
+    for _ in 0..LEVELS {
+        let node = load_node(memory, link)?;
+        if node == 0 {
+            return Ok(least);
+        }
+        let found = load(memory, Addr(node))?;
+        if key < found {
+            least = Some(Entry {
+                key: found,
+                block: Block(Addr(node)),
+            });
+            link = node + LEFT;
+        } else {
+            link = node + RIGHT;
+        }
+    }
+    Ok(least)
+}
+
+/// The way down to the node of a key, or to where it would hang: the words that lead from node to
+/// node. Answers how many nodes are above, and the node of the key, or 0.
+pub fn seek<M: TxRead>(
+    memory: &mut M,
+    root: u32,
+    key: u64,
+    path: &mut [u32; LEVELS],
+) -> Result<(usize, u32), M::Stop>
+    requires table { HasTable (M.view memory.old) root }
+    ensures origin { M.origin memory.new ≡ M.origin memory.old }
+    ensures answer { IfOk result (λ end. Sought (M.view memory.old) (M.view memory.new) root key path.new end.0 end.1) }
+{
+    path[0] = root;
+    let mut depth = 0;
+    loop {
+        let node = load_node(memory, path[depth])?;
+        if node == 0 {
+            return Ok((depth, 0));
+        }
+        let found = load(memory, Addr(node))?;
+        if found == key {
+            return Ok((depth, node));
+        }
+        let side = if key < found { LEFT } else { RIGHT };
+        depth += 1;
+        path[depth] = node + side;
+    }
+}
+
+/// The way down goes on to the least node below. Answers how many nodes are above, and the node.
+pub fn seek_least<M: TxRead>(
+    memory: &mut M,
+    path: &mut [u32; LEVELS],
+    depth: usize,
+) -> Result<(usize, u32), M::Stop>
+    requires span { HasSpan (M.view memory.old) path.old depth }
+    ensures origin { M.origin memory.new ≡ M.origin memory.old }
+    ensures answer { IfOk result (λ end. Lowest (M.view memory.old) (M.view memory.new) path.old depth path.new end.0 end.1) }
+{
+    let mut depth = depth;
+    let mut node = load_node(memory, path[depth])?;
+    loop {
+        let left = load_node(memory, node + LEFT)?;
+        if left == 0 {
+            return Ok((depth, node));
+        }
+        depth += 1;
+        path[depth] = node + LEFT;
+        node = left;
+    }
+}
