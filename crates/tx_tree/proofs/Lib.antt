@@ -7,6 +7,7 @@ pub mod Reading
 pub mod Seeking
 pub mod Spots
 pub mod TableFrame
+pub mod Counting
 pub mod Rotating
 pub mod Ways
 pub mod Ending

@@ -6,7 +6,7 @@ use Rattle.tx_alloc.specs.Rows.{Rows, times, block_at}
 use Rattle.tx_tree.specs.Tree.{Tree, leaf, node, rows, blacks}
 use Rattle.tx_tree.specs.Way.{plug, front, behind}
 use Rattle.tx_tree.specs.Hangs.{without}
-use Rattle.tx_tree.specs.Table.{Table, HasTable, Removed}
+use Rattle.tx_tree.specs.Table.{IsInside, Table, HasTable, Removed}
 use Rattle.tx_tree.specs.Steps.{Leads, Reached, Sought}
 use Rattle.tx_tree.specs.Mending.{Ends}
 use Rattle.tx_tree.specs.Removal.{LastAt, HasLast, Unlinked}
@@ -55,6 +55,7 @@ pub record Here (s s3 : View) (root key p vl vr : ℕ) (xs : List ℕ) (d : ℕ)
   pub writes : s3.writes ≡ s.writes
   pub deep : d < 40
   pub size : length xs ≡ 40
+  pub inside : IsInside s3.size p
   pub here : (image : List ℕ) (rs : Rows) → Sees s3 image → Table (mem s image) (length image) root rs → NodeHere (mem s image) (length image) root key p xs d rs
   pub at_left : (image : List ℕ) → Sees s3 image → mem s image (p + 1) ≡ vl
   pub at_right : (image : List ℕ) → Sees s3 image → mem s image (p + 2) ≡ vr
@@ -66,6 +67,7 @@ here_of s s1 s2 s3 root key p vl vr xs d so ne r r' = record {
   writes = r'.loaded.writes ∙ (r.loaded.writes ∙ so.seeking.writes);
   deep = so.seeking.deep;
   size = so.seeking.size;
+  inside = let at = so.there ne in (omega (arith, at.0), omega (arith, at.1, r.loaded.kept.size, r'.loaded.kept.size));
   here = λ image rs i t. here_at s s1 root key p xs d so ne image rs (r.loaded.kept.seen image (r'.loaded.kept.seen image i)) t;
   at_left = λ image i. at_start s s1 s2 (p + 1) vl so.seeking.writes r.loaded image (r'.loaded.kept.seen image i);
   at_right = λ image i. at_start s s2 s3 (p + 2) vr (r.loaded.writes ∙ so.seeking.writes) r'.loaded image i;
@@ -99,6 +101,7 @@ removed_both s s3 s4 root key p vl vr xs d h ne f =
     cut_ends (mem s image) (mem s4 image) (length image) root key p xs d rs a t.table.ascending e in
     record {
       kept = kept_both s s3 s4 h.kept f.kept;
+      inside = (h.inside.0, omega (arith, h.inside.1, f.kept.size));
       is = λ image rs i t. h.answer image rs (f.kept.seen image i) t;
       table = λ image rs i t. (cut image rs i t).table;
       relinks = λ image rs i t. (cut image rs i t).relinks;
@@ -143,6 +146,7 @@ removed_left s s3 s4 root key p vl vr xs d h none f =
     cut_ends (mem s image) (mem s4 image) (length image) root key p xs d rs a t.table.ascending (gone_left (mem s image) (mem s4 image) (length image) root key p xs d rs a (h.at_left image i3 ∙ none) e) in
     record {
       kept = kept_both s s3 s4 h.kept f.kept;
+      inside = (h.inside.0, omega (arith, h.inside.1, f.kept.size));
       is = λ image rs i t. h.answer image rs (f.kept.seen image i) t;
       table = λ image rs i t. (cut image rs i t).table;
       relinks = λ image rs i t. (cut image rs i t).relinks;
@@ -187,6 +191,7 @@ removed_right s s3 s4 root key p vl vr xs d h none f =
     cut_ends (mem s image) (mem s4 image) (length image) root key p xs d rs a t.table.ascending (gone_right (mem s image) (mem s4 image) (length image) root key p xs d rs a (h.at_right image i3 ∙ none) e) in
     record {
       kept = kept_both s s3 s4 h.kept f.kept;
+      inside = (h.inside.0, omega (arith, h.inside.1, f.kept.size));
       is = λ image rs i t. h.answer image rs (f.kept.seen image i) t;
       table = λ image rs i t. (cut image rs i t).table;
       relinks = λ image rs i t. (cut image rs i t).relinks;

@@ -1,5 +1,5 @@
 -- The way down to a key with no path kept: to the block of a key, and to the least key above one.
-use Rattle.std.proofs.Common.{◌≡◌, ◌≢◌, inl, inr, ℕ, ◌+◌, ◌<◌, ◌≤◌, ◌^◌, Bool, true, false, cond, List, [], ◌∷◌, ◌++◌, Option, Some, None, nat_lt, length, refl, sym, ap, ◌∙◌, subst, arith, append_assoc}
+use Rattle.std.proofs.Common.{◌≡◌, ◌≢◌, inl, inr, ℕ, ◌+◌, ◌<◌, ◌≤◌, ◌^◌, Bool, true, false, cond, List, [], ◌∷◌, ◌++◌, Option, Some, None, nat_lt, MatchOption, length, refl, sym, ap, ◌∙◌, subst, arith, append_assoc}
 use Rattle.std.proofs.lemmas.Bool.Decides.{nat_tests}
 use Rattle.stm_words.specs.Seen.{some_le}
 use Rattle.stm_words.specs.View.{View, Sees, Stands, Kept, Loaded}
@@ -9,7 +9,7 @@ use Rattle.tx_alloc.specs.Rows.{Rows, times, block_at, AllBelow, IsFrom}
 use Rattle.tx_tree.specs.Tree.{Tree, leaf, node, rows, IsEven, IsApart, is_red, height}
 use Rattle.tx_tree.specs.Way.{Way, top, step, plug, depth, front, behind}
 use Rattle.tx_tree.specs.Hangs.{off, link_of, Zip}
-use Rattle.tx_tree.specs.Table.{Table, HasTable, Found, row_above, NextFound}
+use Rattle.tx_tree.specs.Table.{Table, HasTable, IsInside, Found, FoundAt, row_above, NextFound}
 use Rattle.tx_tree.specs.Steps.{Leads, Reached}
 use Rattle.tx_tree.proofs.Shapes.{rows_plug, depth_plug}
 use Rattle.tx_alloc.proofs.Order.{below_higher, Split, below_both, at_between, none_between}
@@ -149,12 +149,14 @@ spot_above m n root key link d next rs h z =
 pub record Descending (s s' : View) (root lo key link d : ℕ) (next : Option (ℕ × ℕ)) : Type 0 where
   pub kept : Kept s s'
   pub writes : s'.writes ≡ s.writes
+  pub inside : MatchOption next (Unit {0}) (λ r. IsInside s'.size r.1)
   pub spot : (image : List ℕ) (rs : Rows) → Sees s' image → Table (mem s image) (length image) root rs → Spot (mem s image) (length image) root lo key link d next rs
 
 pub descent_start : (s : View) (root lo key : ℕ) → HasTable s root → Descending s s root lo key root 0 None
 descent_start s root lo key has = record {
   kept = kept_none s;
   writes = refl;
+  inside = tt;
   spot = λ image rs i t. spot_start (mem s image) (length image) root lo key rs has.low t;
 }
 
@@ -179,10 +181,21 @@ descent_low s0 s root lo key link d next table k ws = some_le d 36 ws (λ w.
     let t = table.under w.0 (k.kept.seen w.0 w.1.sees) in
     spot_low (mem s0 w.0) (length w.0) root lo key link d next t.entries (k.spot w.0 t.entries w.1.sees t.is) t.is.few)
 
+inside_same : (n n' : ℕ) (next : Option (ℕ × ℕ)) → n' ≡ n → MatchOption next (Unit {0}) (λ r. IsInside n r.1) → MatchOption next (Unit {0}) (λ r. IsInside n' r.1)
+inside_same n n' None e h = tt
+inside_same n n' (Some r) e h = (h.0, omega (arith, h.1, e))
+
+inside_step : (n found p : ℕ) (next : Option (ℕ × ℕ)) (right : Bool) → MatchOption next (Unit {0}) (λ r. IsInside n r.1) → IsInside n p → MatchOption (cond right next (Some (found, p))) (Unit {0}) (λ r. IsInside n r.1)
+inside_step n found p next false h i = i
+inside_step n found p next true h i = h
+
 descent_step : (s0 s s1 s2 : View) (root lo key link d p found : ℕ) (next : Option (ℕ × ℕ)) (right : Bool) → Descending s0 s root lo key link d next → Reached s s1 link p → p ≢ 0 → Loaded s1 s2 p found → (right ≡ false → key < found) → (right ≡ true → found < lo) → Descending s0 s2 root lo key (p + off right) (d + 1) (cond right next (Some (found, p)))
 descent_step s0 s s1 s2 root lo key link d p found next right k r ne l less more = record {
   kept = kept_both s0 s s2 k.kept (kept_both s s1 s2 r.loaded.kept l.kept);
   writes = l.writes ∙ (r.loaded.writes ∙ k.writes);
+  inside =
+      let at = r.room ne in
+      inside_step s2.size found p next right (inside_same s.size s2.size next (l.kept.size ∙ r.loaded.kept.size) k.inside) (omega (arith, at.0), omega (arith, at.1, l.kept.size));
   spot = λ image rs i t.
       let i1 = l.kept.seen image i in let i0 = r.loaded.kept.seen image i1 in
       let key_is : mem s0 image p ≡ found = at_start s0 s1 s2 p found (r.loaded.writes ∙ k.writes) l image i in
@@ -206,21 +219,22 @@ found_none s0 s s1 root key link d p next k r z = record {
   is = λ image rs i t. spot_none (mem s0 image) (length image) root key link d next rs (k.spot image rs (r.loaded.kept.seen image i) t) (at_start s0 s s1 link p k.writes r.loaded image i ∙ z);
 }
 
-pub found_here : (s0 s s1 s2 : View) (root key link d p found : ℕ) (next : Option (ℕ × ℕ)) → Descending s0 s root key key link d next → Reached s s1 link p → p ≢ 0 → Loaded s1 s2 p found → found ≡ key → Found s0 s2 root key p
-found_here s0 s s1 s2 root key link d p found next k r ne l e = record {
+pub found_here : (s0 s s1 s2 : View) (root key link d p found : ℕ) (next : Option (ℕ × ℕ)) → Descending s0 s root key key link d next → Reached s s1 link p → p ≢ 0 → Loaded s1 s2 p found → found ≡ key → FoundAt s0 s2 root key p
+found_here s0 s s1 s2 root key link d p found next k r ne l e = record { found = record {
   kept = kept_both s0 s s2 k.kept (kept_both s s1 s2 r.loaded.kept l.kept);
   writes = l.writes ∙ (r.loaded.writes ∙ k.writes);
   is = λ image rs i t.
       let i1 = l.kept.seen image i in
       let key_is : mem s0 image p ≡ found = at_start s0 s1 s2 p found (r.loaded.writes ∙ k.writes) l image i in
       spot_block (mem s0 image) (length image) root key link d p next rs (k.spot image rs (r.loaded.kept.seen image i1) t) (at_start s0 s s1 link p k.writes r.loaded image i1) ne (key_is ∙ e) t.table.ascending;
-}
+}; inside = (let at = r.room ne in (omega (arith, at.0), omega (arith, at.1, l.kept.size))) }
 
 pub next_found : (s0 s s1 : View) (root key link d p : ℕ) (next : Option (ℕ × ℕ)) → Descending s0 s root (key + 1) key link d next → Reached s s1 link p → p ≡ 0 → NextFound s0 s1 root key next
 next_found s0 s s1 root key link d p next k r z = record {
   kept = kept_both s0 s s1 k.kept r.loaded.kept;
   writes = r.loaded.writes ∙ k.writes;
   is = λ image rs i t. spot_above (mem s0 image) (length image) root key link d next rs (k.spot image rs (r.loaded.kept.seen image i) t) (at_start s0 s s1 link p k.writes r.loaded image i ∙ z);
+  inside = inside_same s.size s1.size next r.loaded.kept.size k.inside;
 }
 
 -- no way is as long as that
@@ -231,9 +245,10 @@ found_deep s0 s root key link d next k l = record {
   is = λ image rs i t. absurd (omega (arith, l, spot_low (mem s0 image) (length image) root key key link d next rs (k.spot image rs i t) t.few));
 }
 
-pub next_deep : (s0 s : View) (root key link d : ℕ) (next next' : Option (ℕ × ℕ)) → Descending s0 s root (key + 1) key link d next → 37 ≤ d → NextFound s0 s root key next'
-next_deep s0 s root key link d next next' k l = record {
+pub next_deep : (s0 s : View) (root key link d : ℕ) (next : Option (ℕ × ℕ)) → Descending s0 s root (key + 1) key link d next → 37 ≤ d → NextFound s0 s root key next
+next_deep s0 s root key link d next k l = record {
   kept = k.kept;
   writes = k.writes;
+  inside = k.inside;
   is = λ image rs i t. absurd (omega (arith, l, spot_low (mem s0 image) (length image) root (key + 1) key link d next rs (k.spot image rs i t) t.few));
 }

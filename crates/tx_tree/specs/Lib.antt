@@ -9,3 +9,4 @@ pub mod Lifting
 pub mod Removal
 pub mod Lowest
 pub mod Next
+pub mod Counted

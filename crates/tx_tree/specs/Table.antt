@@ -1,7 +1,8 @@
 -- A table by key. What stands above uses the lemmas on IsTable alone, and not its fields.
-use Rattle.std.specs.Prelude.{◌≡◌, ◌≢◌, ℕ, ◌+◌, ◌<◌, ◌≤◌, ◌^◌, List, [], ◌∷◌, length, Bool, true, false, cond, nat_lt, zero, suc, Option, Some, None}
+use Rattle.std.specs.Prelude.{◌≡◌, ◌≢◌, ℕ, ◌+◌, ◌<◌, ◌≤◌, ◌^◌, List, [], ◌∷◌, length, Bool, true, false, cond, nat_lt, zero, suc, MatchOption, Option, Some, None}
 use Rattle.stm_words.specs.View.{View, Sees, Kept, Loaded}
 use Rattle.tx_alloc.specs.Pool.{IsBlock}
+use Rattle.tx_alloc.specs.declared.place.TheConstants.{FIRST_BLOCK, BLOCK_WORDS, MOST_BLOCKS}
 use Rattle.tx_alloc.specs.Steps.{mem}
 use Rattle.tx_tree.specs.declared.search.Entry.{Entry}
 use Rattle.tx_alloc.specs.Rows.{Rows, times, put_row, cut_row, block_at, Relinks, IsFrom}
@@ -24,10 +25,10 @@ abbrev pub Descends : (ℕ → ℕ) → ℕ → ℕ → Type 0
 Descends m p zero = Unit {0}
 Descends m p (suc h) = (p ≢ 0) × ((side : ℕ) × (((1 ≤ side) × (side ≤ 2)) × Descends m (m (p + side)) h))
 
--- the root word leads to a table of these rows, at most 262,144
+-- the root word leads to a table of these rows, at most as many as a heap has blocks
 pub record Table (m : ℕ → ℕ) (n root : ℕ) (rs : Rows) : Type 0 where
   pub table : IsTable m n (m root) rs
-  pub few : length rs ≤ 262144
+  pub few : length rs ≤ MOST_BLOCKS
 
 pub record SomeTable (m : ℕ → ℕ) (n root : ℕ) : Type 0 where
   pub entries : Rows
@@ -40,11 +41,20 @@ pub record HasTable (s : View) (root : ℕ) : Type 0 where
   pub low : root < 16
   pub under : (image : List ℕ) → Sees s image → SomeTable (mem s image) (length image) root
 
--- p is the block at the key, or 0
+-- the words of a block at b are words of a memory of n words, and of no head or root
+abbrev pub IsInside : ℕ → ℕ → Type 0
+IsInside n b = (FIRST_BLOCK ≤ b) × (b + BLOCK_WORDS ≤ n)
+
+-- p is the block at the key, or 0, and only reads were made
 pub record Found (s s' : View) (root key p : ℕ) : Type 0 where
   pub kept : Kept s s'
   pub writes : s'.writes ≡ s.writes
   pub is : (image : List ℕ) (rs : Rows) → Sees s' image → Table (mem s image) (length image) root rs → p ≡ block_at rs key
+
+-- the table has the key, and b is its block
+pub record FoundAt (s s' : View) (root key b : ℕ) : Type 0 where
+  pub found : Found s s' root key b
+  pub inside : IsInside s'.size b
 
 -- the row of an entry, if there is one
 abbrev pub row_of : Option Entry → Option (ℕ × ℕ)
@@ -61,6 +71,7 @@ pub record NextFound (s s' : View) (root key : ℕ) (next : Option (ℕ × ℕ))
   pub kept : Kept s s'
   pub writes : s'.writes ≡ s.writes
   pub is : (image : List ℕ) (rs : Rows) → Sees s' image → Table (mem s image) (length image) root rs → row_above rs key ≡ next
+  pub inside : MatchOption next (Unit {0}) (λ r. IsInside s'.size r.1)
 
 -- b is a block whose first word is a key that the table does not have
 pub record Fresh (m : ℕ → ℕ) (n : ℕ) (rs : Rows) (key b : ℕ) : Type 0 where
@@ -80,6 +91,7 @@ pub record Inserted (s s' : View) (root key b : ℕ) : Type 0 where
 -- the row of the key was there and is gone, and p is its block
 pub record Removed (s s' : View) (root key p : ℕ) : Type 0 where
   pub kept : Kept s s'
+  pub inside : IsInside s'.size p
   pub is : (image : List ℕ) (rs : Rows) → Sees s' image → Table (mem s image) (length image) root rs → p ≡ block_at rs key
   pub table : (image : List ℕ) (rs : Rows) → Sees s' image → Table (mem s image) (length image) root rs → IsTable (mem s' image) (length image) (mem s' image root) (cut_row rs key)
   pub relinks : (image : List ℕ) (rs : Rows) → Sees s' image → Table (mem s image) (length image) root rs → Relinks (mem s image) (mem s' image) 1 root rs

@@ -1,5 +1,5 @@
 ghost use Rattle.std.specs.Prelude.{◌≡◌, IfOk, MatchOption};
-ghost use Rattle.tx_tree.specs.Table.{HasTable, Found, NextFound, row_of};
+ghost use Rattle.tx_tree.specs.Table.{HasTable, Found, FoundAt, NextFound, row_of};
 ghost use Rattle.tx_tree.specs.Steps.{Sought};
 ghost use Rattle.tx_tree.specs.Lowest.{HasSpan, Lowest};
 
@@ -21,7 +21,7 @@ pub struct Entry {
 pub fn find<M: TxRead>(memory: &mut M, root: Addr, key: u64) -> Result<Option<Block>, M::Stop>
     requires table { HasTable (M.view memory.old) root.0 }
     ensures origin { M.origin memory.new ≡ M.origin memory.old }
-    ensures answer { IfOk result (λ found. MatchOption found (Found (M.view memory.old) (M.view memory.new) root.0 key 0) (λ block. Found (M.view memory.old) (M.view memory.new) root.0 key block.0.0)) }
+    ensures answer { IfOk result (λ found. MatchOption found (Found (M.view memory.old) (M.view memory.new) root.0 key 0) (λ block. FoundAt (M.view memory.old) (M.view memory.new) root.0 key block.0.0)) }
 {
     let mut link = root.0;
     for _ in 0..LEVELS {

@@ -22,4 +22,4 @@ loop-preserved g c = record {
 }
 
 pub returns-clause-answer : goal.returns-clause-answer
-returns-clause-answer g c = next_deep _ _ _ _ _ _ _ _ c.loop.invariant.way (omega (arith, c.loop-test.false))
+returns-clause-answer g c = next_deep _ _ _ _ _ _ _ c.loop.invariant.way (omega (arith, c.loop-test.false))
