@@ -17,3 +17,9 @@ pub mod More
 pub mod PlainStates
 pub mod Fresh
 pub mod Answering
+pub mod Legality
+pub mod Asking
+pub mod Within
+pub mod Lawful
+pub mod Trying
+pub mod Openings

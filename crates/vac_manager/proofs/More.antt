@@ -101,7 +101,7 @@ more_done s s1 s2 s3 kind id node num v price f range l le u p = record {
       let sound = more_is_sound id num price (item_in (mem s image) node) old (add_range kind id num price range) few in
       let changed = more_changed (mem s image) (mem s2 image) (mem s3 image) node num more (p.others image i) in
       let after : IsState (mem s3 image) (length image) (with_item state kind id (item_in (mem s3 image) node)) =
-          change_state (mem s image) (mem s3 image) (length image) state kind id node h f.some (f.at image state i0 h) changed (subst (λ (z : Item). IsSound id z) (sym numbers) sound) in
+      change_state (mem s image) (mem s3 image) (length image) state kind id node h f.some (f.at image state i0 h) changed (subst (λ (z : Item). IsSound id z) (sym numbers) sound) in
       outcome_is (mem s3 image) (length image) (step state (command.Add kind id num price)) (with_item state kind id (item_in (mem s3 image) node)) reply.Done
       (more_step state kind id num price (item_in (mem s image) node) (more_item s kind id node f image state i0 h) few ∙ ap (λ (z : Item). (with_item state kind id z, reply.Done)) (sym numbers)) after;
 }

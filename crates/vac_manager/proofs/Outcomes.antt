@@ -191,26 +191,26 @@ table_out s s1 s2 kind id num p start b root e has t w = record {
 
 pub fresh_out : (s s1 s2 : View) (kind : Kind) (id num p start b root : ℕ) → root ≡ 1 + kind_number kind → HoldsState s → HasNoItem s kind id → Taken s s1 start b → ItemMade s1 s2 b id num p → IsFresh s2 root id b
 fresh_out s s1 s2 kind id num p start b root e has f t w = record {
-      room = omega (arith, t.room, w.kept.size);
-      block = λ image i.
-          let i1 = w.kept.seen image i in
-          let h = has.under image (t.kept.seen image i1) in
-          t.block image h.1.represents.parts.free i1 h.1.represents.heap.lists;
-      out = λ image rs i table.
-          let i1 = w.kept.seen image i in
-          let i0 = t.kept.seen image i1 in
-          let h = has.under image i0 in
-          let parts = h.1.represents.parts in
-          let k = kind_number kind in
-          let small = kind_small kind in
-          let t1 = t.taken image parts.free i1 h.1.represents.heap.lists in
-          let bb = t.block image parts.free i1 h.1.represents.heap.lists in
-          let heap = out_heap s s1 s2 id num p start b image h.0 t w i h.1 t1 in
-          let rows : Rows (mem s2 image) (length image) (mem s2 image (1 + k)) 0 rs = rw e at table in
-          let same : rs ≡ parts.tables k = rows_same (mem s2 image) (length image) (mem s2 image (1 + k)) 0 rs (parts.tables k) rows (heap.rows k (omega arith)) in
-          let none : times b (parts.tables k) ≡ 0 = out_of_tables (mem s2 image) (length image) b k (parts_out parts t1.list t1.rest b) parts.out heap bb refl (omega arith) in
-          rw same (none, f.none image h.0 i0 h.1);
-    }
+  room = omega (arith, t.room, w.kept.size);
+  block = λ image i.
+      let i1 = w.kept.seen image i in
+      let h = has.under image (t.kept.seen image i1) in
+      t.block image h.1.represents.parts.free i1 h.1.represents.heap.lists;
+  out = λ image rs i table.
+      let i1 = w.kept.seen image i in
+      let i0 = t.kept.seen image i1 in
+      let h = has.under image i0 in
+      let parts = h.1.represents.parts in
+      let k = kind_number kind in
+      let small = kind_small kind in
+      let t1 = t.taken image parts.free i1 h.1.represents.heap.lists in
+      let bb = t.block image parts.free i1 h.1.represents.heap.lists in
+      let heap = out_heap s s1 s2 id num p start b image h.0 t w i h.1 t1 in
+      let rows : Rows (mem s2 image) (length image) (mem s2 image (1 + k)) 0 rs = rw e at table in
+      let same : rs ≡ parts.tables k = rows_same (mem s2 image) (length image) (mem s2 image (1 + k)) 0 rs (parts.tables k) rows (heap.rows k (omega arith)) in
+      let none : times b (parts.tables k) ≡ 0 = out_of_tables (mem s2 image) (length image) b k (parts_out parts t1.list t1.rest b) parts.out heap bb refl (omega arith) in
+      rw same (none, f.none image h.0 i0 h.1);
+}
 
 pub new_done : (s s1 s2 s3 : View) (kind : Kind) (id num p start b root : ℕ) → root ≡ 1 + kind_number kind → HasNoItem s kind id → IsTrue (is_command (command.Add kind id num (Some p))) → num ≢ 0 → Taken s s1 start b → ItemMade s1 s2 b id num p → Inserted s2 s3 root id b → Ran s s3 (command.Add kind id num (Some p)) reply.Done
 new_done s s1 s2 s3 kind id num p start b root e f range nz t w v = record {
@@ -228,7 +228,7 @@ new_done s s1 s2 s3 kind id num p start b root e f range nz t w v = record {
       let hung = g.puts image (parts.tables k) i (heap.rows k (omega arith)) in
       let sound = new_sound id num p (add_range kind id num (Some p) range) nz in
       let after : IsState (mem s3 image) (length image) (with_item state kind id (new_item num p)) =
-          new_state (mem s image) (mem s1 image) (mem s2 image) (mem s3 image) (length image) state kind id num p start b h none bb t1 (w.made image i2) hung sound in
+      new_state (mem s image) (mem s1 image) (mem s2 image) (mem s3 image) (length image) state kind id num p start b h none bb t1 (w.made image i2) hung sound in
       let room = not_full (mem s image) (length image) state h.represents t1.list b t1.rest (omega (arith, t1.is_list)) t1.first in
       let missing = item_missing (mem s image) (length image) state kind id h none in
       outcome_is (mem s3 image) (length image) (step state (command.Add kind id num (Some p))) (with_item state kind id (new_item num p)) reply.Done (new_step state kind id num p missing nz room) after;

@@ -5,3 +5,9 @@ pub mod Blocks
 pub mod FirstPath
 pub mod Represents
 pub mod Plain
+pub mod Reading
+pub mod Law
+pub mod Legal
+pub mod Called
+pub mod Faults
+pub mod Opening

@@ -5,9 +5,11 @@ use Rattle.stm_words.specs.View.{View, Sees, Kept}
 use Rattle.vac_model.specs.declared.items.Kind.{Kind}
 use Rattle.vac_model.specs.declared.items.Item.{Item}
 use Rattle.vac_model.specs.declared.commands.Command.{Command}
+use Rattle.vac_model.specs.declared.tasks.Task.{Task}
 use Rattle.vac_model.specs.declared.replies.Reply.{Reply}
 use Rattle.vac_model.specs.State.{State, kind_number, table_of}
 use Rattle.vac_model.specs.Step.{Outcome, step}
+use Rattle.vac_model.specs.Run.{run}
 use Rattle.vac_model.specs.Balanced.{IsBalanced}
 use Rattle.vac_records.specs.Items.{mem, item_in}
 use Rattle.vac_manager.specs.Rows.{block_at}
@@ -69,3 +71,8 @@ pub record IsOutcome (m : ℕ → ℕ) (n : ℕ) (o : Outcome) (r : Reply) : Typ
 pub record Ran (s s' : View) (c : Command) (r : Reply) : Type 0 where
   pub kept : Kept s s'
   pub outcome : (image : List ℕ) (state : State) → Sees s' image → IsState (mem s image) (length image) state → IsOutcome (mem s' image) (length image) (step state c) r
+
+-- the same of a task
+pub record RanTask (s s' : View) (t : Task) (r : Reply) : Type 0 where
+  pub kept : Kept s s'
+  pub outcome : (image : List ℕ) (state : State) → Sees s' image → IsState (mem s image) (length image) state → IsOutcome (mem s' image) (length image) (run state t) r

@@ -5,6 +5,7 @@ ghost use Rattle.vac_model.specs.Ranges.{is_command};
 ghost use Rattle.vac_model.specs.State.{kind_number};
 ghost use Rattle.vac_records.specs.Items.{IsNode, HasRoom, UnitsAdded};
 ghost use Rattle.vac_manager.specs.FirstPath.{is_first_command};
+ghost use Rattle.vac_manager.specs.Reading.{is_question};
 ghost use Rattle.vac_manager.specs.Represents.{HoldsState, HasNoItem, HasItemAt, Ran, PriceGiven};
 
 use crate::blocks::take;
@@ -161,6 +162,27 @@ fn add<M: TxMem>(
     match found {
         None => add_new(memory, kind, id, num, price, start),
         Some(node) => add_more(memory, kind, id, num, price, node),
+    }
+}
+
+/// Runs a command that only asks.
+pub fn read_command<M: TxRead>(memory: &mut M, command: Command) -> Result<Reply, M::Stop>
+    requires state { HoldsState (M.view memory.old) }
+    requires first { IsTrue (is_first_command command) }
+    requires asks { IsTrue (is_question command) }
+    ensures origin { M.origin memory.new ≡ M.origin memory.old }
+    ensures answer { IfOk result (λ reply. Ran (M.view memory.old) (M.view memory.new) command reply) }
+{
+    match command {
+        Command::Free { kind, id } => {
+            let n = free(memory, kind, id)?;
+            Ok(Reply::Number(n))
+        }
+        Command::Price { kind, id } => {
+            let n = price(memory, kind, id)?;
+            Ok(Reply::Number(n))
+        }
+        _ => unreachable!(),
     }
 }
 

@@ -1,0 +1,81 @@
+-- A task that was run over a running transaction makes a lawful record.
+use Rattle.std.proofs.Common.{◌≡◌, ℕ, ◌+◌, ◌<◌, ◌≤◌, ◌^◌, Bool, true, false, List, [], Option, IsTrue, unwrap_or, length, slice_index, refl, sym, ap, ◌∙◌, subst, arith}
+use Rattle.std.specs.FinMap.{empty, entries, get-empty, len-entries, len-empty}
+use Rattle.std.specs.Ordering.{nat_cmp}
+use Rattle.stm_words.specs.Image.{Agrees, laid}
+use Rattle.stm_words.specs.View.{View, Sees, memory}
+use Rattle.stm_words.proofs.Paired.{agrees-map_of, laid-entries, length-laid}
+use Rattle.stm_core.specs.Client.{Client}
+use Rattle.stm_logs.specs.Log.{LogValue, empty_log, log_pairs}
+use Rattle.stm_region.specs.Shown.{RegionShown, ClientShown}
+use Rattle.stm_attempt.specs.Seen.{memory_of, Origin, origin_of}
+use Rattle.vac_model.specs.declared.tasks.Task.{Task}
+use Rattle.vac_model.specs.declared.replies.Reply.{Reply}
+use Rattle.vac_model.specs.State.{State}
+use Rattle.vac_model.specs.Run.{run}
+use Rattle.vac_model.specs.Ranges.{is_task}
+use Rattle.vac_model.specs.Code.{code}
+use Rattle.vac_manager.specs.Represents.{IsState, HoldsState, IsOutcome, RanTask}
+use Rattle.vac_manager.specs.Law.{words_of, IsFitting, IsLawful}
+use Rattle.vac_manager.specs.Called.{IsOpened}
+use Rattle.vac_manager.proofs.States.{no_entries}
+use Rattle.vac_manager.proofs.Within.{state_within}
+
+-- nothing is laid over the image
+unwritten : (image : List ℕ) → memory image (empty {K = ℕ} {X = ℕ} {R = nat_cmp}) ≡ words_of image
+unwritten image = λ i a. ap (λ (o : Option ℕ). unwrap_or o (slice_index image a)) (get-empty nat_cmp a) i
+
+-- an attempt that has not written holds a state
+state_begun : (in_use : Bool) (region : RegionShown) (v : Client) (w : LogValue) → in_use ≡ true → 16 ≤ region.size → region.size ≤ 4194304 → w ≡ empty_log → HoldsState (memory_of in_use region (λ (image : List ℕ). IsFitting image) v w)
+state_begun false region v w u low high e = absurd (let n = u in cc)
+state_begun true region v w u low high e = record {
+  inside = low;
+  small = omega (arith, high);
+  under = λ image i. rw e (rw (unwritten image) (i.fits.state, i.fits.shown));
+}
+
+-- the region's words are so many
+few : (region : RegionShown) → IsOpened region → (16 ≤ region.size) × (region.size ≤ 4194304)
+few region h = (omega (arith, h.size), h.small)
+
+pub holds_begun : (in_use : Bool) (region region' : RegionShown) (v : Client) (w : LogValue) → in_use ≡ true → region' ≡ region → IsOpened region → w ≡ empty_log → HoldsState (memory_of in_use region' (λ (image : List ℕ). IsFitting image) v w)
+holds_begun in_use region region' v w u same h e =
+    let n = few region' (subst (λ (r : RegionShown). IsOpened r) (sym same) h) in
+    state_begun in_use region' v w u n.0 n.1 e
+
+-- an empty log has no pairs
+pub no_pairs : log_pairs empty_log ≡ []
+no_pairs = no_entries (entries (empty {K = ℕ} {X = ℕ} {R = nat_cmp})) (sym (len-entries (empty {K = ℕ} {X = ℕ} {R = nat_cmp})) ∙ len-empty nat_cmp ℕ)
+
+lawful_in : (region region' : RegionShown) (v v' : Client) (w w' : LogValue) (t : Task) (r : Reply) → w ≡ empty_log → IsTrue (is_task t) →
+    RanTask (memory_of true region (λ (image : List ℕ). IsFitting image) v w) (memory_of true region' (λ (image : List ℕ). IsFitting image) v' w') t r → IsLawful (code t r) v'.reads (log_pairs w')
+lawful_in region region' v v' w w' t r e range ran = record {
+  task = t;
+  reply = r;
+  range = range;
+  told = refl;
+  runs = λ image s shown agrees.
+      let i : Sees (memory_of true region' (λ (image : List ℕ). IsFitting image) v' w') image = record {
+        fits = record { state = s; shown = shown };
+        agrees = agrees-map_of image v'.reads agrees;
+      } in
+      let before : IsState (memory image w.words) (length image) s = rw e (rw (unwritten image) shown) in
+      let o = ran.outcome image s i before in
+      let long = length-laid image (log_pairs w') in
+      let after = state_within (memory image w'.words) (words_of (laid image (log_pairs w'))) (length image) (run s t).0 (λ a less. laid-entries w'.words image a less) o.state in
+      record { state = subst (λ (n : ℕ). IsState (words_of (laid image (log_pairs w'))) n (run s t).0) (sym long) after; reply_is = o.reply_is };
+}
+
+pub lawful : (in_use in_use' : Bool) (region region' : RegionShown) (c c' l l' : ℕ) (v v' : ClientShown) (w w' : LogValue) (t : Task) (r : Reply) → in_use ≡ true → w ≡ empty_log → IsTrue (is_task t) →
+    origin_of in_use' region' c' l' v' ≡ origin_of in_use region c l v →
+    RanTask (memory_of in_use region (λ (image : List ℕ). IsFitting image) v.value w) (memory_of in_use' region' (λ (image : List ℕ). IsFitting image) v'.value w') t r → IsLawful (code t r) v'.value.reads (log_pairs w')
+lawful true true region region' c c' l l' v v' w w' t r u e range o ran = lawful_in region region' v.value v'.value w w' t r e range ran
+lawful true false region region' c c' l l' v v' w w' t r u e range o ran = absurd (let n : false ≡ true = ap (λ (x : Origin). x.in_use) o in cc)
+lawful false in_use' region region' c c' l l' v v' w w' t r u e range o ran = absurd (let n = u in cc)
+
+-- the same of a task that only read
+pub lawful_read : (in_use in_use' : Bool) (region region' : RegionShown) (c c' l l' : ℕ) (v v' : ClientShown) (t : Task) (r : Reply) → in_use ≡ true → IsTrue (is_task t) →
+    origin_of in_use' region' c' l' v' ≡ origin_of in_use region c l v →
+    RanTask (memory_of in_use region (λ (image : List ℕ). IsFitting image) v.value empty_log) (memory_of in_use' region' (λ (image : List ℕ). IsFitting image) v'.value empty_log) t r → IsLawful (code t r) v'.value.reads []
+lawful_read in_use in_use' region region' c c' l l' v v' t r u range o ran =
+    subst (λ (ps : List (ℕ × ℕ)). IsLawful (code t r) v'.value.reads ps) no_pairs (lawful in_use in_use' region region' c c' l l' v v' empty_log empty_log t r u refl range o ran)

@@ -1,0 +1,55 @@
+-- A serial list of lawful records is legal.
+use Rattle.std.proofs.Common.{◌≡◌, ℕ, List, [], ◌∷◌, refl, sym, subst, zero}
+use Rattle.stm_words.specs.Image.{In, Agrees, laid}
+use Rattle.stm_words.proofs.Paired.{in_later}
+use Rattle.stm_core.specs.Client.{Client, Record}
+use Rattle.stm_core.specs.History.{Serial, Sub, image_after, all_records}
+use Rattle.stm_region.specs.Shown.{RegionShown}
+use Rattle.stm_region.specs.Told.{Decides}
+use Rattle.stm_attempt.specs.Committing.{WasDecided}
+use Rattle.vac_model.specs.State.{State, empty_state}
+use Rattle.vac_model.specs.Run.{run}
+use Rattle.vac_manager.specs.Law.{Shows, IsFitting, IsLawful}
+use Rattle.vac_manager.specs.Legal.{Runs, IsLegal, capacity_of, WasLegal}
+use Rattle.vac_manager.specs.Called.{IsOpened}
+
+pub legal : (image : List ℕ) (s : State) (rs : List Record) → Shows image s → Serial image rs → ((r : Record) → In r rs → IsLawful r.tag r.reads r.writes) →
+    (last : State) × (IsLegal s rs last × Shows (image_after image rs) last)
+legal image s [] h serial lawful = (s, (refl, h))
+legal image s (r ∷ rs) h serial lawful =
+    let l = lawful r (zero, refl) in
+    let o = l.runs image s h serial.0 in
+    let after = (run s l.task).0 in
+    let step : Runs r s after = record { task = l.task; reply = l.reply; range = l.range; told = l.told; runs = λ i. (after, o.reply_is i) } in
+    let rest = legal (laid image r.writes) after rs o.state serial.1 (λ x i. lawful x (in_later x r rs i)) in
+    (rest.0, ((after, step, rest.1.0), rest.1.1))
+
+-- what was known at the deciding step, in the manager's words
+pub was_legal : (region : RegionShown) (v : Client) → Shows region.first (empty_state (capacity_of region)) → WasDecided (λ (image : List ℕ). IsFitting image) (λ (tag : List ℕ) reads writes. IsLawful tag reads writes) region v → WasLegal region v.records
+was_legal region v h d =
+    let k = d.decides in
+    let all = all_records k.core.clients in
+    let l = legal region.first (empty_state (capacity_of region)) all h k.serial k.abides in
+    record {
+      core = k.core;
+      rule = k.rule;
+      first = k.first;
+      renewal = k.renewal;
+      number = k.number;
+      caller = d.then;
+      member = k.member;
+      records = d.records;
+      last = l.0;
+      legal = l.1.0;
+      among = subst (λ (rs : List Record). Sub rs all) d.records k.among;
+    }
+
+-- the region of an attempt is the one that it began in
+pub committed_legal : (region region' : RegionShown) (v : Client) (rs : List Record) → region' ≡ region → IsOpened region → WasDecided (λ (image : List ℕ). IsFitting image) (λ (tag : List ℕ) reads writes. IsLawful tag reads writes) region' v → rs ≡ v.records → WasLegal region rs
+committed_legal region region' v rs same h d e =
+    subst (λ (xs : List Record). WasLegal region xs) (sym e)
+    (was_legal region v h.shown (subst (λ (r : RegionShown). WasDecided (λ (image : List ℕ). IsFitting image) (λ (tag : List ℕ) reads writes. IsLawful tag reads writes) r v) same d))
+
+-- the same of a task that only read
+pub finished_legal : (region region' : RegionShown) (v : Client) (rs : List Record) → region' ≡ region → IsOpened region → Decides (λ (image : List ℕ). IsFitting image) (λ (tag : List ℕ) reads writes. IsLawful tag reads writes) region' v → rs ≡ v.records → WasLegal region rs
+finished_legal region region' v rs same h k e = committed_legal region region' v rs same h (record { then = v; records = refl; decides = k }) e

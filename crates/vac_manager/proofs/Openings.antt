@@ -1,0 +1,68 @@
+-- How a manager begins and ends.
+use Rattle.std.proofs.Common.{◌≡◌, ◌⊎◌, ℕ, ◌+◌, ◌*◌, ◌≤◌, List, length, refl, sym, ap, subst, ◌∙◌, arith}
+use Rattle.stm_words.specs.Image.{In}
+use Rattle.stm_core.specs.Client.{Client, Record}
+use Rattle.stm_core.specs.Event.{opener}
+use Rattle.stm_region.specs.Shown.{RegionShown, ClientShown}
+use Rattle.stm_region.specs.Closed.{Ends}
+use Rattle.vac_model.specs.State.{empty_state}
+use Rattle.vac_manager.specs.Blocks.{IsEmptyHeap}
+use Rattle.vac_manager.specs.Law.{Shows, IsFitting, IsLawful}
+use Rattle.vac_manager.specs.Legal.{capacity_of}
+use Rattle.vac_manager.specs.Called.{CallerShown, IsOpened}
+use Rattle.vac_manager.specs.Opening.{Opens, Closes}
+use Rattle.vac_manager.proofs.Fresh.{fresh_state}
+use Rattle.vac_manager.proofs.Legality.{legal}
+
+fresh_shows : (xs ys : List ℕ) (n : ℕ) → ys ≡ xs → IsEmptyHeap xs n → Shows ys (empty_state n)
+fresh_shows xs ys n e h = subst (λ (zs : List ℕ). Shows zs (empty_state n)) (sym e) (fresh_state xs n h)
+
+-- the words of an empty heap fit
+pub fresh_fits : (xs ys : List ℕ) (n : ℕ) → ys ≡ xs → IsEmptyHeap xs n → IsFitting ys
+fresh_fits xs ys n e h = record { state = empty_state n; shown = fresh_shows xs ys n e h }
+
+fresh_size : (xs ys : List ℕ) (n size : ℕ) → ys ≡ xs → IsEmptyHeap xs n → size ≡ length ys → size ≡ 16 + 8 * n
+fresh_size xs ys n size e h same = same ∙ (ap (λ (zs : List ℕ). length zs) e ∙ h.size)
+
+capacity_is : (region : RegionShown) (n : ℕ) → region.size ≡ 16 + 8 * n → capacity_of region ≡ n
+capacity_is region n e = omega (arith, e)
+
+pub opened_on : (region : RegionShown) (xs ys : List ℕ) (n : ℕ) → ys ≡ xs → IsEmptyHeap xs n → region.size ≡ length ys → region.first ≡ ys → length ys ≤ 4194304 → IsOpened region
+opened_on region xs ys n e h size first few =
+    let all = fresh_size xs ys n region.size e h size in
+    let capacity = capacity_is region n all in
+    record {
+      size = omega (arith, all, capacity);
+      small = omega (arith, size, few);
+      shown = subst (λ (k : ℕ). Shows region.first (empty_state k)) (sym capacity) (subst (λ (zs : List ℕ). Shows zs (empty_state n)) (sym first) (fresh_shows xs ys n e h));
+    }
+
+pub opens : (region : RegionShown) (client : ClientShown) (xs ys : List ℕ) (n last stripes : ℕ) → ys ≡ xs → IsEmptyHeap xs n → region ≡ record { table = region.table; size = length ys; last = last; stripes = stripes; opening = ys; first = ys; renewal = 0; start = opener } →
+    client ≡ record { table = region.table; value = opener } → Opens n last stripes region (record { table = client.table; value = client.value; start = 0; next = 1 })
+opens region client xs ys n last stripes e h is c =
+    let all = fresh_size xs ys n region.size e h (ap (λ (r : RegionShown). r.size) is) in
+    let opening : region.opening ≡ ys = ap (λ (r : RegionShown). r.opening) is in
+    record {
+      size = all;
+      last_is = ap (λ (r : RegionShown). r.last) is;
+      stripes_is = ap (λ (r : RegionShown). r.stripes) is;
+      capacity = capacity_is region n all;
+      first = ap (λ (r : RegionShown). r.first) is ∙ sym opening;
+      shown = subst (λ (zs : List ℕ). Shows zs (empty_state n)) (sym opening) (fresh_shows xs ys n e h);
+      client_is = ap (λ (x : ClientShown). record { table = x.table; value = x.value; start = 0; next = 1 }) c;
+    }
+
+closes_in : (region : RegionShown) (v : Client) (words : List ℕ) (version : ℕ) → IsOpened region → Ends (λ (tag : List ℕ) reads writes. IsLawful tag reads writes) region v words version → Closes region v words version
+closes_in region v words version h k =
+    let l = legal region.first (empty_state (capacity_of region)) v.records h.shown k.serial k.abides in
+    record { ends = k; last = l.0; legal = l.1.0; shown = subst (λ (zs : List ℕ). Shows zs l.0) (sym k.newest) l.1.1 }
+
+pub closes : (region region' : RegionShown) (v v' : Client) (words : List ℕ) (version : ℕ) → IsOpened region → Ends (λ (tag : List ℕ) reads writes. IsLawful tag reads writes) region v words version → region' ≡ region → v' ≡ v → Closes region' v' words version
+closes region region' v v' words version h k e f =
+    subst (λ (r : RegionShown). Closes r v' words version) (sym e)
+    (subst (λ (x : Client). Closes region x words version) (sym f) (closes_in region v words version h k))
+
+pub only_of : (rs xs xs' ys ys' : List Record) → ((r : Record) → In r rs → In r xs ⊎ In r ys) → xs' ≡ xs → ys' ≡ ys → (r : Record) → In r rs → In r xs' ⊎ In r ys'
+only_of rs xs xs' ys ys' h e f =
+    subst (λ (zs : List Record). (r : Record) → In r rs → In r zs ⊎ In r ys') (sym e)
+    (subst (λ (zs : List Record). (r : Record) → In r rs → In r xs ⊎ In r zs) (sym f) h)

@@ -1,0 +1,29 @@
+use Rattle.std.proofs.Common.{rules, ◌≡◌, ap, ◌∙◌, sym}
+use Rattle.stm_region.specs.Shown.{RegionShown}
+use Rattle.stm_attempt.specs.Seen.{Origin}
+use Rattle.vac_manager.proofs.Lawful.{holds_begun, lawful}
+use Rattle.vac_manager.proofs.Legality.{committed_legal}
+use Rattle.vac_manager.proofs.Trying.{none_of, shown_by_read, commit_stop}
+use Rattle.vac_manager.proofs.attempts.try_writing.Goals as goal
+
+pub run_task-answer-requires-clause-state : goal.run_task-answer-requires-clause-state
+run_task-answer-requires-clause-state g c =
+    holds_begun _ _ _ _ _ c.begin-attempt.ensures.empty.2 c.begin-attempt.ensures.region c.requires.opened c.begin-attempt.ensures.empty.1
+
+pub returns-in-Some-clause-stopped : goal.returns-in-Some-clause-stopped
+returns-in-Some-clause-stopped g c = λ _.
+    shown_by_read _ _ _ _ _ (ap (λ (o : Origin). o.region) c.run_task-answer.ensures.origin ∙ c.begin-attempt.ensures.region) (c.stopped.ensures.shown _ c.in-Some.is)
+    (search rules)
+
+pub commit-requires-clause-lawful : goal.commit-requires-clause-lawful
+commit-requires-clause-lawful g c = λ _.
+    lawful _ _ _ _ _ _ _ _ _ _ _ _ _ _ c.begin-attempt.ensures.empty.2 c.begin-attempt.ensures.empty.1 c.requires.range
+    c.run_task-answer.ensures.origin c.in-Ok.ensures.answer
+
+pub returns-in-Ok-commit-clause-legal : goal.returns-in-Ok-commit-clause-legal
+returns-in-Ok-commit-clause-legal g c =
+    committed_legal _ _ _ _ (ap (λ (o : Origin). o.region) c.run_task-answer.ensures.origin ∙ c.begin-attempt.ensures.region) c.requires.opened c.in-Ok-commit.ensures.decides (search rules)
+
+pub returns-in-Err-clause-stopped : goal.returns-in-Err-clause-stopped
+returns-in-Err-clause-stopped g c =
+    commit_stop _ _ _ _ _ _ _ _ (ap (λ (o : Origin). o.region) c.run_task-answer.ensures.origin ∙ c.begin-attempt.ensures.region) c.requires.writes (c.in-Err.ensures.refused (search rules)) (search rules)

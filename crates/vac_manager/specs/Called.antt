@@ -1,0 +1,107 @@
+-- What a call of a manager does to its client's value, and why it may not be made.
+use Rattle.std.specs.Prelude.{◌≡◌, ℕ, ◌+◌, ◌*◌, ◌<◌, ◌≤◌, ◌⊎◌, Bool, false, ◌&&◌, nat_le, List, Result, Ok, Err}
+use Rattle.atomic_table.specs.Seated.{TableId}
+use Rattle.stm_core.specs.Client.{Client, Record, inserted}
+use Rattle.stm_logs.specs.Log.{LogValue}
+use Rattle.stm_region.specs.Shown.{RegionShown, stripe_of}
+use Rattle.stm_attempt.specs.Shown.{IsReadConflict, IsCommitConflict}
+use Rattle.stm_attempt.specs.declared.conflict.Conflict.{Conflict}
+use Rattle.stm_attempt.specs.declared.conflict.Stop.{Stop}
+use Rattle.stm_attempt.specs.declared.conflict.Stop.TheVariants as stop
+use Rattle.vac_model.specs.declared.tasks.Task.{Task}
+use Rattle.vac_model.specs.declared.replies.Reply.{Reply}
+use Rattle.vac_model.specs.State.{empty_state}
+use Rattle.vac_model.specs.Ranges.{is_task}
+use Rattle.vac_model.specs.Code.{code}
+use Rattle.vac_manager.specs.declared.fault.Fault.{Fault}
+use Rattle.vac_manager.specs.declared.fault.Fault.TheVariants as fault
+use Rattle.vac_manager.specs.Reading.{only_reads}
+use Rattle.vac_manager.specs.Law.{Shows}
+use Rattle.vac_manager.specs.Legal.{capacity_of}
+
+-- a client of a manager: of which region it is, its value, and the free lists that its new entries and the next client split off begin with
+pub record CallerShown : Type 0 where
+  pub table : TableId
+  pub value : Client
+  pub start : ℕ
+  pub next : ℕ
+
+-- the region was first opened on words that represent the empty state
+pub record IsOpened (region : RegionShown) : Type 0 where
+  pub size : region.size ≡ 16 + 8 * capacity_of region
+  pub small : region.size ≤ 4194304
+  pub shown : Shows region.first (empty_state (capacity_of region))
+
+-- so many tries may be asked for
+abbrev pub is_try_count : ℕ → Bool
+is_try_count tries = nat_le 1 tries && nat_le tries 1048576
+
+-- the task can be asked for, with so many tries
+abbrev pub is_call : Task → ℕ → Bool
+is_call t tries = is_task t && is_try_count tries
+
+-- exactly one record was added, with this tag, by the last attempt, and of no version below the floor
+pub record Adds (tag : List ℕ) (v v' : Client) : Type 0 where
+  pub added : Record
+  pub tag_is : added.tag ≡ tag
+  pub attempt_is : added.attempt ≡ v'.attempt
+  pub later : v.floor ≤ added.version
+  pub records : v'.records ≡ inserted added v.records
+
+-- at an answer the record of the task and this reply was added, at a refusal none
+abbrev pub Records : {E : Type 0} → Task → Result Reply E → Client → Client → Type 0
+Records t (Ok reply) v v' = Adds (code t reply) v v'
+Records t (Err e) v v' = v'.records ≡ v.records
+
+-- one attempt was made
+pub record Tried {E : Type 0} (t : Task) (v v' : Client) (result : Result Reply E) : Type 0 where
+  pub attempt : v'.attempt ≡ v.attempt + 1
+  pub grants : v'.grants ≡ v.grants
+  pub floor : v.floor ≤ v'.floor
+  pub records : Records t result v v'
+
+-- the client's last step showed the conflict: in a read, or in a commit
+abbrev pub WasShown : RegionShown → Conflict → Client → Type 0
+WasShown region conflict v =
+    ∥ ((address : ℕ) × IsReadConflict (stripe_of region.stripes) address conflict v) ∥₁ ⊎ ((log : LogValue) × IsCommitConflict (stripe_of region.stripes) log conflict v)
+
+-- the clock was found at the last version
+pub record IsSpent (region : RegionShown) (version : ℕ) (v : Client) : Type 0 where
+  pub version_is : version ≡ region.last
+  pub from : v.next_from ≡ region.last
+
+-- why an attempt of a task stopped: one that only reads, for a conflict alone; of another the conflict was shown
+abbrev pub IsStop : RegionShown → Task → Stop → Client → Type 0
+IsStop region t stop.Memory v = only_reads t ≡ false
+IsStop region t (stop.Conflict conflict) v = only_reads t ≡ false → WasShown region conflict v
+IsStop region t (stop.Spent version) v = (only_reads t ≡ false) × IsSpent region version v
+
+-- how many attempts were made, where each stop but a conflict ends the call: all of them where the last one met a conflict
+abbrev pub IsCount : ℕ → ℕ → ℕ → Result Reply Stop → Type 0
+IsCount tries before now (Ok reply) = (before < now) × (now ≤ before + tries)
+IsCount tries before now (Err stop.Memory) = (before < now) × (now ≤ before + tries)
+IsCount tries before now (Err (stop.Conflict conflict)) = now ≡ before + tries
+IsCount tries before now (Err (stop.Spent version)) = (before < now) × (now ≤ before + tries)
+
+-- some attempts were made, one after the other
+pub record Repeated (region : RegionShown) (t : Task) (tries : ℕ) (v v' : Client) (result : Result Reply Stop) : Type 0 where
+  pub count : IsCount tries v.attempt v'.attempt result
+  pub grants : v'.grants ≡ v.grants
+  pub floor : v.floor ≤ v'.floor
+  pub records : Records t result v v'
+
+-- how many attempts a call made: at most as many as tries, all of them where it answers Busy, none where it answers Arguments
+abbrev pub Attempts : ℕ → ℕ → ℕ → Result Reply Fault → Type 0
+Attempts tries before now (Ok reply) = (before < now) × (now ≤ before + tries)
+Attempts tries before now (Err fault.Arguments) = now ≡ before
+Attempts tries before now (Err fault.Memory) = (before < now) × (now ≤ before + tries)
+Attempts tries before now (Err (fault.Busy conflict)) = now ≡ before + tries
+Attempts tries before now (Err (fault.Spent version)) = (before < now) × (now ≤ before + tries)
+
+-- why a call of a task was not made: a task that only reads is refused for its arguments or a conflict alone; of another the conflict was
+-- shown by the last attempt
+abbrev pub IsFault : RegionShown → Task → ℕ → Fault → Client → Client → Type 0
+IsFault region t tries fault.Arguments v v' = (is_call t tries ≡ false) × (v' ≡ v)
+IsFault region t tries fault.Memory v v' = only_reads t ≡ false
+IsFault region t tries (fault.Busy conflict) v v' = only_reads t ≡ false → WasShown region conflict v'
+IsFault region t tries (fault.Spent version) v v' = (only_reads t ≡ false) × IsSpent region version v'

@@ -1,0 +1,10 @@
+-- From why an attempt stopped to why the call was not made.
+use Rattle.stm_attempt.specs.declared.conflict.Stop.{Stop}
+use Rattle.stm_attempt.specs.declared.conflict.Stop.TheVariants as stop
+use Rattle.vac_manager.specs.declared.fault.Fault.{Fault}
+use Rattle.vac_manager.specs.declared.fault.Fault.TheVariants as fault
+
+abbrev pub fault_of : Stop → Fault
+fault_of stop.Memory = fault.Memory
+fault_of (stop.Conflict conflict) = fault.Busy conflict
+fault_of (stop.Spent version) = fault.Spent version

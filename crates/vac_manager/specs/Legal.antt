@@ -1,0 +1,48 @@
+-- Histories of tasks: when a list of records is what running tasks one after the other gives.
+use Rattle.std.specs.Prelude.{◌≡◌, ℕ, ◌-◌, ◌/◌, List, [], ◌∷◌, IsTrue}
+use mathlib.Core.Option.{some}
+use lib.ListN.{get_elem?}
+use Rattle.stm_core.specs.Client.{Client, Record}
+use Rattle.stm_core.specs.Core.{Core}
+use Rattle.stm_core.specs.Invariant.{Rule}
+use Rattle.stm_core.specs.History.{Sub, all_records}
+use Rattle.stm_region.specs.Shown.{RegionShown, stripe_of}
+use Rattle.vac_model.specs.declared.tasks.Task.{Task}
+use Rattle.vac_model.specs.declared.replies.Reply.{Reply}
+use Rattle.vac_model.specs.State.{State, empty_state}
+use Rattle.vac_model.specs.Run.{run}
+use Rattle.vac_model.specs.Ranges.{is_task}
+use Rattle.vac_model.specs.Code.{code}
+use Rattle.vac_manager.specs.Law.{IsLawful}
+
+-- from the state s the record's task gives the record's reply and the state s'
+pub record Runs (r : Record) (s s' : State) : Type 0 where
+  pub task : Task
+  pub reply : Reply
+  pub range : IsTrue (is_task task)
+  pub told : r.tag ≡ code task reply
+  pub runs : run s task ≡ (s', reply)
+
+-- run from s, each record's task gives its reply, and the last state is this one
+abbrev pub IsLegal : State → List Record → State → Type 0
+IsLegal s [] last = s ≡ last
+IsLegal s (r ∷ rs) last = (s' : State) × Runs r s s' × IsLegal s' rs last
+
+-- how many entries there is room for in a manager's region
+abbrev pub capacity_of : RegionShown → ℕ
+capacity_of region = (region.size - 16) / 8
+
+-- when a client decided the last of these records, in this core state of its region, the records of all clients were legal from the empty
+-- state, and its own stood among them, each once and in its order
+pub record WasLegal (region : RegionShown) (own : List Record) : Type 0 where
+  pub core : Core
+  pub rule : Rule IsLawful (stripe_of region.stripes) core
+  pub first : core.first ≡ region.first
+  pub renewal : core.renewal ≡ region.renewal
+  pub number : ℕ
+  pub caller : Client
+  pub member : get_elem? core.clients number ≡ some caller
+  pub records : caller.records ≡ own
+  pub last : State
+  pub legal : IsLegal (empty_state (capacity_of region)) (all_records core.clients) last
+  pub among : Sub own (all_records core.clients)

@@ -1,0 +1,167 @@
+//! One task by as many attempts as it takes.
+
+ghost use Rattle.std.specs.Prelude.{◌≡◌, ◌<◌, ◌≤◌, List, ℕ, IfOk, IfErr, IsTrue, false};
+ghost use Rattle.stm_core.specs.Core.{IsFreeHanded};
+ghost use Rattle.stm_attempt.specs.Committing.{WasDecided};
+ghost use Rattle.vac_model.specs.Ranges.{is_task};
+ghost use Rattle.vac_manager.specs.FirstPath.{IsFirstPath};
+ghost use Rattle.vac_manager.specs.Reading as reading;
+ghost use Rattle.vac_manager.specs.Law.{IsFitting, IsLawful};
+ghost use Rattle.vac_manager.specs.Legal.{WasLegal};
+ghost use Rattle.vac_manager.specs.Called.{IsOpened, Tried, IsStop, Repeated};
+
+use crate::law::ManagerLaw;
+use crate::tasks::{only_reads, read_task, run_task};
+use crate::told::Told;
+use crossbeam_utils::Backoff;
+use stm_attempt::{Attempt, Conflict, Gate, Logs, Point, ReadAttempt, Stop};
+use stm_region::{Client, Region};
+use vac_model::{Reply, Task};
+
+/// One attempt of a task that only reads. It keeps no log.
+fn try_reading<G: Gate>(
+    region: &Region<ManagerLaw>,
+    client: &mut Client<ManagerLaw>,
+    task: &Task,
+    gate: &mut G,
+) -> Result<Reply, Conflict>
+    requires own { client.old.table ≡ region.now.table }
+    requires free_handed { IsFreeHanded client.old.value }
+    requires opened { IsOpened region.now }
+    requires range { IsTrue (is_task task.now) }
+    requires first { IsFirstPath task.now }
+    requires reads { IsTrue (reading.only_reads task.now) }
+    ensures own { client.new.table ≡ client.old.table }
+    ensures free_handed { IsFreeHanded client.new.value }
+    ensures tried { Tried task.now client.old.value client.new.value result }
+    ensures legal { IfOk result (λ _. WasLegal region.now client.new.value.records) }
+{
+    let mut attempt = ReadAttempt::begin(region, client);
+    let answer = read_task(&mut attempt, task);
+    if let Some(conflict) = attempt.stopped() {
+        attempt.drop_it();
+        return Err(conflict);
+    }
+    match answer {
+        Ok(reply) => {
+            gate.at(Point::ReadsDone);
+            let told = Told {
+                task,
+                reply: &reply,
+            };
+            attempt.finish(&told);
+            Ok(reply)
+        }
+        Err(conflict) => {
+            attempt.drop_it();
+            Err(conflict)
+        }
+    }
+}
+
+/// One attempt of a task that may write.
+fn try_writing<G: Gate>(
+    region: &Region<ManagerLaw>,
+    client: &mut Client<ManagerLaw>,
+    logs: &mut Logs,
+    task: &Task,
+    start: u32,
+    gate: &mut G,
+) -> Result<Reply, Stop>
+    requires own { client.old.table ≡ region.now.table }
+    requires free_handed { IsFreeHanded client.old.value }
+    requires opened { IsOpened region.now }
+    requires range { IsTrue (is_task task.now) }
+    requires first { IsFirstPath task.now }
+    requires writes { reading.only_reads task.now ≡ false }
+    requires start { start < 8 }
+    ensures own { client.new.table ≡ client.old.table }
+    ensures free_handed { IsFreeHanded client.new.value }
+    ensures tried { Tried task.now client.old.value client.new.value result }
+    ensures legal { IfOk result (λ _. WasLegal region.now client.new.value.records) }
+    ensures stopped { IfErr result (λ stop. IsStop region.now task.now stop client.new.value) }
+{
+    let mut attempt = Attempt::begin(region, client, logs);
+    let answer = run_task(&mut attempt, task, start);
+    if let Some(conflict) = attempt.stopped() {
+        attempt.drop_it();
+        return Err(Stop::Conflict(conflict));
+    }
+    let Ok(reply) = answer else {
+        attempt.drop_it();
+        return Err(Stop::Memory);
+    };
+    let told = Told {
+        task,
+        reply: &reply,
+    };
+    match attempt.commit(&told, gate) {
+        Ok(_) => Ok(reply),
+        Err(stop) => Err(stop),
+    }
+}
+
+/// One attempt of a task.
+fn try_once<G: Gate>(
+    region: &Region<ManagerLaw>,
+    client: &mut Client<ManagerLaw>,
+    logs: &mut Logs,
+    task: &Task,
+    start: u32,
+    gate: &mut G,
+) -> Result<Reply, Stop>
+    requires own { client.old.table ≡ region.now.table }
+    requires free_handed { IsFreeHanded client.old.value }
+    requires opened { IsOpened region.now }
+    requires range { IsTrue (is_task task.now) }
+    requires first { IsFirstPath task.now }
+    requires start { start < 8 }
+    ensures own { client.new.table ≡ client.old.table }
+    ensures free_handed { IsFreeHanded client.new.value }
+    ensures tried { Tried task.now client.old.value client.new.value result }
+    ensures legal { IfOk result (λ _. WasLegal region.now client.new.value.records) }
+    ensures stopped { IfErr result (λ stop. IsStop region.now task.now stop client.new.value) }
+{
+    if !only_reads(task) {
+        return try_writing(region, client, logs, task, start, gate);
+    }
+    match try_reading(region, client, task, gate) {
+        Ok(reply) => Ok(reply),
+        Err(conflict) => Err(Stop::Conflict(conflict)),
+    }
+}
+
+/// Runs a task by at most so many attempts. One that met a conflict is followed by the next, after
+/// one pause.
+pub(crate) fn run_in_attempts<G: Gate>(
+    region: &Region<ManagerLaw>,
+    client: &mut Client<ManagerLaw>,
+    logs: &mut Logs,
+    task: &Task,
+    start: u32,
+    tries: u32,
+    gate: &mut G,
+) -> Result<Reply, Stop>
+    requires own { client.old.table ≡ region.now.table }
+    requires free_handed { IsFreeHanded client.old.value }
+    requires opened { IsOpened region.now }
+    requires range { IsTrue (is_task task.now) }
+    requires first { IsFirstPath task.now }
+    requires start { start < 8 }
+    requires tries { 1 ≤ tries }
+    ensures own { client.new.table ≡ client.old.table }
+    ensures free_handed { IsFreeHanded client.new.value }
+    ensures repeated { Repeated region.now task.now tries client.old.value client.new.value result }
+    ensures legal { IfOk result (λ _. WasLegal region.now client.new.value.records) }
+    ensures stopped { IfErr result (λ stop. IsStop region.now task.now stop client.new.value) }
+{
+    let backoff = Backoff::new();
+    let mut left = tries;
+    'tries: loop {
+        left -= 1;
+        match try_once(region, client, logs, task, start, gate) {
+            Err(Stop::Conflict(_)) if left > 0 => backoff.snooze(),
+            answer => return answer,
+        }
+    }
+}

@@ -1,0 +1,30 @@
+//! A client of a manager.
+
+use crate::law::ManagerLaw;
+use std::marker::Model;
+use stm_attempt::Logs;
+use stm_region::Client as RegionClient;
+
+/// A client of a manager: the right to call it, from one thread at a time. Between calls it holds
+/// no lock. Contracts see which region it is of, its value, and its two free lists.
+#[derive(Drop)]
+pub struct Client {
+    pub(crate) client: RegionClient<ManagerLaw>,
+    pub(crate) logs: Logs,
+    // The free list that its new entries take their blocks from.
+    pub(crate) start: u32,
+    // The same of the next client that it splits off.
+    pub(crate) next: u32,
+}
+
+impl Model for Client {
+    ghost use Rattle.std.specs.Prelude.{◌<◌};
+    ghost use Rattle.stm_core.specs.Core.{IsFreeHanded};
+    ghost use Rattle.vac_manager.specs.Called.{CallerShown};
+
+    ghost Value = { CallerShown };
+
+    ghost view = { λ c. record { table = c.client.table; value = c.client.value; start = c.start; next = c.next } };
+
+    ghost invariant = { λ c. IsFreeHanded c.client.value × (c.start < 8) × (c.next < 8) };
+}

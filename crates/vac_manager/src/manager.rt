@@ -1,0 +1,233 @@
+//! The manager over a region, which many clients call at once.
+
+ghost use Rattle.std.specs.Prelude.{◌≡◌, ◌↔◌, ◌<◌, ◌+◌, ◌*◌, ◌%◌, ◌⊎◌, min, false, IfOk, IfErr, IsErrOf};
+ghost use Rattle.stm_words.specs.Image.{In};
+ghost use Rattle.stm_core.specs.Client.{Record};
+ghost use Rattle.stm_core.specs.Core.{IsFreeHanded};
+ghost use Rattle.stm_core.specs.Event.{giving, fresh};
+ghost use Rattle.stm_core.specs.History.{Sub};
+ghost use Rattle.stm_region.specs.Shown.{joined};
+ghost use Rattle.stm_region.specs.Refused.{ClosesNot};
+ghost use Rattle.stm_region.specs.declared.fault.RegionFault.TheVariants.{Clients};
+ghost use Rattle.vac_manager.specs.FirstPath.{IsFirstPath};
+ghost use Rattle.vac_manager.specs.Legal.{WasLegal};
+ghost use Rattle.vac_manager.specs.Called.{is_call, Records, Attempts, IsFault};
+ghost use Rattle.vac_manager.specs.Opening.{is_opening, Opens, Closes};
+
+use crate::attempts::run_in_attempts;
+use crate::blocks::fresh_words;
+use crate::client::Client;
+use crate::fault::Fault;
+use crate::law::ManagerLaw;
+use std::alloc::Global;
+use std::marker::Model;
+use stm_attempt::{Gate, Logs, NoGate};
+use stm_region::{Region, RegionFault};
+use stm_words::Version;
+use vac_model::{Reply, Task};
+
+/// The most blocks that a heap has.
+const BLOCK_LIMIT: u32 = 262_144;
+
+/// The first version that is none.
+const VERSION_LIMIT: u64 = 1 << 62;
+
+/// The most lock words that a region has.
+const STRIPE_LIMIT: u32 = 1_048_576;
+
+/// The most tries that a call may be given.
+const TRY_LIMIT: u32 = 1_048_576;
+
+/// How many lists of free blocks there are.
+const LISTS: u32 = 8;
+
+/// A manager that was not closed, with its client and the reason.
+type Kept = (Manager, Client, RegionFault);
+
+/// A manager of reservations, which many clients call at once. Contracts see its region.
+pub struct Manager {
+    alloc: Global,
+    region: Region<ManagerLaw>,
+}
+
+impl Model for Manager {
+    ghost use Rattle.stm_region.specs.Shown.{RegionShown};
+    ghost use Rattle.vac_manager.specs.Called.{IsOpened};
+
+    ghost Value = { RegionShown };
+
+    ghost view = { λ m. m.region };
+
+    ghost invariant = { λ m. IsOpened m.region };
+}
+
+impl Manager {
+    /// A manager without entries, with room for this many, 1 to 262,144, and its first client. The
+    /// version clock ends at `last`, 1 to 2^62 - 1. Each word has a lock word, as far as the limit
+    /// of 1,048,576 goes.
+    pub fn new(alloc: Global, blocks: u32, last: u64) -> Result<(Manager, Client), Fault>
+        ensures ok { IfOk result (λ r. Opens blocks last (min (16 + 8 * blocks) 1048576) r.0 r.1) }
+        ensures arguments { IsErrOf result Fault.Arguments ↔ (is_opening blocks last 1 ≡ false) }
+        ensures memory { IfErr result (λ fault. (fault ≡ Fault.Arguments) ⊎ (fault ≡ Fault.Memory)) }
+    {
+        if blocks == 0 || blocks > BLOCK_LIMIT {
+            return Err(Fault::Arguments);
+        }
+        let words = 16 + 8 * blocks;
+        Self::with_stripes(alloc, blocks, last, words.min(STRIPE_LIMIT))
+    }
+
+    /// The same with this many lock words, 1 to 1,048,576.
+    pub fn with_stripes(
+        alloc: Global,
+        blocks: u32,
+        last: u64,
+        stripes: u32,
+    ) -> Result<(Manager, Client), Fault>
+        ensures ok { IfOk result (λ r. Opens blocks last stripes r.0 r.1) }
+        ensures arguments { IsErrOf result Fault.Arguments ↔ (is_opening blocks last stripes ≡ false) }
+        ensures memory { IfErr result (λ fault. (fault ≡ Fault.Arguments) ⊎ (fault ≡ Fault.Memory)) }
+    {
+        let blocks_fit = 1 <= blocks && blocks <= BLOCK_LIMIT;
+        let last_fits = 1 <= last && last < VERSION_LIMIT;
+        let stripes_fit = 1 <= stripes && stripes <= STRIPE_LIMIT;
+        if !(blocks_fit && last_fits && stripes_fit) {
+            return Err(Fault::Arguments);
+        }
+        let Ok(words) = fresh_words(alloc, blocks as usize) else {
+            return Err(Fault::Memory);
+        };
+        let Ok((region, client)) = Region::new(alloc, words.as_slice(), last, stripes) else {
+            return Err(Fault::Memory);
+        };
+        let client = Client {
+            client,
+            logs: Logs::new(alloc),
+            start: 0,
+            next: 1,
+        };
+        Ok((Manager { alloc, region }, client))
+    }
+
+    /// Runs a task as a transaction, by at most this many attempts, 1 to 1,048,576, and answers
+    /// its reply. A task that only reads takes no memory. After any fault the client may call
+    /// again.
+    pub fn call(&self, client: &mut Client, task: &Task, tries: u32) -> Result<Reply, Fault>
+        requires own { client.old.table ≡ self.now.table }
+        requires first { IsFirstPath task.now }
+        ensures client { client.new ≡ record client.old { value = client.new.value } }
+        ensures grants { client.new.value.grants ≡ client.old.value.grants }
+        ensures free_handed { IsFreeHanded client.new.value }
+        ensures arguments { IsErrOf result Fault.Arguments ↔ (is_call task.now tries ≡ false) }
+        ensures records { Records task.now result client.old.value client.new.value }
+        ensures attempts { Attempts tries client.old.value.attempt client.new.value.attempt result }
+        ensures legal { IfOk result (λ _. WasLegal self.now client.new.value.records) }
+        ensures fault { IfErr result (λ fault. IsFault self.now task.now tries fault client.old.value client.new.value) }
+    {
+        self.call_gated(client, task, tries, &mut NoGate)
+    }
+
+    /// The same, and each attempt tells the gate how far its commit is. One that only reads tells
+    /// it when its reads are done.
+    pub fn call_gated<G: Gate>(
+        &self,
+        client: &mut Client,
+        task: &Task,
+        tries: u32,
+        gate: &mut G,
+    ) -> Result<Reply, Fault>
+        requires own { client.old.table ≡ self.now.table }
+        requires first { IsFirstPath task.now }
+        ensures client { client.new ≡ record client.old { value = client.new.value } }
+        ensures grants { client.new.value.grants ≡ client.old.value.grants }
+        ensures free_handed { IsFreeHanded client.new.value }
+        ensures arguments { IsErrOf result Fault.Arguments ↔ (is_call task.now tries ≡ false) }
+        ensures records { Records task.now result client.old.value client.new.value }
+        ensures attempts { Attempts tries client.old.value.attempt client.new.value.attempt result }
+        ensures legal { IfOk result (λ _. WasLegal self.now client.new.value.records) }
+        ensures fault { IfErr result (λ fault. IsFault self.now task.now tries fault client.old.value client.new.value) }
+    {
+        let start = client.start;
+        let tries_fit = 1 <= tries && tries <= TRY_LIMIT;
+        if !(task.is_in_range() && tries_fit) {
+            return Err(Fault::Arguments);
+        }
+        let answer = run_in_attempts(
+            &self.region,
+            &mut client.client,
+            &mut client.logs,
+            task,
+            start,
+            tries,
+            gate,
+        );
+        match answer {
+            Ok(reply) => Ok(reply),
+            Err(stop) => Err(Fault::from(stop)),
+        }
+    }
+
+    /// Splits off a new client, which costs a grant: 63 times in all. Its new entries begin with
+    /// another free list.
+    pub fn split(&self, client: &mut Client) -> Result<Client, RegionFault>
+        requires { client.old.table ≡ self.now.table }
+        ensures ok { IfOk result (λ other. (0 < client.old.value.grants) × (client.new ≡ record client.old { value = giving client.old.value; next = (client.old.next + 1) % 8 }) × (other ≡ record client.old { value = fresh client.old.value; start = client.old.next; next = (client.old.next + 1) % 8 })) }
+        ensures refused { IfErr result (λ fault. (fault ≡ Clients) × (client.old.value.grants ≡ 0) × (client.new ≡ client.old)) }
+    {
+        let other = self.region.split(&mut client.client)?;
+        let start = client.next;
+        client.next = (start + 1) % LISTS;
+        Ok(Client {
+            client: other,
+            logs: Logs::new(self.alloc),
+            start,
+            next: client.next,
+        })
+    }
+
+    /// Takes in another client: its records, its grants and one grant more.
+    pub fn gather(&self, client: &mut Client, other: Client)
+        requires { (client.old.table ≡ self.now.table) × (other.table ≡ self.now.table) }
+        ensures client { client.new ≡ record client.old { value = joined client.old.value other.value } }
+        ensures mine { Sub client.old.value.records client.new.value.records }
+        ensures theirs { Sub other.value.records client.new.value.records }
+        ensures only { (r : Record) → In r client.new.value.records → In r client.old.value.records ⊎ In r other.value.records }
+    {
+        let Client {
+            client: other,
+            logs: _,
+            start: _,
+            next: _,
+        } = other;
+        self.region.gather(&mut client.client, other);
+    }
+
+    /// Ends the manager: its words and its clock, once every other client was gathered. A refusal
+    /// gives the manager and the client back as they were.
+    pub fn close(self, client: Client) -> Result<(Vec<u64>, Version), Kept>
+        requires { client.table ≡ self.table }
+        ensures closes { IfOk result (λ r. Closes self client.value r.0.items r.1) }
+        ensures all { IfOk result (λ _. client.value.grants ≡ 63) }
+        ensures kept { IfErr result (λ r. (r.0 ≡ self) × (r.1 ≡ client) × ClosesNot client.value.grants r.2) }
+    {
+        let Manager { alloc, region } = self;
+        let Client {
+            client,
+            logs,
+            start,
+            next,
+        } = client;
+        match region.close(alloc, client) {
+            Ok(closed) => Ok(closed),
+            Err((region, client, fault)) => {
+                let client = Client {
+                    client,
+                    logs,
+                    start,
+                    next,
+                };
+                Err((Manager { alloc, region }, client, fault))
+            }
+        }
+    }
+}
