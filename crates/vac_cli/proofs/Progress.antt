@@ -3,9 +3,9 @@ use Rattle.std.proofs.Common.{◌≡◌, ℕ, List, [], ◌∷◌, ◌++◌, ref
 use Rattle.std.specs.Io.KnownBytes.{Appends, Consumes, IsAtEnd, Keeps}
 use Rattle.std.proofs.KnownBytes.{Consumes-nil, Consumes-trans, Consumes-kept, Appends-nil, Appends-trans}
 use Rattle.vac_model.specs.State.{State, empty_state}
-use Rattle.vac_cli.specs.Text.{Extends}
-use Rattle.vac_cli.specs.Script.{script_out, pending, WroteAll, WroteFront}
-use Rattle.vac_cli.proofs.Extends.{extends_more}
+use Rattle.vac_lines.specs.Text.{Extends}
+use Rattle.vac_cli.specs.Script.{script_out, pending, WroteAll, WrotePrefix}
+use Rattle.vac_lines.proofs.Extends.{extends_more}
 
 -- some bytes were read and some text was written; whatever follows, the rest of the output is what is pending
 pub record Progress (n : ℕ) (unread left held holds : Option (List ℕ)) (s : State) (line : List ℕ) : Type 0 where
@@ -25,9 +25,9 @@ abbrev pub Stopped : Option (List ℕ) → Option (List ℕ) → State → List 
 Stopped held holds s line chunk =
     (text : List ℕ) × Appends held holds text × ((x : List ℕ) → Extends text (pending s line (chunk ++ x)))
 
-extends_behind : (front xs ys : List ℕ) → Extends xs ys → Extends (front ++ xs) (front ++ ys)
+extends_behind : (prefix xs ys : List ℕ) → Extends xs ys → Extends (prefix ++ xs) (prefix ++ ys)
 extends_behind [] xs ys h = h
-extends_behind (x ∷ front) xs ys h = ap (λ t. x ∷ t) (extends_behind front xs ys h)
+extends_behind (x ∷ prefix) xs ys h = ap (λ t. x ∷ t) (extends_behind prefix xs ys h)
 
 -- what holds whatever follows holds of the whole input
 of_whole : (n : ℕ) (unread left : Option (List ℕ)) (bytes text : List ℕ) → Consumes unread left bytes → ((x : List ℕ) → Extends text (script_out n (bytes ++ x)))
@@ -44,9 +44,9 @@ of_ended n (Some xs) None bytes text c e h = absurd c
 of_ended n (Some xs) (Some ys) bytes text c e h =
     subst (λ input. Extends text (script_out n input)) (sym (c ∙ ap (λ t. bytes ++ t) e ∙ append-nil bytes)) h
 
-front_of : (n : ℕ) (unread left held holds : Option (List ℕ)) (bytes text : List ℕ) → Consumes unread left bytes → Appends held holds text
-    → ((x : List ℕ) → Extends text (script_out n (bytes ++ x))) → WroteFront n unread left held holds
-front_of n unread left held holds bytes text c w h = record {
+prefix_of : (n : ℕ) (unread left held holds : Option (List ℕ)) (bytes text : List ℕ) → Consumes unread left bytes → Appends held holds text
+    → ((x : List ℕ) → Extends text (script_out n (bytes ++ x))) → WrotePrefix n unread left held holds
+prefix_of n unread left held holds bytes text c w h = record {
   bytes = bytes;
   consumed = c;
   text = text;
@@ -78,9 +78,9 @@ chunk_run n unread left now held holds grown s t line after chunk p c r = record
 
 -- a chunk was run in part
 pub chunk_stopped : (n : ℕ) (unread left now held holds grown : Option (List ℕ)) (s : State) (line chunk : List ℕ) → Progress n unread left held holds s line
-    → Consumes left now chunk → Stopped holds grown s line chunk → WroteFront n unread now held grown
+    → Consumes left now chunk → Stopped holds grown s line chunk → WrotePrefix n unread now held grown
 chunk_stopped n unread left now held holds grown s line chunk p c r =
-    front_of n unread now held grown (p.bytes ++ chunk) (p.text ++ r.0) (Consumes-trans unread left now p.bytes chunk p.consumed c)
+    prefix_of n unread now held grown (p.bytes ++ chunk) (p.text ++ r.0) (Consumes-trans unread left now p.bytes chunk p.consumed c)
     (Appends-trans held holds grown p.text r.0 p.written r.1)
     (λ x. subst (Extends (p.text ++ r.0)) (sym (ap (script_out n) (append_assoc p.bytes chunk x) ∙ p.same (chunk ++ x)))
     (extends_behind p.text r.0 (pending s line (chunk ++ x)) (r.2 x)))
@@ -97,9 +97,9 @@ read_kept n unread left now held holds s line p k = record {
 }
 
 -- the run ends here
-pub run_ended : (n : ℕ) (unread left held holds : Option (List ℕ)) (s : State) (line : List ℕ) → Progress n unread left held holds s line → WroteFront n unread left held holds
+pub run_ended : (n : ℕ) (unread left held holds : Option (List ℕ)) (s : State) (line : List ℕ) → Progress n unread left held holds s line → WrotePrefix n unread left held holds
 run_ended n unread left held holds s line p =
-    front_of n unread left held holds p.bytes p.text p.consumed p.written (λ x. extends_more p.text (script_out n (p.bytes ++ x)) (pending s line x) (p.same x))
+    prefix_of n unread left held holds p.bytes p.text p.consumed p.written (λ x. extends_more p.text (script_out n (p.bytes ++ x)) (pending s line x) (p.same x))
 
 -- the end of the input was run
 pub end_run : (n : ℕ) (unread left now held holds grown : Option (List ℕ)) (s : State) (line : List ℕ) → Progress n unread left held holds s line
@@ -113,17 +113,17 @@ end_run n unread left now held holds grown s line p c e w = record {
 
 -- the end of the input was run in part
 pub end_stopped : (n : ℕ) (unread left now held holds grown : Option (List ℕ)) (s : State) (line text : List ℕ) → Progress n unread left held holds s line
-    → Consumes left now [] → IsAtEnd now → Appends holds grown text → Extends text (pending s line []) → WroteFront n unread now held grown
+    → Consumes left now [] → IsAtEnd now → Appends holds grown text → Extends text (pending s line []) → WrotePrefix n unread now held grown
 end_stopped n unread left now held holds grown s line text p c e w f =
     let consumed = subst (Consumes unread now) (append-nil p.bytes) (Consumes-trans unread left now p.bytes [] p.consumed c) in
-    let front = subst (Extends (p.text ++ text)) (sym (p.same []) ∙ ap (script_out n) (append-nil p.bytes)) (extends_behind p.text text (pending s line []) f) in
+    let prefix = subst (Extends (p.text ++ text)) (sym (p.same []) ∙ ap (script_out n) (append-nil p.bytes)) (extends_behind p.text text (pending s line []) f) in
     record {
       bytes = p.bytes;
       consumed = consumed;
       text = p.text ++ text;
       written = Appends-trans held holds grown p.text text p.written w;
-      of_read = front;
-      of_input = of_ended n unread now p.bytes (p.text ++ text) consumed e front;
+      of_read = prefix;
+      of_input = of_ended n unread now p.bytes (p.text ++ text) consumed e prefix;
     }
 
 -- a script of which nothing was read

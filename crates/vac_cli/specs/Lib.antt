@@ -1,5 +1,2 @@
-pub mod Lines
-pub mod Words
-pub mod LineTable
-pub mod Text
+pub mod FirstLines
 pub mod Script

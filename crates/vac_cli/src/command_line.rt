@@ -9,6 +9,7 @@ use clap::error::ErrorKind;
 use clap::{Arg, Command, Error, value_parser};
 use std::alloc::{AllocError, Global};
 use std::io::{Read, Write};
+use vac_model::limits::MOST_BLOCKS;
 
 /// The status of a program that did its work or showed its help.
 const DONE: u8 = 0;
@@ -19,8 +20,8 @@ const FAULT: u8 = 1;
 /// The status of a program whose command line was refused.
 const REFUSED: u8 = 2;
 
-/// The most blocks that a system has.
-const MOST_BLOCKS: u32 = 262_144;
+/// How many blocks a system has where the command line does not say.
+const DEFAULT_BLOCKS: &str = "1024";
 
 /// Runs the program on a command line, of which the first word is the program's name, and answers
 /// its status: 0 where it did its work or showed its help, 1 after a fault, 2 where the command
@@ -44,14 +45,26 @@ pub fn run_words<R: Read, W: Write, E: Write>(
     }
 }
 
+/// Says that a word of the command line is no text, and answers the status of a refused command
+/// line. Whether that could be written changes nothing.
+pub fn refuse_words<E: Write>(errors: &mut E) -> u8
+    ensures { result ≡ 2 }
+{
+    let text = b"error: a word of the command line is not valid UTF-8\n";
+    if errors.write_all(text).is_ok() {
+        let _ = errors.flush();
+    }
+    REFUSED
+}
+
 /// The command line that the program takes.
 fn command_line<'a>(alloc: Global) -> Result<Command<'a>, AllocError> {
     let blocks = Arg::new(alloc, "blocks")
         .long("blocks")
         .value_name("N")
         .help("How many items, customers and bookings there is room for")
-        .value_parser(value_parser!(u32).range(1..=262_144))
-        .default_value("1024");
+        .value_parser(value_parser!(u32).range(1..=i64::from(MOST_BLOCKS)))
+        .default_value(DEFAULT_BLOCKS);
     let run = Command::new(alloc, "run")
         .about("Runs the commands on standard input")
         .arg(blocks)?;

@@ -1,16 +1,9 @@
-//! The script language of the reservation system: lines of bytes in, replies as lines of bytes
-//! out, and the program's command line.
+//! Scripts over streams, and the program's command line.
 #![tactic(auto)]
 
 mod command_line;
-mod line;
-mod reply;
+mod first_lines;
 mod script;
 
-pub use command_line::run_words;
-pub use line::{LINE_BYTES, LineFault, read_line};
-pub use reply::{print_fault, print_reply, refusal_name};
+pub use command_line::{refuse_words, run_words};
 pub use script::{RunFault, run_script};
-
-#[cfg(test)]
-mod tests;

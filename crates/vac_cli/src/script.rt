@@ -1,19 +1,20 @@
 //! Running a script: lines in, output lines out.
 
-ghost use Rattle.std.specs.Prelude.{◌≡◌, ◌≤◌, ℕ, List, [], ◌++◌, OnOk, OnErr, IfOk, true, length, take};
+ghost use Rattle.std.specs.Prelude.{◌≡◌, ◌≤◌, ◌+◌, ℕ, List, [], ◌++◌, OnOk, OnErr, IfOk, true, length, take};
 ghost use Rattle.std.specs.Io.KnownBytes.{Appends};
 ghost use Rattle.vac_model.specs.State.{empty_state};
 ghost use Rattle.vac_model.specs.Ranges.{is_task};
 ghost use Rattle.vac_manager.specs.FirstPath.{IsFirstPath, is_block_count};
-ghost use Rattle.vac_cli.specs.LineTable.{line_task};
-ghost use Rattle.vac_cli.specs.Text.{Extends};
-ghost use Rattle.vac_cli.specs.Script.{answer_of, state_after, pending, HasNoEnd, HasBegun, AppendsFront, WroteAll, WroteFront};
+ghost use Rattle.vac_lines.specs.Text.{Extends};
+ghost use Rattle.vac_lines.specs.Script.{answer};
+ghost use Rattle.vac_cli.specs.FirstLines.{first_task};
+ghost use Rattle.vac_cli.specs.Script.{pending, HasBegun, AppendsPrefix, WroteAll, WrotePrefix};
 
-use crate::line::{LINE_BYTES, LineFault, cut_at, read_line};
-use crate::reply::{print_fault, print_reply};
+use crate::first_lines::read_first;
 use std::alloc::{AllocError, Global};
 use std::io::{ErrorKind, Read, Write};
 use thiserror::Error;
+use vac_lines::{LINE_BYTES, LineFault, cut_at, print_fault, print_reply};
 use vac_manager::FlatManager;
 use vac_model::Task;
 
@@ -63,16 +64,17 @@ struct Script {
     out: Vec<u8>,
 }
 
-/// Prints the output line of a line that was read.
-fn print_answer(
+/// Runs the task of a line that was read, and prints its reply; or prints its fault.
+fn run_read(
     manager: &mut FlatManager,
     read: Result<Task, LineFault>,
     out: &mut Vec<u8>,
 ) -> Result<(), AllocError>
-    requires { IfOk read (λ task. IsFirstPath task × (is_task task ≡ true)) }
-    ensures text { OnOk result (out.new.items ≡ out.old.items ++ answer_of manager.old read) }
-    ensures state { OnOk result (manager.new ≡ state_after manager.old read) }
-    ensures err { OnErr result (Extends out.new.items (out.old.items ++ answer_of manager.old read)) }
+    requires first_path { IfOk read (λ task. IsFirstPath task) }
+    requires in_range { IfOk read (λ task. is_task task ≡ true) }
+    ensures text { OnOk result (out.new.items ≡ out.old.items ++ (answer manager.old read).1) }
+    ensures state { OnOk result (manager.new ≡ (answer manager.old read).0) }
+    ensures err { OnErr result (Extends out.new.items (out.old.items ++ (answer manager.old read).1)) }
 {
     match read {
         Ok(task) => {
@@ -87,28 +89,28 @@ fn print_answer(
 }
 
 /// Reads and runs a line, and prints its output line.
-fn answer(
+fn run_line(
     alloc: Global,
     manager: &mut FlatManager,
     line: &[u8],
     out: &mut Vec<u8>,
 ) -> Result<(), RunFault>
-    ensures text { OnOk result (out.new.items ≡ out.old.items ++ answer_of manager.old (line_task line.now)) }
-    ensures state { OnOk result (manager.new ≡ state_after manager.old (line_task line.now)) }
-    ensures err { OnErr result (Extends out.new.items (out.old.items ++ answer_of manager.old (line_task line.now))) }
+    ensures text { OnOk result (out.new.items ≡ out.old.items ++ (answer manager.old (first_task line.now)).1) }
+    ensures state { OnOk result (manager.new ≡ (answer manager.old (first_task line.now)).0) }
+    ensures err { OnErr result (Extends out.new.items (out.old.items ++ (answer manager.old (first_task line.now)).1)) }
 {
-    let read = read_line(alloc, line);
+    let read = read_first(alloc, line);
     if matches!(read, Err(LineFault::Memory)) {
         return Err(RunFault::Memory);
     }
-    print_answer(manager, read, out)?;
+    run_read(manager, read, out)?;
     Ok(())
 }
 
 /// Writes the text. A write that fails, and one that takes nothing, ends it.
 fn write_all<W: Write>(output: &mut W, text: &[u8]) -> Result<(), RunFault>
     ensures ok { OnOk result (Appends (W.contents output.old) (W.contents output.new) text.now) }
-    ensures err { OnErr result (AppendsFront (W.contents output.old) (W.contents output.new) text.now) }
+    ensures err { OnErr result (AppendsPrefix (W.contents output.old) (W.contents output.new) text.now) }
 {
     let mut sent = 0;
     'writes: for _ in 0..u64::MAX {
@@ -145,10 +147,10 @@ impl Script {
     }
 
     /// Keeps what follows of the line that has begun, as far as there is need.
-    #[tactic(auto, using(crate::proofs::Cutting::kept_front))]
+    #[tactic(auto, using(crate::proofs::Cutting::kept_prefix))]
     fn keep(&mut self, more: &[u8]) -> Result<(), AllocError>
-        requires { length self.old.line.items ≤ 1025 }
-        ensures line { OnOk result (self.new.line.items ≡ take 1025 (self.old.line.items ++ more.now)) }
+        requires { length self.old.line.items ≤ LINE_BYTES + 1 }
+        ensures line { OnOk result (self.new.line.items ≡ take (LINE_BYTES + 1) (self.old.line.items ++ more.now)) }
         ensures others { self.new ≡ record self.old { line = self.new.line } }
     {
         let room = KEPT_BYTES - self.line.len();
@@ -158,20 +160,20 @@ impl Script {
 
     /// Runs the line that has begun, of which this is the rest.
     fn end_line(&mut self, alloc: Global, rest: &[u8]) -> Result<(), RunFault>
-        requires { length self.old.line.items ≤ 1025 }
+        requires { length self.old.line.items ≤ LINE_BYTES + 1 }
         ensures text { OnOk result (self.new.out.items
-            ≡ self.old.out.items ++ answer_of self.old.manager (line_task (self.old.line.items ++ rest.now))) }
+            ≡ self.old.out.items ++ (answer self.old.manager (first_task (self.old.line.items ++ rest.now))).1) }
         ensures state { OnOk result (self.new.manager
-            ≡ state_after self.old.manager (line_task (self.old.line.items ++ rest.now))) }
+            ≡ (answer self.old.manager (first_task (self.old.line.items ++ rest.now))).0) }
         ensures line { OnOk result (self.new.line.items ≡ []) }
         ensures err { OnErr result (Extends self.new.out.items
-            (self.old.out.items ++ answer_of self.old.manager (line_task (self.old.line.items ++ rest.now)))) }
+            (self.old.out.items ++ (answer self.old.manager (first_task (self.old.line.items ++ rest.now))).1)) }
     {
         if self.line.is_empty() {
-            return answer(alloc, &mut self.manager, rest, &mut self.out);
+            return run_line(alloc, &mut self.manager, rest, &mut self.out);
         }
         self.keep(rest)?;
-        answer(
+        run_line(
             alloc,
             &mut self.manager,
             self.line.as_slice(),
@@ -219,7 +221,7 @@ impl Script {
         ensures ok { OnOk result (Appends (W.contents output.old) (W.contents output.new) self.old.out.items) }
         ensures empty { OnOk result (self.new.out.items ≡ []) }
         ensures others { self.new ≡ record self.old { out = self.new.out } }
-        ensures err { OnErr result (AppendsFront (W.contents output.old) (W.contents output.new) self.old.out.items) }
+        ensures err { OnErr result (AppendsPrefix (W.contents output.old) (W.contents output.new) self.old.out.items) }
     {
         write_all(output, self.out.as_slice())?;
         self.out.clear();
@@ -267,7 +269,7 @@ impl Script {
 /// Runs a script for a system of so many blocks: reads its lines to the end of the input and
 /// writes an output line for each.
 ///
-/// After a fault, what was written is a front of the whole output.
+/// After a fault, what was written is a prefix of the whole output.
 pub fn run_script<R: Read, W: Write>(
     alloc: Global,
     blocks: u32,
@@ -277,7 +279,7 @@ pub fn run_script<R: Read, W: Write>(
     requires { is_block_count blocks ≡ true }
     ensures ok { OnOk result (WroteAll blocks (R.remaining input.old) (R.remaining input.new)
         (W.contents output.old) (W.contents output.new)) }
-    ensures err { OnErr result (WroteFront blocks (R.remaining input.old) (R.remaining input.new)
+    ensures err { OnErr result (WrotePrefix blocks (R.remaining input.old) (R.remaining input.new)
         (W.contents output.old) (W.contents output.new)) }
 {
     let mut script = Script::new(alloc, blocks)?;

@@ -2,20 +2,27 @@
 //! commands from standard input, one a line, and writes a line for each to standard output.
 #![tactic(auto)]
 
+use std::io::ErrorKind;
 use std::process::ExitCode;
 use std::{env, io};
-use vac_cli::run_words;
+use vac_cli::{refuse_words, run_words};
 
-/// The words of the command line.
+/// The words of the command line. One that is not UTF-8 is an error.
 fn words(rt: &HostRuntime) -> io::Result<Vec<String>> {
     let words = env::args(rt)?.collect(rt.alloc())?;
     Ok(words)
 }
 
 fn main(rt: HostRuntime) -> ExitCode {
-    let Ok(words) = words(&rt) else {
-        let _ = println!(rt; "fault memory");
-        return ExitCode::FAILURE;
+    let words = match words(&rt) {
+        Ok(words) => words,
+        Err(error) => {
+            if error.kind() == ErrorKind::InvalidData {
+                return ExitCode::from(refuse_words(&mut rt.stderr()));
+            }
+            let _ = println!(rt; "fault memory");
+            return ExitCode::FAILURE;
+        }
     };
     let status = run_words(
         rt.alloc(),

@@ -1,7 +1,7 @@
 use Rattle.std.proofs.Common.{◌≡◌, ◌<◌, length, rules, arith, refl}
 use Rattle.std.proofs.lemmas.Result.{on_ok_weaker, on_err_weaker}
 use Rattle.vac_cli.proofs.Cutting.{nothing_begun}
-use Rattle.vac_cli.proofs.Extends.{on_err}
+use Rattle.vac_lines.proofs.Extends.{on_err}
 use Rattle.vac_cli.proofs.Progress.{started, started_at, chunk_run, chunk_stopped, read_kept, run_ended, end_run, end_stopped}
 use Rattle.vac_cli.proofs.script.run_script.Goals as goal
 use Rattle.vac_cli.proofs.script.run_script.Goals.{in-Ok+in_ok-run_chunk-in-Ok, in-Err+else-ne}

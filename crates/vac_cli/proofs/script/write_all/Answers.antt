@@ -1,6 +1,6 @@
 use Rattle.std.proofs.Common.{arith, take-add, length-drop}
 use Rattle.std.proofs.KnownBytes.{Appends-kept, Appends-trans}
-use Rattle.vac_cli.proofs.Extends.{taken_end}
+use Rattle.vac_lines.proofs.Extends.{taken_end}
 use Rattle.vac_cli.proofs.script.write_all.Goals as goal
 use Rattle.vac_cli.proofs.script.write_all.Goals.{in-Ok, in-Err+else-ne}
 

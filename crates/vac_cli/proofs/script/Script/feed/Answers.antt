@@ -1,8 +1,8 @@
 use Rattle.std.proofs.Common.{ap, ◌∙◌, subst, sym}
-use Rattle.vac_cli.specs.Text.{Extends}
+use Rattle.vac_lines.specs.Text.{Extends}
 use Rattle.vac_cli.specs.Script.{HasBegun}
 use Rattle.vac_cli.proofs.Cutting.{line_run, line_stopped, line_kept, has_begun, nothing_begun}
-use Rattle.vac_cli.proofs.Extends.{on_err}
+use Rattle.vac_lines.proofs.Extends.{on_err}
 use Rattle.vac_cli.proofs.script.Script.feed.Goals as goal
 
 pub loop-line-preserved : goal.loop-line-preserved

@@ -1,0 +1,65 @@
+-- What was appended to a list before a call failed.
+use Rattle.std.proofs.Common.{◌≡◌, ℕ, List, [], ◌∷◌, ◌++◌, length, take, refl, arith, ap, sym, ◌∙◌, Result, Ok, Err, OnOk, OnErr, append_assoc, min, drop, ◌-◌, length-drop}
+use Rattle.std.proofs.Common.{inl, inr}
+use Rattle.std.proofs.lemmas.List.{take_all, take-append-drop}
+use Rattle.std.proofs.lemmas.Bool.{cases_lt}
+use Rattle.vac_lines.specs.Text.{Extends}
+
+take_front : (xs zs : List ℕ) → take (length xs) (xs ++ zs) ≡ xs
+take_front [] zs = refl
+take_front (x ∷ xs) zs = ap (λ t. x ∷ t) (take_front xs zs)
+
+front_taken : (xs zs ws : List ℕ) → take (length (xs ++ zs)) ws ≡ xs ++ zs → take (length xs) ws ≡ xs
+front_taken [] zs ws h = refl
+front_taken (x ∷ xs) zs [] h = cc
+front_taken (x ∷ xs) zs (w ∷ ws) h =
+    let head : w ≡ x = cc in
+    let tail : take (length (xs ++ zs)) ws ≡ xs ++ zs = cc in
+    cc (front_taken xs zs ws tail, head)
+
+-- what extends a longer list extends its front
+pub extends_front : (xs ys zs ws : List ℕ) → ys ≡ xs ++ zs → Extends ys ws → Extends xs ws
+extends_front xs ys zs ws e h = front_taken xs zs ws (rw e at h)
+
+-- a list with something at its end extends it
+pub extends_more : (xs ys zs : List ℕ) → ys ≡ xs ++ zs → Extends xs ys
+extends_more xs ys zs e = rw e (take_front xs zs)
+
+-- three texts, appended one after another
+pub three_appended : {T E : Type 0} (r : Result T E) (old a b new x y z : List ℕ) → a ≡ old ++ x → b ≡ a ++ y → OnOk r (new ≡ b ++ z) → OnOk r (new ≡ old ++ (x ++ y ++ z))
+three_appended (Ok t) old a b new x y z e f g = simp (g, f, e, append_assoc)
+three_appended (Err t) old a b new x y z e f g = tt
+
+-- two texts, appended one after another
+pub two_appended : {T E : Type 0} (r : Result T E) (old a new x y z : List ℕ) → a ≡ old ++ x → y ≡ z → OnOk r (new ≡ a ++ y) → OnOk r (new ≡ old ++ (x ++ z))
+two_appended (Ok t) old a new x y z e f g = simp (g, f, e, append_assoc)
+two_appended (Err t) old a new x y z e f g = tt
+
+-- a fact that holds where a call failed
+pub on_err : {T E P : Type 0} (r : Result T E) → P → OnErr r P
+on_err (Ok t) p = tt
+on_err (Err e) p = p
+
+-- a front that is cut at the end of the list, or before
+pub take_least : {X : Type 0} (n k : ℕ) (xs : List X) → k ≡ min n (length xs) → take k xs ≡ take n xs
+take_least n k xs e =
+    elim (cases_lt n (length xs)) [
+      | inl h ↦ let same : k ≡ n = omega arith in ap (λ i. take i xs) same
+      | inr h ↦ take_all k xs (omega arith) ∙ sym (take_all n xs (omega arith))
+    ]
+
+-- what is left of a list, cut at its end
+pub taken_end : (xs : List ℕ) (i : ℕ) → take (length xs - i) (drop i xs) ≡ drop i xs
+taken_end xs i = let len = length-drop i xs in take_all (length xs - i) (drop i xs) (omega arith)
+
+-- what is extended is extended by more
+pub extends_longer : (xs ys zs : List ℕ) → Extends xs ys → Extends xs (ys ++ zs)
+extends_longer xs ys zs h = extends_front xs ys (drop (length xs) ys) (ys ++ zs) (sym (ap (λ t. t ++ drop (length xs) ys) (sym h) ∙ take-append-drop (length xs) ys)) (extends_more ys (ys ++ zs) zs refl)
+
+-- what extends a text that extends another
+pub extends_through : (xs ys zs : List ℕ) → Extends xs ys → Extends ys zs → Extends xs zs
+extends_through xs ys zs h g = extends_front xs ys (drop (length xs) ys) zs (sym (ap (λ t. t ++ drop (length xs) ys) (sym h) ∙ take-append-drop (length xs) ys)) g
+
+-- a front of a text
+pub extends_taken : (n : ℕ) (xs : List ℕ) → Extends (take n xs) xs
+extends_taken n xs = extends_more (take n xs) xs (drop n xs) (sym (take-append-drop n xs))

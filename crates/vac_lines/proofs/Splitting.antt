@@ -1,0 +1,33 @@
+-- How a line is cut into words while it is read.
+use Rattle.std.proofs.Common.{◌≡◌, ◌≢◌, ℕ, ◌+◌, ◌≤◌, Bool, false, List, [], ◌∷◌, ◌++◌, length, map, ap, sym, ◌∙◌, arith, append_assoc, length-append, Bor, ne_eqb, refl, eqb}
+use Rattle.std.specs.List.{All}
+use Rattle.std.proofs.lemmas.List.{length-map, map-append}
+use Rattle.std.proofs.lemmas.List.Elements.{All-weaker}
+use Rattle.std.proofs.lemmas.List.Splits.{slice_split_at, slice_split_none, length-slice_split}
+use Rattle.vac_lines.specs.Lines.{words_of, texts, HasNo}
+
+-- the test for a space
+abbrev is_space : ℕ → Bool
+is_space b = eqb b 32
+
+no_space : (text : List ℕ) → HasNo 32 text → All (λ b. is_space b ≡ false) text
+no_space text h = All-weaker (λ b. b ≢ 32) (λ b. is_space b ≡ false) (λ b n. ne_eqb b 32 n) text h
+
+-- one word more
+pub word_cut : (line behind rest : List ℕ) (words : List (Bor (List ℕ))) (w : Bor (List ℕ)) → words_of line ≡ texts words ++ words_of rest
+    → HasNo 32 w.now → rest ≡ w.now ++ 32 ∷ behind → words_of line ≡ texts (words ++ w ∷ []) ++ words_of behind
+word_cut line behind rest words w e h f =
+    e ∙ ap (λ r. texts words ++ words_of r) f ∙ ap (λ t. texts words ++ t) (slice_split_at is_space w.now 32 behind (no_space w.now h) refl)
+    ∙ sym (append_assoc (texts words) (w.now ∷ []) (words_of behind)) ∙ ap (λ t. t ++ words_of behind) (sym (map-append (λ (v : Bor (List ℕ)). v.now) words (w ∷ [])))
+
+-- the last word
+pub word_last : (line : List ℕ) (words : List (Bor (List ℕ))) (w : Bor (List ℕ)) → words_of line ≡ texts words ++ words_of w.now
+    → HasNo 32 w.now → texts (words ++ w ∷ []) ≡ words_of line
+word_last line words w e h =
+    map-append (λ (v : Bor (List ℕ)). v.now) words (w ∷ []) ∙ ap (λ t. texts words ++ t) (sym (slice_split_none is_space w.now (no_space w.now h))) ∙ sym e
+
+-- there is one word at least in the rest
+pub words_left : (line rest : List ℕ) (words : List (Bor (List ℕ))) → words_of line ≡ texts words ++ words_of rest → length words + 1 ≤ length (words_of line)
+words_left line rest words e =
+    let one = length-slice_split is_space rest in
+    omega (arith, ap length e, one, length-append (texts words) (words_of rest), length-map words (λ (v : Bor (List ℕ)). v.now))

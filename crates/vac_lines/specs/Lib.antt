@@ -1,0 +1,6 @@
+pub mod Lines
+pub mod Names
+pub mod Words
+pub mod LineTable
+pub mod Text
+pub mod Script

@@ -1,0 +1,21 @@
+//! The script language of the reservation system: lines of bytes as tasks, and replies as text.
+//!
+//! What a whole script writes, and the state that it leaves, is a definition of `specs/`.
+#![tactic(auto)]
+
+mod booking_lines;
+mod cutting;
+mod fault;
+mod item_lines;
+mod line;
+mod lists;
+mod names;
+mod numbers;
+mod reply;
+mod words;
+
+pub use cutting::cut_at;
+pub use fault::LineFault;
+pub use line::{LINE_BYTES, read_line};
+pub use numbers::read_memory_word;
+pub use reply::{print_fault, print_reply, refusal_name};

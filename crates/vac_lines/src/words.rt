@@ -1,0 +1,111 @@
+//! What stands at a place of a line: a kind, an id, a count, a price.
+
+ghost use Rattle.std.specs.Prelude.{◌≡◌, ◌≤◌, IfOk, true};
+ghost use Rattle.vac_model.specs.Amounts.{is_id, is_amount, is_optional_amount, is_unit_count};
+ghost use Rattle.vac_lines.specs.LineTable.{at_place, at_stock, at_kind, at_id, at_amount, at_price, at_units, at_booking, at_number};
+
+use crate::fault::LineFault;
+use crate::numbers::read_number;
+use vac_model::Kind;
+use vac_model::limits::{MOST_AMOUNT, MOST_UNITS_AT_ONCE};
+
+/// The most digits that a number of a line has. Zeros in front count.
+const MOST_DIGITS: usize = 10;
+
+/// The greatest id.
+const MOST_ID: u32 = u32::MAX;
+
+/// The item that two words name.
+pub(crate) fn place_at(kind: &[u8], id: &[u8]) -> Result<(Kind, u32), LineFault>
+    ensures place { result ≡ at_place kind.now id.now }
+    ensures in_range { IfOk result (λ place. is_id place.1 ≡ true) }
+{
+    let kind = kind_at(kind)?;
+    Ok((kind, id_at(id)?))
+}
+
+/// The customer and the item that three words name.
+pub(crate) fn booking_at(
+    customer: &[u8],
+    kind: &[u8],
+    id: &[u8],
+) -> Result<(u32, Kind, u32), LineFault>
+    ensures booking { result ≡ at_booking customer.now kind.now id.now }
+    ensures customer_in_range { IfOk result (λ booking. is_id booking.0 ≡ true) }
+    ensures item_in_range { IfOk result (λ booking. is_id booking.2 ≡ true) }
+{
+    let customer = id_at(customer)?;
+    let (kind, id) = place_at(kind, id)?;
+    Ok((customer, kind, id))
+}
+
+/// The count, and the price or none, that two words write.
+pub(crate) fn stock_at(num: &[u8], price: &[u8]) -> Result<(u32, Option<u32>), LineFault>
+    ensures stock { result ≡ at_stock num.now price.now }
+    ensures num_in_range { IfOk result (λ stock. is_amount stock.0 ≡ true) }
+    ensures price_in_range { IfOk result (λ stock. is_optional_amount stock.1 ≡ true) }
+{
+    let num = amount_at(num)?;
+    Ok((num, price_at(price)?))
+}
+
+/// The kind of item that a word names.
+fn kind_at(word: &[u8]) -> Result<Kind, LineFault>
+    ensures { result ≡ at_kind word.now }
+{
+    if word == b"car".as_slice() {
+        Ok(Kind::Car)
+    } else if word == b"flight".as_slice() {
+        Ok(Kind::Flight)
+    } else if word == b"room".as_slice() {
+        Ok(Kind::Room)
+    } else {
+        Err(LineFault::BadKind)
+    }
+}
+
+/// The id that a word writes.
+pub(crate) fn id_at(word: &[u8]) -> Result<u32, LineFault>
+    ensures id { result ≡ at_id word.now }
+    ensures in_range { IfOk result (λ id. is_id id ≡ true) }
+{
+    number_at(word, 1, MOST_ID)
+}
+
+/// The count or price that a word writes.
+pub(crate) fn amount_at(word: &[u8]) -> Result<u32, LineFault>
+    ensures amount { result ≡ at_amount word.now }
+    ensures in_range { IfOk result (λ amount. is_amount amount ≡ true) }
+{
+    number_at(word, 0, MOST_AMOUNT)
+}
+
+/// The number of units to reserve that a word writes.
+pub(crate) fn units_at(word: &[u8]) -> Result<u32, LineFault>
+    ensures units { result ≡ at_units word.now }
+    ensures in_range { IfOk result (λ num. is_unit_count num ≡ true) }
+{
+    number_at(word, 1, MOST_UNITS_AT_ONCE)
+}
+
+/// The price that a word writes, or `None` for a dash.
+fn price_at(word: &[u8]) -> Result<Option<u32>, LineFault>
+    ensures price { result ≡ at_price word.now }
+    ensures in_range { IfOk result (λ price. is_optional_amount price ≡ true) }
+{
+    if word == b"-".as_slice() {
+        return Ok(None);
+    }
+    Ok(Some(amount_at(word)?))
+}
+
+/// The number between two bounds that a word writes.
+fn number_at(word: &[u8], least: u32, most: u32) -> Result<u32, LineFault>
+    ensures number { result ≡ at_number least most word.now }
+    ensures in_range { IfOk result (λ number. (least ≤ number) × (number ≤ most)) }
+{
+    match read_number(word, MOST_DIGITS, u64::from(least), u64::from(most)) {
+        Some(number) => Ok(number as u32),
+        None => Err(LineFault::BadNumber),
+    }
+}
