@@ -1,14 +1,14 @@
 -- A table with the number of its entries over the calls of this crate, by their contracts alone.
-use Rattle.std.proofs.Common.{◌≡◌, ◌≢◌, ℕ, zero, suc, ◌+◌, ◌-◌, ◌*◌, ◌<◌, ◌≤◌, ◌^◌, List, [], ◌∷◌, length, slice_index, unwrap_or, Option, Some, None, refl, sym, ap, ◌∙◌, subst, arith, get_or}
+use Rattle.std.proofs.Common.{◌≡◌, ℕ, zero, suc, ◌+◌, ◌-◌, ◌*◌, ◌<◌, ◌≤◌, List, [], ◌∷◌, length, slice_index, unwrap_or, Option, Some, refl, sym, ap, ◌∙◌, subst, arith, get_or}
 use Rattle.std.specs.FinMap.{get}
 use Rattle.stm_words.specs.View.{View, Sees, Kept, Loaded}
 use Rattle.stm_words.specs.Plain.{flat_view, numbered}
 use Rattle.stm_words.specs.PlainSeen.{get_at}
 use Rattle.tx_alloc.specs.Steps.{mem}
-use Rattle.tx_alloc.specs.Rows.{Rows, put_row, cut_row}
+use Rattle.tx_alloc.specs.Rows.{put_row, cut_row}
 use Rattle.tx_alloc.proofs.Times.{length_put, length_cut}
-use Rattle.tx_tree.specs.Table.{IsTable, Table, HasTable, Found, NextFound, IsFresh, Inserted, Removed}
-use Rattle.tx_tree.specs.Counted.{SomeEntries, HasEntries}
+use Rattle.tx_tree.specs.Table.{IsTable, Table, HasTable, Found, IsFresh, Inserted, Removed}
+use Rattle.tx_tree.specs.Counted.{HasEntries}
 use Rattle.tx_tree.proofs.TableFrame.{table_empty}
 
 pub has_table : (s : View) (root blocks count : ℕ) → HasEntries s root blocks count → HasTable s root

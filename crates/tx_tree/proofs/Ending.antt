@@ -1,14 +1,14 @@
 -- From a place in a tree to the whole, and steps at a place given by sides.
-use Rattle.std.proofs.Common.{◌≡◌, ◌≢◌, inl, inr, ℕ, ◌+◌, ◌-◌, ◌<◌, ◌≤◌, Bool, true, false, not, cond, List, length, refl, sym, ap, ◌∙◌, subst, arith}
+use Rattle.std.proofs.Common.{◌≡◌, ℕ, ◌+◌, Bool, true, false, not, cond, ◌∙◌, subst}
 use Rattle.stm_words.specs.View.{IsWrite}
 use Rattle.tx_alloc.specs.Rows.{Rows}
-use Rattle.tx_tree.specs.Tree.{Tree, leaf, node, join, rows}
+use Rattle.tx_tree.specs.Tree.{Tree, join, rows}
 use Rattle.tx_tree.specs.Way.{Way, top, step, plug}
 use Rattle.tx_tree.specs.Balance.{Sound}
-use Rattle.tx_tree.specs.Hangs.{off, link_of, Hangs, Zip, Touches, Turning}
+use Rattle.tx_tree.specs.Hangs.{off, link_of, Zip, Touches, Turning}
 use Rattle.tx_tree.specs.Mending.{Rising, Ends}
 use Rattle.tx_tree.proofs.Shapes.{even_plug, apart_plug}
-use Rattle.tx_tree.proofs.Zipped.{up, down, Joined, joined, off_range}
+use Rattle.tx_tree.proofs.Zipped.{up, down}
 use Rattle.tx_tree.proofs.Writes.{touches_both, painted, turned}
 
 pub up_all : (m : ℕ → ℕ) (n root : ℕ) (total : ℕ → ℕ) (w : Way) (t : Tree) → Zip m n root total w t → Zip m n root total top (plug w t)

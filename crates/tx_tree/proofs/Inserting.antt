@@ -1,19 +1,18 @@
 -- An insertion: the block is hung where the search ended, and the tree is settled.
-use Rattle.std.proofs.Common.{◌≡◌, ◌≢◌, inl, inr, ℕ, ◌+◌, ◌-◌, ◌<◌, ◌≤◌, ◌^◌, Bool, true, false, List, [], ◌∷◌, ◌++◌, length, slice_index, refl, sym, ap, ◌∙◌, subst, arith, append_assoc}
+use Rattle.std.proofs.Common.{◌≡◌, ◌≢◌, inl, inr, ℕ, ◌+◌, ◌<◌, ◌≤◌, true, List, ◌∷◌, ◌++◌, length, slice_index, refl, sym, ap, ◌∙◌, subst, arith, append_assoc}
 use Rattle.stm_words.specs.Seen.{same_or, some_le}
 use Rattle.stm_words.specs.View.{View, Sees, Stands, Kept, Stored, IsWrite}
-use Rattle.tx_alloc.specs.Pool.{IsBlock, with_block}
+use Rattle.tx_alloc.specs.Pool.{with_block}
 use Rattle.tx_alloc.specs.Steps.{mem, kept_both, write_at_start}
 use Rattle.tx_alloc.specs.Rows.{Rows, times, put_row, block_at, Relinks, AllBelow, IsFrom}
 use Rattle.tx_tree.specs.Tree.{Tree, leaf, node, rows}
 use Rattle.tx_tree.specs.Way.{Way, plug, front, behind}
-use Rattle.tx_tree.specs.Balance.{Raised}
-use Rattle.tx_tree.specs.Hangs.{has, link_of, Zip, Touches}
+use Rattle.tx_tree.specs.Hangs.{link_of, Zip, Touches}
 use Rattle.tx_tree.specs.Table.{IsTable, Table, HasTable, Fresh, IsFresh, Inserted, Found}
-use Rattle.tx_tree.specs.Steps.{IsPath, Place, Sought}
+use Rattle.tx_tree.specs.Steps.{Place, Sought}
 use Rattle.tx_tree.specs.Mending.{Ends, RaisedAt, HasRaised, Settled}
 use Rattle.tx_tree.proofs.Shapes.{rows_plug, even_parts, apart_parts}
-use Rattle.tx_alloc.proofs.Order.{Split, put_between, at_between, none_between, from_put}
+use Rattle.tx_alloc.proofs.Order.{put_between, at_between, none_between, from_put}
 use Rattle.tx_tree.proofs.Writes.{touches_both}
 use Rattle.tx_tree.proofs.Moves.{hung, no_tree}
 use Rattle.tx_tree.proofs.TableFrame.{table_loose}

@@ -1,19 +1,18 @@
 -- A tree that lacks a black node: the steps, in one memory.
-use Rattle.std.proofs.Common.{◌≡◌, ◌≢◌, inl, inr, ℕ, ◌+◌, ◌-◌, ◌%◌, ◌<◌, ◌≤◌, Bool, true, false, not, cond, List, length, slice_index, refl, sym, ap, ◌∙◌, subst, arith, append_assoc}
+use Rattle.std.proofs.Common.{◌≡◌, ◌≢◌, ℕ, ◌+◌, ◌-◌, Bool, true, false, not, cond, refl, sym, ap, ◌∙◌, subst, arith, append_assoc}
 use Rattle.stm_words.specs.View.{IsWrite}
 use Rattle.tx_alloc.specs.Pool.{IsBlock}
-use Rattle.tx_alloc.specs.Rows.{Rows}
 use Rattle.tx_tree.specs.Tree.{Tree, leaf, node, join, rows, is_red}
-use Rattle.tx_tree.specs.Way.{Way, top, step, plug, depth}
-use Rattle.tx_tree.specs.Balance.{Sound, Short}
-use Rattle.tx_tree.specs.Hangs.{Hangs, off, link_of, Zip, Touches, Turning}
-use Rattle.tx_tree.specs.Mending.{Rising, Ends, ShortAt}
+use Rattle.tx_tree.specs.Way.{Way, step, plug}
+use Rattle.tx_tree.specs.Balance.{Short}
+use Rattle.tx_tree.specs.Hangs.{Hangs, off, Zip, Turning}
+use Rattle.tx_tree.specs.Mending.{Rising, Ends}
 use Rattle.tx_tree.specs.Lifting.{LiftAt, ShortHere}
 use Rattle.tx_tree.proofs.Shapes.{plug_rows}
-use Rattle.tx_tree.proofs.Mends.{rows_turn, rows_swap, mend_outer, mend_inner, mend_red_above, mend_black_above, mend_red}
-use Rattle.tx_tree.proofs.Zipped.{off_range, off_across, up, down}
-use Rattle.tx_tree.proofs.Writes.{touches_none, touches_both, painted, turned}
-use Rattle.tx_tree.proofs.Ending.{ends_sound, ends_after, beside, back, painted_join, risen}
+use Rattle.tx_tree.proofs.Mends.{rows_swap, mend_outer, mend_inner, mend_red_above, mend_black_above}
+use Rattle.tx_tree.proofs.Zipped.{off_across, up, down}
+use Rattle.tx_tree.proofs.Writes.{touches_both, painted, turned}
+use Rattle.tx_tree.proofs.Ending.{ends_sound, beside, back, painted_join, risen}
 use Rattle.tx_tree.proofs.Raised.{not_red, RedNode, red_node}
 
 absurd_red : {A : Type 0} → true ≡ false → A
@@ -33,7 +32,6 @@ pub record Beside (m : ℕ → ℕ) (n q : ℕ) (right : Bool) (o : Tree) : Type
 
 pub beside_node : (m : ℕ → ℕ) (n root : ℕ) (total : ℕ → ℕ) (w : Way) (right c : Bool) (k p q : ℕ) (o t : Tree) (h : ℕ) → Zip m n root total (step right c (k, p) o w) t → m (p + off (not right)) ≡ q → Short (step right c (k, p) o w) t h → Beside m n q right o
 beside_node m n root total w right c k p q leaf t h z e s = absurd (omega (arith, s.way.0.1))
-
 beside_node m n root total w false c k p q (node d l (kq, q') r) t h z e s =
     let i = z.way.1.0 in
     let at : q' ≡ q = sym i.0.at ∙ e in

@@ -1,16 +1,16 @@
 -- A tree that lacks a black node, over every memory that there may be.
-use Rattle.std.proofs.Common.{◌≡◌, ◌≢◌, inl, inr, ℕ, ◌+◌, ◌-◌, ◌%◌, ◌<◌, ◌≤◌, ◌^◌, Bool, true, false, not, cond, List, length, slice_index, refl, sym, ap, ◌∙◌, subst, arith, append_assoc}
-use Rattle.stm_words.specs.Seen.{same_or, some_le}
+use Rattle.std.proofs.Common.{◌≡◌, ◌≢◌, inl, inr, ℕ, ◌+◌, ◌-◌, ◌%◌, ◌<◌, ◌≤◌, Bool, true, false, not, cond, List, length, slice_index, refl, sym, ap, ◌∙◌, subst, arith, append_assoc}
+use Rattle.stm_words.specs.Seen.{some_le}
 use Rattle.stm_words.specs.View.{View, Sees, Stands, Kept, Loaded, Stored, IsWrite}
 use Rattle.tx_alloc.specs.Pool.{IsBlock}
 use Rattle.tx_alloc.specs.Steps.{mem, kept_none, kept_both, at_start, write_at_start}
 use Rattle.tx_alloc.specs.Rows.{Rows}
-use Rattle.tx_tree.specs.Tree.{Tree, leaf, node, join, rows, is_red}
+use Rattle.tx_tree.specs.Tree.{Tree, node, join, rows}
 use Rattle.tx_tree.specs.Way.{Way, top, step, plug, depth}
-use Rattle.tx_tree.specs.Balance.{Sound, Short}
-use Rattle.tx_tree.specs.Hangs.{Hangs, off, link_of, Zip, Touches, Turning}
+use Rattle.tx_tree.specs.Balance.{Short}
+use Rattle.tx_tree.specs.Hangs.{off, link_of, Zip, Touches, Turning}
 use Rattle.tx_tree.specs.Steps.{IsPath, Leads, Reached, Coloured}
-use Rattle.tx_tree.specs.Mending.{Rising, Raising, Rotated, HasWay, Ends, ShortAt, SomeShort, HasShort, Mended}
+use Rattle.tx_tree.specs.Mending.{Rising, Raising, Rotated, HasWay, Ends, ShortAt, HasShort, Mended}
 use Rattle.tx_tree.specs.Lifting.{LiftAt, SomeLift, HasLift, ShortHere, Lifted, ShortUp, Stepped}
 use Rattle.tx_tree.proofs.Shapes.{plug_rows}
 use Rattle.tx_tree.proofs.Mends.{mend_red}
@@ -18,10 +18,10 @@ use Rattle.tx_tree.proofs.Zipped.{off_range, off_across, up, down, link_is, way_
 use Rattle.tx_tree.proofs.Writes.{touches_none, touches_both}
 use Rattle.tx_tree.proofs.Moves.{pointer}
 use Rattle.tx_tree.proofs.Seeking.{path_at}
-use Rattle.tx_tree.proofs.Ways.{LinkIs, link_at, LinkOf, way_node}
-use Rattle.tx_tree.proofs.Ending.{ends_sound, ends_after, risen}
+use Rattle.tx_tree.proofs.Ways.{link_at}
+use Rattle.tx_tree.proofs.Ending.{ends_after, risen}
 use Rattle.tx_tree.proofs.Raised.{not_red}
-use Rattle.tx_tree.proofs.Lifted.{Beside, beside_node, lift_outer, lift_inner, NoneRed, lift_red, lift_black}
+use Rattle.tx_tree.proofs.Lifted.{beside_node, lift_outer, lift_inner, NoneRed, lift_red, lift_black}
 
 absurd_red : {A : Type 0} → true ≡ false → A
 absurd_red e = cc
@@ -360,8 +360,18 @@ has_lift_red s s4 xs d q q' h b = record {
   under = λ image i.
       let a = h.under image (b.kept.seen image i) in
       let r = b.goes image i a.root a.total a.way a.tree a.blacks a.at in
-      record { root = a.root; total = a.total; way = r.up; right = r.right; colour = true; key = r.key; other = r.other; tree = a.tree; blacks = a.blacks;
-        at = subst (λ (x : ℕ). LiftAt (mem s4 image) (length image) a.root a.total (q + (slice_index xs d % 8)) (slice_index xs d - slice_index xs d % 8) x (slice_index xs d % 8) r.up r.right true r.key r.other a.tree a.blacks) (b.is image i) r.at };
+      record {
+        root = a.root;
+        total = a.total;
+        way = r.up;
+        right = r.right;
+        colour = true;
+        key = r.key;
+        other = r.other;
+        tree = a.tree;
+        blacks = a.blacks;
+        at = subst (λ (x : ℕ). LiftAt (mem s4 image) (length image) a.root a.total (q + (slice_index xs d % 8)) (slice_index xs d - slice_index xs d % 8) x (slice_index xs d % 8) r.up r.right true r.key r.other a.tree a.blacks) (b.is image i) r.at;
+      };
 }
 
 pub stepped_red : (s s4 s5 : View) (xs : List ℕ) (d q q' : ℕ) (done : Bool) → RedSeen s s4 xs d q q' → Lifted s4 s5 (q + (slice_index xs d % 8)) (slice_index xs d - slice_index xs d % 8) q' (slice_index xs d % 8) done → Stepped s s5 xs d done

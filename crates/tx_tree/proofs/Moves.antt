@@ -1,16 +1,15 @@
 -- What inserting, unlinking and replacing a block make of a way and the tree at its end.
-use Rattle.std.proofs.Common.{◌≡◌, ◌≢◌, ◌⊎◌, inl, inr, ℕ, ◌+◌, ◌-◌, ◌<◌, ◌≤◌, Bool, true, false, not, cond, nat_eq, List, [], ◌∷◌, refl, sym, ap, ◌∙◌, subst, arith, add-zero}
+use Rattle.std.proofs.Common.{◌≡◌, ◌≢◌, inl, inr, ℕ, ◌+◌, ◌-◌, ◌<◌, ◌≤◌, Bool, true, not, [], ◌∷◌, refl, sym, ap, ◌∙◌, subst, arith}
 use Rattle.std.proofs.lemmas.Bool.Decides.{nat_tests}
-use Rattle.std.proofs.lemmas.Bool.{cases_lt}
 use Rattle.stm_words.specs.View.{IsWrite}
 use Rattle.stm_words.specs.Seen.{same_or}
 use Rattle.tx_alloc.specs.Pool.{IsBlock, with_block}
 use Rattle.tx_alloc.specs.Rows.{times}
 use Rattle.tx_tree.specs.Tree.{Tree, leaf, node, join}
-use Rattle.tx_tree.specs.Way.{Way, top, step, plug, under}
-use Rattle.tx_tree.specs.Hangs.{IsNode, Hangs, has, off, link_of, HangsWay, way_has, Zip, Touches, without}
-use Rattle.tx_tree.proofs.Zipped.{off_range, off_across, one_self, self_one, hangs_frame, has_block, way_block, InBlock, link_is, Joined, joined, rejoined, has_join, link_away, InWay, way_kept, way_away}
-use Rattle.tx_tree.proofs.Writes.{touches_none, touches_both, touches_more, touch_block, touch_link, AtNode, at_node, at_join}
+use Rattle.tx_tree.specs.Way.{Way}
+use Rattle.tx_tree.specs.Hangs.{Hangs, has, off, link_of, way_has, Zip, Touches, without}
+use Rattle.tx_tree.proofs.Zipped.{hangs_frame, has_block, joined, has_join, link_away, way_kept, way_away}
+use Rattle.tx_tree.proofs.Writes.{touches_both, touch_block, touch_link, at_node, at_join}
 
 pub block_count : (total : ℕ → ℕ) (b x : ℕ) → (x ≡ b → with_block total b x ≡ total x + 1) × (x ≢ b → with_block total b x ≡ total x)
 block_count total b x = ((λ e. grind (arith, nat_tests)), (λ e. grind (arith, nat_tests)))
@@ -56,9 +55,9 @@ hung m m1 m2 m3 m' n root total w key b z block none is w1 w2 w3 w4 =
         low = z.low;
       },
       touches_both m m1 m' root (with_block total b) (touch_block m m1 root (with_block total b) b 1 0 w1 here (omega arith) (omega arith))
-      (touches_both m1 m2 m' root (with_block total b) (touch_block m1 m2 root (with_block total b) b 2 0 w2 here (omega arith) (omega arith))
-      (touches_both m2 m3 m' root (with_block total b) (touch_block m2 m3 root (with_block total b) b 3 1 w3 here (omega arith) (omega arith))
-      (touch_link m3 m' root (with_block total b) w b w4 (λ x. omega (arith, z.count x, all x))))),
+          (touches_both m1 m2 m' root (with_block total b) (touch_block m1 m2 root (with_block total b) b 2 0 w2 here (omega arith) (omega arith))
+          (touches_both m2 m3 m' root (with_block total b) (touch_block m2 m3 root (with_block total b) b 3 1 w3 here (omega arith) (omega arith))
+          (touch_link m3 m' root (with_block total b) w b w4 (λ x. omega (arith, z.count x, all x))))),
     )
 
 -- a node with one side at most goes, and the other side takes its place
@@ -127,9 +126,9 @@ replaced m m1 m2 m3 m' n root total w c l k a t key b v1 v2 v3 z block none is e
         low = z.low;
       },
       touches_both m m1 m' root (with_block total b) (touch_block m m1 root (with_block total b) b 1 v1 w1 here (omega arith) (omega arith))
-      (touches_both m1 m2 m' root (with_block total b) (touch_block m1 m2 root (with_block total b) b 2 v2 w2 here (omega arith) (omega arith))
-      (touches_both m2 m3 m' root (with_block total b) (touch_block m2 m3 root (with_block total b) b 3 v3 w3 here (omega arith) (omega arith))
-      (touch_link m3 m' root (with_block total b) w b w4 (λ x. omega (arith, z.count x, all x))))),
+          (touches_both m1 m2 m' root (with_block total b) (touch_block m1 m2 root (with_block total b) b 2 v2 w2 here (omega arith) (omega arith))
+          (touches_both m2 m3 m' root (with_block total b) (touch_block m2 m3 root (with_block total b) b 3 v3 w3 here (omega arith) (omega arith))
+          (touch_link m3 m' root (with_block total b) w b w4 (λ x. omega (arith, z.count x, all x))))),
     )
 
 -- what is at the hole, by the word that leads there

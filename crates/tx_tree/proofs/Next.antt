@@ -1,16 +1,16 @@
 -- The least node of the right side takes the place of a node that goes, in one memory.
-use Rattle.std.proofs.Common.{◌≡◌, ◌≢◌, inl, inr, ℕ, ◌+◌, ◌-◌, ◌<◌, ◌≤◌, Bool, true, false, not, cond, nat_eq, List, [], ◌∷◌, ◌++◌, length, slice_index, refl, sym, ap, ◌∙◌, subst, arith, append_assoc, add-zero}
+use Rattle.std.proofs.Common.{◌≡◌, inl, inr, ℕ, ◌+◌, ◌-◌, Bool, true, false, cond, nat_eq, [], ◌∷◌, ◌++◌, refl, sym, ap, ◌∙◌, subst, arith}
 use Rattle.stm_words.specs.Seen.{same_or}
 use Rattle.stm_words.specs.View.{IsWrite}
-use Rattle.tx_alloc.specs.Pool.{IsBlock, with_block}
-use Rattle.tx_alloc.specs.Rows.{Rows, times}
-use Rattle.tx_tree.specs.Tree.{Tree, leaf, node, join, rows, blacks, is_red, IsEven, IsApart}
+use Rattle.tx_alloc.specs.Pool.{with_block}
+use Rattle.tx_alloc.specs.Rows.{Rows}
+use Rattle.tx_tree.specs.Tree.{Tree, leaf, node, rows, blacks, is_red, IsEven, IsApart}
 use Rattle.tx_tree.specs.Way.{Way, top, step, plug, under, front, behind, IsEvenWay, IsApartWay}
 use Rattle.tx_tree.specs.Balance.{Sound}
-use Rattle.tx_tree.specs.Hangs.{off, link_of, Zip, Touches, without}
-use Rattle.tx_tree.proofs.Shapes.{even_plug, even_parts, apart_plug, apart_parts, apart_black, rows_plug, plug_under}
+use Rattle.tx_tree.specs.Hangs.{link_of, Zip, Touches, without}
+use Rattle.tx_tree.proofs.Shapes.{even_plug, even_parts, apart_plug, apart_parts, rows_plug, plug_under}
 use Rattle.tx_tree.proofs.Zipped.{up, down, up_under, down_under, link_away}
-use Rattle.tx_tree.proofs.Writes.{touches_both, touches_more, AtNode, at_node}
+use Rattle.tx_tree.proofs.Writes.{touches_both, touches_more, at_node}
 use Rattle.tx_tree.proofs.Moves.{block_count, without_count, recounted, unlinked, replaced}
 
 -- the row of a node in the midst of a way does not matter for black nodes and colours

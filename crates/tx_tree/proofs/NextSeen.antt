@@ -1,19 +1,18 @@
 -- The least node of the right side takes the place of a node that goes, over every memory that there may be.
-use Rattle.std.proofs.Common.{◌≡◌, ◌≢◌, inl, inr, ℕ, ◌+◌, ◌-◌, ◌<◌, ◌≤◌, ◌^◌, Bool, true, false, not, cond, [], ◌∷◌, ◌++◌, List, length, slice_index, slice_set, refl, sym, ap, ◌∙◌, subst, arith, get_or-set_same, get_or-set_other, length-set}
-use Rattle.stm_words.specs.Seen.{same_or, some_le}
-use Rattle.stm_words.specs.View.{View, Sees, Stands, Kept, Loaded, Stored, IsWrite}
-use Rattle.tx_alloc.specs.Steps.{mem, kept_none, kept_both, at_start, write_at_start}
+use Rattle.std.proofs.Common.{◌≡◌, ◌≢◌, ℕ, ◌+◌, ◌<◌, Bool, true, false, cond, [], ◌++◌, List, length, slice_index, slice_set, refl, sym, ap, ◌∙◌, subst, arith, get_or-set_same, get_or-set_other}
+use Rattle.stm_words.specs.View.{View, Loaded, Stored, IsWrite}
+use Rattle.tx_alloc.specs.Steps.{mem, kept_both, write_at_start}
 use Rattle.tx_alloc.specs.Rows.{Rows}
-use Rattle.tx_tree.specs.Tree.{Tree, leaf, node, rows, blacks, is_red, height}
+use Rattle.tx_tree.specs.Tree.{Tree, leaf, node, rows}
 use Rattle.tx_tree.specs.Way.{Way, top, step, plug, depth, under, front, behind, IsEvenWay, IsApartWay}
 use Rattle.tx_tree.specs.Balance.{Sound}
-use Rattle.tx_tree.specs.Hangs.{Hangs, off, link_of, Zip, Touches, without}
-use Rattle.tx_tree.specs.Steps.{IsPath, Leads, Reached, Coloured}
+use Rattle.tx_tree.specs.Hangs.{Hangs, link_of, Zip, Touches, without}
+use Rattle.tx_tree.specs.Steps.{IsPath}
 use Rattle.tx_tree.specs.Mending.{Ends}
-use Rattle.tx_tree.specs.Lowest.{SpanAt, SomeSpan, HasSpan, LowAt, Lowering, Lowest}
-use Rattle.tx_tree.specs.Removal.{LooseAt, SomeLoose, HasLoose, Lightened}
-use Rattle.tx_tree.specs.Next.{Replacing, Replaced, BothAt, SomeBoth, HasBoth, GoneEnds, NextUnlinked}
-use Rattle.tx_tree.proofs.Shapes.{depth_plug, apart_black}
+use Rattle.tx_tree.specs.Lowest.{SpanAt, LowAt}
+use Rattle.tx_tree.specs.Removal.{LooseAt}
+use Rattle.tx_tree.specs.Next.{Replacing, Replaced, BothAt, GoneEnds}
+use Rattle.tx_tree.proofs.Shapes.{apart_black}
 use Rattle.tx_tree.proofs.Zipped.{down}
 use Rattle.tx_tree.proofs.Writes.{touches_none, touches_both, touches_more}
 use Rattle.tx_tree.proofs.Moves.{no_tree}
@@ -28,10 +27,18 @@ replaced_by s s1 s2 s3 s4 s5 s6 s7 link a b v1 v2 v3 l1 w1 l2 w2 l3 w3 w4 = reco
       let i6 = w4.kept.seen image i7 in let i5 = w3.kept.seen image i6 in let i4 = l3.kept.seen image i5 in
       let i3 = w2.kept.seen image i4 in let i2 = l2.kept.seen image i3 in let i1 = w1.kept.seen image i2 in
       record {
-        ma = mem s2 image; mb = mem s4 image; mc = mem s6 image; v1 = v1; v2 = v2; v3 = v3;
-        e1 = l1.answer image i1; w1 = write_at_start s s1 s2 (b + 1) v1 l1.writes w1 image i2;
-        e2 = l2.answer image i3; w2 = write_at_start s2 s3 s4 (b + 2) v2 l2.writes w2 image i4;
-        e3 = l3.answer image i5; w3 = write_at_start s4 s5 s6 (b + 3) v3 l3.writes w3 image i6;
+        ma = mem s2 image;
+        mb = mem s4 image;
+        mc = mem s6 image;
+        v1 = v1;
+        v2 = v2;
+        v3 = v3;
+        e1 = l1.answer image i1;
+        w1 = write_at_start s s1 s2 (b + 1) v1 l1.writes w1 image i2;
+        e2 = l2.answer image i3;
+        w2 = write_at_start s2 s3 s4 (b + 2) v2 l2.writes w2 image i4;
+        e3 = l3.answer image i5;
+        w3 = write_at_start s4 s5 s6 (b + 3) v3 l3.writes w3 image i6;
         w4 = w4.written image;
       };
 }
@@ -125,7 +132,10 @@ pub next_loose : (m m' : ℕ → ℕ) (n root : ℕ) (total : ℕ → ℕ) (xs' 
 next_loose m m' n root total xs' d d' b q child w c l t a ne =
     let black : a.colour ≡ false = one_false a.colour (λ x. ne (a.colour_is ∙ x)) in
     record {
-      zip = a.zip; path = a.path; deep = a.deep; leads = a.leads;
+      zip = a.zip;
+      path = a.path;
+      deep = a.deep;
+      leads = a.leads;
       even = (a.parts.even, a.parts.none);
       way = subst (λ (x : Bool). IsEvenWay (under a.way (step true c (a.key, q) l w)) (cond x 0 1)) black a.parts.way;
       apart = a.parts.apart;

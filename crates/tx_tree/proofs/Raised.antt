@@ -1,21 +1,20 @@
 -- A red node below a red one: the steps that end this, in one memory.
-use Rattle.std.proofs.Common.{◌≡◌, ◌≢◌, inl, inr, ℕ, ◌+◌, ◌-◌, ◌%◌, ◌<◌, ◌≤◌, Bool, true, false, not, cond, List, length, slice_index, refl, sym, ap, ◌∙◌, subst, arith, append_assoc}
+use Rattle.std.proofs.Common.{◌≡◌, ◌≢◌, ℕ, ◌+◌, ◌-◌, ◌%◌, ◌≤◌, Bool, true, false, not, List, slice_index, refl, sym, ap, ◌∙◌, subst, arith, append_assoc}
 use Rattle.stm_words.specs.View.{IsWrite}
-use Rattle.tx_alloc.specs.Pool.{IsBlock}
 use Rattle.tx_alloc.specs.Rows.{Rows}
 use Rattle.tx_tree.specs.Tree.{Tree, leaf, node, join, rows, is_red}
 use Rattle.tx_tree.specs.Way.{Way, top, step, plug, depth}
-use Rattle.tx_tree.specs.Balance.{Sound, Raised, Short}
+use Rattle.tx_tree.specs.Balance.{Sound, Raised}
 use Rattle.tx_tree.specs.Hangs.{Hangs, off, link_of, Zip, Touches, Turning}
 use Rattle.tx_tree.specs.Steps.{IsPath}
 use Rattle.tx_tree.specs.Mending.{Rising, Ends, RaisedAt, IsToTurn}
 use Rattle.tx_tree.proofs.Shapes.{plug_rows}
 use Rattle.tx_tree.proofs.Mends.{rows_turn, rows_swap, raise_top, raise_black, raise_flip, raise_outer, raise_inner}
-use Rattle.tx_tree.proofs.Zipped.{off_range, off_across, up, down}
-use Rattle.tx_tree.proofs.Writes.{touches_none, touches_both, painted, turned}
+use Rattle.tx_tree.proofs.Zipped.{off_across, up}
+use Rattle.tx_tree.proofs.Writes.{touches_both, painted, turned}
 use Rattle.tx_tree.proofs.Seeking.{path_at}
-use Rattle.tx_tree.proofs.Ways.{LinkIs, link_at}
-use Rattle.tx_tree.proofs.Ending.{ends_sound, ends_after, beside, back, painted_join, risen}
+use Rattle.tx_tree.proofs.Ways.{link_at}
+use Rattle.tx_tree.proofs.Ending.{ends_sound, beside, back, painted_join, risen}
 
 absurd_red : {A : Type 0} → true ≡ false → A
 absurd_red e = cc

@@ -1,6 +1,6 @@
 -- A removal, over every memory that there may be.
-use Rattle.std.proofs.Common.{◌≡◌, ◌≢◌, ℕ, ◌+◌, ◌<◌, ◌≤◌, ◌^◌, Bool, true, false, List, [], ◌∷◌, ◌++◌, length, slice_index, refl, sym, ap, ◌∙◌, subst, arith, append-nil}
-use Rattle.stm_words.specs.View.{View, Sees, Stands, Kept}
+use Rattle.std.proofs.Common.{◌≡◌, ◌≢◌, ℕ, ◌+◌, ◌<◌, true, false, List, ◌++◌, length, sym, ap, ◌∙◌, subst, arith, append-nil}
+use Rattle.stm_words.specs.View.{View, Sees, Kept}
 use Rattle.tx_alloc.specs.Steps.{mem, kept_both, at_start}
 use Rattle.tx_alloc.specs.Rows.{Rows, times, block_at}
 use Rattle.tx_tree.specs.Tree.{Tree, leaf, node, rows, blacks}
@@ -13,20 +13,14 @@ use Rattle.tx_tree.specs.Removal.{LastAt, HasLast, Unlinked}
 use Rattle.tx_tree.specs.Next.{BothAt, HasBoth, GoneEnds, NextUnlinked}
 use Rattle.tx_tree.proofs.Shapes.{rows_plug}
 use Rattle.tx_tree.proofs.Writes.{touches_more}
-use Rattle.tx_tree.specs.Way.{Way}
 use Rattle.tx_tree.specs.Hangs.{Zip}
 use Rattle.tx_tree.specs.Balance.{Sound}
 use Rattle.tx_tree.proofs.Moves.{no_tree, pointer}
 use Rattle.tx_tree.proofs.Inserting.{place_answer}
-use Rattle.tx_tree.specs.Table.{IsTable}
-use Rattle.tx_alloc.specs.Rows.{cut_row}
-use Rattle.tx_tree.proofs.Zipped.{has_block}
-use Rattle.tx_tree.proofs.Seeking.{has_times}
 use Rattle.tx_tree.proofs.Removed.{NodeHere, node_here, Cut, cut_ends}
 
 pub here_at : (s s1 : View) (root key p : ℕ) (xs : List ℕ) (d : ℕ) → Sought s s1 root key xs d p → p ≢ 0 → (image : List ℕ) (rs : Rows) → Sees s1 image → Table (mem s image) (length image) root rs → NodeHere (mem s image) (length image) root key p xs d rs
 here_at s s1 root key p xs d so ne image rs i t = node_here (mem s image) (length image) root key p xs d rs (so.seeking.place image rs i t) (so.is image i) ne (so.key_is ne image i) t
-
 
 pub left_leads : (s s1 : View) (root key p : ℕ) (xs : List ℕ) (d : ℕ) → HasTable s root → Sought s s1 root key xs d p → p ≢ 0 → Leads s1 (p + 1)
 left_leads s s1 root key p xs d table so ne = record {

@@ -1,5 +1,5 @@
 -- A removal: from the place that the search found to the pieces, and from the mended tree to the table. In one memory.
-use Rattle.std.proofs.Common.{◌≡◌, ◌≢◌, ℕ, ◌+◌, ◌<◌, ◌≤◌, Bool, List, [], ◌∷◌, ◌++◌, length, slice_index, refl, sym, ap, ◌∙◌, subst, arith, append_assoc}
+use Rattle.std.proofs.Common.{◌≡◌, ◌≢◌, ℕ, ◌≤◌, Bool, List, ◌∷◌, ◌++◌, length, slice_index, refl, sym, ap, ◌∙◌, subst, arith, append_assoc}
 use Rattle.tx_alloc.specs.Rows.{Rows, times, cut_row, Relinks, AllBelow, IsFrom}
 use Rattle.tx_tree.specs.Tree.{Tree, node, rows, blacks, height}
 use Rattle.tx_tree.specs.Way.{Way, plug, depth, front, behind}
@@ -9,9 +9,8 @@ use Rattle.tx_tree.specs.Table.{IsTable, Table}
 use Rattle.tx_tree.specs.Steps.{IsPath, Place}
 use Rattle.tx_tree.specs.Next.{GoneEnds}
 use Rattle.tx_tree.proofs.Shapes.{rows_plug, even_parts, apart_parts}
-use Rattle.tx_alloc.proofs.Order.{Split, cut_between, from_cut}
+use Rattle.tx_alloc.proofs.Order.{cut_between, from_cut}
 use Rattle.tx_tree.proofs.Seeking.{has_times, place_node, split_here, low_tree}
-use Rattle.tx_tree.proofs.Writes.{touches_none}
 
 -- the node of the key, where the search ended
 pub record NodeHere (m : ℕ → ℕ) (n root key p : ℕ) (xs : List ℕ) (d : ℕ) (rs : Rows) : Type 0 where

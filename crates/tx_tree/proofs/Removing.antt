@@ -1,24 +1,22 @@
 -- A removal: a node with one side at most goes, and the tree is mended.
-use Rattle.std.proofs.Common.{◌≡◌, ◌≢◌, inl, inr, ℕ, ◌+◌, ◌-◌, ◌<◌, ◌≤◌, ◌^◌, Bool, true, false, not, cond, nat_eq, List, [], ◌∷◌, ◌++◌, length, slice_index, refl, sym, ap, ◌∙◌, subst, arith, rules, append_assoc}
-use Rattle.stm_words.specs.Seen.{same_or, some_le}
-use Rattle.stm_words.specs.View.{View, Sees, Stands, Kept, Stored, IsWrite}
+use Rattle.std.proofs.Common.{◌≡◌, ◌≢◌, inl, inr, ℕ, ◌+◌, ◌≤◌, Bool, true, false, List, length, slice_index, refl, sym, ap, ◌∙◌, arith, rules}
+use Rattle.stm_words.specs.Seen.{some_le}
+use Rattle.stm_words.specs.View.{View, Sees, Stands, Stored, IsWrite}
 use Rattle.tx_alloc.specs.Pool.{IsBlock}
 use Rattle.tx_alloc.specs.Steps.{mem, kept_both, write_at_start}
-use Rattle.tx_alloc.specs.Rows.{Rows, times}
-use Rattle.tx_tree.specs.Tree.{Tree, leaf, node, join, rows, blacks, is_red, EvenAt, IsApart}
-use Rattle.tx_tree.specs.Way.{Way, top, step, plug, depth, IsEvenWay, IsApartWay}
-use Rattle.tx_tree.specs.Balance.{Sound, Short}
-use Rattle.tx_tree.specs.Hangs.{Hangs, has, way_has, off, link_of, Zip, Touches, without}
+use Rattle.tx_tree.specs.Tree.{Tree, leaf, node, join, rows, blacks, is_red, EvenAt}
+use Rattle.tx_tree.specs.Way.{Way, plug, depth}
+use Rattle.tx_tree.specs.Hangs.{Hangs, link_of, Zip, Touches, without}
 use Rattle.tx_tree.specs.Steps.{IsPath, Coloured}
 use Rattle.tx_tree.specs.Mending.{Ends, ShortAt, HasShort, Mended}
-use Rattle.tx_tree.specs.Removal.{LooseAt, SomeLoose, HasLoose, Lightened, LastAt, SomeLast, HasLast, Unlinked}
+use Rattle.tx_tree.specs.Removal.{LooseAt, HasLoose, Lightened, LastAt, HasLast, Unlinked}
 use Rattle.tx_tree.proofs.Shapes.{plug_rows, apart_black}
-use Rattle.tx_tree.proofs.Zipped.{has_join, link_is, way_block}
-use Rattle.tx_tree.proofs.Writes.{touches_both, touch_link, painted, AtNode, at_join}
+use Rattle.tx_tree.proofs.Zipped.{link_is, way_block}
+use Rattle.tx_tree.proofs.Writes.{touch_link, painted, at_join}
 use Rattle.tx_tree.proofs.Moves.{unlinked, pointer}
 use Rattle.tx_tree.proofs.Seeking.{path_at}
 use Rattle.tx_tree.proofs.Ending.{ends_sound, ends_after}
-use Rattle.tx_tree.proofs.Raised.{not_red, RedNode, red_node}
+use Rattle.tx_tree.proofs.Raised.{not_red, red_node}
 
 absurd_red : {A : Type 0} → true ≡ false → A
 absurd_red e = cc
@@ -101,14 +99,20 @@ gone m m' n root total xs d b p w right c k t h a write =
 loose_after : (m m' : ℕ → ℕ) (n root : ℕ) (total : ℕ → ℕ) (xs : List ℕ) (d b p : ℕ) (w : Way) (right c : Bool) (k : ℕ) (t : Tree) (h : ℕ) → LastAt m n root total xs d b p w right c k t h → c ≡ false → Gone m m' n root total xs d b p w t → LooseAt m' n root (without total b) xs d p w t (blacks t)
 loose_after m m' n root total xs d b p w right true k t h a e g = absurd_red e
 loose_after m m' n root total xs d b p w false false k t h a e g = record {
-  zip = g.zip; path = a.path; deep = a.deep; leads = g.leads;
+  zip = g.zip;
+  path = a.path;
+  deep = a.deep;
+  leads = g.leads;
   even = (a.sound.even.0.2, refl);
   way = (let q : blacks t + 1 ≡ h = ap (λ (x : ℕ). x + 1) (sym a.sound.even.0.0) ∙ a.sound.even.1 in rw q a.sound.way);
   apart = a.sound.apart.2;
   fits = a.sound.fits;
 }
 loose_after m m' n root total xs d b p w true false k t h a e g = record {
-  zip = g.zip; path = a.path; deep = a.deep; leads = g.leads;
+  zip = g.zip;
+  path = a.path;
+  deep = a.deep;
+  leads = g.leads;
   even = (a.sound.even.0.1, refl);
   way = (let q : blacks t + 1 ≡ h = a.sound.even.1 in rw q a.sound.way);
   apart = a.sound.apart.1;

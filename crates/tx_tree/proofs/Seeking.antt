@@ -1,21 +1,21 @@
 -- The search for a key, over every memory that there may be.
-use Rattle.std.proofs.Common.{◌≡◌, ◌≢◌, inl, inr, ℕ, ◌+◌, ◌-◌, ◌*◌, ◌<◌, ◌≤◌, ◌^◌, Bool, true, false, not, cond, List, [], ◌∷◌, ◌++◌, length, slice_index, slice_set, refl, sym, ap, ◌∙◌, subst, arith, append_assoc, get_or-set_same, get_or-set_other, length-set}
+use Rattle.std.proofs.Common.{◌≡◌, ◌≢◌, inl, inr, ℕ, ◌+◌, ◌<◌, ◌≤◌, ◌^◌, Bool, true, false, List, [], ◌∷◌, ◌++◌, length, slice_index, slice_set, refl, sym, ap, ◌∙◌, subst, arith, append_assoc, get_or-set_same, get_or-set_other, length-set}
 use Rattle.std.proofs.lemmas.Bool.{cases_lt}
 use Rattle.std.proofs.Math.Pow.{pow_mono}
 use Rattle.std.proofs.Math.Nat.{mul-le-mul}
-use Rattle.stm_words.specs.Seen.{same_or, some_le}
-use Rattle.stm_words.specs.View.{View, Sees, Stands, Kept, Loaded}
+use Rattle.stm_words.specs.Seen.{some_le}
+use Rattle.stm_words.specs.View.{View, Stands, Loaded}
 use Rattle.tx_alloc.specs.Pool.{IsBlock}
 use Rattle.tx_alloc.specs.Steps.{mem, kept_none, kept_both, at_start}
 use Rattle.tx_alloc.specs.Rows.{Rows, times, AllBelow, IsFrom}
-use Rattle.tx_tree.specs.Tree.{Tree, leaf, node, join, rows, IsEven, IsApart, is_red, height}
+use Rattle.tx_tree.specs.Tree.{Tree, leaf, node, rows, IsEven, IsApart, is_red, height}
 use Rattle.tx_tree.specs.Way.{Way, top, step, plug, depth, front, behind}
 use Rattle.tx_tree.specs.Hangs.{has, off, link_of, Zip}
-use Rattle.tx_tree.specs.Table.{IsTable, Table, HasTable}
-use Rattle.tx_tree.specs.Steps.{Leads, Reached, IsPath, Place, Seeking, Sought}
+use Rattle.tx_tree.specs.Table.{Table, HasTable}
+use Rattle.tx_tree.specs.Steps.{Leads, Reached, IsPath, Place, Seeking}
 use Rattle.tx_tree.proofs.Shapes.{rows_plug, depth_plug, height_log}
 use Rattle.tx_alloc.proofs.Order.{below_higher, Split, split, below_both, times_both}
-use Rattle.tx_tree.proofs.Zipped.{off_range, down, link_is, way_block}
+use Rattle.tx_tree.proofs.Zipped.{down, link_is, way_block}
 use Rattle.tx_tree.proofs.Moves.{Opened, opened, pointer}
 
 pub has_times : (t : Tree) (x : ℕ) → has x t ≡ times x (rows t)

@@ -1,16 +1,14 @@
 -- An insertion over every memory that there may be.
-use Rattle.std.proofs.Common.{◌≡◌, ◌≢◌, inl, inr, ℕ, ◌+◌, ◌-◌, ◌%◌, ◌<◌, ◌≤◌, ◌^◌, Bool, true, false, List, length, slice_index, refl, sym, ap, ◌∙◌, subst, arith}
-use Rattle.stm_words.specs.Seen.{same_or, some_le}
-use Rattle.stm_words.specs.View.{View, Sees, Stands, Kept, Loaded, Stored, IsWrite}
+use Rattle.std.proofs.Common.{◌≡◌, ◌≢◌, ℕ, ◌+◌, ◌-◌, ◌%◌, ◌<◌, ◌≤◌, Bool, true, false, List, length, slice_index, refl, sym, ap, ◌∙◌, arith}
+use Rattle.stm_words.specs.Seen.{some_le}
+use Rattle.stm_words.specs.View.{View, Sees, Stands, Kept, Stored, IsWrite}
 use Rattle.tx_alloc.specs.Steps.{mem, kept_none, kept_both, at_start, write_at_start}
-use Rattle.tx_alloc.specs.Rows.{Rows}
 use Rattle.tx_tree.specs.Tree.{Tree, node, rows}
 use Rattle.tx_tree.specs.Way.{Way, plug}
-use Rattle.tx_tree.specs.Hangs.{Zip, Touches}
-use Rattle.tx_tree.specs.Steps.{Leads, Reached, Coloured}
-use Rattle.tx_tree.specs.Mending.{Raising, Rotated, HasWay, Ends, RaisedAt, SomeRaised, HasRaised, Settled, IsToTurn, NeedsTurn}
+use Rattle.tx_tree.specs.Steps.{Reached, Coloured}
+use Rattle.tx_tree.specs.Mending.{Raising, Rotated, HasWay, Ends, RaisedAt, HasRaised, Settled, NeedsTurn}
 use Rattle.tx_tree.proofs.Writes.{touches_none, touches_both}
-use Rattle.tx_tree.proofs.Ways.{LinkOf, way_node, way_up, way_beside, way_room, way_along}
+use Rattle.tx_tree.proofs.Ways.{way_node}
 use Rattle.tx_tree.proofs.Ending.{ends_sound, ends_after}
 use Rattle.tx_tree.proofs.Raised.{sound_black, sound_one, ends_top, RaisedNow, flipped, turn_same, turn_other}
 

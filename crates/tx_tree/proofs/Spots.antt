@@ -1,18 +1,18 @@
 -- The way down to a key with no path kept: to the block of a key, and to the least key above one.
-use Rattle.std.proofs.Common.{◌≡◌, ◌≢◌, inl, inr, ℕ, ◌+◌, ◌<◌, ◌≤◌, ◌^◌, Bool, true, false, cond, List, [], ◌∷◌, ◌++◌, Option, Some, None, nat_lt, MatchOption, length, refl, sym, ap, ◌∙◌, subst, arith, append_assoc}
+use Rattle.std.proofs.Common.{◌≡◌, ◌≢◌, inl, inr, ℕ, ◌+◌, ◌<◌, ◌≤◌, Bool, true, false, cond, List, [], ◌∷◌, ◌++◌, Option, Some, None, nat_lt, MatchOption, length, refl, sym, ap, ◌∙◌, subst, arith, append_assoc}
 use Rattle.std.proofs.lemmas.Bool.Decides.{nat_tests}
 use Rattle.stm_words.specs.Seen.{some_le}
 use Rattle.stm_words.specs.View.{View, Sees, Stands, Kept, Loaded}
 use Rattle.tx_alloc.specs.Pool.{IsBlock}
 use Rattle.tx_alloc.specs.Steps.{mem, kept_none, kept_both, at_start}
 use Rattle.tx_alloc.specs.Rows.{Rows, times, block_at, AllBelow, IsFrom}
-use Rattle.tx_tree.specs.Tree.{Tree, leaf, node, rows, IsEven, IsApart, is_red, height}
+use Rattle.tx_tree.specs.Tree.{Tree, node, rows, IsEven, IsApart, is_red}
 use Rattle.tx_tree.specs.Way.{Way, top, step, plug, depth, front, behind}
 use Rattle.tx_tree.specs.Hangs.{off, link_of, Zip}
 use Rattle.tx_tree.specs.Table.{Table, HasTable, IsInside, Found, FoundAt, row_above, NextFound}
 use Rattle.tx_tree.specs.Steps.{Leads, Reached}
 use Rattle.tx_tree.proofs.Shapes.{rows_plug, depth_plug}
-use Rattle.tx_alloc.proofs.Order.{below_higher, Split, below_both, at_between, none_between}
+use Rattle.tx_alloc.proofs.Order.{below_higher, below_both, at_between, none_between}
 use Rattle.tx_tree.proofs.Zipped.{down, link_is, way_block}
 use Rattle.tx_tree.proofs.Moves.{Opened, opened, pointer, no_tree}
 use Rattle.tx_tree.proofs.Seeking.{has_times, low_tree, split_here, below_right}
@@ -220,14 +220,17 @@ found_none s0 s s1 root key link d p next k r z = record {
 }
 
 pub found_here : (s0 s s1 s2 : View) (root key link d p found : ℕ) (next : Option (ℕ × ℕ)) → Descending s0 s root key key link d next → Reached s s1 link p → p ≢ 0 → Loaded s1 s2 p found → found ≡ key → FoundAt s0 s2 root key p
-found_here s0 s s1 s2 root key link d p found next k r ne l e = record { found = record {
-  kept = kept_both s0 s s2 k.kept (kept_both s s1 s2 r.loaded.kept l.kept);
-  writes = l.writes ∙ (r.loaded.writes ∙ k.writes);
-  is = λ image rs i t.
-      let i1 = l.kept.seen image i in
-      let key_is : mem s0 image p ≡ found = at_start s0 s1 s2 p found (r.loaded.writes ∙ k.writes) l image i in
-      spot_block (mem s0 image) (length image) root key link d p next rs (k.spot image rs (r.loaded.kept.seen image i1) t) (at_start s0 s s1 link p k.writes r.loaded image i1) ne (key_is ∙ e) t.table.ascending;
-}; inside = (let at = r.room ne in (omega (arith, at.0), omega (arith, at.1, l.kept.size))) }
+found_here s0 s s1 s2 root key link d p found next k r ne l e = record {
+  found = record {
+    kept = kept_both s0 s s2 k.kept (kept_both s s1 s2 r.loaded.kept l.kept);
+    writes = l.writes ∙ (r.loaded.writes ∙ k.writes);
+    is = λ image rs i t.
+        let i1 = l.kept.seen image i in
+        let key_is : mem s0 image p ≡ found = at_start s0 s1 s2 p found (r.loaded.writes ∙ k.writes) l image i in
+        spot_block (mem s0 image) (length image) root key link d p next rs (k.spot image rs (r.loaded.kept.seen image i1) t) (at_start s0 s s1 link p k.writes r.loaded image i1) ne (key_is ∙ e) t.table.ascending;
+  };
+  inside = (let at = r.room ne in (omega (arith, at.0), omega (arith, at.1, l.kept.size)));
+}
 
 pub next_found : (s0 s s1 : View) (root key link d p : ℕ) (next : Option (ℕ × ℕ)) → Descending s0 s root (key + 1) key link d next → Reached s s1 link p → p ≡ 0 → NextFound s0 s1 root key next
 next_found s0 s s1 root key link d p next k r z = record {

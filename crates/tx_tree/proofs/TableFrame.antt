@@ -1,5 +1,5 @@
 -- What stands above a table knows of it: these lemmas, and nothing of its shape.
-use Rattle.std.proofs.Common.{◌≡◌, ◌≢◌, inl, inr, ℕ, zero, suc, ◌+◌, ◌*◌, ◌<◌, ◌≤◌, ◌^◌, Bool, true, false, List, [], ◌∷◌, ◌++◌, nat_eq, length, refl, sym, ap, ◌∙◌, subst, arith}
+use Rattle.std.proofs.Common.{◌≡◌, ◌≢◌, inl, inr, ℕ, zero, suc, ◌+◌, ◌*◌, ◌<◌, ◌≤◌, ◌^◌, true, false, [], ◌∷◌, ◌++◌, nat_eq, length, refl, sym, ap, ◌∙◌, subst, arith}
 use Rattle.std.proofs.lemmas.Bool.Decides.{nat_tests}
 use Rattle.std.proofs.Math.Pow.{pow_mono}
 use Rattle.std.proofs.Math.Nat.{pow-suc, pow-zero}
@@ -7,7 +7,7 @@ use Rattle.stm_words.specs.Seen.{same_or}
 use Rattle.tx_alloc.specs.Pool.{IsBlock}
 use Rattle.tx_alloc.specs.Rows.{Rows, times, cut_row, block_at, SameLinks, IsFrom}
 use Rattle.tx_tree.specs.Tree.{Tree, leaf, node, rows, height}
-use Rattle.tx_tree.specs.Hangs.{Hangs, has}
+use Rattle.tx_tree.specs.Hangs.{Hangs}
 use Rattle.tx_tree.specs.Table.{IsTable, Descends}
 use Rattle.tx_alloc.proofs.Order.{cut_absent}
 use Rattle.tx_tree.proofs.Shapes.{height_log}

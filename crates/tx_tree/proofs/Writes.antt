@@ -1,15 +1,12 @@
 -- What single writes make of a way and the tree at its end.
-use Rattle.std.proofs.Common.{◌≡◌, ◌≢◌, ◌⊎◌, inl, inr, ℕ, ◌+◌, ◌-◌, ◌<◌, ◌≤◌, Bool, true, false, not, cond, nat_eq, List, [], ◌∷◌, refl, sym, ap, ◌∙◌, subst, arith, add-zero}
-use Rattle.std.proofs.lemmas.Bool.Decides.{nat_tests}
-use Rattle.std.proofs.lemmas.Bool.{cases_lt}
+use Rattle.std.proofs.Common.{◌≡◌, ◌≢◌, inl, inr, ℕ, ◌+◌, ◌-◌, ◌<◌, ◌≤◌, Bool, true, false, not, cond, [], ◌∷◌, refl, sym, ap, ◌∙◌, subst, arith, add-zero}
 use Rattle.stm_words.specs.View.{IsWrite}
-use Rattle.stm_words.specs.Seen.{same_or}
 use Rattle.tx_alloc.specs.Pool.{IsBlock}
 use Rattle.tx_alloc.specs.Rows.{times}
-use Rattle.tx_tree.specs.Tree.{Tree, leaf, node, join}
-use Rattle.tx_tree.specs.Way.{Way, top, step, plug, under}
-use Rattle.tx_tree.specs.Hangs.{IsNode, Hangs, has, off, link_of, HangsWay, way_has, Zip, Touches, Turning}
-use Rattle.tx_tree.proofs.Zipped.{off_range, off_across, one_self, self_one, hangs_frame, has_block, way_block, InBlock, link_is, Joined, joined, rejoined, has_join, link_away, InWay, way_kept, way_away}
+use Rattle.tx_tree.specs.Tree.{Tree, node, join}
+use Rattle.tx_tree.specs.Way.{Way}
+use Rattle.tx_tree.specs.Hangs.{Hangs, has, off, link_of, way_has, Zip, Touches, Turning}
+use Rattle.tx_tree.proofs.Zipped.{off_range, off_across, one_self, hangs_frame, has_block, link_is, Joined, joined, rejoined, has_join, link_away, way_kept, way_away}
 
 pub touches_none : (m : ℕ → ℕ) (root : ℕ) (total : ℕ → ℕ) → Touches m m root total
 touches_none m root total = record { others = λ x ne out. refl }
@@ -145,8 +142,8 @@ turned m m' n root total w right cp cc outer kc c inner kp p far z write =
         low = z.low;
       },
       touches_both m write.m1 m' root total
-      (touch_block m write.m1 root total p (off right) (m (c + (3 - off right))) write.inner (omega (arith, a.counted)) (omega arith) (omega arith))
-      (touches_both write.m1 write.m2 m' root total
-      (touch_block write.m1 write.m2 root total c (3 - off right) p write.outer (omega arith) (omega arith) (omega arith))
-      (touch_link write.m2 m' root total w c write.up (λ x. omega (arith, count x)))),
+          (touch_block m write.m1 root total p (off right) (m (c + (3 - off right))) write.inner (omega (arith, a.counted)) (omega arith) (omega arith))
+          (touches_both write.m1 write.m2 m' root total
+          (touch_block write.m1 write.m2 root total c (3 - off right) p write.outer (omega arith) (omega arith) (omega arith))
+          (touch_link write.m2 m' root total w c write.up (λ x. omega (arith, count x)))),
     )

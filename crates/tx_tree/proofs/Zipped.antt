@@ -1,14 +1,12 @@
 -- A way and a tree at its end in a memory: looking at another place, and what writes make of them.
-use Rattle.std.proofs.Common.{◌≡◌, ◌≢◌, ◌⊎◌, inl, inr, ℕ, ◌+◌, ◌-◌, ◌<◌, ◌≤◌, Bool, true, false, not, cond, nat_eq, List, [], ◌∷◌, refl, sym, ap, ◌∙◌, subst, arith, add-zero}
+use Rattle.std.proofs.Common.{◌≡◌, ◌≢◌, ◌⊎◌, inl, inr, ℕ, ◌+◌, ◌-◌, ◌<◌, ◌≤◌, Bool, true, false, not, [], ◌∷◌, refl, sym, ap, ◌∙◌, subst, arith, add-zero}
 use Rattle.std.proofs.lemmas.Bool.Decides.{nat_tests}
 use Rattle.std.proofs.lemmas.Bool.{cases_lt}
-use Rattle.stm_words.specs.View.{IsWrite}
-use Rattle.stm_words.specs.Seen.{same_or}
 use Rattle.tx_alloc.specs.Pool.{IsBlock}
 use Rattle.tx_alloc.specs.Rows.{times}
 use Rattle.tx_tree.specs.Tree.{Tree, leaf, node, join}
 use Rattle.tx_tree.specs.Way.{Way, top, step, plug, under}
-use Rattle.tx_tree.specs.Hangs.{IsNode, Hangs, has, off, link_of, HangsWay, way_has, Zip, Touches, Turning}
+use Rattle.tx_tree.specs.Hangs.{IsNode, Hangs, has, off, link_of, HangsWay, way_has, Zip}
 
 pub off_range : (b : Bool) → (1 ≤ off b) × (off b ≤ 2)
 off_range true = (omega arith, omega arith)

@@ -16,7 +16,8 @@ pub record IsNode (m : ℕ → ℕ) (n p : ℕ) (c : Bool) (r : ℕ × ℕ) : Ty
 -- p leads to the tree
 abbrev pub Hangs : (ℕ → ℕ) → ℕ → ℕ → Tree → Type 0
 Hangs m n p leaf = p ≡ 0
-Hangs m n p (node c l r t) = IsNode m n p c r × (Hangs m n (m (r.1 + 1)) l × Hangs m n (m (r.1 + 2)) t)
+Hangs m n p (node c l r t) = IsNode m n p c r ×
+    (Hangs m n (m (r.1 + 1)) l × Hangs m n (m (r.1 + 2)) t)
 
 -- how often a tree has a block
 abbrev pub has : ℕ → Tree → ℕ
@@ -36,13 +37,15 @@ link_of root (step right c r o w) = r.1 + off right
 -- the nodes of a way, and what they pass by, hang from the root word on
 abbrev pub HangsWay : (ℕ → ℕ) → ℕ → ℕ → Way → Type 0
 HangsWay m n root top = Unit {0}
-HangsWay m n root (step right c r o w) = IsNode m n (m (link_of root w)) c r × (Hangs m n (m (r.1 + off (not right))) o × HangsWay m n root w)
+HangsWay m n root (step right c r o w) = IsNode m n (m (link_of root w)) c r ×
+    (Hangs m n (m (r.1 + off (not right))) o × HangsWay m n root w)
 
 abbrev pub way_has : ℕ → Way → ℕ
 way_has x top = 0
 way_has x (step right c r o w) = times x (r ∷ []) + (has x o + way_has x w)
 
--- the way and the tree at its end hang in the memory; total says how often each block is there, at most once
+-- the way and the tree at its end hang in the memory; total says how often each block is there,
+-- at most once
 pub record Zip (m : ℕ → ℕ) (n root : ℕ) (total : ℕ → ℕ) (w : Way) (t : Tree) : Type 0 where
   pub way : HangsWay m n root w
   pub tree : Hangs m n (m (link_of root w)) t
@@ -52,7 +55,8 @@ pub record Zip (m : ℕ → ℕ) (n root : ℕ) (total : ℕ → ℕ) (w : Way) 
 
 -- nothing was written but the root and words 1 to 3 of these blocks
 pub record Touches (m m' : ℕ → ℕ) (root : ℕ) (total : ℕ → ℕ) : Type 0 where
-  pub others : (x : ℕ) → x ≢ root → ((a : ℕ) → 0 < total a → (x < a + 1) ⊎ (a + 4 ≤ x)) → m' x ≡ m x
+  pub others : (x : ℕ) → x ≢ root → ((a : ℕ) → 0 < total a → (x < a + 1) ⊎ (a + 4 ≤ x)) →
+      m' x ≡ m x
 
 -- the child c at p's side s came up to the link, and p hangs on c's other side
 pub record Turning (m m' : ℕ → ℕ) (link p c s : ℕ) : Type 0 where

@@ -1,5 +1,5 @@
 -- What the steps say that mend a tree with too few black nodes.
-use Rattle.std.specs.Prelude.{◌≡◌, ℕ, ◌+◌, ◌-◌, ◌<◌, ◌≤◌, ◌^◌, List, length, Bool, true, false, not}
+use Rattle.std.specs.Prelude.{◌≡◌, ℕ, ◌+◌, ◌-◌, ◌≤◌, ◌^◌, List, length, Bool, true, false, not}
 use Rattle.stm_words.specs.View.{View, Sees, Kept}
 use Rattle.tx_alloc.specs.Steps.{mem}
 use Rattle.tx_alloc.specs.Rows.{Rows}
@@ -10,7 +10,8 @@ use Rattle.tx_tree.specs.Hangs.{off, link_of, Zip, Touches}
 use Rattle.tx_tree.specs.Mending.{Ends, ShortAt}
 
 -- the child of a node on this side lacks a black node, and the one beside it is black
-pub record LiftAt (m : ℕ → ℕ) (n root : ℕ) (total : ℕ → ℕ) (link p q side : ℕ) (w : Way) (right c : Bool) (k : ℕ) (o t : Tree) (h : ℕ) : Type 0 where
+pub record LiftAt (m : ℕ → ℕ) (n root : ℕ) (total : ℕ → ℕ) (link p q side : ℕ) (w : Way)
+    (right c : Bool) (k : ℕ) (o t : Tree) (h : ℕ) : Type 0 where
   pub zip : Zip m n root total (step right c (k, p) o w) t
   pub link_is : link ≡ link_of root w
   pub side_is : side ≡ off right
@@ -36,21 +37,31 @@ pub record HasLift (s : View) (link p q side : ℕ) : Type 0 where
   pub under : (image : List ℕ) → Sees s image → SomeLift (mem s image) (length image) link p q side
 
 -- the tree at the end of this way lacks a black node
-pub record ShortHere (m m' : ℕ → ℕ) (n root : ℕ) (total : ℕ → ℕ) (w : Way) (rs : Rows) : Type 0 where
-  pub tree : Tree
-  pub blacks : ℕ
-  pub zip : Zip m' n root total w tree
-  pub short : Short w tree blacks
-  pub is : rows (plug w tree) ≡ rs
-  pub touches : Touches m m' root total
+pub record ShortHere (m m' : ℕ → ℕ) (n root : ℕ) (total : ℕ → ℕ) (w : Way) (rs : Rows) : Type 0
+  where
+    pub tree : Tree
+    pub blacks : ℕ
+    pub zip : Zip m' n root total w tree
+    pub short : Short w tree blacks
+    pub is : rows (plug w tree) ≡ rs
+    pub touches : Touches m m' root total
 
 pub record Lifted (s s' : View) (link p q side : ℕ) (done : Bool) : Type 0 where
   pub kept : Kept s s'
-  pub ends : done ≡ true → (image : List ℕ) → Sees s' image → (root : ℕ) (total : ℕ → ℕ) (w : Way) (right c : Bool) (k : ℕ) (o t : Tree) (h : ℕ) → LiftAt (mem s image) (length image) root total link p q side w right c k o t h → Ends (mem s image) (mem s' image) (length image) root total (rows (plug (step right c (k, p) o w) t))
-  pub goes : done ≡ false → (image : List ℕ) → Sees s' image → (root : ℕ) (total : ℕ → ℕ) (w : Way) (right c : Bool) (k : ℕ) (o t : Tree) (h : ℕ) → LiftAt (mem s image) (length image) root total link p q side w right c k o t h → (c ≡ false) × ShortHere (mem s image) (mem s' image) (length image) root total w (rows (plug (step right c (k, p) o w) t))
+  pub ends : done ≡ true → (image : List ℕ) → Sees s' image →
+      (root : ℕ) (total : ℕ → ℕ) (w : Way) (right c : Bool) (k : ℕ) (o t : Tree) (h : ℕ) →
+      LiftAt (mem s image) (length image) root total link p q side w right c k o t h →
+      Ends (mem s image) (mem s' image) (length image) root total
+      (rows (plug (step right c (k, p) o w) t))
+  pub goes : done ≡ false → (image : List ℕ) → Sees s' image →
+      (root : ℕ) (total : ℕ → ℕ) (w : Way) (right c : Bool) (k : ℕ) (o t : Tree) (h : ℕ) →
+      LiftAt (mem s image) (length image) root total link p q side w right c k o t h →
+      (c ≡ false) × ShortHere (mem s image) (mem s' image) (length image) root total w
+      (rows (plug (step right c (k, p) o w) t))
 
 -- one step of a path up
-pub record ShortUp (m m' : ℕ → ℕ) (n root : ℕ) (total : ℕ → ℕ) (xs : List ℕ) (d : ℕ) (rs : Rows) : Type 0 where
+pub record ShortUp (m m' : ℕ → ℕ) (n root : ℕ) (total : ℕ → ℕ) (xs : List ℕ) (d : ℕ) (rs : Rows) :
+    Type 0 where
   pub way : Way
   pub tree : Tree
   pub blacks : ℕ
@@ -60,5 +71,11 @@ pub record ShortUp (m m' : ℕ → ℕ) (n root : ℕ) (total : ℕ → ℕ) (xs
 
 pub record Stepped (s s' : View) (xs : List ℕ) (d : ℕ) (done : Bool) : Type 0 where
   pub kept : Kept s s'
-  pub ends : done ≡ true → (image : List ℕ) → Sees s' image → (root : ℕ) (total : ℕ → ℕ) (w : Way) (t : Tree) (h : ℕ) → ShortAt (mem s image) (length image) root total xs d w t h → Ends (mem s image) (mem s' image) (length image) root total (rows (plug w t))
-  pub goes : done ≡ false → (image : List ℕ) → Sees s' image → (root : ℕ) (total : ℕ → ℕ) (w : Way) (t : Tree) (h : ℕ) → ShortAt (mem s image) (length image) root total xs d w t h → ShortUp (mem s image) (mem s' image) (length image) root total xs (d - 1) (rows (plug w t))
+  pub ends : done ≡ true → (image : List ℕ) → Sees s' image →
+      (root : ℕ) (total : ℕ → ℕ) (w : Way) (t : Tree) (h : ℕ) →
+      ShortAt (mem s image) (length image) root total xs d w t h →
+      Ends (mem s image) (mem s' image) (length image) root total (rows (plug w t))
+  pub goes : done ≡ false → (image : List ℕ) → Sees s' image →
+      (root : ℕ) (total : ℕ → ℕ) (w : Way) (t : Tree) (h : ℕ) →
+      ShortAt (mem s image) (length image) root total xs d w t h →
+      ShortUp (mem s image) (mem s' image) (length image) root total xs (d - 1) (rows (plug w t))

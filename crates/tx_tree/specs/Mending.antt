@@ -1,5 +1,5 @@
 -- What the steps that mend a tree say.
-use Rattle.std.specs.Prelude.{◌≡◌, ◌≢◌, ℕ, ◌+◌, ◌-◌, ◌%◌, ◌<◌, ◌≤◌, ◌^◌, List, length, slice_index, Bool, true, false}
+use Rattle.std.specs.Prelude.{◌≡◌, ◌≢◌, ℕ, ◌+◌, ◌-◌, ◌%◌, ◌<◌, ◌≤◌, ◌^◌, List, length, slice_index, true, false}
 use Rattle.stm_words.specs.View.{View, Sees, Kept, IsWrite}
 use Rattle.tx_alloc.specs.Steps.{mem}
 use Rattle.tx_alloc.specs.Rows.{Rows}
@@ -19,11 +19,13 @@ pub record Rising (m m' : ℕ → ℕ) (link p c side v v' : ℕ) : Type 0 where
 
 pub record Raising (s s' : View) (link p c side v v' : ℕ) : Type 0 where
   pub kept : Kept s s'
-  pub rising : (image : List ℕ) → Sees s' image → Rising (mem s image) (mem s' image) link p c side v v'
+  pub rising : (image : List ℕ) → Sees s' image →
+      Rising (mem s image) (mem s' image) link p c side v v'
 
 pub record Rotated (s s' : View) (link p c side : ℕ) : Type 0 where
   pub kept : Kept s s'
-  pub turning : (image : List ℕ) → Sees s' image → Turning (mem s image) (mem s' image) link p c side
+  pub turning : (image : List ℕ) → Sees s' image →
+      Turning (mem s image) (mem s' image) link p c side
 
 -- the path leads through a tree
 pub record WayAt (m : ℕ → ℕ) (n : ℕ) (xs : List ℕ) (d : ℕ) : Type 0 where
@@ -53,7 +55,8 @@ pub record Ends (m m' : ℕ → ℕ) (n root : ℕ) (total : ℕ → ℕ) (rs : 
   pub touches : Touches m m' root total
 
 -- at the end of the path is the red node b, and the one above it may be red, too
-pub record RaisedAt (m : ℕ → ℕ) (n root : ℕ) (total : ℕ → ℕ) (xs : List ℕ) (d b : ℕ) (w : Way) (l : Tree) (k : ℕ) (o : Tree) (h : ℕ) : Type 0 where
+pub record RaisedAt (m : ℕ → ℕ) (n root : ℕ) (total : ℕ → ℕ) (xs : List ℕ) (d b : ℕ) (w : Way)
+    (l : Tree) (k : ℕ) (o : Tree) (h : ℕ) : Type 0 where
   pub zip : Zip m n root total w (node true l (k, b) o)
   pub path : IsPath xs root w
   pub deep : d ≡ depth w
@@ -78,7 +81,11 @@ pub record HasRaised (s : View) (xs : List ℕ) (d b : ℕ) : Type 0 where
 
 pub record Settled (s s' : View) (xs : List ℕ) (d b : ℕ) : Type 0 where
   pub kept : Kept s s'
-  pub ends : (image : List ℕ) → Sees s' image → (root : ℕ) (total : ℕ → ℕ) (w : Way) (l : Tree) (k : ℕ) (o : Tree) (h : ℕ) → RaisedAt (mem s image) (length image) root total xs d b w l k o h → Ends (mem s image) (mem s' image) (length image) root total (rows (plug w (node true l (k, b) o)))
+  pub ends : (image : List ℕ) → Sees s' image →
+      (root : ℕ) (total : ℕ → ℕ) (w : Way) (l : Tree) (k : ℕ) (o : Tree) (h : ℕ) →
+      RaisedAt (mem s image) (length image) root total xs d b w l k o h →
+      Ends (mem s image) (mem s' image) (length image) root total
+      (rows (plug w (node true l (k, b) o)))
 
 -- the node above is red, and the one beside that is not
 pub record IsToTurn (m : ℕ → ℕ) (l u : ℕ) : Type 0 where
@@ -86,10 +93,12 @@ pub record IsToTurn (m : ℕ → ℕ) (l u : ℕ) : Type 0 where
   pub uncle : m (u - u % 8 + (3 - u % 8)) ≢ 0 → m (m (u - u % 8 + (3 - u % 8)) + 3) ≢ 1
 
 pub record NeedsTurn (s : View) (xs : List ℕ) (d : ℕ) : Type 0 where
-  pub under : (image : List ℕ) → Sees s image → IsToTurn (mem s image) (slice_index xs d) (slice_index xs (d - 1))
+  pub under : (image : List ℕ) → Sees s image →
+      IsToTurn (mem s image) (slice_index xs d) (slice_index xs (d - 1))
 
 -- at the end of the path is a tree that lacks a black node, and has no red root
-pub record ShortAt (m : ℕ → ℕ) (n root : ℕ) (total : ℕ → ℕ) (xs : List ℕ) (d : ℕ) (w : Way) (t : Tree) (h : ℕ) : Type 0 where
+pub record ShortAt (m : ℕ → ℕ) (n root : ℕ) (total : ℕ → ℕ) (xs : List ℕ) (d : ℕ) (w : Way)
+    (t : Tree) (h : ℕ) : Type 0 where
   pub zip : Zip m n root total w t
   pub path : IsPath xs root w
   pub deep : d ≡ depth w
@@ -112,4 +121,7 @@ pub record HasShort (s : View) (xs : List ℕ) (d : ℕ) : Type 0 where
 
 pub record Mended (s s' : View) (xs : List ℕ) (d : ℕ) : Type 0 where
   pub kept : Kept s s'
-  pub ends : (image : List ℕ) → Sees s' image → (root : ℕ) (total : ℕ → ℕ) (w : Way) (t : Tree) (h : ℕ) → ShortAt (mem s image) (length image) root total xs d w t h → Ends (mem s image) (mem s' image) (length image) root total (rows (plug w t))
+  pub ends : (image : List ℕ) → Sees s' image →
+      (root : ℕ) (total : ℕ → ℕ) (w : Way) (t : Tree) (h : ℕ) →
+      ShortAt (mem s image) (length image) root total xs d w t h →
+      Ends (mem s image) (mem s' image) (length image) root total (rows (plug w t))

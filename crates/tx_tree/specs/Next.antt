@@ -27,10 +27,12 @@ pub record Replacing (m m' : ℕ → ℕ) (link a b : ℕ) : Type 0 where
 
 pub record Replaced (s s' : View) (link a b : ℕ) : Type 0 where
   pub kept : Kept s s'
-  pub replacing : (image : List ℕ) → Sees s' image → Replacing (mem s image) (mem s' image) link a b
+  pub replacing : (image : List ℕ) → Sees s' image →
+      Replacing (mem s image) (mem s' image) link a b
 
 -- at the end of the path is a node b with a right side
-pub record BothAt (m : ℕ → ℕ) (n root : ℕ) (total : ℕ → ℕ) (xs : List ℕ) (d b : ℕ) (w : Way) (c : Bool) (l : Tree) (k : ℕ) (t : Tree) (h : ℕ) : Type 0 where
+pub record BothAt (m : ℕ → ℕ) (n root : ℕ) (total : ℕ → ℕ) (xs : List ℕ) (d b : ℕ) (w : Way)
+    (c : Bool) (l : Tree) (k : ℕ) (t : Tree) (h : ℕ) : Type 0 where
   pub zip : Zip m n root total w (node c l (k, b) t)
   pub path : IsPath xs root w
   pub deep : d ≡ depth w
@@ -68,4 +70,8 @@ pub record GoneEnds (m m' : ℕ → ℕ) (n root : ℕ) (total : ℕ → ℕ) (b
 
 pub record NextUnlinked (s s' : View) (xs : List ℕ) (d b : ℕ) : Type 0 where
   pub kept : Kept s s'
-  pub ends : (image : List ℕ) → Sees s' image → (root : ℕ) (total : ℕ → ℕ) (w : Way) (c : Bool) (l : Tree) (k : ℕ) (t : Tree) (h : ℕ) → BothAt (mem s image) (length image) root total xs d b w c l k t h → GoneEnds (mem s image) (mem s' image) (length image) root total b (front w ++ ((rows l ++ rows t) ++ behind w))
+  pub ends : (image : List ℕ) → Sees s' image →
+      (root : ℕ) (total : ℕ → ℕ) (w : Way) (c : Bool) (l : Tree) (k : ℕ) (t : Tree) (h : ℕ) →
+      BothAt (mem s image) (length image) root total xs d b w c l k t h →
+      GoneEnds (mem s image) (mem s' image) (length image) root total b
+      (front w ++ ((rows l ++ rows t) ++ behind w))

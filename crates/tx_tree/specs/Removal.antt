@@ -2,7 +2,6 @@
 use Rattle.std.specs.Prelude.{◌≡◌, ℕ, ◌+◌, ◌<◌, ◌≤◌, ◌^◌, List, length, slice_index, Bool, false, not}
 use Rattle.stm_words.specs.View.{View, Sees, Kept}
 use Rattle.tx_alloc.specs.Steps.{mem}
-use Rattle.tx_alloc.specs.Rows.{Rows}
 use Rattle.tx_tree.specs.Tree.{Tree, leaf, join, rows, EvenAt, IsApart}
 use Rattle.tx_tree.specs.Way.{Way, plug, depth, IsEvenWay, IsApartWay}
 use Rattle.tx_tree.specs.Balance.{Sound}
@@ -10,8 +9,10 @@ use Rattle.tx_tree.specs.Hangs.{off, Zip, without}
 use Rattle.tx_tree.specs.Steps.{IsPath}
 use Rattle.tx_tree.specs.Mending.{Ends}
 
--- the tree at the end of the path, to which p leads, lacks a black node, and may be red below a red node
-pub record LooseAt (m : ℕ → ℕ) (n root : ℕ) (total : ℕ → ℕ) (xs : List ℕ) (d p : ℕ) (w : Way) (t : Tree) (h : ℕ) : Type 0 where
+-- the tree at the end of the path, to which p leads, lacks a black node, and may be red below a
+-- red node
+pub record LooseAt (m : ℕ → ℕ) (n root : ℕ) (total : ℕ → ℕ) (xs : List ℕ) (d p : ℕ) (w : Way)
+    (t : Tree) (h : ℕ) : Type 0 where
   pub zip : Zip m n root total w t
   pub path : IsPath xs root w
   pub deep : d ≡ depth w
@@ -38,10 +39,14 @@ pub record HasLoose (s : View) (xs : List ℕ) (d p : ℕ) : Type 0 where
 
 pub record Lightened (s s' : View) (xs : List ℕ) (d p : ℕ) : Type 0 where
   pub kept : Kept s s'
-  pub ends : (image : List ℕ) → Sees s' image → (root : ℕ) (total : ℕ → ℕ) (w : Way) (t : Tree) (h : ℕ) → LooseAt (mem s image) (length image) root total xs d p w t h → Ends (mem s image) (mem s' image) (length image) root total (rows (plug w t))
+  pub ends : (image : List ℕ) → Sees s' image →
+      (root : ℕ) (total : ℕ → ℕ) (w : Way) (t : Tree) (h : ℕ) →
+      LooseAt (mem s image) (length image) root total xs d p w t h →
+      Ends (mem s image) (mem s' image) (length image) root total (rows (plug w t))
 
 -- at the end of the path is a node b that has one side at most, to which p leads
-pub record LastAt (m : ℕ → ℕ) (n root : ℕ) (total : ℕ → ℕ) (xs : List ℕ) (d b p : ℕ) (w : Way) (right c : Bool) (k : ℕ) (t : Tree) (h : ℕ) : Type 0 where
+pub record LastAt (m : ℕ → ℕ) (n root : ℕ) (total : ℕ → ℕ) (xs : List ℕ) (d b p : ℕ) (w : Way)
+    (right c : Bool) (k : ℕ) (t : Tree) (h : ℕ) : Type 0 where
   pub zip : Zip m n root total w (join right c leaf (k, b) t)
   pub path : IsPath xs root w
   pub deep : d ≡ depth w
@@ -68,4 +73,7 @@ pub record HasLast (s : View) (xs : List ℕ) (d b p : ℕ) : Type 0 where
 
 pub record Unlinked (s s' : View) (xs : List ℕ) (d b p : ℕ) : Type 0 where
   pub kept : Kept s s'
-  pub ends : (image : List ℕ) → Sees s' image → (root : ℕ) (total : ℕ → ℕ) (w : Way) (right c : Bool) (k : ℕ) (t : Tree) (h : ℕ) → LastAt (mem s image) (length image) root total xs d b p w right c k t h → Ends (mem s image) (mem s' image) (length image) root (without total b) (rows (plug w t))
+  pub ends : (image : List ℕ) → Sees s' image →
+      (root : ℕ) (total : ℕ → ℕ) (w : Way) (right c : Bool) (k : ℕ) (t : Tree) (h : ℕ) →
+      LastAt (mem s image) (length image) root total xs d b p w right c k t h →
+      Ends (mem s image) (mem s' image) (length image) root (without total b) (rows (plug w t))

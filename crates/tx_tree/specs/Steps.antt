@@ -6,14 +6,15 @@ use Rattle.tx_alloc.specs.Steps.{mem}
 use Rattle.tx_alloc.specs.Rows.{Rows, times, AllBelow, IsFrom}
 use Rattle.tx_tree.specs.Tree.{Tree, rows, IsEven, IsApart, is_red}
 use Rattle.tx_tree.specs.Way.{Way, top, step, plug, depth, front, behind}
-use Rattle.tx_tree.specs.Hangs.{off, link_of, Zip, Turning}
+use Rattle.tx_tree.specs.Hangs.{off, Zip}
 use Rattle.tx_tree.specs.Table.{Table}
 
 -- the word at the link leads to a block, or to none
 pub record Leads (s : View) (link : ℕ) : Type 0 where
   pub small : s.size ≤ 2 ^ 32
   pub room : link < s.size
-  pub under : (image : List ℕ) → Sees s image → mem s image link ≢ 0 → IsBlock (length image) (mem s image link)
+  pub under : (image : List ℕ) → Sees s image → mem s image link ≢ 0 →
+      IsBlock (length image) (mem s image link)
 
 -- the link leads to p
 pub record Reached (s s' : View) (link p : ℕ) : Type 0 where
@@ -31,7 +32,8 @@ pub record Coloured (s s' : View) (p : ℕ) (red : Bool) : Type 0 where
 -- the words of a way from the root on
 abbrev pub IsPath : List ℕ → ℕ → Way → Type 0
 IsPath xs root top = slice_index xs 0 ≡ root
-IsPath xs root (step right c r o w) = (slice_index xs (depth w + 1) ≡ r.1 + off right) × IsPath xs root w
+IsPath xs root (step right c r o w) = (slice_index xs (depth w + 1) ≡ r.1 + off right) × IsPath xs
+    root w
 
 -- the search for a key came to a tree that has its row, if the table has it
 pub record Place (m : ℕ → ℕ) (n root key : ℕ) (xs : List ℕ) (d : ℕ) (rs : Rows) : Type 0 where
@@ -53,7 +55,9 @@ pub record Seeking (s s' : View) (root key : ℕ) (xs : List ℕ) (d : ℕ) : Ty
   pub writes : s'.writes ≡ s.writes
   pub deep : d < 40
   pub size : length xs ≡ 40
-  pub place : (image : List ℕ) (rs : Rows) → Sees s' image → Table (mem s image) (length image) root rs → Place (mem s image) (length image) root key xs d rs
+  pub place : (image : List ℕ) (rs : Rows) → Sees s' image →
+      Table (mem s image) (length image) root rs →
+      Place (mem s image) (length image) root key xs d rs
 
 -- the search came to its end: there is no tree, or its root has the key
 pub record Sought (s s' : View) (root key : ℕ) (xs : List ℕ) (d p : ℕ) : Type 0 where

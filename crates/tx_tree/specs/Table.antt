@@ -1,6 +1,6 @@
 -- A table by key. What stands above uses the lemmas on IsTable alone, and not its fields.
-use Rattle.std.specs.Prelude.{◌≡◌, ◌≢◌, ℕ, ◌+◌, ◌<◌, ◌≤◌, ◌^◌, List, [], ◌∷◌, length, Bool, true, false, cond, nat_lt, zero, suc, MatchOption, Option, Some, None}
-use Rattle.stm_words.specs.View.{View, Sees, Kept, Loaded}
+use Rattle.std.specs.Prelude.{◌≡◌, ◌≢◌, ℕ, ◌+◌, ◌<◌, ◌≤◌, ◌^◌, List, [], ◌∷◌, length, false, cond, nat_lt, zero, suc, MatchOption, Option, Some, None}
+use Rattle.stm_words.specs.View.{View, Sees, Kept}
 use Rattle.tx_alloc.specs.Pool.{IsBlock}
 use Rattle.tx_alloc.specs.declared.place.TheConstants.{FIRST_BLOCK, BLOCK_WORDS, MOST_BLOCKS}
 use Rattle.tx_alloc.specs.Steps.{mem}
@@ -23,7 +23,8 @@ pub record IsTable (m : ℕ → ℕ) (n p : ℕ) (rs : Rows) : Type 0 where
 -- h nodes on a way down from p, each in the left or the right word of the one before
 abbrev pub Descends : (ℕ → ℕ) → ℕ → ℕ → Type 0
 Descends m p zero = Unit {0}
-Descends m p (suc h) = (p ≢ 0) × ((side : ℕ) × (((1 ≤ side) × (side ≤ 2)) × Descends m (m (p + side)) h))
+Descends m p (suc h) = (p ≢ 0) ×
+    ((side : ℕ) × (((1 ≤ side) × (side ≤ 2)) × Descends m (m (p + side)) h))
 
 -- the root word leads to a table of these rows, at most as many as a heap has blocks
 pub record Table (m : ℕ → ℕ) (n root : ℕ) (rs : Rows) : Type 0 where
@@ -49,7 +50,8 @@ IsInside n b = (FIRST_BLOCK ≤ b) × (b + BLOCK_WORDS ≤ n)
 pub record Found (s s' : View) (root key p : ℕ) : Type 0 where
   pub kept : Kept s s'
   pub writes : s'.writes ≡ s.writes
-  pub is : (image : List ℕ) (rs : Rows) → Sees s' image → Table (mem s image) (length image) root rs → p ≡ block_at rs key
+  pub is : (image : List ℕ) (rs : Rows) → Sees s' image →
+      Table (mem s image) (length image) root rs → p ≡ block_at rs key
 
 -- the table has the key, and b is its block
 pub record FoundAt (s s' : View) (root key b : ℕ) : Type 0 where
@@ -70,7 +72,8 @@ row_above (r ∷ rs) key = cond (nat_lt key r.0) (Some r) (row_above rs key)
 pub record NextFound (s s' : View) (root key : ℕ) (next : Option (ℕ × ℕ)) : Type 0 where
   pub kept : Kept s s'
   pub writes : s'.writes ≡ s.writes
-  pub is : (image : List ℕ) (rs : Rows) → Sees s' image → Table (mem s image) (length image) root rs → row_above rs key ≡ next
+  pub is : (image : List ℕ) (rs : Rows) → Sees s' image →
+      Table (mem s image) (length image) root rs → row_above rs key ≡ next
   pub inside : MatchOption next (Unit {0}) (λ r. IsInside s'.size r.1)
 
 -- b is a block whose first word is a key that the table does not have
@@ -80,18 +83,27 @@ pub record Fresh (m : ℕ → ℕ) (n : ℕ) (rs : Rows) (key b : ℕ) : Type 0 
   pub key_is : m b ≡ key
 
 pub record IsFresh (s : View) (root key b : ℕ) : Type 0 where
-  pub under : (image : List ℕ) (rs : Rows) → Sees s image → Table (mem s image) (length image) root rs → Fresh (mem s image) (length image) rs key b
+  pub under : (image : List ℕ) (rs : Rows) → Sees s image →
+      Table (mem s image) (length image) root rs → Fresh (mem s image) (length image) rs key b
 
 -- the block came into the table under its key
 pub record Inserted (s s' : View) (root key b : ℕ) : Type 0 where
   pub kept : Kept s s'
-  pub table : (image : List ℕ) (rs : Rows) → Sees s' image → Table (mem s image) (length image) root rs → IsTable (mem s' image) (length image) (mem s' image root) (put_row rs key b)
-  pub relinks : (image : List ℕ) (rs : Rows) → Sees s' image → Table (mem s image) (length image) root rs → Relinks (mem s image) (mem s' image) 1 root (put_row rs key b)
+  pub table : (image : List ℕ) (rs : Rows) → Sees s' image →
+      Table (mem s image) (length image) root rs →
+      IsTable (mem s' image) (length image) (mem s' image root) (put_row rs key b)
+  pub relinks : (image : List ℕ) (rs : Rows) → Sees s' image →
+      Table (mem s image) (length image) root rs →
+      Relinks (mem s image) (mem s' image) 1 root (put_row rs key b)
 
 -- the row of the key was there and is gone, and p is its block
 pub record Removed (s s' : View) (root key p : ℕ) : Type 0 where
   pub kept : Kept s s'
   pub inside : IsInside s'.size p
-  pub is : (image : List ℕ) (rs : Rows) → Sees s' image → Table (mem s image) (length image) root rs → p ≡ block_at rs key
-  pub table : (image : List ℕ) (rs : Rows) → Sees s' image → Table (mem s image) (length image) root rs → IsTable (mem s' image) (length image) (mem s' image root) (cut_row rs key)
-  pub relinks : (image : List ℕ) (rs : Rows) → Sees s' image → Table (mem s image) (length image) root rs → Relinks (mem s image) (mem s' image) 1 root rs
+  pub is : (image : List ℕ) (rs : Rows) → Sees s' image →
+      Table (mem s image) (length image) root rs → p ≡ block_at rs key
+  pub table : (image : List ℕ) (rs : Rows) → Sees s' image →
+      Table (mem s image) (length image) root rs →
+      IsTable (mem s' image) (length image) (mem s' image root) (cut_row rs key)
+  pub relinks : (image : List ℕ) (rs : Rows) → Sees s' image →
+      Table (mem s image) (length image) root rs → Relinks (mem s image) (mem s' image) 1 root rs

@@ -1,12 +1,13 @@
 -- Red-black trees of (key, block).
-use Rattle.std.specs.Prelude.{◌≡◌, ℕ, ◌+◌, ◌<◌, ◌≤◌, Bool, true, false, cond, max, [], ◌∷◌, ◌++◌}
+use Rattle.std.specs.Prelude.{◌≡◌, ℕ, ◌+◌, Bool, true, false, cond, max, [], ◌∷◌, ◌++◌}
 use Rattle.tx_alloc.specs.Rows.{Rows}
 
 pub data Tree : Type 0 where
   leaf : Tree
   node : (red : Bool) → (l : Tree) → (r : ℕ × ℕ) → (t : Tree) → Tree
 
--- a node with its sides given as the near one and the far one: the near one is the left side, or (true) the right side
+-- a node with its sides given as the near one and the far one: the near one is the left side, or
+-- (true) the right side
 abbrev pub join : Bool → Bool → Tree → ℕ × ℕ → Tree → Tree
 join false c near r far = node c near r far
 join true c near r far = node c far r near
@@ -36,7 +37,8 @@ is_red (node c l r t) = c
 -- no red node has a red child
 abbrev pub IsApart : Tree → Type 0
 IsApart leaf = Unit {0}
-IsApart (node c l r t) = (c ≡ true → (is_red l ≡ false) × (is_red t ≡ false)) × IsApart l × IsApart t
+IsApart (node c l r t) = (c ≡ true → (is_red l ≡ false) × (is_red t ≡ false)) × IsApart l ×
+    IsApart t
 
 abbrev pub height : Tree → ℕ
 height leaf = 0

@@ -41,4 +41,5 @@ IsEvenWay (step right c r o w) h = EvenAt o h × IsEvenWay w (h + cond c 0 1)
 -- a tree with a root of this colour fits
 abbrev pub IsApartWay : Way → Bool → Type 0
 IsApartWay top red = red ≡ false
-IsApartWay (step right c r o w) red = (c ≡ true → (red ≡ false) × (is_red o ≡ false)) × IsApart o × IsApartWay w c
+IsApartWay (step right c r o w) red = (c ≡ true → (red ≡ false) × (is_red o ≡ false)) × IsApart o
+    × IsApartWay w c

@@ -2,8 +2,10 @@ ghost use Rattle.std.specs.Prelude.{ℕ, ◌+◌, ◌≤◌, ◌^◌, length};
 ghost use Rattle.tx_alloc.specs.Rows.{Rows};
 ghost use Rattle.tx_tree.specs.Table.{IsTable, Descends};
 
-/// In a table of n entries no way down has more than h nodes, where `2^h <= (n + 1)^2`. The bound on
-/// the height of a red-black tree is that of Guibas and Sedgewick (FOCS 1978).
+/// In a table of n entries a way down of h nodes has `2^h <= (n + 1)^2`.
+///
+/// The bound on the height of a red-black tree is that of Guibas and Sedgewick (FOCS 1978).
 pub fn height_is_logarithmic()
-    ensures { (m : ℕ → ℕ) (n p h : ℕ) (rs : Rows) → IsTable m n p rs → Descends m p h → 2 ^ h ≤ (length rs + 1) ^ 2 }
+    ensures { (m : ℕ → ℕ) (n p h : ℕ) (rs : Rows) → IsTable m n p rs → Descends m p h →
+        2 ^ h ≤ (length rs + 1) ^ 2 }
 {}

@@ -3,77 +3,80 @@ ghost use Rattle.tx_tree.specs.Table.{HasTable, Found, Removed};
 ghost use Rattle.tx_tree.specs.Removal.{HasLoose, Lightened, HasLast, Unlinked};
 ghost use Rattle.tx_tree.specs.Next.{HasBoth, NextUnlinked};
 
-use crate::mending::mend;
-use crate::nodes::{COLOUR, LEFT, RIGHT, is_red, load_node, replace};
-use crate::search::{LEVELS, seek, seek_least};
+use crate::mending::repair_black;
+use crate::nodes::{BLACK, COLOUR, LEFT, RIGHT, is_red, load_node, transplant};
+use crate::search::{LEVELS, Path, seek, seek_successor};
 use stm_words::{Addr, TxMem, store};
 use tx_alloc::Block;
 
 /// The only child of a node, or none, takes its place, and the tree is mended.
 pub fn unlink<M: TxMem>(
     memory: &mut M,
-    path: &[u32; LEVELS],
+    path: &Path,
     depth: usize,
     node: u32,
     child: u32,
 ) -> Result<(), M::Stop>
     requires last { HasLast (M.view memory.old) path.now depth node child }
     ensures origin { M.origin memory.new ≡ M.origin memory.old }
-    ensures answer { IfOk result (λ _. Unlinked (M.view memory.old) (M.view memory.new) path.now depth node child) }
+    ensures answer { IfOk result (λ _.
+        Unlinked (M.view memory.old) (M.view memory.new) path.now depth node child) }
 {
     let node_red = is_red(memory, node)?;
     store(memory, Addr(path[depth]), child as u64)?;
     if node_red {
         return Ok(());
     }
-    lighten(memory, path, depth, child)?;
+    add_black(memory, path, depth, child)?;
     Ok(())
 }
 
 /// The tree at the end of the path, with this node as its root, lacks a black node.
-pub fn lighten<M: TxMem>(
+pub fn add_black<M: TxMem>(
     memory: &mut M,
-    path: &[u32; LEVELS],
+    path: &Path,
     depth: usize,
     node: u32,
 ) -> Result<(), M::Stop>
     requires loose { HasLoose (M.view memory.old) path.now depth node }
     ensures origin { M.origin memory.new ≡ M.origin memory.old }
-    ensures answer { IfOk result (λ _. Lightened (M.view memory.old) (M.view memory.new) path.now depth node) }
+    ensures answer { IfOk result (λ _.
+        Lightened (M.view memory.old) (M.view memory.new) path.now depth node) }
 {
     let red = is_red(memory, node)?;
     if red {
-        store(memory, Addr(node + COLOUR), 0)?;
+        store(memory, Addr(node + COLOUR), BLACK)?;
         return Ok(());
     }
-    mend(memory, path, depth)?;
+    repair_black(memory, path, depth)?;
     Ok(())
 }
 
 /// The least node of the right side takes the place of a node with two sides, and the tree is
 /// mended.
-pub fn unlink_next<M: TxMem>(
+pub fn unlink_with_successor<M: TxMem>(
     memory: &mut M,
-    path: &mut [u32; LEVELS],
+    path: &mut Path,
     depth: usize,
     node: u32,
 ) -> Result<(), M::Stop>
     requires both { HasBoth (M.view memory.old) path.old depth node }
     ensures origin { M.origin memory.new ≡ M.origin memory.old }
-    ensures answer { IfOk result (λ _. NextUnlinked (M.view memory.old) (M.view memory.new) path.old depth node) }
+    ensures answer { IfOk result (λ _.
+        NextUnlinked (M.view memory.old) (M.view memory.new) path.old depth node) }
 {
     let upper = path[depth];
     path[depth + 1] = node + RIGHT;
-    let (last, next) = seek_least(memory, path, depth + 1)?;
-    let child = load_node(memory, next + RIGHT)?;
-    let next_red = is_red(memory, next)?;
+    let (last, successor) = seek_successor(memory, path, depth + 1)?;
+    let child = load_node(memory, successor + RIGHT)?;
+    let successor_red = is_red(memory, successor)?;
     store(memory, Addr(path[last]), child as u64)?;
-    replace(memory, upper, node, next)?;
-    path[depth + 1] = next + RIGHT;
-    if next_red {
+    transplant(memory, upper, node, successor)?;
+    path[depth + 1] = successor + RIGHT;
+    if successor_red {
         return Ok(());
     }
-    lighten(memory, path, last, child)?;
+    add_black(memory, path, last, child)?;
     Ok(())
 }
 
@@ -81,9 +84,11 @@ pub fn unlink_next<M: TxMem>(
 pub fn remove<M: TxMem>(memory: &mut M, root: Addr, key: u64) -> Result<Option<Block>, M::Stop>
     requires table { HasTable (M.view memory.old) root.0 }
     ensures origin { M.origin memory.new ≡ M.origin memory.old }
-    ensures answer { IfOk result (λ taken. MatchOption taken (Found (M.view memory.old) (M.view memory.new) root.0 key 0) (λ block. Removed (M.view memory.old) (M.view memory.new) root.0 key block.0.0)) }
+    ensures answer { IfOk result (λ taken. MatchOption taken
+        (Found (M.view memory.old) (M.view memory.new) root.0 key 0)
+        (λ block. Removed (M.view memory.old) (M.view memory.new) root.0 key block.0.0)) }
 {
-    let mut path = [0; LEVELS];
+    let mut path: Path = [0; LEVELS];
     let (depth, node) = seek(memory, root.0, key, &mut path)?;
     if node == 0 {
         return Ok(None);
@@ -98,6 +103,6 @@ pub fn remove<M: TxMem>(memory: &mut M, root: Addr, key: u64) -> Result<Option<B
         unlink(memory, &path, depth, node, left)?;
         return Ok(Some(Block(Addr(node))));
     }
-    unlink_next(memory, &mut path, depth, node)?;
+    unlink_with_successor(memory, &mut path, depth, node)?;
     Ok(Some(Block(Addr(node))))
 }

@@ -7,8 +7,13 @@ use crate::nodes::{LEFT, RIGHT, load_node};
 use stm_words::{Addr, TxRead, load};
 use tx_alloc::Block;
 
-/// One more than the greatest number of nodes on a way down a tree of 262,144 nodes, and a few.
+/// How many links a path has. A tree of 262,144 nodes has at most 36 nodes on a way down.
 pub const LEVELS: usize = 40;
+
+/// The way down from the root word. A link is the address of a word that leads to a node: the root
+/// word, or a left or right word of the node that the link before it leads to. So a link gives the
+/// parent's block and the side, and no node has a word for its parent.
+pub type Path = [u32; LEVELS];
 
 /// An entry of a table: its key and its block.
 #[derive(Clone, Copy, Debug, PartialEq, Eq)]
@@ -21,7 +26,9 @@ pub struct Entry {
 pub fn find<M: TxRead>(memory: &mut M, root: Addr, key: u64) -> Result<Option<Block>, M::Stop>
     requires table { HasTable (M.view memory.old) root.0 }
     ensures origin { M.origin memory.new ≡ M.origin memory.old }
-    ensures answer { IfOk result (λ found. MatchOption found (Found (M.view memory.old) (M.view memory.new) root.0 key 0) (λ block. FoundAt (M.view memory.old) (M.view memory.new) root.0 key block.0.0)) }
+    ensures answer { IfOk result (λ found. MatchOption found
+        (Found (M.view memory.old) (M.view memory.new) root.0 key 0)
+        (λ block. FoundAt (M.view memory.old) (M.view memory.new) root.0 key block.0.0)) }
 {
     let mut link = root.0;
     for _ in 0..LEVELS {
@@ -39,11 +46,16 @@ pub fn find<M: TxRead>(memory: &mut M, root: Addr, key: u64) -> Result<Option<Bl
     Ok(None)
 }
 
-/// The entry with the least key above `key` in the table at `root`.
-pub fn least_above<M: TxRead>(memory: &mut M, root: Addr, key: u64) -> Result<Option<Entry>, M::Stop>
+/// The entry with the least key greater than `key` in the table at `root`.
+pub fn least_above<M: TxRead>(
+    memory: &mut M,
+    root: Addr,
+    key: u64,
+) -> Result<Option<Entry>, M::Stop>
     requires table { HasTable (M.view memory.old) root.0 }
     ensures origin { M.origin memory.new ≡ M.origin memory.old }
-    ensures answer { IfOk result (λ next. NextFound (M.view memory.old) (M.view memory.new) root.0 key (row_of next)) }
+    ensures answer { IfOk result (λ next.
+        NextFound (M.view memory.old) (M.view memory.new) root.0 key (row_of next)) }
 {
     let mut link = root.0;
     let mut least = None;
@@ -72,11 +84,12 @@ pub fn seek<M: TxRead>(
     memory: &mut M,
     root: u32,
     key: u64,
-    path: &mut [u32; LEVELS],
+    path: &mut Path,
 ) -> Result<(usize, u32), M::Stop>
     requires table { HasTable (M.view memory.old) root }
     ensures origin { M.origin memory.new ≡ M.origin memory.old }
-    ensures answer { IfOk result (λ end. Sought (M.view memory.old) (M.view memory.new) root key path.new end.0 end.1) }
+    ensures answer { IfOk result (λ end.
+        Sought (M.view memory.old) (M.view memory.new) root key path.new end.0 end.1) }
 {
     path[0] = root;
     let mut depth = 0;
@@ -95,15 +108,17 @@ pub fn seek<M: TxRead>(
     }
 }
 
-/// The way down goes on to the least node below. Answers how many nodes are above, and the node.
-pub fn seek_least<M: TxRead>(
+/// The way down goes on to the least node below, the successor of the node whose right link the
+/// path ends with. Answers how many nodes are above it, and the node.
+pub fn seek_successor<M: TxRead>(
     memory: &mut M,
-    path: &mut [u32; LEVELS],
+    path: &mut Path,
     depth: usize,
 ) -> Result<(usize, u32), M::Stop>
     requires span { HasSpan (M.view memory.old) path.old depth }
     ensures origin { M.origin memory.new ≡ M.origin memory.old }
-    ensures answer { IfOk result (λ end. Lowest (M.view memory.old) (M.view memory.new) path.old depth path.new end.0 end.1) }
+    ensures answer { IfOk result (λ end.
+        Lowest (M.view memory.old) (M.view memory.new) path.old depth path.new end.0 end.1) }
 {
     let mut depth = depth;
     let mut node = load_node(memory, path[depth])?;

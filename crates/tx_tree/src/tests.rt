@@ -248,13 +248,7 @@ fn numbers(alloc: Global, count: usize, order: Order) -> Result<Vec<usize>, Allo
         let number = match order {
             Order::Ascending => n,
             Order::Descending => count - 1 - n,
-            Order::Alternating => {
-                if n % 2 == 0 {
-                    n / 2
-                } else {
-                    count - 1 - n / 2
-                }
-            }
+            Order::Alternating => { if n % 2 == 0 { n / 2 } else { count - 1 - n / 2 } }
         };
         numbers.push(number)?;
     }

@@ -1,4 +1,4 @@
-use Rattle.std.proofs.Common.{arith, refl}
+use Rattle.std.proofs.Common.{arith}
 use Rattle.tx_tree.proofs.RemoveViews.{left_leads, right_leads, here_of, has_both, removed_both, has_last_left, has_last_right, removed_left, removed_right}
 use Rattle.tx_tree.proofs.Inserting.{found}
 use Rattle.tx_tree.proofs.removal.remove.Goals as goal
@@ -30,8 +30,8 @@ unlink-requires-then-right-eq0 g c = record { last = has_last_right _ _ _ _ _ _ 
 pub returns-then-right-eq0-clause-answer : goal.returns-then-right-eq0-clause-answer
 returns-then-right-eq0-clause-answer g c = removed_right _ _ _ _ _ _ _ _ _ _ (here_of _ _ _ _ _ _ _ _ _ _ _ c.in_ok-depth.ensures.answer c.if-node-eq0.false c.in_ok-left.ensures.answer c.in_ok-right.ensures.answer) c.if-right-eq0.true c.in_ok-unlink-2.ensures.answer
 
-pub unlink_next-requires : goal.unlink_next-requires
-unlink_next-requires g c = record { both = has_both _ _ _ _ _ _ _ _ _ c.requires.table (here_of _ _ _ _ _ _ _ _ _ _ _ c.in_ok-depth.ensures.answer c.if-node-eq0.false c.in_ok-left.ensures.answer c.in_ok-right.ensures.answer) c.if-right-eq0.false }
+pub unlink_with_successor-requires : goal.unlink_with_successor-requires
+unlink_with_successor-requires g c = record { both = has_both _ _ _ _ _ _ _ _ _ c.requires.table (here_of _ _ _ _ _ _ _ _ _ _ _ c.in_ok-depth.ensures.answer c.if-node-eq0.false c.in_ok-left.ensures.answer c.in_ok-right.ensures.answer) c.if-right-eq0.false }
 
 pub returns-clause-answer : goal.returns-clause-answer
-returns-clause-answer g c = removed_both _ _ _ _ _ _ _ _ _ _ (here_of _ _ _ _ _ _ _ _ _ _ _ c.in_ok-depth.ensures.answer c.if-node-eq0.false c.in_ok-left.ensures.answer c.in_ok-right.ensures.answer) c.if-right-eq0.false c.in_ok-unlink_next.ensures.answer
+returns-clause-answer g c = removed_both _ _ _ _ _ _ _ _ _ _ (here_of _ _ _ _ _ _ _ _ _ _ _ c.in_ok-depth.ensures.answer c.if-node-eq0.false c.in_ok-left.ensures.answer c.in_ok-right.ensures.answer) c.if-right-eq0.false c.in_ok-unlink_with_successor.ensures.answer

@@ -1,5 +1,5 @@
 use Rattle.std.proofs.Common.{arith, refl, ap, None, ◌∙◌, ℕ, ◌+◌}
-use Rattle.tx_tree.proofs.Spots.{descent_start, descent_leads, descent_low, descent_left, descent_right, found_none, found_here, found_deep}
+use Rattle.tx_tree.proofs.Spots.{descent_start, descent_leads, descent_left, descent_right, found_none, found_here, found_deep}
 use Rattle.tx_tree.proofs.search.find.Goals.{then-key-found, else-key-found}
 use Rattle.tx_tree.proofs.search.find.Goals as goal
 

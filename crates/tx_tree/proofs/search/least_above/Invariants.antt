@@ -1,4 +1,4 @@
-use Rattle.std.proofs.Common.{◌≡◌, ℕ, ◌+◌}
+use Rattle.std.proofs.Common.{◌≡◌, ◌+◌}
 use Rattle.tx_tree.specs.Table.{row_of}
 use Rattle.tx_tree.proofs.Spots.{Descending}
 use Rattle.tx_tree.proofs.search.least_above.Given as goal
