@@ -19,7 +19,7 @@ pub data Action : Type 0 where
   give_back : (lock : ℕ) → Action
   finish : (tag : List ℕ) → Action
 
--- what the rules need to know of a region: the last version, how many locks and words it has, the lock of each address, and which records are lawful
+-- the numbers of a region that bound its events: the last version, how many locks it has and how many words. The lock of an address and the law of records are parameters beside them
 pub record Bounds : Type 0 where
   pub last : ℕ
   pub stripes : ℕ

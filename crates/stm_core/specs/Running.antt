@@ -19,7 +19,7 @@ pub record Running : Type 0 where
 abbrev pub stripes_of : Core → ℕ → ℕ
 stripes_of c = stripe_of (length c.locks)
 
--- a client with this number is out
+-- whether this number was given to a client, and that client is not spent
 abbrev pub is_out : Core → ℕ → Bool
 is_out c k = nat_lt 0 k && nat_lt (k - 1) (length c.clients) && not (client_of c k).spent
 

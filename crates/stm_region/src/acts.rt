@@ -1,4 +1,5 @@
-//! The three kinds of atomic step, whose event the proof picks.
+//! The kinds of atomic step on the table (load, exchange, store, and the subtraction that gives
+//! a lock back), whose event the proof picks.
 ghost use Rattle.std.specs.Prelude.{◌≡◌, ◌≢◌, ℕ, ◌+◌, ◌-◌, ◌*◌, ◌/◌, ◌<◌, ◌≤◌, ◌^◌, ◌==◌};
 ghost use Rattle.stm_core.specs.Core.{left};
 ghost use Rattle.stm_core.specs.Client.{word_before};
