@@ -7,3 +7,4 @@ mod Order
 mod Seeking
 mod Changing
 pub mod After
+mod Stocked

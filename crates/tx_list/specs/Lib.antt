@@ -1,3 +1,4 @@
 pub mod Bookings
 pub mod Lists
 pub mod Search
+pub mod Stock
