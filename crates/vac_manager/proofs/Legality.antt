@@ -1,5 +1,5 @@
 -- A serial list of lawful records is legal.
-use Rattle.std.proofs.Common.{◌≡◌, ℕ, List, [], ◌∷◌, refl, sym, subst, zero}
+use Rattle.std.proofs.Common.{◌≡◌, ℕ, List, [], ◌∷◌, refl, sym, ap, subst, zero}
 use Rattle.stm_words.specs.Image.{In, Agrees, laid}
 use Rattle.stm_words.proofs.Paired.{in_later}
 use Rattle.stm_core.specs.Client.{Client, Record}
@@ -30,6 +30,7 @@ was_legal region v h d =
     let k = d.decides in
     let all = all_records k.core.clients in
     let l = legal region.first (empty_state (capacity_of region)) all h k.serial k.abides in
+    let records : d.then.records ≡ v.records = ap (λ (c : Client). c.records) (sym d.same) in
     record {
       core = k.core;
       rule = k.rule;
@@ -38,10 +39,10 @@ was_legal region v h d =
       number = k.number;
       caller = d.then;
       member = k.member;
-      records = d.records;
+      records = records;
       last = l.0;
       legal = l.1.0;
-      among = subst (λ (rs : List Record). Sub rs all) d.records k.among;
+      among = subst (λ (rs : List Record). Sub rs all) records k.among;
     }
 
 -- the region of an attempt is the one that it began in
@@ -52,4 +53,4 @@ committed_legal region region' v rs same h d e =
 
 -- the same of a task that only read
 pub finished_legal : (region region' : RegionShown) (v : Client) (rs : List Record) → region' ≡ region → IsOpened region → Decides (λ (image : List ℕ). IsFitting image) (λ (tag : List ℕ) reads writes. IsLawful tag reads writes) region' v → rs ≡ v.records → WasLegal region rs
-finished_legal region region' v rs same h k e = committed_legal region region' v rs same h (record { then = v; records = refl; decides = k }) e
+finished_legal region region' v rs same h k e = committed_legal region region' v rs same h (record { then = v; same = refl; decides = k }) e

@@ -23,3 +23,4 @@ pub mod Within
 pub mod Lawful
 pub mod Trying
 pub mod Openings
+pub mod Adding

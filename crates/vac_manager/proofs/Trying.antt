@@ -33,8 +33,8 @@ shown_by_read region region' conflict v v' same h e =
 
 -- why a commit stopped
 stop_is : (region : RegionShown) (log : LogValue) (t : Task) (s : Stop) (v v' : Client) → only_reads t ≡ false → HasStopped region log s v v' → IsStop region t s v'
-stop_is region log t stop.Memory v v' writes h = writes
-stop_is region log t (stop.Conflict conflict) v v' writes h = λ _. inr (log, h.shown)
+stop_is region log t stop.Memory v v' writes h = tt
+stop_is region log t (stop.Conflict conflict) v v' writes h = inr (log, h.shown)
 stop_is region log t (stop.Spent version) v v' writes h = (writes, record { version_is = h.shown.0; from = h.shown.1 })
 
 pub commit_stop : (region region' : RegionShown) (log : LogValue) (t : Task) (s : Stop) (v w w' : Client) → region' ≡ region → only_reads t ≡ false → HasStopped region' log s v w → w' ≡ w → IsStop region t s w'

@@ -70,11 +70,17 @@ pub record IsSpent (region : RegionShown) (version : ℕ) (v : Client) : Type 0 
   pub version_is : version ≡ region.last
   pub from : v.next_from ≡ region.last
 
--- why an attempt of a task stopped: one that only reads, for a conflict alone; of another the conflict was shown
+-- why an attempt of a task stopped: for a conflict that was shown, or, where the task may write, for a spent clock
 abbrev pub IsStop : RegionShown → Task → Stop → Client → Type 0
-IsStop region t stop.Memory v = only_reads t ≡ false
-IsStop region t (stop.Conflict conflict) v = only_reads t ≡ false → WasShown region conflict v
+IsStop region t stop.Memory v = Unit {0}
+IsStop region t (stop.Conflict conflict) v = WasShown region conflict v
 IsStop region t (stop.Spent version) v = (only_reads t ≡ false) × IsSpent region version v
+
+-- it was no conflict
+abbrev pub IsNoConflict : Stop → Type 0
+IsNoConflict stop.Memory = Unit {0}
+IsNoConflict (stop.Conflict conflict) = ⊥
+IsNoConflict (stop.Spent version) = Unit {0}
 
 -- how many attempts were made, where each stop but a conflict ends the call: all of them where the last one met a conflict
 abbrev pub IsCount : ℕ → ℕ → ℕ → Result Reply Stop → Type 0
@@ -98,10 +104,16 @@ Attempts tries before now (Err fault.Memory) = (before < now) × (now ≤ before
 Attempts tries before now (Err (fault.Busy conflict)) = now ≡ before + tries
 Attempts tries before now (Err (fault.Spent version)) = (before < now) × (now ≤ before + tries)
 
--- why a call of a task was not made: a task that only reads is refused for its arguments or a conflict alone; of another the conflict was
--- shown by the last attempt
+-- why a call of a task was not made: its numbers, a conflict that the last attempt showed, or, where the task may write, a spent clock
 abbrev pub IsFault : RegionShown → Task → ℕ → Fault → Client → Client → Type 0
 IsFault region t tries fault.Arguments v v' = (is_call t tries ≡ false) × (v' ≡ v)
-IsFault region t tries fault.Memory v v' = only_reads t ≡ false
-IsFault region t tries (fault.Busy conflict) v v' = only_reads t ≡ false → WasShown region conflict v'
+IsFault region t tries fault.Memory v v' = Unit {0}
+IsFault region t tries (fault.Busy conflict) v v' = WasShown region conflict v'
 IsFault region t tries (fault.Spent version) v v' = (only_reads t ≡ false) × IsSpent region version v'
+
+-- it is not that the client met a conflict
+abbrev pub IsNotBusy : Fault → Type 0
+IsNotBusy fault.Arguments = Unit {0}
+IsNotBusy fault.Memory = Unit {0}
+IsNotBusy (fault.Busy conflict) = ⊥
+IsNotBusy (fault.Spent version) = Unit {0}

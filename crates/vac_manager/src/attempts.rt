@@ -1,20 +1,18 @@
 //! One task by as many attempts as it takes.
 
-ghost use Rattle.std.specs.Prelude.{◌≡◌, ◌<◌, ◌≤◌, List, ℕ, IfOk, IfErr, IsTrue, false};
+ghost use Rattle.std.specs.Prelude.{◌≡◌, ◌<◌, ◌≤◌, IfOk, IfErr, IsTrue, false};
 ghost use Rattle.stm_core.specs.Core.{IsFreeHanded};
-ghost use Rattle.stm_attempt.specs.Committing.{WasDecided};
 ghost use Rattle.vac_model.specs.Ranges.{is_task};
 ghost use Rattle.vac_manager.specs.FirstPath.{IsFirstPath};
 ghost use Rattle.vac_manager.specs.Reading as reading;
-ghost use Rattle.vac_manager.specs.Law.{IsFitting, IsLawful};
 ghost use Rattle.vac_manager.specs.Legal.{WasLegal};
-ghost use Rattle.vac_manager.specs.Called.{IsOpened, Tried, IsStop, Repeated};
+ghost use Rattle.vac_manager.specs.Called.{IsOpened, Tried, IsStop, IsNoConflict, Repeated};
 
 use crate::law::ManagerLaw;
 use crate::tasks::{only_reads, read_task, run_task};
 use crate::told::Told;
 use crossbeam_utils::Backoff;
-use stm_attempt::{Attempt, Conflict, Gate, Logs, Point, ReadAttempt, Stop};
+use stm_attempt::{Attempt, Gate, Logs, Point, ReadAttempt, Stop};
 use stm_region::{Client, Region};
 use vac_model::{Reply, Task};
 
@@ -24,7 +22,7 @@ fn try_reading<G: Gate>(
     client: &mut Client<ManagerLaw>,
     task: &Task,
     gate: &mut G,
-) -> Result<Reply, Conflict>
+) -> Result<Reply, Stop>
     requires own { client.old.table ≡ region.now.table }
     requires free_handed { IsFreeHanded client.old.value }
     requires opened { IsOpened region.now }
@@ -35,28 +33,27 @@ fn try_reading<G: Gate>(
     ensures free_handed { IsFreeHanded client.new.value }
     ensures tried { Tried task.now client.old.value client.new.value result }
     ensures legal { IfOk result (λ _. WasLegal region.now client.new.value.records) }
+    ensures stopped { IfErr result (λ stop. IsStop region.now task.now stop client.new.value) }
+    ensures lone { client.old.value.grants ≡ 63 → IfErr result (λ stop. IsNoConflict stop) }
 {
     let mut attempt = ReadAttempt::begin(region, client);
     let answer = read_task(&mut attempt, task);
     if let Some(conflict) = attempt.stopped() {
         attempt.drop_it();
-        return Err(conflict);
+        return Err(Stop::Conflict(conflict));
     }
-    match answer {
-        Ok(reply) => {
-            gate.at(Point::ReadsDone);
-            let told = Told {
-                task,
-                reply: &reply,
-            };
-            attempt.finish(&told);
-            Ok(reply)
-        }
-        Err(conflict) => {
-            attempt.drop_it();
-            Err(conflict)
-        }
-    }
+    // A body's contract does not say why it stops: this is for one that stops without a conflict.
+    let Ok(reply) = answer else {
+        attempt.drop_it();
+        return Err(Stop::Memory);
+    };
+    gate.at(Point::ReadsDone);
+    let told = Told {
+        task,
+        reply: &reply,
+    };
+    attempt.finish(&told);
+    Ok(reply)
 }
 
 /// One attempt of a task that may write.
@@ -80,6 +77,7 @@ fn try_writing<G: Gate>(
     ensures tried { Tried task.now client.old.value client.new.value result }
     ensures legal { IfOk result (λ _. WasLegal region.now client.new.value.records) }
     ensures stopped { IfErr result (λ stop. IsStop region.now task.now stop client.new.value) }
+    ensures lone { client.old.value.grants ≡ 63 → IfErr result (λ stop. IsNoConflict stop) }
 {
     let mut attempt = Attempt::begin(region, client, logs);
     let answer = run_task(&mut attempt, task, start);
@@ -121,13 +119,12 @@ fn try_once<G: Gate>(
     ensures tried { Tried task.now client.old.value client.new.value result }
     ensures legal { IfOk result (λ _. WasLegal region.now client.new.value.records) }
     ensures stopped { IfErr result (λ stop. IsStop region.now task.now stop client.new.value) }
+    ensures lone { client.old.value.grants ≡ 63 → IfErr result (λ stop. IsNoConflict stop) }
 {
-    if !only_reads(task) {
-        return try_writing(region, client, logs, task, start, gate);
-    }
-    match try_reading(region, client, task, gate) {
-        Ok(reply) => Ok(reply),
-        Err(conflict) => Err(Stop::Conflict(conflict)),
+    if only_reads(task) {
+        try_reading(region, client, task, gate)
+    } else {
+        try_writing(region, client, logs, task, start, gate)
     }
 }
 
@@ -154,6 +151,7 @@ pub(crate) fn run_in_attempts<G: Gate>(
     ensures repeated { Repeated region.now task.now tries client.old.value client.new.value result }
     ensures legal { IfOk result (λ _. WasLegal region.now client.new.value.records) }
     ensures stopped { IfErr result (λ stop. IsStop region.now task.now stop client.new.value) }
+    ensures lone { client.old.value.grants ≡ 63 → IfErr result (λ stop. IsNoConflict stop) }
 {
     let backoff = Backoff::new();
     let mut left = tries;

@@ -11,7 +11,7 @@ ghost use Rattle.stm_region.specs.Refused.{ClosesNot};
 ghost use Rattle.stm_region.specs.declared.fault.RegionFault.TheVariants.{Clients};
 ghost use Rattle.vac_manager.specs.FirstPath.{IsFirstPath};
 ghost use Rattle.vac_manager.specs.Legal.{WasLegal};
-ghost use Rattle.vac_manager.specs.Called.{is_call, Records, Attempts, IsFault};
+ghost use Rattle.vac_manager.specs.Called.{is_call, Records, Attempts, IsFault, IsNotBusy};
 ghost use Rattle.vac_manager.specs.Opening.{is_opening, Opens, Closes};
 
 use crate::attempts::run_in_attempts;
@@ -110,8 +110,8 @@ impl Manager {
     }
 
     /// Runs a task as a transaction, by at most this many attempts, 1 to 1,048,576, and answers
-    /// its reply. A task that only reads takes no memory. After any fault the client may call
-    /// again.
+    /// its reply. After any fault the client may call again. A client that has
+    /// all grants is alone, and meets no conflict.
     pub fn call(&self, client: &mut Client, task: &Task, tries: u32) -> Result<Reply, Fault>
         requires own { client.old.table ≡ self.now.table }
         requires first { IsFirstPath task.now }
@@ -123,6 +123,7 @@ impl Manager {
         ensures attempts { Attempts tries client.old.value.attempt client.new.value.attempt result }
         ensures legal { IfOk result (λ _. WasLegal self.now client.new.value.records) }
         ensures fault { IfErr result (λ fault. IsFault self.now task.now tries fault client.old.value client.new.value) }
+        ensures alone { client.old.value.grants ≡ 63 → IfErr result (λ fault. IsNotBusy fault) }
     {
         self.call_gated(client, task, tries, &mut NoGate)
     }
@@ -146,6 +147,7 @@ impl Manager {
         ensures attempts { Attempts tries client.old.value.attempt client.new.value.attempt result }
         ensures legal { IfOk result (λ _. WasLegal self.now client.new.value.records) }
         ensures fault { IfErr result (λ fault. IsFault self.now task.now tries fault client.old.value client.new.value) }
+        ensures alone { client.old.value.grants ≡ 63 → IfErr result (λ fault. IsNotBusy fault) }
     {
         let start = client.start;
         let tries_fit = 1 <= tries && tries <= TRY_LIMIT;

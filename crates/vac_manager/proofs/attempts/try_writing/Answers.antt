@@ -1,6 +1,7 @@
 use Rattle.std.proofs.Common.{rules, ◌≡◌, ap, ◌∙◌, sym}
 use Rattle.stm_region.specs.Shown.{RegionShown}
 use Rattle.stm_attempt.specs.Seen.{Origin}
+use Rattle.vac_manager.proofs.Adding.{committed_tried}
 use Rattle.vac_manager.proofs.Lawful.{holds_begun, lawful}
 use Rattle.vac_manager.proofs.Legality.{committed_legal}
 use Rattle.vac_manager.proofs.Trying.{none_of, shown_by_read, commit_stop}
@@ -11,7 +12,7 @@ run_task-answer-requires-clause-state g c =
     holds_begun _ _ _ _ _ c.begin-attempt.ensures.empty.2 c.begin-attempt.ensures.region c.requires.opened c.begin-attempt.ensures.empty.1
 
 pub returns-in-Some-clause-stopped : goal.returns-in-Some-clause-stopped
-returns-in-Some-clause-stopped g c = λ _.
+returns-in-Some-clause-stopped g c =
     shown_by_read _ _ _ _ _ (ap (λ (o : Origin). o.region) c.run_task-answer.ensures.origin ∙ c.begin-attempt.ensures.region) (c.stopped.ensures.shown _ c.in-Some.is)
     (search rules)
 
@@ -27,3 +28,8 @@ returns-in-Ok-commit-clause-legal g c =
 pub returns-in-Err-clause-stopped : goal.returns-in-Err-clause-stopped
 returns-in-Err-clause-stopped g c =
     commit_stop _ _ _ _ _ _ _ _ (ap (λ (o : Origin). o.region) c.run_task-answer.ensures.origin ∙ c.begin-attempt.ensures.region) c.requires.writes (c.in-Err.ensures.refused (search rules)) (search rules)
+
+pub returns-in-Ok-commit-clause-tried : goal.returns-in-Ok-commit-clause-tried
+returns-in-Ok-commit-clause-tried g c =
+    committed_tried c.args.region.now _ _ _ _ _ _ _ _ _ _ _ c.begin-attempt.ensures.value (ap (λ (o : Origin). o.client.value) c.run_task-answer.ensures.origin) c.begin-attempt.ensures.version
+    c.in-Ok-commit.ensures.ok (search rules)
