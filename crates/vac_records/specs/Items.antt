@@ -1,11 +1,8 @@
 -- Items in blocks of a transactional memory. The words of a block are key, left, right, colour, used, free, total, price.
 use Rattle.std.specs.Prelude.{◌≡◌, ◌≢◌, ◌⊎◌, ℕ, ◌+◌, ◌<◌, ◌≤◌, ◌^◌, List}
-use Rattle.stm_words.specs.View.{View, Sees, Kept, memory}
+use Rattle.stm_words.specs.View.{View, Sees, Kept}
 use Rattle.vac_model.specs.declared.items.Item.{Item}
-
--- the words of a memory, should this be the image that it stands on
-abbrev pub mem : View → List ℕ → ℕ → ℕ
-mem s image = memory image s.writes
+pub use Rattle.tx_alloc.specs.Steps.{mem}
 
 -- the item in the block that starts at node
 abbrev pub item_in : (ℕ → ℕ) → ℕ → Item

@@ -1,2 +1,6 @@
 pub mod Items
 pub mod Steps
+pub mod Bookings
+pub mod Heap
+pub mod Represents
+pub mod Laws

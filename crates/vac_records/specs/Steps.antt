@@ -1,18 +1,2 @@
 -- Steps of a memory, one after the other.
-use Rattle.std.proofs.Common.{◌≡◌, ℕ, List, refl, ◌∙◌}
-use Rattle.stm_words.specs.View.{View, Sees, Kept, Loaded, Stored, IsWrite}
-use Rattle.vac_records.specs.Items.{mem}
-
-pub kept_none : (s : View) → Kept s s
-kept_none s = record { size = refl; seen = λ image i. i }
-
-pub kept_both : (s s' s'' : View) → Kept s s' → Kept s' s'' → Kept s s''
-kept_both s s' s'' h k = record { size = k.size ∙ h.size; seen = λ image i. h.seen image (k.seen image i) }
-
--- the answer of a load, spoken of the memory at the start, since when only reads were made
-pub at_start : (s0 s s' : View) (a v : ℕ) → s.writes ≡ s0.writes → Loaded s s' a v → (image : List ℕ) → Sees s' image → mem s0 image a ≡ v
-at_start s0 s s' a v e l image i = rw e at (l.answer image i)
-
--- a store, spoken of the memory at the start, since when only reads were made
-pub write_at_start : (s0 s s' : View) (a v : ℕ) → s.writes ≡ s0.writes → Stored s s' a v → (image : List ℕ) → Sees s' image → IsWrite (mem s0 image) (mem s' image) a v
-write_at_start s0 s s' a v e w image i = rw e at (w.written image)
+pub use Rattle.tx_alloc.specs.Steps.{kept_none, kept_both, at_start, write_at_start}

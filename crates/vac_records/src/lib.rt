@@ -5,9 +5,15 @@
 #![tactic(auto)]
 
 mod item;
+mod laws;
 pub mod place;
 
 pub use item::{add_total, free_at, init_item, item_at, price_at, set_price, total_at, used_at};
+pub use laws::{
+    blocks_in_hand_are_no_entries, bookings_follow_their_blocks, capacity_is_a_count_of_blocks,
+    customers_follow_their_blocks, empty_heaps_are_empty_states, entries_are_read_off_blocks,
+    items_follow_their_blocks, one_state_for_a_memory,
+};
 pub use vac_model::{Item, Kind};
 
 #[cfg(test)]

@@ -1,0 +1,45 @@
+-- The words of an empty heap represent the state with no entries.
+use Rattle.std.proofs.Common.{◌≡◌, ◌≢◌, ℕ, ◌+◌, ◌*◌, ◌<◌, ◌≤◌, List, [], ◌∷◌, map, length, slice_index, refl, sym, ap, ◌∙◌, arith}
+use Rattle.std.specs.FinMap.{entries}
+use Rattle.std.specs.Ordering.{nat_cmp}
+use Rattle.vac_model.specs.declared.items.Kind.{Kind}
+use Rattle.vac_model.specs.declared.items.Kind.TheVariants.{Car, Flight, Room}
+use Rattle.vac_model.specs.State.{State, Bookings, table_of, empty_state}
+use Rattle.vac_model.proofs.Views.{entries-empty}
+use Rattle.tx_alloc.specs.Pool.{IsPool, IsEmptyHeap, fresh_lists}
+use Rattle.tx_alloc.specs.Rows.{Rows}
+use Rattle.tx_tree.specs.Table.{IsTable}
+use Rattle.tx_tree.proofs.TableFrame.{table_empty}
+use Rattle.vac_records.specs.Heap.{Parts, used_in, count_in, IsHeap}
+use Rattle.vac_records.specs.Represents.{items_in, opened, Represents}
+use Rattle.vac_records.specs.Laws.{FreshState}
+use Rattle.vac_records.proofs.Insert.{pool_as}
+
+-- nothing is in a structure
+abbrev pub no_parts : (ℕ → List ℕ) → Parts
+no_parts free = record { tables = λ i. []; lists = λ c. []; free = free; out = [] }
+
+no_entries : (n : ℕ) (kind : Kind) → entries (table_of (empty_state n) kind) ≡ []
+no_entries n Car = entries-empty nat_cmp
+no_entries n Flight = entries-empty nat_cmp
+no_entries n Room = entries-empty nat_cmp
+
+root_is_none : (words : List ℕ) (blocks x : ℕ) → IsEmptyHeap words blocks → x < 8 → slice_index words x ≡ 0
+root_is_none words blocks x h l = h.others x (λ i less. omega arith) (λ b less. omega arith)
+
+pub fresh_state : FreshState
+fresh_state words blocks h pool =
+    let m : ℕ → ℕ = λ (a : ℕ). slice_index words a in
+    record {
+      size = h.size;
+      parts = no_parts (fresh_lists blocks);
+      heap = record {
+        tables = λ i l. (let root = root_is_none words blocks (1 + i) h (omega arith) in rw root (table_empty m (length words)));
+        lists = λ c o. absurd (omega arith);
+        pool = pool_as m m (length words) (fresh_lists blocks) (λ (x : ℕ). 0) (used_in (no_parts (fresh_lists blocks))) 0 (count_in (no_parts (fresh_lists blocks)))
+            (λ i l. refl) (λ i x l o. refl) (λ x b. refl) refl pool;
+      };
+      held = refl;
+      items = λ kind. no_entries blocks kind;
+      customers = ap opened (entries-empty nat_cmp);
+    }

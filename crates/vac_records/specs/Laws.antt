@@ -1,0 +1,215 @@
+-- What an image says of the one state that it represents, and what each change of a memory makes
+-- of that state.
+use Rattle.std.specs.Prelude.{◌≡◌, ◌≢◌, ◌⊎◌, ℕ, ◌+◌, ◌^◌, ◌<◌, ◌≤◌, List, [], ◌∷◌, Some, None, length, slice_index, sum_by}
+use Rattle.std.specs.FinMap.{empty, get, insert, remove, entries}
+use Rattle.vac_model.specs.declared.items.Kind.{Kind}
+use Rattle.vac_model.specs.declared.items.Item.{Item}
+use Rattle.vac_model.specs.State.{State, Bookings, Place, kind_number, empty_state, item_of, with_item, without_item, bookings_of, with_bookings, without_customer, size, bill_of}
+use Rattle.tx_alloc.specs.Pool.{IsBlock, IsTaking, IsGiving, IsUsed, IsPool, IsEmptyHeap, fresh_lists}
+use Rattle.tx_alloc.specs.Rows.{Rows, times, put_row, cut_row, block_at, Relinks}
+use Rattle.tx_tree.specs.Table.{IsTable}
+use Rattle.tx_list.specs.Bookings.{IsList}
+use Rattle.vac_records.specs.Items.{item_in}
+use Rattle.vac_records.specs.Bookings.{place_key, place_in, booking_in}
+use Rattle.vac_records.specs.Heap.{Parts, used_in, count_in}
+use Rattle.vac_records.specs.Represents.{Represents, bookings_in}
+
+-- a block came into the i-th table under this key
+pub record TableGrown (m m' : ℕ → ℕ) (n i : ℕ) (rows : Rows) (key b : ℕ) : Type 0 where
+  pub table : IsTable m' n (m' (1 + i)) (put_row rows key b)
+  pub relinks : Relinks m m' 1 (1 + i) (put_row rows key b)
+
+-- the row of this key left the i-th table
+pub record TableCut (m m' : ℕ → ℕ) (n i : ℕ) (rows : Rows) (key : ℕ) : Type 0 where
+  pub table : IsTable m' n (m' (1 + i)) (cut_row rows key)
+  pub relinks : Relinks m m' 1 (1 + i) rows
+
+-- a block came into the list of the customer in block c under this key
+pub record ListGrown (m m' : ℕ → ℕ) (n c : ℕ) (rows : Rows) (key b : ℕ) : Type 0 where
+  pub list : IsList m' n (m' (c + 4)) (put_row rows key b)
+  pub relinks : Relinks m m' 3 (c + 4) (put_row rows key b)
+
+-- the row of this key left the list of the customer in block c
+pub record ListCut (m m' : ℕ → ℕ) (n c : ℕ) (rows : Rows) (key : ℕ) : Type 0 where
+  pub list : IsList m' n (m' (c + 4)) (cut_row rows key)
+  pub relinks : Relinks m m' 3 (c + 4) rows
+
+-- b is the block of the item of a kind and an id
+pub record IsItemAt {m : ℕ → ℕ} {n : ℕ} {out : List ℕ} {s : State} (h : Represents m n out s)
+    (kind : Kind) (id b : ℕ) : Type 0 where
+  pub at : block_at (h.parts.tables (kind_number kind)) id ≡ b
+  pub some : b ≢ 0
+
+-- c is the block of the customer of an id, who has these bookings
+pub record IsCustomerAt {m : ℕ → ℕ} {n : ℕ} {out : List ℕ} {s : State} (h : Represents m n out s)
+    (id c : ℕ) (bookings : Bookings) : Type 0 where
+  pub at : block_at (h.parts.tables 3) id ≡ c
+  pub some : c ≢ 0
+  pub there : bookings_of s id ≡ Some bookings
+
+-- b is the block of the booking of an item among those of the customer in block c
+pub record IsBookingAt {m : ℕ → ℕ} {n : ℕ} {out : List ℕ} {s : State} (h : Represents m n out s)
+    (c : ℕ) (place : Place) (b : ℕ) : Type 0 where
+  pub small : place.1 < 2 ^ 32
+  pub at : block_at (h.parts.lists c) (place_key place) ≡ b
+  pub some : b ≢ 0
+
+-- the bookings of the customer in block c, and their entries
+pub record HasBookings (m : ℕ → ℕ) (rows : Rows) (s : State) (id : ℕ) : Type 0 where
+  pub bookings : Bookings
+  pub there : bookings_of s id ≡ Some bookings
+  pub entries_are : entries bookings ≡ bookings_in m rows
+
+-- a memory represents at most one state
+abbrev pub OneState : Type 0
+OneState =
+    (m : ℕ → ℕ) (n : ℕ) (out out' : List ℕ) (s s' : State) →
+    Represents m n out s → Represents m n out' s' → s ≡ s'
+
+-- of a memory of n words no further word matters
+abbrev pub SameWords : Type 0
+SameWords =
+    (m m' : ℕ → ℕ) (n : ℕ) (out : List ℕ) (s : State) → Represents m n out s →
+    ((x : ℕ) → x < n → m' x ≡ m x) → Represents m' n out s
+
+-- the words of an empty heap represent the state with no entries
+abbrev pub FreshState : Type 0
+FreshState =
+    (words : List ℕ) (blocks : ℕ) → IsEmptyHeap words blocks →
+    IsPool (λ (a : ℕ). slice_index words a) (length words) (fresh_lists blocks) (λ (x : ℕ). 0) 0 →
+    Represents (λ (a : ℕ). slice_index words a) (length words) [] (empty_state blocks)
+
+-- an item that is there, by its block; a missing one
+abbrev pub ItemFound : Type 0
+ItemFound =
+    (m : ℕ → ℕ) (n : ℕ) (out : List ℕ) (s : State) (h : Represents m n out s) (kind : Kind)
+    (id b : ℕ) → IsItemAt h kind id b → item_of s kind id ≡ Some (item_in m b)
+
+abbrev pub ItemMissing : Type 0
+ItemMissing =
+    (m : ℕ → ℕ) (n : ℕ) (out : List ℕ) (s : State) (h : Represents m n out s) (kind : Kind)
+    (id : ℕ) → block_at (h.parts.tables (kind_number kind)) id ≡ 0 → item_of s kind id ≡ None
+
+-- a customer that is there, by its block; a missing one
+abbrev pub CustomerFound : Type 0
+CustomerFound =
+    (m : ℕ → ℕ) (n : ℕ) (out : List ℕ) (s : State) (h : Represents m n out s) (id c : ℕ) →
+    block_at (h.parts.tables 3) id ≡ c → c ≢ 0 → HasBookings m (h.parts.lists c) s id
+
+abbrev pub CustomerMissing : Type 0
+CustomerMissing =
+    (m : ℕ → ℕ) (n : ℕ) (out : List ℕ) (s : State) (h : Represents m n out s) (id : ℕ) →
+    block_at (h.parts.tables 3) id ≡ 0 → bookings_of s id ≡ None
+
+-- a booking that is there, by its block; a missing one
+abbrev pub BookingFound : Type 0
+BookingFound =
+    (m : ℕ → ℕ) (n : ℕ) (out : List ℕ) (s : State) (h : Represents m n out s) (id c : ℕ)
+    (bookings : Bookings) (place : Place) (b : ℕ) →
+    IsCustomerAt h id c bookings → IsBookingAt h c place b →
+    get bookings place ≡ Some (booking_in m b)
+
+abbrev pub BookingMissing : Type 0
+BookingMissing =
+    (m : ℕ → ℕ) (n : ℕ) (out : List ℕ) (s : State) (h : Represents m n out s) (id c : ℕ)
+    (bookings : Bookings) (place : Place) → place.1 < 2 ^ 32 →
+    IsCustomerAt h id c bookings → block_at (h.parts.lists c) (place_key place) ≡ 0 →
+    get bookings place ≡ None
+
+-- where no list has a free block and none is in hand, the state has as many entries as it can have
+abbrev pub NoneLeft : Type 0
+NoneLeft =
+    (m : ℕ → ℕ) (n : ℕ) (s : State) (h : Represents m n [] s) →
+    ((i : ℕ) → i < 8 → h.parts.free i ≡ []) → size s ≡ s.capacity
+
+-- where a block is in hand, it has fewer
+abbrev pub SomeLeft : Type 0
+SomeLeft =
+    (m : ℕ → ℕ) (n b : ℕ) (s : State) → Represents m n (b ∷ []) s → size s < s.capacity
+
+-- a block is taken
+abbrev pub BlockTaken : Type 0
+BlockTaken =
+    (m m' : ℕ → ℕ) (n start b : ℕ) (out : List ℕ) (s : State) (h : Represents m n out s) →
+    IsTaking m m' n h.parts.free (used_in h.parts) (count_in h.parts) start b →
+    Represents m' n (b ∷ out) s
+
+-- a block in hand is given back
+abbrev pub BlockGiven : Type 0
+BlockGiven =
+    (m m' : ℕ → ℕ) (n start b : ℕ) (out : List ℕ) (s : State) → start < 8 → IsBlock n b →
+    (h : Represents m n (b ∷ out) s) →
+    ((used : ℕ → ℕ) (count : ℕ) → IsUsed m n h.parts.free used count b →
+    IsGiving m m' n h.parts.free used count start b) → Represents m' n out s
+
+-- words of a block in hand are written
+abbrev pub BlockWritten : Type 0
+BlockWritten =
+    (m m' : ℕ → ℕ) (n b : ℕ) (out : List ℕ) (s : State) → IsBlock n b →
+    Represents m n (b ∷ out) s → ((x : ℕ) → (x < b) ⊎ (b + 8 ≤ x) → m' x ≡ m x) →
+    Represents m' n (b ∷ out) s
+
+-- a block in hand becomes an item
+abbrev pub ItemInserted : Type 0
+ItemInserted =
+    (m m' : ℕ → ℕ) (n b : ℕ) (out : List ℕ) (s : State) (kind : Kind) (id : ℕ) → IsBlock n b →
+    (h : Represents m n (b ∷ out) s) → block_at (h.parts.tables (kind_number kind)) id ≡ 0 →
+    TableGrown m m' n (kind_number kind) (h.parts.tables (kind_number kind)) id b →
+    Represents m' n out (with_item s kind id (item_in m b))
+
+-- the words of an item behind its links are written
+abbrev pub ItemReplaced : Type 0
+ItemReplaced =
+    (m m' : ℕ → ℕ) (n : ℕ) (out : List ℕ) (s : State) (kind : Kind) (id b : ℕ)
+    (h : Represents m n out s) → IsItemAt h kind id b →
+    ((x : ℕ) → (x < b + 4) ⊎ (b + 8 ≤ x) → m' x ≡ m x) →
+    Represents m' n out (with_item s kind id (item_in m' b))
+
+-- an item is removed, and its block is in hand
+abbrev pub ItemRemoved : Type 0
+ItemRemoved =
+    (m m' : ℕ → ℕ) (n : ℕ) (out : List ℕ) (s : State) (kind : Kind) (id b : ℕ)
+    (h : Represents m n out s) → IsItemAt h kind id b →
+    TableCut m m' n (kind_number kind) (h.parts.tables (kind_number kind)) id →
+    Represents m' n (b ∷ out) (without_item s kind id)
+
+-- a block in hand becomes a customer
+abbrev pub CustomerInserted : Type 0
+CustomerInserted =
+    (m m' : ℕ → ℕ) (n b : ℕ) (out : List ℕ) (s : State) (id : ℕ) → IsBlock n b →
+    (h : Represents m n (b ∷ out) s) → block_at (h.parts.tables 3) id ≡ 0 → m (b + 4) ≡ 0 →
+    TableGrown m m' n 3 (h.parts.tables 3) id b →
+    Represents m' n out (with_bookings s id empty)
+
+-- a customer without bookings is removed, and the block is in hand
+abbrev pub CustomerRemoved : Type 0
+CustomerRemoved =
+    (m m' : ℕ → ℕ) (n : ℕ) (out : List ℕ) (s : State) (id c : ℕ) (h : Represents m n out s) →
+    IsCustomerAt h id c empty → TableCut m m' n 3 (h.parts.tables 3) id →
+    Represents m' n (c ∷ out) (without_customer s id)
+
+-- a block in hand becomes a booking
+abbrev pub BookingInserted : Type 0
+BookingInserted =
+    (m m' : ℕ → ℕ) (n b : ℕ) (out : List ℕ) (s : State) (id c : ℕ) (bookings : Bookings)
+    (place : Place) → IsBlock n b → (h : Represents m n (b ∷ out) s) →
+    IsCustomerAt h id c bookings → place.1 < 2 ^ 32 →
+    block_at (h.parts.lists c) (place_key place) ≡ 0 → place_in m b ≡ place →
+    ListGrown m m' n c (h.parts.lists c) (place_key place) b →
+    Represents m' n out (with_bookings s id (insert bookings place (booking_in m b)))
+
+-- the units and the sum of a booking are written
+abbrev pub BookingReplaced : Type 0
+BookingReplaced =
+    (m m' : ℕ → ℕ) (n : ℕ) (out : List ℕ) (s : State) (id c : ℕ) (bookings : Bookings)
+    (place : Place) (b : ℕ) (h : Represents m n out s) → IsCustomerAt h id c bookings →
+    IsBookingAt h c place b → ((x : ℕ) → x ≢ b + 2 → x ≢ b + 4 → m' x ≡ m x) →
+    Represents m' n out (with_bookings s id (insert bookings place (booking_in m' b)))
+
+-- a booking is removed, and its block is in hand
+abbrev pub BookingRemoved : Type 0
+BookingRemoved =
+    (m m' : ℕ → ℕ) (n : ℕ) (out : List ℕ) (s : State) (id c : ℕ) (bookings : Bookings)
+    (place : Place) (b : ℕ) (h : Represents m n out s) → IsCustomerAt h id c bookings →
+    IsBookingAt h c place b → ListCut m m' n c (h.parts.lists c) (place_key place) →
+    Represents m' n (b ∷ out) (with_bookings s id (remove bookings place))

@@ -1,0 +1,59 @@
+//! Laws on memories that represent states. Each is the contract of a function that does nothing.
+
+ghost use Rattle.vac_records.specs.Laws.{OneState, SameWords, FreshState, ItemFound, ItemMissing, CustomerFound, CustomerMissing, BookingFound, BookingMissing, NoneLeft, SomeLeft, BlockTaken, BlockGiven, BlockWritten, ItemInserted, ItemReplaced, ItemRemoved, CustomerInserted, CustomerRemoved, BookingInserted, BookingReplaced, BookingRemoved};
+
+/// A memory represents at most one state, and of a memory of n words no word behind them matters.
+pub fn one_state_for_a_memory()
+    ensures one { OneState }
+    ensures words { SameWords }
+{}
+
+/// The words of an empty heap represent the state with no entries.
+pub fn empty_heaps_are_empty_states()
+    ensures { FreshState }
+{}
+
+/// An entry of the state is read off the block that its key leads to, and a key that leads to none
+/// has no entry.
+pub fn entries_are_read_off_blocks()
+    ensures item { ItemFound }
+    ensures no_item { ItemMissing }
+    ensures customer { CustomerFound }
+    ensures no_customer { CustomerMissing }
+    ensures booking { BookingFound }
+    ensures no_booking { BookingMissing }
+{}
+
+/// The state has as many entries as its capacity exactly where no block is left.
+pub fn capacity_is_a_count_of_blocks()
+    ensures full { NoneLeft }
+    ensures room { SomeLeft }
+{}
+
+/// A block that is taken, given back, or written while it is in hand leaves the state as it is.
+pub fn blocks_in_hand_are_no_entries()
+    ensures taken { BlockTaken }
+    ensures given { BlockGiven }
+    ensures written { BlockWritten }
+{}
+
+/// What is hung into a table, written into an item, or taken out of a table changes the state by
+/// that one item.
+pub fn items_follow_their_blocks()
+    ensures inserted { ItemInserted }
+    ensures replaced { ItemReplaced }
+    ensures removed { ItemRemoved }
+{}
+
+/// The same of customers, who come and go without bookings.
+pub fn customers_follow_their_blocks()
+    ensures inserted { CustomerInserted }
+    ensures removed { CustomerRemoved }
+{}
+
+/// The same of bookings.
+pub fn bookings_follow_their_blocks()
+    ensures inserted { BookingInserted }
+    ensures replaced { BookingReplaced }
+    ensures removed { BookingRemoved }
+{}
