@@ -1,4 +1,5 @@
 pub mod Making
+pub mod Counting
 pub mod Keyed
 pub mod Links
 pub mod TableRows

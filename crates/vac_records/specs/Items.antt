@@ -1,6 +1,6 @@
 -- Items in blocks of a transactional memory. The words of a block are key, left, right, colour, used, free, total, price.
 use Rattle.std.specs.Prelude.{◌≡◌, ◌≢◌, ◌⊎◌, ℕ, ◌+◌, ◌<◌, ◌≤◌, ◌^◌, List}
-use Rattle.stm_words.specs.View.{View, Sees, Kept}
+use Rattle.stm_words.specs.View.{View, Sees, Kept, IsWrite}
 use Rattle.vac_model.specs.declared.items.Item.{Item}
 pub use Rattle.tx_alloc.specs.Steps.{mem}
 
@@ -48,3 +48,43 @@ pub record ItemRead (s s' : View) (node : ℕ) (item : Item) : Type 0 where
   pub kept : Kept s s'
   pub writes : s'.writes ≡ s.writes
   pub answer : (image : List ℕ) → Sees s' image → item_in (mem s image) node ≡ item
+
+-- under each image the word has room for so much more
+pub record RoomAt (s : View) (a by : ℕ) : Type 0 where
+  pub fits : (image : List ℕ) → Sees s image → mem s image a + by < 2 ^ 64
+
+-- under each image the word is so much or more
+pub record EnoughAt (s : View) (a by : ℕ) : Type 0 where
+  pub enough : (image : List ℕ) → Sees s image → by ≤ mem s image a
+
+-- under each image the word was changed by f, and no other word was
+pub record Shifted (s s' : View) (a : ℕ) (f : ℕ → ℕ) : Type 0 where
+  pub kept : Kept s s'
+  pub shifted : (image : List ℕ) → Sees s' image →
+      IsWrite (mem s image) (mem s' image) a (f (mem s image a))
+
+-- under each image so many units are free
+pub record HasFree (s : View) (node num : ℕ) : Type 0 where
+  pub free : EnoughAt s (node + 5) num
+  pub total : EnoughAt s (node + 6) num
+
+-- under each image so many units are free, and fit the used ones
+pub record CanMake (s : View) (node num : ℕ) : Type 0 where
+  pub free : EnoughAt s (node + 5) num
+  pub used : RoomAt s (node + 4) num
+
+-- under each image so many units are used, and fit the free ones
+pub record CanCancel (s : View) (node num : ℕ) : Type 0 where
+  pub used : EnoughAt s (node + 4) num
+  pub free : RoomAt s (node + 5) num
+
+-- the block's item is this one now, and all words but those of the item are as before
+pub record IsItemNow (m m' : ℕ → ℕ) (node : ℕ) (item : Item) : Type 0 where
+  pub is : item_in m' node ≡ item
+  pub others : (x : ℕ) → (x < node + 4) ⊎ (node + 8 ≤ x) → m' x ≡ m x
+
+-- under each image the item became what f makes of it
+pub record ItemChanged (s s' : View) (node : ℕ) (f : Item → Item) : Type 0 where
+  pub kept : Kept s s'
+  pub changed : (image : List ℕ) → Sees s' image →
+      IsItemNow (mem s image) (mem s' image) node (f (item_in (mem s image) node))

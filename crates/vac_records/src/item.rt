@@ -1,20 +1,14 @@
 //! Reading and writing the items of the tables.
 
-ghost use Rattle.std.specs.Prelude.{◌≡◌, ◌+◌, ◌<◌, ◌^◌, IfOk};
+ghost use Rattle.std.specs.Prelude.{◌≡◌, ◌+◌, IfOk};
 ghost use Rattle.stm_words.specs.View.{Loaded, Stored};
-ghost use Rattle.vac_records.specs.Items.{IsNode, HasRoom, ItemMade, ItemRead, UnitsAdded};
+ghost use Rattle.vac_model.specs.Step.{deleted, taken, given_back};
+ghost use Rattle.vac_records.specs.Items.{IsNode, HasRoom, HasFree, CanMake, CanCancel, ItemMade, ItemRead, ItemChanged, UnitsAdded};
 
 use crate::place;
+use crate::word::{lower, raise, word_of};
 use stm_words::{Addr, TxMem, TxRead, load, store};
 use vac_model::Item;
-
-#[inline]
-fn word_of(node: Addr, place: u32) -> Addr
-    requires { node.0 + place < 2 ^ 32 }
-    ensures { result.0 ≡ node.0 + place }
-{
-    Addr(node.0 + place)
-}
 
 /// Makes the block an item with this key, of which `num` units are free at this price and none is
 /// used. The words that link the block into a table are left to the table.
@@ -102,10 +96,22 @@ pub fn add_total<M: TxMem>(memory: &mut M, node: Addr, num: u32) -> Result<(), M
     ensures origin { M.origin memory.new ≡ M.origin memory.old }
     ensures answer { IfOk result (λ _. UnitsAdded (M.view memory.old) (M.view memory.new) node.0 num) }
 {
-    let free = free_at(memory, node)?;
-    store(memory, word_of(node, place::FREE), free + num as u64)?;
-    let total = total_at(memory, node)?;
-    store(memory, word_of(node, place::TOTAL), total + num as u64)?;
+    raise(memory, word_of(node, place::FREE), num as u64)?;
+    raise(memory, word_of(node, place::TOTAL), num as u64)?;
+    Ok(())
+}
+
+/// Takes free units away from the item. The caller sees to it that so many are free; the price
+/// stays, also where no unit is left.
+pub fn sub_total<M: TxMem>(memory: &mut M, node: Addr, num: u32) -> Result<(), M::Stop>
+    requires node { IsNode (M.view memory.old) node.0 }
+    requires free { HasFree (M.view memory.old) node.0 num }
+    ensures origin { M.origin memory.new ≡ M.origin memory.old }
+    ensures answer { IfOk result (λ _. ItemChanged (M.view memory.old) (M.view memory.new) node.0
+        (λ item. deleted item num)) }
+{
+    lower(memory, word_of(node, place::FREE), num as u64)?;
+    lower(memory, word_of(node, place::TOTAL), num as u64)?;
     Ok(())
 }
 
@@ -118,4 +124,32 @@ pub fn set_price<M: TxMem>(memory: &mut M, node: Addr, price: u32) -> Result<(),
 {
     let word = word_of(node, place::PRICE);
     store(memory, word, price as u64)
+}
+
+/// Makes a reservation of so many units: free units become used ones. The caller sees to it that so
+/// many are free.
+pub fn make<M: TxMem>(memory: &mut M, node: Addr, num: u32) -> Result<(), M::Stop>
+    requires node { IsNode (M.view memory.old) node.0 }
+    requires units { CanMake (M.view memory.old) node.0 num }
+    ensures origin { M.origin memory.new ≡ M.origin memory.old }
+    ensures answer { IfOk result (λ _. ItemChanged (M.view memory.old) (M.view memory.new) node.0
+        (λ item. taken item num)) }
+{
+    lower(memory, word_of(node, place::FREE), num as u64)?;
+    raise(memory, word_of(node, place::USED), num as u64)?;
+    Ok(())
+}
+
+/// Cancels a reservation of so many units: used units become free ones. The caller sees to it that
+/// so many are used.
+pub fn cancel<M: TxMem>(memory: &mut M, node: Addr, num: u64) -> Result<(), M::Stop>
+    requires node { IsNode (M.view memory.old) node.0 }
+    requires units { CanCancel (M.view memory.old) node.0 num }
+    ensures origin { M.origin memory.new ≡ M.origin memory.old }
+    ensures answer { IfOk result (λ _. ItemChanged (M.view memory.old) (M.view memory.new) node.0
+        (λ item. given_back item num)) }
+{
+    lower(memory, word_of(node, place::USED), num)?;
+    raise(memory, word_of(node, place::FREE), num)?;
+    Ok(())
 }

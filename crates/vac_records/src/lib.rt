@@ -7,8 +7,12 @@
 mod item;
 mod laws;
 pub mod place;
+mod word;
 
-pub use item::{add_total, free_at, init_item, item_at, price_at, set_price, total_at, used_at};
+pub use item::{
+    add_total, cancel, free_at, init_item, item_at, make, price_at, set_price, sub_total, total_at,
+    used_at,
+};
 pub use laws::{
     blocks_in_hand_are_no_entries, bookings_follow_their_blocks, capacity_is_a_count_of_blocks,
     customers_follow_their_blocks, empty_heaps_are_empty_states, entries_are_read_off_blocks,
