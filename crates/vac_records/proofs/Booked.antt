@@ -24,12 +24,13 @@ use Rattle.vac_records.specs.Represents.{items_in, bookings_in, customers_in, op
 use Rattle.vac_records.specs.Laws.{BookingFound, BookingMissing, BookingInserted, BookingReplaced, BookingRemoved, IsCustomerAt}
 use Rattle.vac_records.proofs.Keyed.{HasRow, Matches, entries_remove, find_absent, find_present, put_absent, put_present, cut_present, row_at, row_times, two_rows}
 use Rattle.tx_tree.proofs.TableFrame.{table_rises}
-use Rattle.vac_records.proofs.Links.{list_row, list_rises}
+use Rattle.tx_list.proofs.Frame.{list_from}
+use Rattle.vac_records.proofs.Links.{list_row}
 use Rattle.vac_records.proofs.Overs.{over_has, over_two}
-use Rattle.vac_records.proofs.Book.{booked}
-use Rattle.vac_records.proofs.Unbook.{unbooked}
-use Rattle.vac_records.proofs.Book as booking
-use Rattle.vac_records.proofs.Unbook as unbooking
+use Rattle.vac_records.proofs.Hang.{booked}
+use Rattle.vac_records.proofs.Unhang.{unbooked}
+use Rattle.vac_records.proofs.Hang as booking
+use Rattle.vac_records.proofs.Unhang as unbooking
 use Rattle.vac_records.proofs.Payload.{booked_law}
 use Rattle.vac_records.proofs.Frames.{Entry, items_frame, bookings_frame, booking_same, opened_put}
 use Rattle.vac_records.proofs.Shifts.{in_table, in_list, table_not_out, list_not_out, tables_apart, list_not_table, table_once, out_first, shifts_customers}
@@ -161,7 +162,7 @@ module _ (m : ℕ → ℕ) (n : ℕ) (out : List ℕ) (s : State) (h : Represent
       (rebooked m' (remove bookings place) (with_at p.lists c rest)
       (entries_remove place_cmp_total place_cmp-IsAntisymmetric bookings place
       ∙ (ap (λ (z : List Entry). where_key place_cmp (λ x. not (eq_by_cmp place_cmp place x)) z) the_entries
-      ∙ (cut_present place_cmp place key (slot m) 0 ls (list_rises m n (m (c + 4)) ls the_list) (matches place small)
+      ∙ (cut_present place_cmp place key (slot m) 0 ls (list_from m n (m (c + 4)) ls the_list) (matches place small)
       ∙ (sym (bookings_frame m m' rest (λ a k o nk less.
       let oa : 0 < times a ls = omega (arith, o, times_cut a key b ls is some) in
       kept a k (in_list m n p h.heap c a there oa) (list_not_table m n p h.heap c a 3 c there oa (omega arith) there) nk less))
@@ -184,7 +185,7 @@ module _ (m : ℕ → ℕ) (n : ℕ) (out : List ℕ) (s : State) (h : Represent
       (rebooked m' (insert bookings place (booking_in m' b)) p.lists
       (entries-insert place_cmp_total bookings place (booking_in m' b)
       ∙ (ap (λ (z : List Entry). put place_cmp place (booking_in m' b) z) the_entries
-      ∙ put_present place_cmp place key (slot m) (slot m') (booking_in m' b) 0 b ls (list_rises m n (m (c + 4)) ls the_list) (matches place small) is some
+      ∙ put_present place_cmp place key (slot m) (slot m') (booking_in m' b) 0 b ls (list_from m n (m (c + 4)) ls the_list) (matches place small) is some
       (let kind_is : m' b ≡ m b = w b (omega arith) (omega arith) in
       let id_is : m' (b + 1) ≡ m (b + 1) = w (b + 1) (omega arith) (omega arith) in
       λ i. ((kind_of (kind_is i), id_is i), booking_in m' b))
@@ -220,7 +221,7 @@ module _ (m : ℕ → ℕ) (n b : ℕ) (out : List ℕ) (s : State) (bb : IsBloc
       (rebooked m n (b ∷ out) s h id c bookings at m' (insert bookings place (booking_in m b)) (with_at p.lists c longer)
       (entries-insert place_cmp_total bookings place (booking_in m b)
       ∙ (ap (λ (z : List Entry). put place_cmp place (booking_in m b) z) (the_entries m n (b ∷ out) s h id c bookings at)
-      ∙ (put_absent place_cmp place key (slot m) (booking_in m b) 0 b ls (list_rises m n (m (c + 4)) ls (h.heap.lists c tc)) (matches m n (b ∷ out) s h id c bookings at place small) (list_some m n (m (c + 4)) ls (h.heap.lists c tc)) none
+      ∙ (put_absent place_cmp place key (slot m) (booking_in m b) 0 b ls (list_from m n (m (c + 4)) ls (h.heap.lists c tc)) (matches m n (b ∷ out) s h id c bookings at place small) (list_some m n (m (c + 4)) ls (h.heap.lists c tc)) none
       (ap (λ (z : Place). (z, booking_in m b)) is)
       ∙ (sym (bookings_frame m m' longer (λ a k o nk less. kept a k (blocks a o) (apart a o) nk less)) ∙ ap (bookings_in m') (sym here)))))
       (λ d o ne. let e = with_else p.lists c d longer ne in ap (bookings_in m') e ∙ others_kept m n (b ∷ out) s h id c bookings at m' kept d o))

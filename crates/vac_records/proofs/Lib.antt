@@ -6,9 +6,9 @@ pub mod TableRows
 pub mod Frames
 pub mod Overs
 pub mod Insert
-pub mod Book
+pub mod Hang
 pub mod Remove
-pub mod Unbook
+pub mod Unhang
 pub mod Take
 pub mod Payload
 pub mod Shifts
@@ -18,3 +18,7 @@ pub mod Customers
 pub mod Booked
 pub mod Single
 pub mod Fresh
+pub mod Written
+pub mod Hanging
+pub mod Billing
+pub mod Bridges

@@ -1,31 +1,13 @@
 -- What a list of bookings says of its rows.
-use Rattle.std.proofs.Common.{◌≡◌, ◌≢◌, ◌⊎◌, inl, inr, ℕ, ◌+◌, ◌*◌, ◌^◌, ◌<◌, ◌≤◌, List, [], ◌∷◌, refl, sym, ap, ◌∙◌, subst, arith}
-use Rattle.std.proofs.lemmas.Bool.{cases_lt}
-use Rattle.stm_words.specs.Seen.{same_or}
+use Rattle.std.proofs.Common.{◌≡◌, ◌≢◌, ◌⊎◌, inl, inr, ℕ, ◌+◌, ◌*◌, ◌^◌, ◌<◌, ◌≤◌, List, [], ◌∷◌, refl, sym, ap, ◌∙◌, subst, arith, add-zero}
 use Rattle.tx_alloc.specs.Pool.{IsBlock}
-use Rattle.tx_alloc.specs.Rows.{Rows, times, IsFrom}
-use Rattle.tx_alloc.proofs.Times.{times_first, times_more}
+use Rattle.tx_alloc.specs.Rows.{Rows, times}
 use Rattle.tx_list.specs.Bookings.{Linked, IsList, IsBooked, place_code}
+use Rattle.tx_list.proofs.Frame.{SameBooking, linked_frame}
 use Rattle.vac_records.proofs.Keyed.{HasRow}
 
--- the words that a list rests on
-pub record SameChain (m m' : ℕ → ℕ) (a : ℕ) : Type 0 where
-  pub kind : m' a ≡ m a
-  pub id : m' (a + 1) ≡ m (a + 1)
-  pub next : m' (a + 3) ≡ m (a + 3)
-
-linked_kept : (m m' : ℕ → ℕ) (n p lo : ℕ) (rs : Rows) → ((a : ℕ) → 0 < times a rs → SameChain m m' a) → Linked m n p lo rs → Linked m' n p lo rs
-linked_kept m m' n p lo [] same h = h
-linked_kept m m' n p lo ((k, a) ∷ rs) same (r, h) =
-    let s = same a (times_first k a rs) in
-    let kind_is = s.kind in
-    let id_is = s.id in (
-      record { at = r.at; block = r.block; kind = omega (arith, r.kind, kind_is); id = omega (arith, r.id, id_is); key = omega (arith, r.key, kind_is, id_is); low = r.low },
-      rw s.next (linked_kept m m' n (m (a + 3)) (k + 1) rs (λ x i. same x (omega (arith, i, times_more (k, a) x rs))) h),
-    )
-
-pub list_kept : (m m' : ℕ → ℕ) (n p : ℕ) (rs : Rows) → IsList m n p rs → ((a : ℕ) → 0 < times a rs → SameChain m m' a) → IsList m' n p rs
-list_kept m m' n p rs h same = record { linked = linked_kept m m' n p 0 rs same h.linked }
+pub list_kept : (m m' : ℕ → ℕ) (n p : ℕ) (rs : Rows) → IsList m n p rs → ((a : ℕ) → 0 < times a rs → SameBooking m m' a) → IsList m' n p rs
+list_kept m m' n p rs h same = record { linked = linked_frame m m' n p 0 rs same h.linked }
 
 -- the words have one list
 linked_one : (m : ℕ → ℕ) (n p lo lo' : ℕ) (rs rs' : Rows) → Linked m n p lo rs → Linked m n p lo' rs' → rs ≡ rs'
@@ -41,13 +23,6 @@ linked_one m n p lo lo' (r ∷ rs) (r' ∷ rs') h g =
 pub list_one : (m : ℕ → ℕ) (n p : ℕ) (rs rs' : Rows) → IsList m n p rs → IsList m n p rs' → rs ≡ rs'
 list_one m n p rs rs' h g = linked_one m n p 0 0 rs rs' h.linked g.linked
 
-linked_rises : (m : ℕ → ℕ) (n p lo : ℕ) (rs : Rows) → Linked m n p lo rs → IsFrom lo rs
-linked_rises m n p lo [] h = tt
-linked_rises m n p lo ((k, a) ∷ rs) (r, h) = (r.low, linked_rises m n (m (a + 3)) (k + 1) rs h)
-
-pub list_rises : (m : ℕ → ℕ) (n p : ℕ) (rs : Rows) → IsList m n p rs → IsFrom 0 rs
-list_rises m n p rs h = linked_rises m n p 0 rs h.linked
-
 -- kind and id of a row
 pub record IsListed (m : ℕ → ℕ) (n k a : ℕ) : Type 0 where
   pub block : IsBlock n a
@@ -59,7 +34,8 @@ linked_row : (m : ℕ → ℕ) (n p lo k a : ℕ) (rs : Rows) → Linked m n p l
 linked_row m n p lo k a [] h i = absurd i
 linked_row m n p lo k a (r ∷ rs) h i = elim i [
   | inl e ↦ (
-      let is : IsListed m n r.0 r.1 = record { block = h.0.block; kind = h.0.kind; id = h.0.id; key = h.0.key } in
+      let at : m (r.1 + 0) ≡ m r.1 = rw add-zero refl in
+      let is : IsListed m n r.0 r.1 = record { block = h.0.block; kind = omega (arith, h.0.kind, at); id = h.0.id; key = omega (arith, h.0.key, at) } in
       subst (λ (z : ℕ × ℕ). IsListed m n z.0 z.1) (λ j. (e.0 j, e.1 j)) is)
   | inr later ↦ linked_row m n (m (r.1 + 3)) (r.0 + 1) k a rs h.1 later
 ]
@@ -68,9 +44,9 @@ pub list_row : (m : ℕ → ℕ) (n p k a : ℕ) (rs : Rows) → IsList m n p rs
 list_row m n p k a rs h i = linked_row m n p 0 k a rs h.linked i
 
 -- nothing but the sum and the units of a booking was written
-pub booked_links : (m m' : ℕ → ℕ) (n b x : ℕ) → IsBlock n b → IsBlock n x → ((y : ℕ) → y ≢ b + 2 → y ≢ b + 4 → m' y ≡ m y) → SameChain m m' x
+pub booked_links : (m m' : ℕ → ℕ) (n b x : ℕ) → IsBlock n b → IsBlock n x → ((y : ℕ) → y ≢ b + 2 → y ≢ b + 4 → m' y ≡ m y) → SameBooking m m' x
 booked_links m m' n b x bb bx w = record {
-  kind = w x (omega (arith, bx.1.1, bb.1.1)) (omega (arith, bx.1.1, bb.1.1));
+  kind = w (x + 0) (omega (arith, bx.1.1, bb.1.1)) (omega (arith, bx.1.1, bb.1.1));
   id = w (x + 1) (omega (arith, bx.1.1, bb.1.1)) (omega (arith, bx.1.1, bb.1.1));
   next = w (x + 3) (omega (arith, bx.1.1, bb.1.1)) (omega (arith, bx.1.1, bb.1.1));
 }

@@ -10,7 +10,7 @@ use Rattle.tx_list.specs.Bookings.{IsList}
 use Rattle.vac_records.specs.Heap.{Parts, over, used_in, count_in, IsHeap}
 use Rattle.tx_alloc.proofs.Times.{times_cut, length_cut}
 use Rattle.tx_tree.proofs.TableFrame.{table_frame, table_block}
-use Rattle.tx_list.proofs.ListFrame.{list_frame, list_block}
+use Rattle.tx_list.proofs.Frame.{list_frame, list_block}
 use Rattle.vac_records.proofs.Overs.{over_has, over_cut}
 use Rattle.tx_alloc.proofs.Outside.{outside_block, outside_links, outside_low}
 use Rattle.vac_records.proofs.Insert.{pool_as}

@@ -13,7 +13,7 @@ use Rattle.tx_alloc.specs.Rows.{Rows, times, block_at, IsFrom}
 use Rattle.tx_alloc.proofs.Sums.{with_here, with_else, sum_has, sum_two}
 use Rattle.tx_alloc.proofs.Chains.{held_first}
 use Rattle.tx_tree.proofs.TableFrame.{table_block}
-use Rattle.tx_list.proofs.ListFrame.{list_block}
+use Rattle.tx_list.proofs.Frame.{list_block}
 use Rattle.vac_records.specs.Items.{item_in}
 use Rattle.vac_records.specs.Heap.{Parts, over, used_in, count_in, IsHeap}
 use Rattle.vac_records.specs.Represents.{items_in, bookings_in, customers_in, opened, Represents}

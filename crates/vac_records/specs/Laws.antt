@@ -7,10 +7,12 @@ use Rattle.vac_model.specs.declared.items.Item.{Item}
 use Rattle.vac_model.specs.State.{State, Bookings, Place, kind_number, empty_state, item_of, with_item, without_item, bookings_of, with_bookings, without_customer, size, bill_of}
 use Rattle.tx_alloc.specs.Pool.{IsBlock, IsTaking, IsGiving, IsUsed, IsPool, IsEmptyHeap, fresh_lists}
 use Rattle.tx_alloc.specs.Rows.{Rows, times, put_row, cut_row, block_at, Relinks}
-use Rattle.tx_tree.specs.Table.{IsTable}
+use Rattle.tx_tree.specs.Table.{IsTable, Table}
 use Rattle.tx_list.specs.Bookings.{IsList}
+use Rattle.tx_list.specs.Lists.{IsListAt}
 use Rattle.vac_records.specs.Items.{item_in}
 use Rattle.vac_records.specs.Bookings.{place_key, place_in, booking_in}
+use Rattle.vac_records.specs.Customers.{head_of, sum_in}
 use Rattle.vac_records.specs.Heap.{Parts, used_in, count_in}
 use Rattle.vac_records.specs.Represents.{Represents, bookings_in}
 
@@ -213,3 +215,37 @@ BookingRemoved =
     (place : Place) (b : ℕ) (h : Represents m n out s) → IsCustomerAt h id c bookings →
     IsBookingAt h c place b → ListCut m m' n c (h.parts.lists c) (place_key place) →
     Represents m' n (b ∷ out) (with_bookings s id (remove bookings place))
+
+-- the blocks are free or taken
+abbrev pub PoolThere : Type 0
+PoolThere =
+    (m : ℕ → ℕ) (n : ℕ) (out : List ℕ) (s : State) (h : Represents m n out s) →
+    IsPool m n h.parts.free (used_in h.parts) (count_in h.parts)
+
+-- a block in hand is taken
+abbrev pub HandThere : Type 0
+HandThere =
+    (m : ℕ → ℕ) (n b : ℕ) (out : List ℕ) (s : State) → IsBlock n b →
+    (h : Represents m n (b ∷ out) s) →
+    IsUsed m n h.parts.free (used_in (record h.parts { out = out }))
+    (count_in (record h.parts { out = out })) b
+
+-- a word from 1 to 4 leads to its table
+abbrev pub TableThere : Type 0
+TableThere =
+    (m : ℕ → ℕ) (n : ℕ) (out : List ℕ) (s : State) (i : ℕ) (h : Represents m n out s) →
+    s.capacity ≤ 262144 → i < 4 → Table m n (1 + i) (h.parts.tables i)
+
+-- a customer's head word leads to the list of bookings
+abbrev pub ListThere : Type 0
+ListThere =
+    (m : ℕ → ℕ) (n : ℕ) (out : List ℕ) (s : State) (id c : ℕ) (bookings : Bookings)
+    (h : Represents m n out s) → IsCustomerAt h id c bookings →
+    IsListAt m n (head_of c) (h.parts.lists c)
+
+-- the sums in the list's blocks add up to the customer's bill
+abbrev pub BillThere : Type 0
+BillThere =
+    (m : ℕ → ℕ) (n : ℕ) (out : List ℕ) (s : State) (id c : ℕ) (bookings : Bookings)
+    (h : Represents m n out s) → IsCustomerAt h id c bookings →
+    sum_in m (h.parts.lists c) ≡ bill_of bookings

@@ -4,3 +4,4 @@ pub mod Bookings
 pub mod Heap
 pub mod Represents
 pub mod Laws
+pub mod Customers

@@ -1,6 +1,6 @@
 //! Laws on memories that represent states. Each is the contract of a function that does nothing.
 
-ghost use Rattle.vac_records.specs.Laws.{OneState, SameWords, FreshState, ItemFound, ItemMissing, CustomerFound, CustomerMissing, BookingFound, BookingMissing, NoneLeft, SomeLeft, BlockTaken, BlockGiven, BlockWritten, ItemInserted, ItemReplaced, ItemRemoved, CustomerInserted, CustomerRemoved, BookingInserted, BookingReplaced, BookingRemoved};
+ghost use Rattle.vac_records.specs.Laws.{OneState, SameWords, FreshState, ItemFound, ItemMissing, CustomerFound, CustomerMissing, BookingFound, BookingMissing, NoneLeft, SomeLeft, BlockTaken, BlockGiven, BlockWritten, ItemInserted, ItemReplaced, ItemRemoved, CustomerInserted, CustomerRemoved, BookingInserted, BookingReplaced, BookingRemoved, PoolThere, HandThere, TableThere, ListThere, BillThere};
 
 /// A memory represents at most one state, and of a memory of n words no word behind them matters.
 pub fn one_state_for_a_memory()
@@ -56,4 +56,14 @@ pub fn bookings_follow_their_blocks()
     ensures inserted { BookingInserted }
     ensures replaced { BookingReplaced }
     ensures removed { BookingRemoved }
+{}
+
+/// What the calls on blocks, tables and lists ask of a memory holds where it represents a state,
+/// and the sums of a customer's bookings add up to the bill.
+pub fn states_have_their_structures()
+    ensures pool { PoolThere }
+    ensures hand { HandThere }
+    ensures table { TableThere }
+    ensures list { ListThere }
+    ensures bill { BillThere }
 {}

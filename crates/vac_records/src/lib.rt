@@ -1,14 +1,21 @@
-//! The items of the reservation system, in blocks of eight words of a transactional memory.
+//! The items, customers and bookings of the reservation system, in blocks of eight words of a
+//! transactional memory, and which state of the system a memory represents.
 //!
 //! The words of an item's block are its key, three words that link it into its table, and then
 //! how many units are used, how many are free, how many there are in all, and the price of one.
+//! Those of a customer's block are the key, the same three links, and the head of the list of
+//! bookings; those of a booking's block are `tx_list`'s.
 #![tactic(auto)]
 
+mod booking;
+mod customer;
 mod item;
 mod laws;
 pub mod place;
 mod word;
 
+pub use booking::{book_more, booking_at, key_of, sum_at, units_at};
+pub use customer::{bill, book, booking_of, init_customer, unbook};
 pub use item::{
     add_total, cancel, free_at, init_item, item_at, make, price_at, set_price, sub_total, total_at,
     used_at,
@@ -16,7 +23,7 @@ pub use item::{
 pub use laws::{
     blocks_in_hand_are_no_entries, bookings_follow_their_blocks, capacity_is_a_count_of_blocks,
     customers_follow_their_blocks, empty_heaps_are_empty_states, entries_are_read_off_blocks,
-    items_follow_their_blocks, one_state_for_a_memory,
+    items_follow_their_blocks, one_state_for_a_memory, states_have_their_structures,
 };
 pub use vac_model::{Item, Kind};
 

@@ -1,5 +1,5 @@
-//! Where the words of an item stand in its block. The words between the key and these link the
-//! block into its table.
+//! Where the words of an item and of a customer stand in their blocks. The words between the key and
+//! these link the block into its table.
 
 /// The key, which is the item's id.
 pub const KEY: u32 = 0;
@@ -15,3 +15,6 @@ pub const TOTAL: u32 = 6;
 
 /// The price of a unit that is booked from now on.
 pub const PRICE: u32 = 7;
+
+/// The pointer to the first of a customer's bookings.
+pub const BOOKINGS: u32 = 4;

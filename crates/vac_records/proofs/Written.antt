@@ -1,0 +1,105 @@
+-- Stores that make a customer and a booking, and what is added to a booking.
+use Rattle.std.proofs.Common.{◌≡◌, ◌≢◌, ◌⊎◌, inl, inr, ℕ, ◌+◌, ◌*◌, ◌<◌, ◌≤◌, ◌^◌, List, refl, sym, ap, ◌∙◌, subst, arith}
+use Rattle.stm_words.specs.Seen.{same_or}
+use Rattle.stm_words.specs.View.{View, Sees, Loaded, Stored, IsWrite}
+use Rattle.vac_model.specs.declared.items.Booking.{Booking}
+use Rattle.vac_model.specs.State.{Place, kind_number}
+use Rattle.vac_model.specs.Step.{new_booking, extended}
+use Rattle.vac_records.specs.Bookings.{booking_in}
+use Rattle.vac_records.specs.Items.{mem, Shifted}
+use Rattle.vac_records.specs.Customers.{IsNewCustomer, CustomerMade, IsNewBooking, BookingMade, BookingRead, IsBookingNow, BookingChanged}
+use Rattle.vac_records.specs.Steps.{kept_both, at_start}
+use Rattle.vac_records.proofs.Counting.{TwoWords, two_words}
+
+-- the three spare words are cleared, and nothing else
+pub record Cleared (m m' : ℕ → ℕ) (node : ℕ) : Type 0 where
+  pub spare : (k : ℕ) → 5 ≤ k → k < 8 → m' (node + k) ≡ 0
+  pub others : (x : ℕ) → (x < node + 5) ⊎ (node + 8 ≤ x) → m' x ≡ m x
+
+cleared_by : (m m1 m2 m3 : ℕ → ℕ) (node a b c : ℕ) → a ≡ node + 5 → b ≡ node + 6 → c ≡ node + 7 → IsWrite m m1 a 0 → IsWrite m1 m2 b 0 → IsWrite m2 m3 c 0 → Cleared m m3 node
+cleared_by m m1 m2 m3 node a b c p q r w1 w2 w3 = record {
+  spare = λ k low less. elim (same_or k 5) [
+    | inl five ↦ (let e : a ≡ node + k = omega arith in ap m3 (sym e) ∙ (w3.others a (omega arith) ∙ (w2.others a (omega arith) ∙ w1.here)))
+    | inr other ↦ elim (same_or k 6) [
+      | inl six ↦ (let e : b ≡ node + k = omega arith in ap m3 (sym e) ∙ (w3.others b (omega arith) ∙ w2.here))
+      | inr last ↦ (let e : c ≡ node + k = omega arith in ap m3 (sym e) ∙ w3.here)
+    ]
+  ];
+  others = λ x out.
+      let far : (k : ℕ) → node + 5 ≤ k → k < node + 8 → x ≢ k = λ k l h is. elim out [ inl low ↦ absurd (omega arith) | inr high ↦ absurd (omega arith) ] in
+      w3.others x (far c (omega arith) (omega arith)) ∙ (w2.others x (far b (omega arith) (omega arith)) ∙ w1.others x (far a (omega arith) (omega arith)));
+}
+
+new_customer_by : (m m1 m2 m3 : ℕ → ℕ) (node key a b : ℕ) → a ≡ node → b ≡ node + 4 → IsWrite m m1 a key → IsWrite m1 m2 b 0 → Cleared m2 m3 node → IsNewCustomer m m3 node key
+new_customer_by m m1 m2 m3 node key a b p q w1 w2 c = record {
+  key_is = c.others node (inl (omega arith)) ∙ (w2.others node (omega arith) ∙ (ap m1 (sym p) ∙ w1.here));
+  head_is = c.others (node + 4) (inl (omega arith)) ∙ (ap m2 (sym q) ∙ w2.here);
+  spare = c.spare;
+  others = λ x nk out.
+      let nb : x ≢ b = λ is. elim out [ inl low ↦ absurd (omega arith) | inr high ↦ absurd (omega arith) ] in
+      c.others x (elim out [ inl low ↦ inl (omega arith) | inr high ↦ inr high ]) ∙ (w2.others x nb ∙ w1.others x (λ is. nk (is ∙ p)));
+}
+
+pub customer_made : (s s1 s2 s3 s4 s5 : View) (node key a b c d e : ℕ) → a ≡ node → b ≡ node + 4 → c ≡ node + 5 → d ≡ node + 6 → e ≡ node + 7 →
+    Stored s s1 a key → Stored s1 s2 b 0 → Stored s2 s3 c 0 → Stored s3 s4 d 0 → Stored s4 s5 e 0 → CustomerMade s s5 node key
+customer_made s s1 s2 s3 s4 s5 node key a b c d e p q r t u w1 w2 w3 w4 w5 = record {
+  kept = kept_both s s4 s5 (kept_both s s3 s4 (kept_both s s2 s3 (kept_both s s1 s2 w1.kept w2.kept) w3.kept) w4.kept) w5.kept;
+  made = λ image i.
+      let z = cleared_by (mem s2 image) (mem s3 image) (mem s4 image) (mem s5 image) node c d e r t u (w3.written image) (w4.written image) (w5.written image) in
+      new_customer_by (mem s image) (mem s1 image) (mem s2 image) (mem s5 image) node key a b p q (w1.written image) (w2.written image) z;
+}
+
+new_booking_by : (m m1 m2 m3 m4 m5 : ℕ → ℕ) (node : ℕ) (place : Place) (num price kind id sum units a b c d : ℕ) → a ≡ node + 0 → b ≡ node + 1 → c ≡ node + 2 → d ≡ node + 4 →
+    kind ≡ kind_number place.0 → id ≡ place.1 → sum ≡ num * price → units ≡ num →
+    IsWrite m m1 a kind → IsWrite m1 m2 b id → IsWrite m2 m3 c sum → IsWrite m3 m4 d units → Cleared m4 m5 node → IsNewBooking m m5 node place num price
+new_booking_by m m1 m2 m3 m4 m5 node place num price kind id sum units a b c d p q r t ek ei es eu w1 w2 w3 w4 z =
+    let clear : (x : ℕ) → x < node + 5 → m5 x ≡ m4 x = λ x l. z.others x (inl l) in
+    let at0 : a ≡ node = omega arith in
+    let kind_is : m5 node ≡ kind = clear node (omega arith) ∙ (ap m4 (sym at0) ∙ (w4.others a (omega arith) ∙ (w3.others a (omega arith) ∙ (w2.others a (omega arith) ∙ w1.here)))) in
+    let id_is : m5 (node + 1) ≡ id = clear (node + 1) (omega arith) ∙ (ap m4 (sym q) ∙ (w4.others b (omega arith) ∙ (w3.others b (omega arith) ∙ w2.here))) in
+    let sum_is : m5 (node + 2) ≡ num * price = clear (node + 2) (omega arith) ∙ (ap m4 (sym r) ∙ (w4.others c (omega arith) ∙ (w3.here ∙ es))) in
+    let units_is : m5 (node + 4) ≡ num = clear (node + 4) (omega arith) ∙ (ap m4 (sym t) ∙ (w4.here ∙ eu)) in
+    record {
+      kind_is = kind_is ∙ ek;
+      id_is = id_is ∙ ei;
+      is = λ i. record { units = units_is i; sum = sum_is i };
+      spare = z.spare;
+      others = λ x out.
+          let far : (k : ℕ) → node ≤ k → k < node + 8 → x ≢ k = λ k l h is. elim out [ inl low ↦ absurd (omega arith) | inr high ↦ absurd (omega arith) ] in
+          z.others x (elim out [ inl low ↦ inl (omega arith) | inr high ↦ inr high ])
+          ∙ (w4.others x (far d (omega arith) (omega arith)) ∙ (w3.others x (far c (omega arith) (omega arith)) ∙ (w2.others x (far b (omega arith) (omega arith)) ∙ w1.others x (far a (omega arith) (omega arith)))));
+    }
+
+pub booking_made : (s s1 s2 s3 s4 s5 s6 s7 : View) (node : ℕ) (place : Place) (num price kind id sum units a b c d e f g : ℕ) → a ≡ node + 0 → b ≡ node + 1 → c ≡ node + 2 → d ≡ node + 4 → e ≡ node + 5 → f ≡ node + 6 → g ≡ node + 7 →
+    kind ≡ kind_number place.0 → id ≡ place.1 → sum ≡ num * price → units ≡ num →
+    Stored s s1 a kind → Stored s1 s2 b id → Stored s2 s3 c sum → Stored s3 s4 d units → Stored s4 s5 e 0 → Stored s5 s6 f 0 → Stored s6 s7 g 0 → BookingMade s s7 node place num price
+booking_made s s1 s2 s3 s4 s5 s6 s7 node place num price kind id sum units a b c d e f g p q r t u v w ek ei es eu w1 w2 w3 w4 w5 w6 w7 = record {
+  kept = kept_both s s6 s7 (kept_both s s5 s6 (kept_both s s4 s5 (kept_both s s3 s4 (kept_both s s2 s3 (kept_both s s1 s2 w1.kept w2.kept) w3.kept) w4.kept) w5.kept) w6.kept) w7.kept;
+  made = λ image i.
+      let z = cleared_by (mem s4 image) (mem s5 image) (mem s6 image) (mem s7 image) node e f g u v w (w5.written image) (w6.written image) (w7.written image) in
+      new_booking_by (mem s image) (mem s1 image) (mem s2 image) (mem s3 image) (mem s4 image) (mem s7 image) node place num price kind id sum units a b c d p q r t ek ei es eu (w1.written image) (w2.written image) (w3.written image) (w4.written image) z;
+}
+
+-- two loads read a booking
+pub booking_read : (s s1 s2 : View) (node u v : ℕ) → Loaded s s1 (node + 4) u → Loaded s1 s2 (node + 2) v → BookingRead s s2 node (record { units = u; sum = v })
+booking_read s s1 s2 node u v l l' = record {
+  kept = kept_both s s1 s2 l.kept l'.kept;
+  writes = l'.writes ∙ l.writes;
+  answer = λ image i.
+      let units = l.answer image (l'.kept.seen image i) in
+      let sum = at_start s s1 s2 (node + 2) v l.writes l' image i in
+      λ j. record { units = units j; sum = sum j };
+}
+
+pub booking_extended : (s s1 s2 : View) (node num price sum units a b : ℕ) → a ≡ node + 2 → b ≡ node + 4 → sum ≡ num * price → units ≡ num → Shifted s s1 a (λ v. v + sum) → Shifted s1 s2 b (λ v. v + units) → BookingChanged s s2 node (λ x. extended x num price)
+booking_extended s s1 s2 node num price sum units a b p q es eu w w' = record {
+  kept = kept_both s s1 s2 w.kept w'.kept;
+  changed = λ image i.
+      let t = two_words s s1 s2 a b (λ v. v + sum) (λ v. v + units) w w' (omega arith) image i in
+      let sum_is : mem s2 image (node + 2) ≡ mem s image (node + 2) + num * price = rw (p, es) at t.first in
+      let units_is : mem s2 image (node + 4) ≡ mem s image (node + 4) + num = rw (q, eu) at t.second in
+      record {
+        is = λ j. record { units = units_is j; sum = sum_is j };
+        others = λ x na nb. t.others x (λ e. na (e ∙ p)) (λ e. nb (e ∙ q));
+      };
+}

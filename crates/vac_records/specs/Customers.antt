@@ -1,0 +1,152 @@
+-- Customers and their bookings in blocks of a transactional memory. The words of a customer's block
+-- are key, left, right, colour, head of the bookings, and three spare ones.
+use Rattle.std.specs.Prelude.{◌≡◌, ◌≢◌, ◌⊎◌, ℕ, ◌+◌, ◌*◌, ◌<◌, ◌≤◌, ◌^◌, List, [], ◌∷◌, length, Option, Some, None}
+use Rattle.stm_words.specs.View.{View, Sees, Kept}
+use Rattle.vac_model.specs.declared.items.Kind.{Kind}
+use Rattle.vac_model.specs.declared.items.Booking.{Booking}
+use Rattle.vac_model.specs.State.{Place, kind_number}
+use Rattle.vac_model.specs.Step.{new_booking}
+use Rattle.tx_alloc.specs.declared.pool.Block.{Block}
+use Rattle.tx_alloc.specs.Pointer.{pointer}
+use Rattle.tx_alloc.specs.Pool.{IsBlock}
+use Rattle.tx_alloc.specs.Rows.{Rows, times, put_row, cut_row, block_at, Relinks}
+use Rattle.tx_list.specs.Lists.{IsListAt, IsOutside}
+use Rattle.vac_records.specs.Items.{mem, RoomAt}
+use Rattle.vac_records.specs.Bookings.{booking_in, place_key}
+
+-- the word that leads to the bookings of the customer in a block
+abbrev pub head_of : ℕ → ℕ
+head_of customer = customer + 4
+
+-- the block became a customer without bookings; its links and all words outside are as before
+pub record IsNewCustomer (m m' : ℕ → ℕ) (node key : ℕ) : Type 0 where
+  pub key_is : m' node ≡ key
+  pub head_is : m' (head_of node) ≡ 0
+  pub spare : (k : ℕ) → 5 ≤ k → k < 8 → m' (node + k) ≡ 0
+  pub others : (x : ℕ) → x ≢ node → (x < node + 4) ⊎ (node + 8 ≤ x) → m' x ≡ m x
+
+-- under each image the block became a new customer
+pub record CustomerMade (s s' : View) (node key : ℕ) : Type 0 where
+  pub kept : Kept s s'
+  pub made : (image : List ℕ) → Sees s' image →
+      IsNewCustomer (mem s image) (mem s' image) node key
+
+-- the block became a booking of so many units at this price; its link and all words outside are as
+-- before
+pub record IsNewBooking (m m' : ℕ → ℕ) (node : ℕ) (place : Place) (num price : ℕ) : Type 0 where
+  pub kind_is : m' node ≡ kind_number place.0
+  pub id_is : m' (node + 1) ≡ place.1
+  pub is : booking_in m' node ≡ new_booking num price
+  pub spare : (k : ℕ) → 5 ≤ k → k < 8 → m' (node + k) ≡ 0
+  pub others : (x : ℕ) → (x < node) ⊎ (node + 8 ≤ x) → m' x ≡ m x
+
+-- under each image the block became a new booking
+pub record BookingMade (s s' : View) (node : ℕ) (place : Place) (num price : ℕ) : Type 0 where
+  pub kept : Kept s s'
+  pub made : (image : List ℕ) → Sees s' image →
+      IsNewBooking (mem s image) (mem s' image) node place num price
+
+-- only reads were made, and under each image this is the booking of the block
+pub record BookingRead (s s' : View) (node : ℕ) (b : Booking) : Type 0 where
+  pub kept : Kept s s'
+  pub writes : s'.writes ≡ s.writes
+  pub answer : (image : List ℕ) → Sees s' image → booking_in (mem s image) node ≡ b
+
+-- under each image the booking has room for so many more units at this price
+pub record CanExtend (s : View) (node num price : ℕ) : Type 0 where
+  pub sum : RoomAt s (node + 2) (num * price)
+  pub units : RoomAt s (node + 4) num
+
+-- the block's booking is this one now, and all words but its sum and its units are as before
+pub record IsBookingNow (m m' : ℕ → ℕ) (node : ℕ) (b : Booking) : Type 0 where
+  pub is : booking_in m' node ≡ b
+  pub others : (x : ℕ) → x ≢ node + 2 → x ≢ node + 4 → m' x ≡ m x
+
+-- under each image the booking became what f makes of it
+pub record BookingChanged (s s' : View) (node : ℕ) (f : Booking → Booking) : Type 0 where
+  pub kept : Kept s s'
+  pub changed : (image : List ℕ) → Sees s' image →
+      IsBookingNow (mem s image) (mem s' image) node (f (booking_in (mem s image) node))
+
+-- under each image the customer's list has no booking of the place, and b is a block that is
+-- neither the customer's nor in the list
+pub record IsLoose (m : ℕ → ℕ) (n customer : ℕ) (rows : Rows) (place : Place)
+    (b : ℕ) : Type 0 where
+  pub block : IsBlock n b
+  pub outside : IsOutside (head_of customer) b
+  pub absent : block_at rows (place_key place) ≡ 0
+  pub loose : times b rows ≡ 0
+
+pub record CanBook (s : View) (customer : ℕ) (place : Place) (b : ℕ) : Type 0 where
+  pub under : (image : List ℕ) (rows : Rows) → Sees s image →
+      IsListAt (mem s image) (length image) (head_of customer) rows →
+      IsLoose (mem s image) (length image) customer rows place b
+
+-- the block was made a booking, between, and then hung into the customer's list
+pub record IsBooked (m m' : ℕ → ℕ) (n customer : ℕ) (rows : Rows) (place : Place)
+    (num price b : ℕ) : Type 0 where
+  pub between : ℕ → ℕ
+  pub made : IsNewBooking m between b place num price
+  pub list : IsListAt m' n (head_of customer) (put_row rows (place_key place) b)
+  pub relinks : Relinks between m' 3 (head_of customer) (put_row rows (place_key place) b)
+
+pub record Booked (s s' : View) (customer : ℕ) (place : Place) (num price b : ℕ) : Type 0 where
+  pub kept : Kept s s'
+  pub booked : (image : List ℕ) (rows : Rows) → Sees s' image →
+      IsListAt (mem s image) (length image) (head_of customer) rows →
+      IsBooked (mem s image) (mem s' image) (length image) customer rows place num price b
+
+-- a booking that left its list: its block and its units
+abbrev pub UnitsOf : (ℕ → ℕ) → Option (Block × ℕ) → Type 0
+UnitsOf m None = Unit {0}
+UnitsOf m (Some taken) = m (taken.0.0.0 + 4) ≡ taken.1
+
+abbrev pub block_of : Option (Block × ℕ) → Option Block
+block_of None = None
+block_of (Some taken) = Some taken.0
+
+-- the booking of the place left the list, if it was there, and the answer is its block with its
+-- units. No word was changed but those that lead on, and none where it was not there.
+pub record Unbooked (s s' : View) (customer : ℕ) (place : Place)
+    (taken : Option (Block × ℕ)) : Type 0 where
+  pub kept : Kept s s'
+  pub none : taken ≡ None → s'.writes ≡ s.writes
+  pub is : (image : List ℕ) (rows : Rows) → Sees s' image →
+      IsListAt (mem s image) (length image) (head_of customer) rows →
+      pointer (block_of taken) ≡ block_at rows (place_key place)
+  pub units : (image : List ℕ) → Sees s' image → UnitsOf (mem s image) taken
+  pub list : (image : List ℕ) (rows : Rows) → Sees s' image →
+      IsListAt (mem s image) (length image) (head_of customer) rows →
+      IsListAt (mem s' image) (length image) (head_of customer)
+      (cut_row rows (place_key place))
+  pub relinks : (image : List ℕ) (rows : Rows) → Sees s' image →
+      IsListAt (mem s image) (length image) (head_of customer) rows →
+      Relinks (mem s image) (mem s' image) 3 (head_of customer) rows
+
+-- the sums of the bookings in these rows, added up
+abbrev pub sum_in : (ℕ → ℕ) → Rows → ℕ
+sum_in m [] = 0
+sum_in m (r ∷ rs) = m (r.1 + 2) + sum_in m rs
+
+-- the customer has these bookings, at most 262,144, whose sums add up to a word
+pub record HasBill (m : ℕ → ℕ) (n customer : ℕ) (rows : Rows) : Type 0 where
+  pub list : IsListAt m n (head_of customer) rows
+  pub few : length rows ≤ 262144
+  pub fits : sum_in m rows < 2 ^ 64
+
+pub record SomeBill (m : ℕ → ℕ) (n customer : ℕ) : Type 0 where
+  pub entries : Rows
+  pub is : HasBill m n customer entries
+
+-- under each image that there may be the customer has a bill. Addresses fit 32 bits.
+pub record CanBill (s : View) (customer : ℕ) : Type 0 where
+  pub small : s.size ≤ 2 ^ 32
+  pub room : head_of customer < s.size
+  pub under : (image : List ℕ) → Sees s image → SomeBill (mem s image) (length image) customer
+
+-- only reads were made, and the answer is the sum of the bookings' sums
+pub record Billed (s s' : View) (customer total : ℕ) : Type 0 where
+  pub kept : Kept s s'
+  pub writes : s'.writes ≡ s.writes
+  pub is : (image : List ℕ) (rows : Rows) → Sees s' image →
+      HasBill (mem s image) (length image) customer rows → total ≡ sum_in (mem s image) rows

@@ -1,0 +1,113 @@
+//! Reading and writing bookings.
+
+ghost use Rattle.std.specs.Prelude.{◌≡◌, ◌+◌, ◌*◌, ◌<◌, ◌^◌, IfOk};
+ghost use Rattle.stm_words.specs.View.{Loaded};
+ghost use Rattle.vac_model.specs.State.{kind_number};
+ghost use Rattle.vac_model.specs.Step.{extended};
+ghost use Rattle.vac_records.specs.Items.{IsNode};
+ghost use Rattle.vac_records.specs.Customers.{BookingMade, BookingRead, BookingChanged, CanExtend};
+
+use crate::word::{raise, word_of};
+use stm_words::{Addr, TxMem, TxRead, load, store};
+use tx_list::{Key, place};
+use vac_model::{Booking, Kind};
+
+/// The key of the bookings of an item, in a customer's list.
+#[inline]
+pub fn key_of(kind: Kind, id: u32) -> Key
+    ensures kind { result.kind ≡ kind_number kind }
+    ensures id { result.id ≡ id }
+{
+    let kind = match kind {
+        Kind::Car => 0,
+        Kind::Flight => 1,
+        Kind::Room => 2,
+    };
+    Key {
+        kind,
+        id: id as u64,
+    }
+}
+
+/// Makes the block a booking of `num` units of an item, each at this price. The word that links the
+/// block into a list is left to the list; the spare words are 0.
+pub(crate) fn init_booking<M: TxMem>(
+    memory: &mut M,
+    node: Addr,
+    kind: Kind,
+    id: u32,
+    num: u32,
+    price: u64,
+) -> Result<(), M::Stop>
+    requires node { IsNode (M.view memory.old) node.0 }
+    requires sum { num * price < 2 ^ 64 }
+    ensures origin { M.origin memory.new ≡ M.origin memory.old }
+    ensures answer { IfOk result (λ _. BookingMade (M.view memory.old) (M.view memory.new) node.0
+        (kind, id) num price) }
+{
+    let key = key_of(kind, id);
+    store(memory, word_of(node, place::KIND), key.kind)?;
+    store(memory, word_of(node, place::ID), key.id)?;
+    store(memory, word_of(node, place::SUM), num as u64 * price)?;
+    store(memory, word_of(node, place::UNITS), num as u64)?;
+    store(memory, word_of(node, FIRST_SPARE), 0)?;
+    store(memory, word_of(node, FIRST_SPARE + 1), 0)?;
+    store(memory, word_of(node, FIRST_SPARE + 2), 0)?;
+    Ok(())
+}
+
+// The first of the three spare words of a booking's block and of a customer's.
+pub(crate) const FIRST_SPARE: u32 = 5;
+
+/// The booking of the block.
+pub fn booking_at<M: TxRead>(memory: &mut M, node: Addr) -> Result<Booking, M::Stop>
+    requires { IsNode (M.view memory.old) node.0 }
+    ensures origin { M.origin memory.new ≡ M.origin memory.old }
+    ensures answer { IfOk result (λ booking.
+        BookingRead (M.view memory.old) (M.view memory.new) node.0 booking) }
+{
+    let units = units_at(memory, node)?;
+    let sum = sum_at(memory, node)?;
+    Ok(Booking { units, sum })
+}
+
+/// How many units the booking has.
+#[inline]
+pub fn units_at<M: TxRead>(memory: &mut M, node: Addr) -> Result<u64, M::Stop>
+    requires { IsNode (M.view memory.old) node.0 }
+    ensures origin { M.origin memory.new ≡ M.origin memory.old }
+    ensures answer { IfOk result (λ v.
+        Loaded (M.view memory.old) (M.view memory.new) (node.0 + 4) v) }
+{
+    load(memory, word_of(node, place::UNITS))
+}
+
+/// The prices of the booking's units, each as it was when the unit was booked, added up.
+#[inline]
+pub fn sum_at<M: TxRead>(memory: &mut M, node: Addr) -> Result<u64, M::Stop>
+    requires { IsNode (M.view memory.old) node.0 }
+    ensures origin { M.origin memory.new ≡ M.origin memory.old }
+    ensures answer { IfOk result (λ v.
+        Loaded (M.view memory.old) (M.view memory.new) (node.0 + 2) v) }
+{
+    load(memory, word_of(node, place::SUM))
+}
+
+/// Adds units at the price of now to a booking. The units that it has keep their prices.
+pub fn book_more<M: TxMem>(
+    memory: &mut M,
+    node: Addr,
+    num: u32,
+    price: u64,
+) -> Result<(), M::Stop>
+    requires node { IsNode (M.view memory.old) node.0 }
+    requires sum { num * price < 2 ^ 64 }
+    requires room { CanExtend (M.view memory.old) node.0 num price }
+    ensures origin { M.origin memory.new ≡ M.origin memory.old }
+    ensures answer { IfOk result (λ _. BookingChanged (M.view memory.old) (M.view memory.new) node.0
+        (λ b. extended b num price)) }
+{
+    raise(memory, word_of(node, place::SUM), num as u64 * price)?;
+    raise(memory, word_of(node, place::UNITS), num as u64)?;
+    Ok(())
+}
