@@ -2,10 +2,12 @@ ghost use Rattle.std.specs.Prelude.{◌≡◌, IfOk};
 ghost use Rattle.vac_records.specs.Items.{IsNode};
 
 use super::{
-    Item, add_total, free_at, init_item, item_at, place, price_at, set_price, total_at, used_at,
+    Item, add_total, booking_at, free_at, init_customer, init_item, item_at, place, price_at,
+    set_price, sum_at, total_at, units_at, used_at,
 };
 use std::test::Fail;
 use stm_words::{Addr, Flat, TxMem};
+use vac_model::Booking;
 
 /// An item of 100 units at 50, then 5 more units, then another price.
 fn make_and_change<M: TxMem>(memory: &mut M, node: Addr) -> Result<Item, M::Stop>
@@ -59,6 +61,39 @@ fn an_item_in_plain_memory(rt: HostRuntime) -> Result<(), Fail> {
     Ok(())
 }
 
+/// A customer without bookings; and the block's words, read as a booking's.
+fn make_customer<M: TxMem>(
+    memory: &mut M,
+    node: Addr,
+) -> Result<(Booking, u64, u64), M::Stop>
+    requires { IsNode (M.view memory.old) node.0 }
+    ensures { M.origin memory.new ≡ M.origin memory.old }
+{
+    init_customer(memory, node, 3)?;
+    let booking = booking_at(memory, node)?;
+    let units = units_at(memory, node)?;
+    let sum = sum_at(memory, node)?;
+    Ok((booking, units, sum))
+}
+
+#[test]
+fn a_customer_in_plain_memory(rt: HostRuntime) -> Result<(), Fail> {
+    let mut flat = Flat::new(vec![in rt.alloc(); 9u64; 24]?);
+    let Ok(read) = make_customer(&mut flat, Addr(8));
+    assert_eq!(rt; read, (Booking { units: 0, sum: 9 }, 0, 9));
+    // The key, the head of the bookings and the spare words are written, and nothing else.
+    let words = flat.words();
+    for (i, word) in words.iter().enumerate() {
+        let expected = match i {
+            8 => 3,
+            12..=15 => 0,
+            _ => 9,
+        };
+        assert_eq!(rt; *word, expected);
+    }
+    Ok(())
+}
+
 #[test]
 fn places(rt: HostRuntime) {
     assert_eq!(rt; place::KEY, 0);
@@ -66,4 +101,5 @@ fn places(rt: HostRuntime) {
     assert_eq!(rt; place::FREE, 5);
     assert_eq!(rt; place::TOTAL, 6);
     assert_eq!(rt; place::PRICE, 7);
+    assert_eq!(rt; place::BOOKINGS, 4);
 }
