@@ -41,6 +41,6 @@ block_given m m' n start b out s l bb h give =
     let g = give (used_in (record p { out = out })) (count_in (record p { out = out })) (out_used m n b out p h.heap bb h.held) in
     let o = out_first p b out h.held in
     let same = all_same m m' n p h.heap (λ x k bx _ none less.
-        let ne : x ≢ b = λ q. absurd (omega (arith, o, none, ap (λ (z : ℕ). held z p.out) q)) in
-        g.others (x + k) (omega (arith, bx.1.1, bb.1.1)) (omega (arith, bx.1.1))) in
+    let ne : x ≢ b = λ q. absurd (omega (arith, o, none, ap (λ (z : ℕ). held z p.out) q)) in
+    g.others (x + k) (omega (arith, bx.1.1, bb.1.1)) (omega (arith, bx.1.1))) in
     keeps m m' n (b ∷ out) out s h (record p { free = with_at p.free start (b ∷ p.free start); out = out }) (give_law m m' n start b out p h.heap l bb h.held g) refl same.0 same.1

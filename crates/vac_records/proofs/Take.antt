@@ -64,4 +64,3 @@ give_law m m' n start b os p h l bb is g =
     let same : (x k : ℕ) → IsBlock n x → x ≢ b → k < 8 → m' (x + k) ≡ m (x + k) = λ x k bx ne less. g.others (x + k) (omega (arith, bx.1.1, bb.1.1)) (omega (arith, bx.1.1)) in
     let parts = structures m m' n p h (λ i k. g.others (1 + i) (omega (arith, bb.1.1)) (omega arith)) (λ x bx _ none k less. same x k bx (λ q. absurd (omega (arith, o, none, ap (λ (z : ℕ). held z p.out) q))) (omega arith)) in
     record { tables = parts.0; lists = parts.1; pool = g.pool }
-

@@ -94,12 +94,7 @@ pub fn sum_at<M: TxRead>(memory: &mut M, node: Addr) -> Result<u64, M::Stop>
 }
 
 /// Adds units at the price of now to a booking. The units that it has keep their prices.
-pub fn book_more<M: TxMem>(
-    memory: &mut M,
-    node: Addr,
-    num: u32,
-    price: u64,
-) -> Result<(), M::Stop>
+pub fn book_more<M: TxMem>(memory: &mut M, node: Addr, num: u32, price: u64) -> Result<(), M::Stop>
     requires node { IsNode (M.view memory.old) node.0 }
     requires sum { num * price < 2 ^ 64 }
     requires room { CanExtend (M.view memory.old) node.0 num price }

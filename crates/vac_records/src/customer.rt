@@ -68,7 +68,12 @@ pub fn book<M: TxMem>(
         (kind, id) num price block.0.0) }
 {
     init_booking(memory, block.0, kind, id, num, price)?;
-    tx_list::insert(memory, word_of(customer, place::BOOKINGS), key_of(kind, id), block)?;
+    tx_list::insert(
+        memory,
+        word_of(customer, place::BOOKINGS),
+        key_of(kind, id),
+        block,
+    )?;
     Ok(())
 }
 

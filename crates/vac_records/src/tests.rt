@@ -62,10 +62,7 @@ fn an_item_in_plain_memory(rt: HostRuntime) -> Result<(), Fail> {
 }
 
 /// A customer without bookings; and the block's words, read as a booking's.
-fn make_customer<M: TxMem>(
-    memory: &mut M,
-    node: Addr,
-) -> Result<(Booking, u64, u64), M::Stop>
+fn make_customer<M: TxMem>(memory: &mut M, node: Addr) -> Result<(Booking, u64, u64), M::Stop>
     requires { IsNode (M.view memory.old) node.0 }
     ensures { M.origin memory.new ≡ M.origin memory.old }
 {
