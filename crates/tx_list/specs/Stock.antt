@@ -17,7 +17,8 @@ stock_block j = 16 + 8 * j
 abbrev pub stock_word : ℕ → ℕ
 stock_word i =
     cond (nat_lt i 16) (cond (nat_eq i 5) 0 (1000 + i))
-    (cond (nat_eq (i % 8) 0) (((i - 16) / 8) / 40) (cond (nat_eq (i % 8) 1) (((i - 16) / 8) % 40) (1000 + i)))
+    (cond (nat_eq (i % 8) 0) (((i - 16) / 8) / 40)
+    (cond (nat_eq (i % 8) 1) (((i - 16) / 8) % 40) (1000 + i)))
 
 abbrev pub IsStock : List ℕ → Type 0
 IsStock xs = (length xs ≡ 976) × ((i : ℕ) → i < 976 → slice_index xs i ≡ stock_word i)

@@ -80,7 +80,7 @@ pub(crate) fn seek<M: TxRead>(memory: &mut M, head: Addr, key: Key) -> Result<Sp
         Sought (M.view memory.old) (M.view memory.new) head.0 (code_of key) spot) }
 {
     let mut link = head;
-    // The last key that was passed. It is there for the proof alone: the walk ends since keys rise.
+    // The last key that was passed, for the proof alone: the walk ends since keys rise.
     let mut passed = None;
     loop {
         let _ = passed;
