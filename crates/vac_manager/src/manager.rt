@@ -45,6 +45,7 @@ const LISTS: u32 = 8;
 type Kept = (Manager, Client, RegionFault);
 
 /// A manager of reservations, which many clients call at once. Contracts see its region.
+#[derive(Drop)]
 pub struct Manager {
     alloc: Global,
     region: Region<ManagerLaw>,
