@@ -1,4 +1,5 @@
--- Which task a line asks for, or what its first fault is. Words are looked at from left to right once their number fits.
+-- Which task a line asks for, or what its first fault is. Words are looked at from left to right
+-- once their number fits.
 use Rattle.std.specs.Prelude.{ℕ, ◌==◌, ◌%◌, ◌/◌, ◌&&◌, ◌||◌, Bool, Option, Some, None, Result, Ok, Err, List, [], ◌∷◌, length, nat_le, nat_lt, codes, if◌then◌else◌}
 use Rattle.std.specs.Option.{ok_or}
 use Rattle.std.specs.List.{list_any, slice_split}
@@ -22,12 +23,14 @@ use Rattle.vac_lines.specs.Words.{kind_of, number_between, is_dash, is_separator
 
 -- goes on with what was read; the first fault ends the reading
 infixl 10 ◌>>=◌
-abbrev pub ◌>>=◌ : {A B : Type 0} → Result A LineFault → (A → Result B LineFault) → Result B LineFault
+abbrev pub ◌>>=◌ : {A B : Type 0} → Result A LineFault → (A → Result B LineFault)
+    → Result B LineFault
 (Ok x) >>= f = f x
 (Err e) >>= f = Err e
 
 -- reads each of these; the first fault ends the reading
-abbrev pub read_each : {A B : Type 0} → (A → Result B LineFault) → List A → Result (List B) LineFault
+abbrev pub read_each : {A B : Type 0} → (A → Result B LineFault) → List A
+    → Result (List B) LineFault
 read_each read [] = Ok []
 read_each read (x ∷ xs) = do
   y ← read x
@@ -206,7 +209,8 @@ changes_of words = read_each change_line (cut_parts words)
 abbrev pub update_line : List (List ℕ) → Result Task LineFault
 update_line [] = Err BadCount
 update_line (word ∷ rest) =
-    if nat_le (length (cut_parts (word ∷ rest))) MOST_PARTS then (changes_of (word ∷ rest) >>= λ changes. Ok (task.Update changes))
+    if nat_le (length (cut_parts (word ∷ rest))) MOST_PARTS
+    then (changes_of (word ∷ rest) >>= λ changes. Ok (task.Update changes))
     else Err BadCount
 
 -- the task of a line of one command

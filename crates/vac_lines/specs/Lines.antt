@@ -3,7 +3,8 @@ use Rattle.std.specs.Prelude.{ℕ, ◌==◌, List, [], ◌∷◌, length, map, A
 use Rattle.std.specs.Borrow.{Bor}
 use Rattle.std.specs.List.{slice_split}
 
--- the parts of a text that stand between its line ends; what follows the last line end counts where it has a byte
+-- the parts of a text that stand between its line ends; what follows the last line end counts where
+-- it has a byte
 abbrev pub without_empty_end : List (List ℕ) → List (List ℕ)
 without_empty_end [] = []
 without_empty_end (last ∷ []) = if length last == 0 then [] else last ∷ []
@@ -13,7 +14,8 @@ without_empty_end (line ∷ next ∷ more) = line ∷ without_empty_end (next �
 abbrev pub lines_of : List ℕ → List (List ℕ)
 lines_of bytes = without_empty_end (slice_split (λ b. b == 10) bytes)
 
--- the words of a line: it is cut at every single space, so that two spaces in a row have an empty word between them
+-- the words of a line: it is cut at every single space, so that two spaces in a row have an empty
+-- word between them
 abbrev pub words_of : List ℕ → List (List ℕ)
 words_of line = slice_split (λ b. b == 32) line
 

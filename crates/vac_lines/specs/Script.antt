@@ -12,7 +12,8 @@ use Rattle.vac_lines.specs.Text.{reply_text, fault_text}
 abbrev pub as_line : List ℕ → List ℕ
 as_line text = text ++ 10 ∷ []
 
--- the state after a line, and its output line: the reply of its task, or its fault, which changes nothing
+-- the state after a line, and its output line: the reply of its task, or its fault, which changes
+-- nothing
 abbrev pub answer : State → Result Task LineFault → State × List ℕ
 answer s (Ok task) = ((run s task).0, as_line (reply_text (run s task).1))
 answer s (Err fault) = (s, as_line (fault_text fault))

@@ -44,15 +44,21 @@ field_text name n = name ++ decimal n
 
 -- the entries of the tables
 abbrev pub entries_text : Report → List ℕ
-entries_text r = field_text (codes "cars=") r.cars ++ field_text (codes " flights=") r.flights ++ field_text (codes " rooms=") r.rooms
+entries_text r =
+    field_text (codes "cars=") r.cars ++ field_text (codes " flights=") r.flights
+    ++ field_text (codes " rooms=") r.rooms
 
 -- the customers and what they have booked
 abbrev pub booked_text : Report → List ℕ
-booked_text r = field_text (codes " customers=") r.customers ++ field_text (codes " bookings=") r.bookings ++ field_text (codes " used=") r.used
+booked_text r =
+    field_text (codes " customers=") r.customers ++ field_text (codes " bookings=") r.bookings
+    ++ field_text (codes " used=") r.used
 
 -- the units and the bills
 abbrev pub sums_text : Report → List ℕ
-sums_text r = field_text (codes " free=") r.free ++ field_text (codes " total=") r.total ++ field_text (codes " billed=") r.billed
+sums_text r =
+    field_text (codes " free=") r.free ++ field_text (codes " total=") r.total
+    ++ field_text (codes " billed=") r.billed
 
 -- a report
 abbrev pub report_text : Report → List ℕ
@@ -72,7 +78,8 @@ pick_text (Some pick) = decimal pick.id ++ codes ":" ++ done_text pick.refused
 -- the picks of a trip, each behind the name of its kind
 abbrev pub picks_text : List (Option Pick) → List ℕ
 picks_text picks =
-    flat_map (λ p. p.0 ++ pick_text p.1) (zip (codes " car=" ∷ codes " flight=" ∷ codes " room=" ∷ []) picks)
+    flat_map (λ p. p.0 ++ pick_text p.1)
+    (zip (codes " car=" ∷ codes " flight=" ∷ codes " room=" ∷ []) picks)
 
 abbrev pub trip_text : TripReply → List ℕ
 trip_text trip = codes "trip cust=" ++ joined_text trip.joined ++ picks_text trip.picks

@@ -13,12 +13,15 @@ decimal_value digits = fold (λ n digit. 10 * n + (digit - 48)) 0 digits
 
 -- whether a word is 1 to so many decimal digits
 abbrev pub is_number : ℕ → List ℕ → Bool
-is_number most_digits word = nat_le 1 (length word) && nat_le (length word) most_digits && list_all is_ascii_digit word
+is_number most_digits word =
+    nat_le 1 (length word) && nat_le (length word) most_digits && list_all is_ascii_digit word
 
 -- the number that a word of so many digits stands for, where it is one between two bounds
 abbrev pub number_between : ℕ → ℕ → ℕ → List ℕ → Option ℕ
 number_between most_digits least most word =
-    if is_number most_digits word && nat_le least (decimal_value word) && nat_le (decimal_value word) most then Some (decimal_value word) else None
+    let value = decimal_value word in
+    if is_number most_digits word && nat_le least value && nat_le value most
+    then Some value else None
 
 -- a dash, which stands for no price
 abbrev pub is_dash : List ℕ → Bool

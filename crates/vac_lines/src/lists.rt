@@ -88,9 +88,11 @@ fn read_changes(words: &[&[u8]]) -> Result<Changes, LineFault>
     requires { length (cut_parts (texts words.now)) ≤ MOST_PARTS }
     ensures ok { IfOk result (λ changes. changes_of (texts words.now) ≡ Ok changes.items) }
     ensures err { IfErr result (λ fault. changes_of (texts words.now) ≡ Err fault) }
-    ensures len { IfOk result (λ changes. length changes.items ≡ length (cut_parts (texts words.now))) }
+    ensures len { IfOk result
+        (λ changes. length changes.items ≡ length (cut_parts (texts words.now))) }
     ensures short { IfOk result (λ changes. 2 * length changes.items ≤ length words.now + 1) }
-    ensures in_range { IfOk result (λ changes. list_all (λ c. is_change c && is_command c) changes.items ≡ true) }
+    ensures in_range { IfOk result
+        (λ changes. list_all (λ c. is_change c && is_command c) changes.items ≡ true) }
 {
     let mut changes = ArrayVec::new();
     for part in words.split(|word| is_separator(word)) {

@@ -9,8 +9,8 @@ ghost use Rattle.vac_lines.specs.Words.{number_between, memory_word_of};
 /// The most digits of a word of a memory.
 pub(crate) const MOST_WORD_DIGITS: usize = 20;
 
-/// The number that a word of 1 to `most_digits` decimal digits writes, where it is one from `least`
-/// to `most`. Zeros in front are digits too.
+/// The number that a word of 1 to `most_digits` decimal digits writes, where it is one from
+/// `least` to `most`. Zeros in front are digits too.
 pub(crate) fn read_number(word: &[u8], most_digits: usize, least: u64, most: u64) -> Option<u64>
     ensures number { result ≡ number_between most_digits least most word.now }
     ensures in_range { IfSome result (λ number. (least ≤ number) × (number ≤ most)) }
@@ -27,7 +27,8 @@ pub(crate) fn read_number(word: &[u8], most_digits: usize, least: u64, most: u64
 
 /// The number that decimal digits write, where it has 64 bits.
 fn decimal_value(digits: &[u8]) -> Option<u64>
-    ensures { result ≡ (if list_all is_ascii_digit digits.now && nat_lt (spec.decimal_value digits.now) (2 ^ 64)
+    ensures { result ≡ (if list_all is_ascii_digit digits.now
+        && nat_lt (spec.decimal_value digits.now) (2 ^ 64)
         then Some (spec.decimal_value digits.now) else None) }
 {
     let mut number: u64 = 0;

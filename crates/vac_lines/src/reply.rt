@@ -176,7 +176,8 @@ fn append_trip(out: &mut Vec<u8>, trip: &TripReply) -> Result<(), AllocError>
 
 /// Appends the head of a trip's reply: what became of its customer.
 fn append_joined(out: &mut Vec<u8>, joined: Joined) -> Result<(), AllocError>
-    ensures ok { OnOk result (out.new.items ≡ out.old.items ++ (codes "trip cust=" ++ joined_text joined)) }
+    ensures ok { OnOk result (out.new.items
+        ≡ out.old.items ++ (codes "trip cust=" ++ joined_text joined)) }
     ensures err { OnErr result (Extends out.old.items out.new.items) }
 {
     let became = match joined {
