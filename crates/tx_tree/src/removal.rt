@@ -4,7 +4,8 @@ ghost use Rattle.tx_tree.specs.Removal.{HasLoose, Lightened, HasLast, Unlinked};
 ghost use Rattle.tx_tree.specs.Next.{HasBoth, NextUnlinked};
 
 use crate::mending::repair_black;
-use crate::nodes::{BLACK, COLOUR, LEFT, RIGHT, is_red, load_node, transplant};
+use crate::nodes::{is_red, load_node, transplant};
+use crate::place::{BLACK, COLOUR, LEFT, RIGHT};
 use crate::search::{LEVELS, Path, seek, seek_successor};
 use stm_words::{Addr, TxMem, store};
 use tx_alloc::Block;

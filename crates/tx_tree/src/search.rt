@@ -3,7 +3,8 @@ ghost use Rattle.tx_tree.specs.Table.{HasTable, Found, FoundAt, NextFound, row_o
 ghost use Rattle.tx_tree.specs.Steps.{Sought};
 ghost use Rattle.tx_tree.specs.Lowest.{HasSpan, Lowest};
 
-use crate::nodes::{LEFT, RIGHT, load_node};
+use crate::nodes::load_node;
+use crate::place::{LEFT, RIGHT};
 use stm_words::{Addr, TxRead, load};
 use tx_alloc::Block;
 
