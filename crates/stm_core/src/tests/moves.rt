@@ -26,6 +26,15 @@ impl Shape {
         }
     }
 
+    /// The same with another last version, from 1 to 16.
+    pub(super) fn until(self, last: u64) -> Shape {
+        Shape {
+            words: self.words,
+            stripes: self.stripes,
+            last: last.max(1).min(16),
+        }
+    }
+
     /// The lock of an address.
     pub(super) fn lock_of(&self, addr: u32) -> u32 {
         addr % self.stripes
@@ -55,12 +64,13 @@ pub(super) enum Kind {
     Finish,
     Split,
     Gather,
+    Renew,
 }
 
 impl Kind {
     /// Any kind.
     pub(super) fn drawn(rng: &mut Pcg32) -> Kind {
-        match below(rng, 13) {
+        match below(rng, 14) {
             0 => Kind::Begin,
             1 => Kind::Probe,
             2 => Kind::Fetch,
@@ -73,7 +83,8 @@ impl Kind {
             9 => Kind::GiveBack,
             10 => Kind::Finish,
             11 => Kind::Split,
-            _ => Kind::Gather,
+            12 => Kind::Gather,
+            _ => Kind::Renew,
         }
     }
 }
@@ -85,7 +96,7 @@ pub(super) struct Move {
     pub client: u32,
     /// The lock, the address or the other client.
     pub place: u32,
-    /// The value to store, or the clock's value to tick from.
+    /// The value to store, the clock's value to tick from, or the last version of a renewal.
     pub number: u64,
 }
 
@@ -135,6 +146,10 @@ impl Move {
             Kind::Gather => Event::Gather {
                 client,
                 other: self.place,
+            },
+            Kind::Renew => Event::Renew {
+                client,
+                last: self.number,
             },
         })
     }
