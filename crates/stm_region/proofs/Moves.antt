@@ -92,9 +92,6 @@ module _ (fits : List ℕ → Type 0) (lawful : List ℕ → List (ℕ × ℕ) �
         first = m.first;
         renewal = m.renewal;
         past = m.past;
-        last = m.last;
-        opening = m.opening;
-        stripes = m.locks;
         number = i;
         member = at;
         fitting = f;

@@ -36,9 +36,6 @@ pub record Decides (fits : List ℕ → Type 0) (lawful : List ℕ → List (ℕ
   pub first : core.first ≡ region.first
   pub renewal : core.renewal ≡ region.renewal
   pub past : core.past ≡ region.start.records
-  pub last : core.last ≡ region.last
-  pub opening : core.opening ≡ region.opening
-  pub stripes : length core.locks ≡ region.stripes
   pub number : ℕ
   pub member : get_elem? core.clients number ≡ some v
   pub fitting : fits region.first
