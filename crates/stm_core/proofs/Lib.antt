@@ -1,7 +1,6 @@
 pub mod Lists
 pub mod Eras
 pub mod Lones
-pub mod Floors
 pub mod Turns
 pub mod Orders
 pub mod Loading

@@ -13,10 +13,9 @@ use Rattle.stm_core.specs.Version.{World, At}
 use Rattle.stm_core.specs.Records.{Ordered, Filed}
 use Rattle.stm_core.specs.History.{Serial, image_after}
 use Rattle.stm_core.specs.Invariant.{world, share, Inv, now, Sorted, Rule}
-use Rattle.stm_core.proofs.Lists.{at_set, set_here, in_range, clash, nothing_in}
+use Rattle.stm_core.proofs.Lists.{at_set, in_range, clash, nothing_in}
 use Rattle.stm_core.proofs.Eras.{AllBefore, in_append, of_none, of_padded, not_before, merged_padded, merged_late, all_merged}
 use Rattle.stm_core.proofs.Lones.{at_map, at_unmap, split_lone, gather_lone}
-use Rattle.stm_core.proofs.Floors.{split_known, gather_known}
 use Rattle.stm_core.proofs.Renewals.{pre, own_of, map_append, eqb_no, eqb_yes}
 use Rattle.stm_core.proofs.Turns.{Heart}
 use Rattle.stm_core.proofs.Sums.{sum_set, share_of}
@@ -69,7 +68,6 @@ module _ (lawful : List ℕ → List (ℕ × ℕ) → List (ℕ × ℕ) → Type
     split_rules = record {
       inv = subst (Inv lawful lk) (sym now_divided) (split_keeps lawful lk (now c) i v' h.inv at' free z);
       lone = split_lone lawful lk c h.inv h.lone i v at free.0;
-      known = split_known lk c h.known i v at free.0;
       past = record {
         serial = h.past.serial;
         leads = h.past.leads;
@@ -143,7 +141,6 @@ module _ (lawful : List ℕ → List (ℕ × ℕ) → List (ℕ × ℕ) → Type
     gather_rules = record {
       inv = subst (Inv lawful lk) (sym now_gathered) (gather_keeps lawful lk (now c) i v' h.inv at' j w' (at_map (shed c.renewal) c.clients j w to) ne free free');
       lone = gather_lone lawful lk c h.inv h.lone i v at free.0 j w to ne free'.0;
-      known = gather_known lk c h.known i v at free.0 (h.inv.version.sound i v' at').floor j w to ne (h.inv.version.sound j w' (at_map (shed c.renewal) c.clients j w to)).floor;
       past = record {
         serial = h.past.serial;
         leads = h.past.leads;
@@ -256,7 +253,6 @@ module _ (lawful : List ℕ → List (ℕ × ℕ) → List (ℕ × ℕ) → Type
             size = refl;
           };
           lone = λ n o e y. ⊎_elim (λ p. clash y (ap (λ (x : Client). x.lone) (sym p.1))) (λ p. clash y (ap (λ (x : Client). x.lone) (is_gone n o p.1 p.0))) (at_set c.clients i n (renewing v) o e);
-          known = record { who = i; value = renewing v; there = set_here c.clients i v (renewing v) at; out = refl; knows = refl };
           past = record {
             serial = past_serial;
             leads = past_leads;
@@ -277,7 +273,6 @@ pub opening_rules : (lawful : List ℕ → List (ℕ × ℕ) → List (ℕ × �
 opening_rules lawful lk image last stripes = record {
   inv = opening_keeps lawful lk image last stripes;
   lone = λ i v e y. clash y (ap (λ (x : Client). x.lone) (sym (only i v e)));
-  known = record { who = 0; value = opener; there = refl; out = refl; knows = refl };
   past = record {
     serial = tt;
     leads = refl;
@@ -321,7 +316,6 @@ module _ (lawful : List ℕ → List (ℕ × ℕ) → List (ℕ × ℕ) → Type
           size = refl;
         };
         lone = λ i w e y. clash y (ap (λ (x : Client). x.lone) (sym (only i w e)) ∙ ap (λ (x : Client). x.lone) new);
-        known = record { who = 0; value = v; there = refl; out = ap (λ (x : Client). x.spent) new; knows = ap (λ (x : Client). x.floor) new };
         past = record {
           serial = serial;
           leads = leads;

@@ -17,7 +17,6 @@ use Rattle.stm_core.proofs.Histories.{laid_length}
 use Rattle.stm_core.proofs.Facts.{all_serial, all_lawful, all_shared, others_spent}
 use Rattle.stm_core.proofs.Eras.{AllOf, AllBefore, in_append, of_is, not_before, merged_padded, merged_late}
 use Rattle.stm_core.proofs.Lones.{at_map}
-use Rattle.stm_core.proofs.Floors.{all_known}
 use Rattle.stm_core.proofs.Renewals.{pre, pre_before, own_of, eqb_no, eqb_yes}
 use Rattle.stm_core.proofs.Renewing.{serial_append, past_serial, past_leads, past_lawful, sorted_of, sorted_append}
 
@@ -94,12 +93,6 @@ one_kept n past (suc k) (v ∷ cs) b s l f =
     ∙ (ap (merged (of_renewal n v.records)) (one_kept n past k cs b s (omega arith) (λ i w e. f (suc i) w e ∙ ap (λ x. cond x past [] ++ of_renewal n w.records) (eqb_suc i k)))
     ∙ merged_late n (of_renewal n v.records) past (all_records (map (shed n) cs)) (λ r m. (of_is n v.records r m).1) b (all_of_era n cs) s)
 
--- what lawful records make of a fitting image, one after the other, fits
-pub fits_after : (fits : List ℕ → Type 0) (lawful : List ℕ → List (ℕ × ℕ) → List (ℕ × ℕ) → Type 0) → ((tag m : List ℕ) (reads writes : List (ℕ × ℕ)) → fits m → Agrees m reads → lawful tag reads writes → fits (laid m writes))
-    → (m : List ℕ) (l : List Record) → Serial m l → ((r : Record) → In r l → lawful r.tag r.reads r.writes) → fits m → fits (image_after m l)
-fits_after fits lawful law m [] s a k = k
-fits_after fits lawful law m (r ∷ l) s a k = fits_after fits lawful law (laid m r.writes) l s.1 (λ x i. a x (suc i.0, i.1)) (law r.tag m r.reads r.writes k s.0 (a r (0, refl)))
-
 module _ (lawful : List ℕ → List (ℕ × ℕ) → List (ℕ × ℕ) → Type 0) (lk : ℕ → ℕ) (c : Core) (h : Rule lawful lk c) where
   -- the records of all clients: those of the earlier renewals, and then those of the present one
   pub all_are : all_records c.clients ≡ c.past ++ all_records (now c).clients
@@ -135,7 +128,11 @@ module _ (lawful : List ℕ → List (ℕ × ℕ) → List (ℕ × ℕ) → Type
 
   -- where one image fits the first opening, one fits the present opening
   pub opening_fits : (fits : List ℕ → Type 0) → ((tag m : List ℕ) (reads writes : List (ℕ × ℕ)) → fits m → Agrees m reads → lawful tag reads writes → fits (laid m writes)) → fits c.first → fits c.opening
-  opening_fits fits law f = subst fits h.past.leads (fits_after fits lawful law c.first c.past h.past.serial h.past.abides f)
+  opening_fits fits law f = subst fits h.past.leads (go c.first c.past h.past.serial h.past.abides f)
+    where
+      go : (m : List ℕ) (l : List Record) → Serial m l → ((r : Record) → In r l → lawful r.tag r.reads r.writes) → fits m → fits (image_after m l)
+      go m [] s a k = k
+      go m (r ∷ l) s a k = go (laid m r.writes) l s.1 (λ x i. a x (suc i.0, i.1)) (law r.tag m r.reads r.writes k s.0 (a r (0, refl)))
 
   pub opening_length : length c.opening ≡ length c.first
   opening_length = sym (ap (λ (m : List ℕ). length m) h.past.leads) ∙ go c.first c.past
@@ -148,26 +145,9 @@ module _ (lawful : List ℕ → List (ℕ × ℕ) → List (ℕ × ℕ) → Type
   pub closes : (i : ℕ) (v : Client) → At c.clients i v → IsFreeHanded v → IsAlone c i → Serial c.first v.records × (image_after c.first v.records ≡ c.cells) × ((r : Record) → In r v.records → lawful r.tag r.reads r.writes)
   closes i v at free others = (past_serial lawful lk c h i v at free others 0, past_leads lawful lk c h i v at free others 0, past_lawful lawful lk c h i v at free others 0)
 
-  -- the one client that is out knows the clock
-  pub knows_clock : (i : ℕ) (v : Client) → At c.clients i v → v.spent ≡ false → v.grants ≡ 63 → v.floor ≡ c.clock
-  knows_clock i v at live all = all_known lawful lk c h.inv h.known i v at live all
-
   -- a client with all grants is the only one out
   pub all_grants : (i : ℕ) (v : Client) → At c.clients i v → v.spent ≡ false → v.grants ≡ 63 → IsAlone c i
   all_grants i v at live all j w to ne = others_spent lawful lk (now c) h.inv i (shed c.renewal v) (at_map (shed c.renewal) c.clients i v at) live all j (shed c.renewal w) (at_map (shed c.renewal) c.clients j w to) ne
-
--- two joined lists have as many records as both
-pub merged_length : (l m : List Record) → length (merged l m) ≡ length l + length m
-merged_length l [] = let e : length (merged l []) ≡ length l = refl in omega arith
-merged_length l (y ∷ m) = let a = merged_length (inserted y l) m in let b = one_more y l in omega arith
-  where
-    one_more : (r : Record) (l : List Record) → length (inserted r l) ≡ length l + 1
-    one_more r [] = refl
-    one_more r (x ∷ xs) = go (before r x) (one_more r xs)
-      where
-        go : (b : Bool) → length (inserted r xs) ≡ length xs + 1 → length (cond b (r ∷ x ∷ xs) (x ∷ inserted r xs)) ≡ length (x ∷ xs) + 1
-        go true e = omega arith
-        go false e = omega arith
 
 -- a client's records stay sorted through its steps, and where two clients' come together
 pub after_sorted : (t : Stamp) (lk : ℕ → ℕ) (e : Action) (n : ℕ) (v : Client) → Sorted v.records → Sorted (after t lk e n v).records

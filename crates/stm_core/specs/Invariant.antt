@@ -60,14 +60,6 @@ pub record IsLone (lk : ℕ → ℕ) (clock : ℕ) (locks : List ℕ) (v : Clien
 abbrev pub Lone : (ℕ → ℕ) → ℕ → List ℕ → List Client → Type 0
 Lone lk clock locks cs = (i : ℕ) (v : Client) → At cs i v → v.lone ≡ true → IsLone lk clock locks v
 
--- some client that is out knows the clock: it is the greatest version that it knows
-pub record Known (clock : ℕ) (cs : List Client) : Type 0 where
-  pub who : ℕ
-  pub value : Client
-  pub there : At cs who value
-  pub out : value.spent ≡ false
-  pub knows : value.floor ≡ clock
-
 -- none stands before one that comes earlier
 abbrev pub Sorted : List Record → Type 0
 Sorted [] = Unit {0}
@@ -87,11 +79,10 @@ pub record Past (lawful : List ℕ → List (ℕ × ℕ) → List (ℕ × ℕ) �
   -- a client that was gathered has nothing left
   pub spent : (i : ℕ) (v : Client) → At cs i v → v.spent ≡ true → v ≡ gone
 
--- the whole rule: the invariant of the present renewal, lone attempts, who knows the clock, and the records of earlier renewals
+-- the whole rule: the invariant of the present renewal, lone attempts, and the records of earlier renewals
 pub record Rule (lawful : List ℕ → List (ℕ × ℕ) → List (ℕ × ℕ) → Type 0) (lk : ℕ → ℕ) (c : Core) : Type 0 where
   pub inv : Inv lawful lk (now c)
   pub lone : Lone lk c.clock c.locks c.clients
-  pub known : Known c.clock c.clients
   pub past : Past lawful c.first c.opening c.past c.renewal c.clients
 
 -- what a lone attempt that is not decided finds: nothing that could fail it

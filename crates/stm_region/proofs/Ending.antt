@@ -10,7 +10,7 @@ use Rattle.stm_core.specs.Core.{Core, opened, begun_on, IsFreeHanded}
 use Rattle.stm_core.specs.Event.{opener, renewing}
 use Rattle.stm_core.specs.History.{Serial, image_after}
 use Rattle.stm_core.proofs.Renewing.{opening_rules, begins_rules, past_before}
-use Rattle.stm_core.proofs.Whole.{closes, all_grants, own_sorted, knows_clock, fits_after}
+use Rattle.stm_core.proofs.Whole.{closes, all_grants, own_sorted}
 use Rattle.stm_region.specs.Shown.{Opened, RegionShown, opened_with, stripe_of}
 use Rattle.stm_region.specs.Layout.{padding, first_cell}
 use Rattle.stm_region.specs.Rule.{listed, Holds}
@@ -65,6 +65,11 @@ module _ (fits : List ℕ → Type 0) (lawful : List ℕ → List (ℕ × ℕ) �
       subst (λ ws. Holds {S = S} fits lawful record { image = drop (first_cell stripes) ws; last = last; stripes = stripes; first = drop (first_cell stripes) ws; renewal = 0; start = opener } (opening ws [] opener)) (sym e)
       (subst (λ ys. Holds {S = S} fits lawful record { image = ys; last = last; stripes = stripes; first = ys; renewal = 0; start = opener } (opening (replicate (first_cell stripes) 0 ++ image) [] opener)) (sym (image_behind image stripes)) (opens image last stripes f top one))
 
+-- where an image fits, so does what lawful records make of it one after the other
+fits_after : (fits : List ℕ → Type 0) (lawful : List ℕ → List (ℕ × ℕ) → List (ℕ × ℕ) → Type 0) → Keeping fits lawful → (m : List ℕ) (l : List Record) → Serial m l → ((r : Record) → In r l → lawful r.tag r.reads r.writes) → fits m → fits (image_after m l)
+fits_after fits lawful law m [] s a k = k
+fits_after fits lawful law m (r ∷ l) s a k = fits_after fits lawful law (laid m r.writes) l s.1 (λ x i. a x (suc i.0, i.1)) (law r.tag m r.reads r.writes k s.0 (a r (0, refl)))
+
 -- the data words, from their place on
 cells_behind : (gap pad : List ℕ) (c : Core) (s : ℕ) → length gap ≡ 15 → length c.locks ≡ s → length pad ≡ padding s → drop (first_cell s) (listed gap pad c) ≡ c.cells
 cells_behind gap pad c s g l p =
@@ -95,7 +100,6 @@ module _ (fits : List ℕ → Type 0) (lawful : List ℕ → List (ℕ × ℕ) �
         number = id;
         member = at';
         clock = sym (ap (λ ws. slice_index ws 0) h.words);
-        floor = knows_clock lawful (stripe_of r.stripes) c h.rule id v at' free.0 all ∙ sym (ap (λ ws. slice_index ws 0) h.words);
         cells = cells;
         abides = known.2;
         sorted = own_sorted lawful (stripe_of r.stripes) c h.rule id v at';

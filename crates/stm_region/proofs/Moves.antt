@@ -18,7 +18,7 @@ use Rattle.stm_core.specs.Client.{shed}
 use Rattle.stm_core.proofs.Lones.{at_map, goes_on}
 use Rattle.stm_core.proofs.Renewals.{step_rules}
 use Rattle.stm_core.proofs.Renewing.{split_rules, gather_rules}
-use Rattle.stm_core.proofs.Whole.{whole_shared, opening_fits, knows_clock}
+use Rattle.stm_core.proofs.Whole.{whole_shared, opening_fits}
 use Rattle.stm_core.proofs.Facts.{some_fits, grants_of_two}
 use Rattle.stm_region.specs.Shown.{Opened, RegionShown, joined, opened_with, bounds, unplaced, stripe_of}
 use Rattle.stm_region.specs.Layout.{place, first_cell, InRange, IsLaid, IsStore}
@@ -127,20 +127,20 @@ module _ (fits : List ℕ → Type 0) (lawful : List ℕ → List (ℕ × ℕ) �
 
   -- what a step tells, of the core before it and of the one after it
   told_of : (c d : Core) → Matches o c → Matches o d → length r.opening ≡ r.size → r.last < 2 ^ 62 → fits r.first → Rule lawful lk c → Rule lawful lk d → (i : ℕ) (v : Client) (e : Action) → get_elem? c.clients i ≡ some v
-      → get_elem? d.clients i ≡ some (after (unplaced r.renewal) lk e (found lk c e) v) → MayAct lawful lk (bounds_of c) e v → v.spent ≡ false → Told fits lawful r e (found lk c e) v (after (unplaced r.renewal) lk e (found lk c e) v)
-  told_of c d m m' z top f h h' i v begin was at may live = (clock c m top h, (h.inv.version.sound i (shed c.renewal v) (at_map (shed c.renewal) c.clients i v was)).floor, opening_stands c m z f h, λ all. sym (knows_clock lawful lk c h i v was live all))
-  told_of c d m m' z top f h h' i v (probe k) was at may live = (lock_word c m top h k, λ y. (goes_on lawful lk c h.inv h.lone i v was y.0 y.1).probes k)
-  told_of c d m m' z top f h h' i v (fetch a) was at may live = tt
-  told_of c d m m' z top f h h' i v (check a) was at may live = (lock_word c m top h (lk a), stands_of d m' z f h' i (after (unplaced r.renewal) lk (check a) (found lk c (check a)) v) at, λ y. (goes_on lawful lk c h.inv h.lone i v was y.0 y.1).checks a may)
-  told_of c d m m' z top f h h' i v (lock k) was at may live = (lock_word c m top h k, λ y. (goes_on lawful lk c h.inv h.lone i v was y.0 y.1).locks k may)
-  told_of c d m m' z top f h h' i v (tick from tag writes) was at may live =
+      → get_elem? d.clients i ≡ some (after (unplaced r.renewal) lk e (found lk c e) v) → MayAct lawful lk (bounds_of c) e v → Told fits lawful r e (found lk c e) v (after (unplaced r.renewal) lk e (found lk c e) v)
+  told_of c d m m' z top f h h' i v begin was at may = (clock c m top h, (h.inv.version.sound i (shed c.renewal v) (at_map (shed c.renewal) c.clients i v was)).floor, opening_stands c m z f h)
+  told_of c d m m' z top f h h' i v (probe k) was at may = (lock_word c m top h k, λ y. (goes_on lawful lk c h.inv h.lone i v was y.0 y.1).probes k)
+  told_of c d m m' z top f h h' i v (fetch a) was at may = tt
+  told_of c d m m' z top f h h' i v (check a) was at may = (lock_word c m top h (lk a), stands_of d m' z f h' i (after (unplaced r.renewal) lk (check a) (found lk c (check a)) v) at, λ y. (goes_on lawful lk c h.inv h.lone i v was y.0 y.1).checks a may)
+  told_of c d m m' z top f h h' i v (lock k) was at may = (lock_word c m top h k, λ y. (goes_on lawful lk c h.inv h.lone i v was y.0 y.1).locks k may)
+  told_of c d m m' z top f h h' i v (tick from tag writes) was at may =
       let w = after (unplaced r.renewal) lk (tick from tag writes) c.clock v in
       (clock c m top h, later d h' i w at, (λ s. decides_of d m' f h' i w at), λ y. let g = (goes_on lawful lk c h.inv h.lone i v was y.0 y.1).ticks from tag writes may in (g.0, g.1 (unplaced r.renewal)))
-  told_of c d m m' z top f h h' i v (validate k) was at may live = (lock_word c m top h k, λ s. decides_of d m' f h' i (after (unplaced r.renewal) lk (validate k) (found lk c (validate k)) v) at)
-  told_of c d m m' z top f h h' i v (put a x) was at may live = tt
-  told_of c d m m' z top f h h' i v (release k) was at may live = tt
-  told_of c d m m' z top f h h' i v (give_back k) was at may live = tt
-  told_of c d m m' z top f h h' i v (finish tag) was at may live = decides_of d m' f h' i (after (unplaced r.renewal) lk (finish tag) c.clock v) at
+  told_of c d m m' z top f h h' i v (validate k) was at may = (lock_word c m top h k, λ s. decides_of d m' f h' i (after (unplaced r.renewal) lk (validate k) (found lk c (validate k)) v) at)
+  told_of c d m m' z top f h h' i v (put a x) was at may = tt
+  told_of c d m m' z top f h h' i v (release k) was at may = tt
+  told_of c d m m' z top f h h' i v (give_back k) was at may = tt
+  told_of c d m m' z top f h h' i v (finish tag) was at may = decides_of d m' f h' i (after (unplaced r.renewal) lk (finish tag) c.clock v) at
 
   in_clients : (cs : List Client) (i : ℕ) (v w : Client) → get_elem? cs i ≡ some v → get_elem? (set cs i w) i ≡ some w
   in_clients [] i v w e = absurd (some-ne-none v (sym e))
@@ -203,7 +203,7 @@ module _ (fits : List ℕ → Type 0) (lawful : List ℕ → List (ℕ × ℕ) �
             bounded = h.bounded;
             some = h.some;
           },
-          tells (slice_index s.words word) (rw there (told_of c (stepped (unplaced r.renewal) lk e id v c) (matches s h) m' z h.bounded h.fitting h.rule inv' id v e at' here may'.1 may'.0)),
+          tells (slice_index s.words word) (rw there (told_of c (stepped (unplaced r.renewal) lk e id v c) (matches s h) m' z h.bounded h.fitting h.rule inv' id v e at' here may'.1)),
         )
 
     -- the same at a table that was told what the region was opened with

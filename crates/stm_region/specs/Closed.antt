@@ -21,8 +21,6 @@ pub record Ends (lawful : List ℕ → List (ℕ × ℕ) → List (ℕ × ℕ) �
   pub number : ℕ
   pub member : get_elem? core.clients number ≡ some v
   pub clock : core.clock ≡ version
-  -- the closing client knew it
-  pub floor : v.floor ≡ version
   pub cells : core.cells ≡ words
   pub abides : (r : Record) → In r v.records → lawful r.tag r.reads r.writes
   pub serial : Serial region.first v.records

@@ -61,14 +61,9 @@ impl<L: Law, A: Allocator> Model for Region<L, A> {
     ghost invariant = { λ r. IsLaid r.table.shared.table_id.words r.table.shared.table_id.slots r.table.shared.key r.numbers.size r.numbers.last r.numbers.stripes r.numbers.cells (drop (first_cell r.numbers.stripes) r.first.value.items) r.numbers.renewal };
 }
 
-/// A region's table, and the words of the first opening.
-type Parts<L, A> = (
-    Table<(), View, Opening<A>, RegionRule<L>, A>,
-    Snapshot<Vec<u64, A>>,
-);
-
 impl<L: Law, A: Allocator> Region<L, A> {
-    pub(crate) fn into_parts(self) -> Parts<L, A>
+    // The table, and the words of the first opening.
+    pub(crate) fn into_parts(self) -> (Table<(), View, Opening<A>, RegionRule<L>, A>, Snapshot<Vec<u64, A>>)
         ensures table { result.0.shared.table_id ≡ self.table }
         ensures counts { (result.0.shared.table_id.words ≡ first_cell self.stripes + self.size) × (result.0.shared.table_id.slots ≡ 0) }
         ensures key { result.0.shared.key ≡ opened_with self }
@@ -235,7 +230,6 @@ impl<L: Law, A: Allocator> Region<L, A> {
         ensures client { client.new ≡ record client.old { value = joined client.old.value other.value } }
         ensures mine { Sub client.old.value.records client.new.value.records }
         ensures theirs { Sub other.value.records client.new.value.records }
-        ensures each { length client.new.value.records ≡ length client.old.value.records + length other.value.records }
         ensures only { (r : Record) → In r client.new.value.records → In r client.old.value.records ⊎ In r other.value.records }
     {
         let (seat, grants) = other.into_parts();

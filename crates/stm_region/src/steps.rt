@@ -17,8 +17,7 @@ use stm_logs::WriteLog;
 use stm_words::{Addr, Law, Tag, Version};
 
 impl<L: Law, A: Allocator> Region<L, A> {
-    /// Begins an attempt: one load of the clock, which is the read version. A client with all
-    /// grants finds the greatest version that it knows, as 0 right after an opening.
+    /// Begins an attempt: one load of the clock, which is the read version.
     #[inline]
     pub fn begin(&self, client: &mut Client<L>) -> Version
         requires own { client.old.table ≡ self.now.table }
@@ -26,7 +25,6 @@ impl<L: Law, A: Allocator> Region<L, A> {
         ensures client { client.new ≡ acted self.now begins result client.old }
         ensures version { result ≤ self.now.last }
         ensures floor { client.old.value.floor ≤ result }
-        ensures alone { client.old.value.grants ≡ 63 → result ≡ client.old.value.floor }
         ensures stands { StandsOn L.fits self.now.size [] }
     {
         let found = self.load_as::<Brand>(&mut client.seat, 0, 0);

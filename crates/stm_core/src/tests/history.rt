@@ -19,9 +19,7 @@ struct Decided {
 #[derive(Drop)]
 pub(super) struct History {
     pub shape: Shape,
-    first: Vec<u64>,
     opening: Vec<u64>,
-    renewal: u32,
     clock: u64,
     events: u64,
     values: u64,
@@ -39,9 +37,7 @@ impl History {
         players.push(Player::new(alloc, 63))?;
         Ok(History {
             shape,
-            first: Vec::from_slice(alloc, &opening)?,
             opening,
-            renewal: 0,
             clock: 0,
             events: 0,
             values: 100,
@@ -68,31 +64,11 @@ impl History {
         self.players.get(client.wrapping_sub(1) as usize)
     }
 
-    /// One of the first eight clients that are out.
-    pub(super) fn one_out(&self, rng: &mut Pcg32) -> u32 {
-        let known = self.players.iter().filter(|player| player.out).count().min(8) as u32;
-        let mut left = below(rng, known.max(1));
-        let mut client: u32 = 0;
-        for player in self.players.iter() {
-            client = client.wrapping_add(1);
-            if player.out && left == 0 {
-                return client;
-            }
-            left = left.wrapping_sub(u32::from(player.out));
-        }
-        client
-    }
-
-    /// Whether an attempt was decided since the last renewal.
-    fn is_present(&self, attempt: &Decided) -> bool {
-        attempt.entry.renewal == self.renewal
-    }
-
     /// The value of an address in the image of a version.
     fn value_at(&self, version: u64, addr: u32) -> u64 {
         let mut newest = 0;
         let mut value = self.opening.get(addr as usize).map_or(0, |word| *word);
-        for attempt in self.decided.iter().filter(|attempt| self.is_present(attempt)) {
+        for attempt in self.decided.iter() {
             if newest < attempt.entry.version && attempt.entry.version <= version {
                 if let Some(pair) = attempt.writes.iter().find(|pair| pair.0 == addr) {
                     newest = attempt.entry.version;
@@ -113,7 +89,7 @@ impl History {
     /// The word of a lock: held or not, with the version of the newest decided writer that does not hold it still.
     fn lock_word(&self, lock: u32) -> u64 {
         let mut version = 0;
-        for attempt in self.decided.iter().filter(|attempt| self.is_present(attempt)) {
+        for attempt in self.decided.iter() {
             let there = attempt
                 .writes
                 .iter()
@@ -143,12 +119,7 @@ impl History {
             Kind::Probe | Kind::Lock | Kind::Validate => Some(self.lock_word(turn.place)),
             Kind::Check => Some(self.lock_word(self.shape.lock_of(turn.place))),
             Kind::Fetch => Some(self.cell(turn.place)),
-            Kind::Put
-            | Kind::Release
-            | Kind::GiveBack
-            | Kind::Split
-            | Kind::Gather
-            | Kind::Renew => None,
+            Kind::Put | Kind::Release | Kind::GiveBack | Kind::Split | Kind::Gather => None,
         }
     }
 
@@ -159,13 +130,8 @@ impl History {
         };
         let other = self.player(turn.place).filter(|other| other.out);
         player.may(turn, &self.shape)
-            && match turn.kind {
-                Kind::Gather => turn.client != turn.place
-                    && other.is_some_and(|other| other.held.is_empty()),
-                Kind::Renew => turn.number != 0
-                    && self.players.iter().filter(|other| other.out).count() == 1,
-                _ => true,
-            }
+            && (turn.kind != Kind::Gather
+                || (turn.client != turn.place && other.is_some_and(|other| other.held.is_empty())))
     }
 
     /// Takes an event that was allowed. True where it decides.
@@ -182,9 +148,6 @@ impl History {
         if turn.kind == Kind::Tick && found == Some(turn.number) {
             self.clock = self.clock.wrapping_add(1);
         }
-        if turn.kind == Kind::Renew {
-            self.renews(turn.number);
-        }
         let grants = self.comes_and_goes(alloc, turn)?;
         let Some(player) = self.players.get_mut(turn.client.wrapping_sub(1) as usize) else {
             panic!(rt; "an event of nobody was allowed");
@@ -193,23 +156,10 @@ impl History {
         player.grants = player.grants.wrapping_add(grants);
         let decides = player.moves(turn, tag, place, found.unwrap_or(0))?;
         if decides {
-            let attempt = Decided::of(alloc, turn.client, self.renewal, player)?;
+            let attempt = Decided::of(alloc, turn.client, player)?;
             self.decided.push(attempt)?;
         }
         Ok(decides)
-    }
-
-    /// The newest image is the opening of the next renewal, and the clock is 0.
-    fn renews(&mut self, last: u64) {
-        for addr in 0..self.shape.words {
-            let value = self.value_at(u64::MAX, addr);
-            if let Some(word) = self.opening.get_mut(addr as usize) {
-                *word = value;
-            }
-        }
-        self.renewal = self.renewal.wrapping_add(1);
-        self.clock = 0;
-        self.shape = self.shape.until(last);
     }
 
     /// A client that is split off comes, and one that is gathered goes and leaves its grants and one more.
@@ -307,12 +257,10 @@ impl History {
         }
     }
 
-    /// Played one by one in the order, from the first opening image on, each decided attempt reads what stands there, and
-    /// the last leaves the newest image. The points rise, so that no attempt is there twice, and so do the versions of
-    /// a renewal.
+    /// Played one by one in the order, from the opening image on, each decided attempt reads what stands there, and
+    /// the last leaves the newest image. The points rise, so that no attempt is there twice, and so do the versions.
     fn is_serial(&self, rt: &impl Abort, alloc: Global, order: &[Entry]) -> Result<(), AllocError> {
-        let mut image = Vec::from_slice(alloc, &self.first)?;
-        let mut renewal = 0;
+        let mut image = Vec::from_slice(alloc, &self.opening)?;
         let mut version = 0;
         let mut point = None;
         for entry in order {
@@ -320,13 +268,8 @@ impl History {
                 panic!(rt; "an entry of no attempt");
             };
             assert!(rt; point < Some(attempt.point));
-            assert!(rt; renewal <= entry.renewal);
-            if renewal < entry.renewal {
-                version = 0;
-            }
             assert!(rt; version < entry.version || (!entry.writer && version == entry.version));
             point = Some(attempt.point);
-            renewal = entry.renewal;
             version = entry.version;
             attempt.plays(rt, &mut image);
         }
@@ -346,12 +289,7 @@ impl History {
 
 impl Decided {
     /// What a client decides now.
-    fn of(
-        alloc: Global,
-        client: u32,
-        renewal: u32,
-        player: &Player,
-    ) -> Result<Decided, AllocError> {
+    fn of(alloc: Global, client: u32, player: &Player) -> Result<Decided, AllocError> {
         let writer = player.stage == Stage::Committed;
         Ok(Decided {
             entry: Entry {
@@ -359,7 +297,7 @@ impl Decided {
                 tag: player.tag,
                 version: if writer { player.wv } else { player.rv },
                 writer,
-                renewal,
+                renewal: 0,
             },
             point: if writer { player.ticked } else { player.began },
             reads: Vec::from_slice(alloc, &player.reads)?,

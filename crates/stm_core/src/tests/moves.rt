@@ -26,15 +26,6 @@ impl Shape {
         }
     }
 
-    /// The same with another last version, from 1 to 16.
-    pub(super) fn until(self, last: u64) -> Shape {
-        Shape {
-            words: self.words,
-            stripes: self.stripes,
-            last: last.max(1).min(16),
-        }
-    }
-
     /// The lock of an address.
     pub(super) fn lock_of(&self, addr: u32) -> u32 {
         addr % self.stripes
@@ -64,13 +55,12 @@ pub(super) enum Kind {
     Finish,
     Split,
     Gather,
-    Renew,
 }
 
 impl Kind {
     /// Any kind.
     pub(super) fn drawn(rng: &mut Pcg32) -> Kind {
-        match below(rng, 14) {
+        match below(rng, 13) {
             0 => Kind::Begin,
             1 => Kind::Probe,
             2 => Kind::Fetch,
@@ -83,8 +73,7 @@ impl Kind {
             9 => Kind::GiveBack,
             10 => Kind::Finish,
             11 => Kind::Split,
-            12 => Kind::Gather,
-            _ => Kind::Renew,
+            _ => Kind::Gather,
         }
     }
 }
@@ -96,7 +85,7 @@ pub(super) struct Move {
     pub client: u32,
     /// The lock, the address or the other client.
     pub place: u32,
-    /// The value to store, the clock's value to tick from, or the last version of a renewal.
+    /// The value to store, or the clock's value to tick from.
     pub number: u64,
 }
 
@@ -146,10 +135,6 @@ impl Move {
             Kind::Gather => Event::Gather {
                 client,
                 other: self.place,
-            },
-            Kind::Renew => Event::Renew {
-                client,
-                last: self.number,
             },
         })
     }

@@ -119,7 +119,7 @@ impl Player {
         let bare = self.held.is_empty();
         let reads = self.is_reading();
         match turn.kind {
-            Kind::Begin | Kind::Gather | Kind::Renew => bare,
+            Kind::Begin | Kind::Gather => bare,
             Kind::Probe => reads && place < shape.stripes,
             Kind::Fetch => reads
                 && bare
@@ -193,7 +193,6 @@ impl Player {
                 self.forgets();
             }
             Kind::Gather => self.forgets(),
-            Kind::Renew => self.starts_anew(),
         }
         Ok(false)
     }
@@ -209,12 +208,6 @@ impl Player {
         self.writes.clear();
         self.stored.clear();
         self.forgets();
-    }
-
-    /// The clock is 0 again, and the attempt is no more.
-    fn starts_anew(&mut self) {
-        self.begins(0, 0);
-        self.stage = Stage::Resting;
     }
 
     /// It is gathered by another client.

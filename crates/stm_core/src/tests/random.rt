@@ -9,7 +9,7 @@ use std::alloc::{AllocError, Global};
 use std::process::Abort;
 use std::test::Fail;
 
-const LISTS: u64 = 2000;
+const LISTS: u64 = 2500;
 
 const EVENTS: u32 = 64;
 
@@ -27,7 +27,6 @@ struct Tally {
     lost_checks: u64,
     spent: u64,
     gathered: u64,
-    renewed: u64,
 }
 
 fn add(count: &mut u64, happens: bool) {
@@ -47,11 +46,10 @@ impl Tally {
             lost_checks: 0,
             spent: 0,
             gathered: 0,
-            renewed: 0,
         }
     }
 
-    fn all(&self) -> [u64; 11] {
+    fn all(&self) -> [u64; 10] {
         [
             self.refused,
             self.readers,
@@ -63,7 +61,6 @@ impl Tally {
             self.lost_checks,
             self.spent,
             self.gathered,
-            self.renewed,
         ]
     }
 
@@ -85,7 +82,6 @@ impl Tally {
             kind == Kind::Tick && found != Some(turn.number),
         );
         add(&mut self.gathered, kind == Kind::Gather);
-        add(&mut self.renewed, kind == Kind::Renew);
     }
 }
 
@@ -107,10 +103,11 @@ fn opening(rng: &mut Pcg32, alloc: Global, shape: &Shape) -> Result<Vec<u64>, Al
 
 /// A move of some client: mostly the next by the rules, now and then any other.
 fn drawn(rng: &mut Pcg32, history: &History) -> Move {
+    let known = history.players.len().min(8) as u32;
     let client = if below(rng, 20) == 0 {
         below(rng, 10)
     } else {
-        history.one_out(rng)
+        1 + below(rng, known.max(1))
     };
     let turn = match history.player(client) {
         Some(player) => player.next(client, &history.shape),
@@ -205,12 +202,11 @@ impl Trial {
         Ok(decides || turn.kind == Kind::Check)
     }
 
-    /// Plays random moves.
-    fn plays_on(&mut self, rt: &impl Abort, core: Core) -> Result<Core, AllocError> {
+    /// Splits clients off the first.
+    fn splits(&mut self, rt: &impl Abort, core: Core, many: u32) -> Result<Core, AllocError> {
         let mut core = core;
-        for _ in 0..EVENTS {
-            let turn = drawn(&mut self.rng, &self.history);
-            core = self.plays(rt, core, turn)?;
+        for _ in 0..many {
+            core = self.must_play(rt, core, Move::of(Kind::Split, 1, 0))?;
         }
         Ok(core)
     }
@@ -243,63 +239,23 @@ impl Trial {
         self.must_play(rt, core, Move::of(Kind::Finish, client, 0))
     }
 
-    /// Brings all clients to rest, and reads every word by one of them.
-    fn ends(&mut self, rt: &impl Abort, core: Core) -> Result<(Core, u32), AllocError> {
+    /// Brings all clients to rest, and reads every word.
+    fn ends(&mut self, rt: &impl Abort, core: Core) -> Result<(), AllocError> {
         let mut core = core;
         let mut reader = 0;
-        let mut client: u32 = 0;
-        while (client as usize) < self.history.players.len() && client < 1_000 {
-            client = client.wrapping_add(1);
+        for client in 1..=9 {
             if self.history.player(client).is_some_and(|player| player.out) {
                 core = self.settles(rt, core, client)?;
                 reader = client;
             }
         }
-        core = self.sweeps(rt, core, reader)?;
+        let _ = self.sweeps(rt, core, reader)?;
         add(&mut self.tally.spent, self.history.is_spent());
-        Ok((core, reader))
-    }
-
-    /// Gathers all clients into one that is at rest, as all others that are out, and renews the clock.
-    fn renews(
-        &mut self,
-        rt: &impl Abort,
-        core: Core,
-        client: u32,
-        last: u64,
-    ) -> Result<Core, AllocError> {
-        let mut core = core;
-        let mut other: u32 = 0;
-        while (other as usize) < self.history.players.len() && other < 1_000 {
-            other = other.wrapping_add(1);
-            if other != client && self.history.player(other).is_some_and(|player| player.out) {
-                core = self.must_play(rt, core, Move::of(Kind::Gather, client, other))?;
-            }
-        }
-        let turn = Move {
-            number: last,
-            ..Move::of(Kind::Renew, client, 0)
-        };
-        self.must_play(rt, core, turn)
-    }
-
-    /// Splits clients off one that has all grants.
-    fn splits_off(
-        &mut self,
-        rt: &impl Abort,
-        core: Core,
-        client: u32,
-        many: u32,
-    ) -> Result<Core, AllocError> {
-        let mut core = core;
-        for _ in 0..many {
-            core = self.must_play(rt, core, Move::of(Kind::Split, client, 0))?;
-        }
-        Ok(core)
+        Ok(())
     }
 }
 
-/// Plays one list, and renews the clock in its midst. In some lists the first client splits off as many as it may.
+/// Plays one list. In some of them the first client splits off as many as it may.
 fn one_list(rt: &impl Abort, alloc: Global, list: u64, tally: Tally) -> Result<Tally, AllocError> {
     let mut rng = Pcg32::new(list, 54);
     let shape = Shape::drawn(&mut rng);
@@ -318,12 +274,11 @@ fn one_list(rt: &impl Abort, alloc: Global, list: u64, tally: Tally) -> Result<T
         tally,
         tag: 0,
     };
-    let core = trial.splits_off(rt, core, 1, many)?;
-    let core = trial.plays_on(rt, core)?;
-    let (core, client) = trial.ends(rt, core)?;
-    let core = trial.renews(rt, core, client, 1 + list % 16)?;
-    let core = trial.splits_off(rt, core, client, 1)?;
-    let core = trial.plays_on(rt, core)?;
+    let mut core = trial.splits(rt, core, many)?;
+    for _ in 0..EVENTS {
+        let turn = drawn(&mut trial.rng, &trial.history);
+        core = trial.plays(rt, core, turn)?;
+    }
     trial.ends(rt, core)?;
     Ok(trial.tally)
 }

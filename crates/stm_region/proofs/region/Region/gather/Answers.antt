@@ -1,10 +1,10 @@
-use Rattle.std.proofs.Common.{rules, ◌+◌, List, length, ◌⊎◌, sym, ◌∙◌, ap, subst}
+use Rattle.std.proofs.Common.{rules, ◌⊎◌, sym, ◌∙◌, ap, subst}
 use Rattle.stm_words.specs.Image.{In}
 use Rattle.stm_core.specs.Client.{Client, Record}
 use Rattle.stm_core.specs.History.{Sub}
 use Rattle.stm_core.specs.Invariant.{Sorted}
 use Rattle.stm_core.proofs.Orders.{in_merged}
-use Rattle.stm_core.proofs.Whole.{joined_both, merged_length}
+use Rattle.stm_core.proofs.Whole.{joined_both}
 use Rattle.stm_region.proofs.Moves.{joins_here, runs}
 use Rattle.stm_region.proofs.region.Region.gather.Goals as goal
 
@@ -45,14 +45,6 @@ returns-clause-theirs g c =
     let theirs = ap (λ m. m.0.records) c.into_parts-seat.ensures.seat.1 in
     let q = joined_both v w c.client.invariant.6 (subst (λ (x : Client). Sorted x.records) (sym (ap (λ m. m.0) c.into_parts-seat.ensures.seat.1)) c.into_parts-seat.ensures.sorted) in
     subst (Sub c.args.other.value.records) (sym (ap (λ m. m.0.records) c.join_seat.ensures.2)) (subst (λ l. Sub l (Rattle.stm_core.specs.Client.merged v.records w.records)) theirs q.1)
-
-pub returns-clause-each : goal.returns-clause-each
-returns-clause-each g c =
-    let v = c.client.inside.seat.me.0 in
-    let w = c.into_parts-seat.result.0.me.0 in
-    let now = ap (λ x. x.value.records) c.client.view_is in
-    let theirs = ap (λ m. m.0.records) c.into_parts-seat.ensures.seat.1 in
-    ap (λ m. length m.0.records) c.join_seat.ensures.2 ∙ (merged_length v.records w.records ∙ (ap (λ (rs : List Record). length rs + length w.records) now ∙ ap (λ (rs : List Record). length c.args.client.now.value.records + length rs) theirs))
 
 pub returns-clause-only : goal.returns-clause-only
 returns-clause-only g c =
