@@ -4,8 +4,7 @@ use Rattle.std.proofs.lemmas.List.{length-replicate}
 use mathlib.Core.Option.{some}
 use lib.ListN.{get_elem?}
 use Rattle.atomic_table.specs.Table.{State, opening, Final, Seen}
-use Rattle.stm_words.specs.Image.{In, Agrees, laid}
-use Rattle.stm_core.specs.Client.{Client, Record}
+use Rattle.stm_core.specs.Client.{Client}
 use Rattle.stm_core.specs.Core.{Core, opened, begun_on, IsFreeHanded}
 use Rattle.stm_core.specs.Event.{opener, renewing}
 use Rattle.stm_core.specs.History.{Serial, image_after}
@@ -15,7 +14,6 @@ use Rattle.stm_region.specs.Shown.{Opened, RegionShown, opened_with, stripe_of}
 use Rattle.stm_region.specs.Layout.{padding, first_cell}
 use Rattle.stm_region.specs.Rule.{listed, Holds}
 use Rattle.stm_region.specs.Closed.{Ends}
-use Rattle.stm_region.proofs.Moves.{Keeping}
 
 zeros : (a b : ℕ) (ys : List ℕ) → replicate (a + b) 0 ++ ys ≡ replicate a 0 ++ (replicate b 0 ++ ys)
 zeros zero b ys = rw Rattle.std.proofs.Common.zero-add refl
@@ -28,7 +26,7 @@ drop_all (x ∷ xs) ys zero e = absurd (omega arith)
 drop_all (x ∷ xs) ys (suc n) e = drop_all xs ys n (omega arith)
 
 -- what lies behind the zeros is the image
-pub image_behind : (image : List ℕ) (stripes : ℕ) → drop (first_cell stripes) (replicate (first_cell stripes) 0 ++ image) ≡ image
+image_behind : (image : List ℕ) (stripes : ℕ) → drop (first_cell stripes) (replicate (first_cell stripes) 0 ++ image) ≡ image
 image_behind image stripes = drop_all (replicate (first_cell stripes) 0) image (first_cell stripes) (length-replicate (first_cell stripes) 0)
 
 laid_out : (image : List ℕ) (stripes : ℕ) → replicate (first_cell stripes) 0 ++ image ≡ 0 ∷ (replicate 15 0 ++ (replicate stripes 0 ++ (replicate (padding stripes) 0 ++ image)))
@@ -51,7 +49,6 @@ module _ (fits : List ℕ → Type 0) (lawful : List ℕ → List (ℕ × ℕ) �
     opening = refl;
     first = refl;
     renewal = refl;
-    past = refl;
     rule = opening_rules lawful (stripe_of stripes) image last stripes;
     fitting = f;
     bounded = top;
@@ -64,11 +61,6 @@ module _ (fits : List ℕ → Type 0) (lawful : List ℕ → List (ℕ × ℕ) �
   opens_on {S} image words last stripes f top one e =
       subst (λ ws. Holds {S = S} fits lawful record { image = drop (first_cell stripes) ws; last = last; stripes = stripes; first = drop (first_cell stripes) ws; renewal = 0; start = opener } (opening ws [] opener)) (sym e)
       (subst (λ ys. Holds {S = S} fits lawful record { image = ys; last = last; stripes = stripes; first = ys; renewal = 0; start = opener } (opening (replicate (first_cell stripes) 0 ++ image) [] opener)) (sym (image_behind image stripes)) (opens image last stripes f top one))
-
--- where an image fits, so does what lawful records make of it one after the other
-fits_after : (fits : List ℕ → Type 0) (lawful : List ℕ → List (ℕ × ℕ) → List (ℕ × ℕ) → Type 0) → Keeping fits lawful → (m : List ℕ) (l : List Record) → Serial m l → ((r : Record) → In r l → lawful r.tag r.reads r.writes) → fits m → fits (image_after m l)
-fits_after fits lawful law m [] s a k = k
-fits_after fits lawful law m (r ∷ l) s a k = fits_after fits lawful law (laid m r.writes) l s.1 (λ x i. a x (suc i.0, i.1)) (law r.tag m r.reads r.writes k s.0 (a r (0, refl)))
 
 -- the data words, from their place on
 cells_behind : (gap pad : List ℕ) (c : Core) (s : ℕ) → length gap ≡ 15 → length c.locks ≡ s → length pad ≡ padding s → drop (first_cell s) (listed gap pad c) ≡ c.cells
@@ -94,7 +86,6 @@ module _ (fits : List ℕ → Type 0) (lawful : List ℕ → List (ℕ × ℕ) �
         rule = h.rule;
         first = h.first;
         renewal = h.renewal;
-        past = h.past;
         opening = h.opening;
         last = h.last;
         number = id;
@@ -113,12 +104,6 @@ module _ (fits : List ℕ → Type 0) (lawful : List ℕ → List (ℕ × ℕ) �
   ends_with {S} key e id u v q free all ws xs f words clock is now =
       rw (is, now) (subst (λ ys. Ends lawful r v (drop (first_cell r.stripes) ys) (slice_index ys 0)) f.2
       (ends id v free all f.0 (subst (λ k. Holds {S = S} fits lawful k f.0) e f.1.0) (subst (λ w. get_elem? f.0.views id ≡ some w) q f.1.1)))
-
-  -- what a region was opened on fits, and so does what it ended with
-  pub fits_with : {S : Type 0} → Keeping fits lawful → (key : Opened) → key ≡ opened_with r → (id : ℕ) (u : Client) (ws : List ℕ) (xs : List S) → Final (Seen (Holds fits lawful key) id u) ws xs
-      → (v : Client) (words : List ℕ) (clock : ℕ) → Ends lawful r v words clock → fits r.first × fits words
-  fits_with law key e id u ws xs f v words clock h =
-      let one : fits r.first = subst fits (ap (λ (o : Opened). o.first) e) f.1.0.fitting in (one, subst fits (sym h.newest) (fits_after fits lawful law r.first v.records h.serial h.abides one))
 
   pub ends_small : (v : Client) (words : List ℕ) (clock : ℕ) → Ends lawful r v words clock → clock ≤ r.last
   ends_small v words clock h = let b = h.rule.inv.bounded in let l = h.last in let c = h.clock in omega arith
@@ -139,16 +124,8 @@ reopens {S} fits lawful r v words version last h all f top one = record {
   opening = refl;
   first = refl;
   renewal = refl;
-  past = refl;
   rule = begins_rules lawful (stripe_of r.stripes) r.first words (r.renewal + 1) last r.stripes (renewing v) refl all h.serial (sym h.newest) h.abides h.eras h.sorted;
   fitting = f;
   bounded = top;
   some = one;
 }
-
--- the same of the words as they are laid out
-pub reopens_on : {S : Type 0} (fits : List ℕ → Type 0) (lawful : List ℕ → List (ℕ × ℕ) → List (ℕ × ℕ) → Type 0) (r : RegionShown) (v w : Client) (words all first : List ℕ) (version last renewal stripes : ℕ)
-    → Ends lawful r v words version → v.grants ≡ 63 → fits r.first → last < 2 ^ 62 → 0 < stripes → stripes ≡ r.stripes → all ≡ replicate (first_cell stripes) 0 ++ words → first ≡ r.first → renewal ≡ r.renewal + 1 → w ≡ renewing v
-    → Holds {S = S} fits lawful record { image = drop (first_cell stripes) all; last = last; stripes = stripes; first = first; renewal = renewal; start = w } (opening all [] w)
-reopens_on {S} fits lawful r v w words all first version last renewal stripes h g f top one stripes_is is first_is renewal_is w_is =
-    rw (is, image_behind words stripes, first_is, renewal_is, w_is, stripes_is) (reopens {S = S} fits lawful r v words version last h g f top (subst (λ n. 0 < n) stripes_is one))

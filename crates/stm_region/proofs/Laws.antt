@@ -1,18 +1,18 @@
 -- What the rule says of the records, of the reads and of the grants.
-use Rattle.std.proofs.Common.{◌≡◌, ◌≢◌, ℕ, ◌<◌, false, List, map, sym, ap, ◌∙◌, subst}
+use Rattle.std.proofs.Common.{◌≡◌, ◌≢◌, ℕ, false, List, map, sym, subst}
 use mathlib.Core.Option.{some}
 use lib.ListN.{get_elem?}
 use Rattle.atomic_table.specs.Table.{State}
 use Rattle.stm_words.specs.Image.{In, Agrees}
 use Rattle.stm_core.specs.Client.{Client, Record, shed}
 use Rattle.stm_core.specs.Event.{taking}
-use Rattle.stm_core.specs.History.{Serial, image_after, Sub, all_records, image_at}
+use Rattle.stm_core.specs.History.{Serial, Sub, all_records, image_at}
 use Rattle.stm_core.specs.Invariant.{now}
 use Rattle.stm_core.proofs.Facts.{one_version}
 use Rattle.stm_core.proofs.Lones.{at_map}
 use Rattle.stm_core.proofs.Whole.{whole_serial, whole_lawful, whole_shared}
 use Rattle.stm_region.specs.Shown.{Opened, stripe_of, joined}
-use Rattle.stm_region.specs.Rule.{GoesBack, Holds}
+use Rattle.stm_region.specs.Rule.{Holds}
 use Rattle.stm_region.proofs.Moves.{joined_all}
 
 module _ (fits : List ℕ → Type 0) (lawful : List ℕ → List (ℕ × ℕ) → List (ℕ × ℕ) → Type 0) (o : Opened) (s : State (Unit {0}) Client) (h : Holds fits lawful o s) where
@@ -24,13 +24,6 @@ module _ (fits : List ℕ → Type 0) (lawful : List ℕ → List (ℕ × ℕ) �
 
   pub among : (i : ℕ) (v : Client) → get_elem? s.views i ≡ some v → Sub v.records (all_records s.views)
   among i v e = subst (λ cs. Sub v.records (all_records cs)) (sym h.views) (whole_shared lawful (stripe_of o.stripes) h.core h.rule i v (subst (λ cs. get_elem? cs i ≡ some v) h.views e)).among
-
-  pub goes_back : GoesBack o
-  goes_back = record {
-    serial = subst (λ image. Serial image o.start.records) h.first (subst (Serial h.core.first) h.past h.rule.past.serial);
-    leads = ap (λ (rs : List Record). image_after o.first rs) (sym h.past) ∙ (ap (λ (image : List ℕ). image_after image h.core.past) (sym h.first) ∙ (h.rule.past.leads ∙ h.opening));
-    eras = λ r m. subst (λ n. r.renewal < n) h.renewal (h.rule.past.earlier r (subst (In r) (sym h.past) m));
-  }
 
   pub agrees : (i : ℕ) (v : Client) → get_elem? s.views i ≡ some v → Agrees (image_at o.image v.rv (all_records (map (shed o.renewal) s.views))) v.reads
   agrees i v e = subst (λ cs. Agrees (image_at o.image v.rv (all_records (map (shed o.renewal) cs))) v.reads) (sym h.views)

@@ -38,7 +38,7 @@ old_there [] k u m = absurd (not_in (k, u) m)
 old_there (p ∷ ps) k u (zero, e) = let q : p.0 ≡ k = ap (λ (x : ℕ × ℕ). x.0) (some-injective p (k, u) e) in (zero, rw (eq-eqb p.0 k q) (ap some (pair_eq p k q)))
 old_there (p ∷ ps) k u (suc j, e) = dite (ℕ_discrete p.0 k) (λ q. (zero, rw (eq-eqb p.0 k q) (ap some (pair_eq p k q)))) (λ n. let t = old_there ps k u (j, e) in (suc t.0, rw (ne_eqb p.0 k n) t.1))
 
-abbrev pub Keeping : (List ℕ → Type 0) → (List ℕ → List (ℕ × ℕ) → List (ℕ × ℕ) → Type 0) → Type 0
+abbrev Keeping : (List ℕ → Type 0) → (List ℕ → List (ℕ × ℕ) → List (ℕ × ℕ) → Type 0) → Type 0
 Keeping fits lawful = (tag image : List ℕ) (reads writes : List (ℕ × ℕ)) → fits image → Agrees image reads → lawful tag reads writes → fits (laid image writes)
 
 -- a running region as contracts see it: its table was told what it was opened with
@@ -49,8 +49,8 @@ pub record Runs (words : ℕ) (key : Opened) (r : RegionShown) : Type 0 where
   pub some : 0 < r.stripes
   pub top : r.last < 2 ^ 62
 
-pub runs : (words slots : ℕ) (key : Opened) (size last stripes cells : ℕ) (first : List ℕ) (renewal : ℕ) → IsLaid words slots key size last stripes cells first renewal → (t : TableId) (r : RegionShown) → record { table = t; size = size; last = last; stripes = stripes; opening = key.image; first = key.first; renewal = key.renewal; start = key.start } ≡ r → Runs words key r
-runs words slots key size last stripes cells first renewal h t r e = subst (λ x. Runs words key x) e record {
+pub runs : (words slots : ℕ) (key : Opened) (size last stripes cells : ℕ) → IsLaid words slots key size last stripes cells → (t : TableId) (r : RegionShown) → record { table = t; size = size; last = last; stripes = stripes; opening = key.image; first = key.first; renewal = key.renewal; start = key.start } ≡ r → Runs words key r
+runs words slots key size last stripes cells h t r e = subst (λ x. Runs words key x) e record {
   key_is = (let l = h.last in let s = h.same in λ i. record { image = key.image; last = l i; stripes = s i; first = key.first; renewal = key.renewal; start = key.start });
   size = h.image;
   total = (let b = h.behind in h.total ∙ ap (λ n. n + size) b);
@@ -68,7 +68,6 @@ pub record Matches (o : Opened) (c : Core) : Type 0 where
   pub opening : c.opening ≡ o.image
   pub first : c.first ≡ o.first
   pub renewal : c.renewal ≡ o.renewal
-  pub past : c.past ≡ o.start.records
   pub locks : length c.locks ≡ o.stripes
 
 -- the bound on the grants takes none away
@@ -91,7 +90,6 @@ module _ (fits : List ℕ → Type 0) (lawful : List ℕ → List (ℕ × ℕ) �
         rule = h;
         first = m.first;
         renewal = m.renewal;
-        past = m.past;
         number = i;
         member = at;
         fitting = f;
@@ -161,7 +159,7 @@ module _ (fits : List ℕ → Type 0) (lawful : List ℕ → List (ℕ × ℕ) �
     Kept s = Holds fits lawful o s
 
     pub matches : (s : State S Client) (h : Kept s) → Matches o h.core
-    matches s h = record { last = h.last; opening = h.opening; first = h.first; renewal = h.renewal; past = h.past; locks = h.locks }
+    matches s h = record { last = h.last; opening = h.opening; first = h.first; renewal = h.renewal; locks = h.locks }
 
     -- a step at its place, whose word becomes f of what it was
     acts_allowed : (slots id : ℕ) (me : Me S Client) (e : Action) (word : ℕ) (f : ℕ → ℕ) (told : ℕ → Me S Client → Type 0)
@@ -178,7 +176,7 @@ module _ (fits : List ℕ → Type 0) (lawful : List ℕ → List (ℕ × ℕ) �
         let may' : May lawful lk (bounds_of c) e v = subst (λ b. May lawful lk b e v) (sym same) may in
         let inv' : Rule lawful lk (stepped (unplaced r.renewal) lk e id v c) = step_rules lawful lk c h.rule id v at' may'.0 (unplaced r.renewal) (sym h.renewal) e may'.1 in
         let st : Stays c (written e (left e (found lk c e) v) c) = stays c e (left e (found lk c e) v) in
-        let m' : Matches o (stepped (unplaced r.renewal) lk e id v c) = record { last = st.last ∙ h.last; opening = st.opening ∙ h.opening; first = st.first ∙ h.first; renewal = st.renewal ∙ h.renewal; past = st.past ∙ h.past; locks = st.locks ∙ h.locks } in
+        let m' : Matches o (stepped (unplaced r.renewal) lk e id v c) = record { last = st.last ∙ h.last; opening = st.opening ∙ h.opening; first = st.first ∙ h.first; renewal = st.renewal ∙ h.renewal; locks = st.locks ∙ h.locks } in
         let here : get_elem? (stepped (unplaced r.renewal) lk e id v c).clients id ≡ some (after (unplaced r.renewal) lk e (found lk c e) v) = in_clients c.clients id v _ at' in
         let does' : f (slice_index s.words word) ≡ left e (found lk c e) v = ap f there ∙ does c h.rule at' (subst (λ n. n < 18446744073709551616) there lt) in (
           after (unplaced r.renewal) lk e (slice_index s.words word) v,
@@ -197,7 +195,6 @@ module _ (fits : List ℕ → Type 0) (lawful : List ℕ → List (ℕ × ℕ) �
             opening = m'.opening;
             first = m'.first;
             renewal = m'.renewal;
-            past = m'.past;
             rule = inv';
             fitting = h.fitting;
             bounded = h.bounded;
@@ -270,7 +267,6 @@ module _ (fits : List ℕ → Type 0) (lawful : List ℕ → List (ℕ × ℕ) �
           opening = h.opening;
           first = h.first;
           renewal = h.renewal;
-          past = h.past;
           rule = split_rules lawful lk h.core h.rule id v at' free gr;
           fitting = h.fitting;
           bounded = h.bounded;
@@ -299,7 +295,6 @@ module _ (fits : List ℕ → Type 0) (lawful : List ℕ → List (ℕ × ℕ) �
           opening = h.opening;
           first = h.first;
           renewal = h.renewal;
-          past = h.past;
           rule = gather_rules lawful lk h.core h.rule id v at' other w was (λ e. ne (sym e)) free free';
           fitting = h.fitting;
           bounded = h.bounded;

@@ -95,15 +95,14 @@ pub record Stays (c d : Core) : Type 0 where
   pub opening : d.opening ≡ c.opening
   pub first : d.first ≡ c.first
   pub renewal : d.renewal ≡ c.renewal
-  pub past : d.past ≡ c.past
   pub locks : length d.locks ≡ length c.locks
   pub clients : d.clients ≡ c.clients
 
 same : (c : Core) → Stays c c
-same c = record { last = refl; opening = refl; first = refl; renewal = refl; past = refl; locks = refl; clients = refl }
+same c = record { last = refl; opening = refl; first = refl; renewal = refl; locks = refl; clients = refl }
 
 lock_stays : (c : Core) (k m : ℕ) → Stays c (record c { locks = slice_set c.locks k m })
-lock_stays c k m = record { last = refl; opening = refl; first = refl; renewal = refl; past = refl; locks = length-set c.locks k m; clients = refl }
+lock_stays c k m = record { last = refl; opening = refl; first = refl; renewal = refl; locks = length-set c.locks k m; clients = refl }
 
 pub stays : (c : Core) (e : Action) (m : ℕ) → Stays c (written e m c)
 stays c begin m = same c
@@ -111,9 +110,9 @@ stays c (probe k) m = same c
 stays c (fetch a) m = same c
 stays c (check a) m = same c
 stays c (lock k) m = lock_stays c k m
-stays c (tick from tag writes) m = record { last = refl; opening = refl; first = refl; renewal = refl; past = refl; locks = refl; clients = refl }
+stays c (tick from tag writes) m = record { last = refl; opening = refl; first = refl; renewal = refl; locks = refl; clients = refl }
 stays c (validate k) m = same c
-stays c (put a x) m = record { last = refl; opening = refl; first = refl; renewal = refl; past = refl; locks = refl; clients = refl }
+stays c (put a x) m = record { last = refl; opening = refl; first = refl; renewal = refl; locks = refl; clients = refl }
 stays c (release k) m = lock_stays c k m
 stays c (give_back k) m = lock_stays c k m
 stays c (finish tag) m = same c

@@ -15,7 +15,6 @@ pub record Ends (lawful : List ℕ → List (ℕ × ℕ) → List (ℕ × ℕ) �
   pub rule : Rule lawful (stripe_of region.stripes) core
   pub first : core.first ≡ region.first
   pub renewal : core.renewal ≡ region.renewal
-  pub past : core.past ≡ region.start.records
   pub opening : core.opening ≡ region.opening
   pub last : core.last ≡ region.last
   pub number : ℕ

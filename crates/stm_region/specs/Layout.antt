@@ -1,5 +1,5 @@
 -- Where a region's words stand in its table: the clock alone on its cache lines, the lock words, and the data words.
-use Rattle.std.specs.Prelude.{◌≡◌, ℕ, ◌+◌, ◌-◌, ◌%◌, ◌<◌, ◌≤◌, ◌^◌, List, length, cond, eqb}
+use Rattle.std.specs.Prelude.{◌≡◌, ℕ, ◌+◌, ◌-◌, ◌%◌, ◌<◌, ◌≤◌, ◌^◌, length, cond, eqb}
 use Rattle.stm_core.specs.Client.{Client}
 use Rattle.stm_core.specs.Core.{left}
 use Rattle.stm_core.specs.Event.{Action, begin, probe, fetch, check, lock, tick, validate, put, release, give_back, finish}
@@ -46,7 +46,7 @@ InRange stripes size (give_back k) = k < stripes
 InRange stripes size (finish tag) = Unit {0}
 
 -- the numbers of a running region fit its table and what it was opened with
-pub record IsLaid (words slots : ℕ) (o : Opened) (length_of_image last_version stripes cells : ℕ) (first : List ℕ) (renewal : ℕ) : Type 0 where
+pub record IsLaid (words slots : ℕ) (o : Opened) (length_of_image last_version stripes cells : ℕ) : Type 0 where
   pub total : words ≡ cells + length_of_image
   pub none : slots ≡ 0
   pub behind : cells ≡ first_cell stripes
@@ -57,8 +57,6 @@ pub record IsLaid (words slots : ℕ) (o : Opened) (length_of_image last_version
   pub same : o.stripes ≡ stripes
   pub some : 0 < stripes
   pub few : stripes ≤ 1048576
-  pub begun : o.first ≡ first
-  pub renewals : o.renewal ≡ renewal
 
 -- the step exchanges its word from this one to the next, whatever it finds
 abbrev pub Exchanges : Action → ℕ → Client → Type 0

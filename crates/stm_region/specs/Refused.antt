@@ -1,7 +1,7 @@
 -- When a region refuses what it was asked.
 use Rattle.std.specs.Prelude.{◌≡◌, ℕ, ◌-◌, ◌^◌, ◌<◌, ◌≤◌}
 use Rattle.stm_region.specs.declared.fault.RegionFault.{RegionFault}
-use Rattle.stm_region.specs.declared.fault.RegionFault.TheVariants.{Size, Last, Memory, Clients, StillOut, Stripes, Renewals}
+use Rattle.stm_region.specs.declared.fault.RegionFault.TheVariants.{Size, Last, Memory, Clients, StillOut, Stripes}
 
 -- a region may have so many data words
 abbrev pub IsSize : ℕ → Type 0
@@ -23,7 +23,6 @@ OpensNot size last stripes Memory = IsSize size × IsLast last × IsStripes stri
 OpensNot size last stripes Clients = ⊥
 OpensNot size last stripes (StillOut out) = ⊥
 OpensNot size last stripes Stripes = IsSize size × IsLast last × ¬ IsStripes stripes
-OpensNot size last stripes Renewals = ⊥
 
 -- when an ending is refused: others are out, as many as the client's grants say, or no memory
 abbrev pub ClosesNot : ℕ → RegionFault → Type 0
@@ -33,18 +32,3 @@ ClosesNot grants Memory = grants ≡ 63
 ClosesNot grants Clients = ⊥
 ClosesNot grants (StillOut out) = (grants < 63) × (out ≡ 63 - grants)
 ClosesNot grants Stripes = ⊥
-ClosesNot grants Renewals = ⊥
-
--- there may be one renewal more
-abbrev pub IsRenewable : ℕ → Type 0
-IsRenewable renewal = renewal < 65535
-
--- when a renewal is refused with all as it was: the last version is out of range, there were too many renewals, others are out, or no memory
-abbrev pub RenewsNot : ℕ → ℕ → ℕ → RegionFault → Type 0
-RenewsNot last renewal grants Size = ⊥
-RenewsNot last renewal grants Last = ¬ IsLast last
-RenewsNot last renewal grants Memory = IsLast last × IsRenewable renewal × (grants ≡ 63)
-RenewsNot last renewal grants Clients = ⊥
-RenewsNot last renewal grants (StillOut out) = IsLast last × IsRenewable renewal × (grants < 63) × (out ≡ 63 - grants)
-RenewsNot last renewal grants Stripes = ⊥
-RenewsNot last renewal grants Renewals = IsLast last × ¬ IsRenewable renewal

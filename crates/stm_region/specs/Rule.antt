@@ -1,9 +1,7 @@
 -- What holds of a region's table between any two steps of any threads.
 use Rattle.std.specs.Prelude.{◌≡◌, ℕ, ◌<◌, ◌^◌, List, ◌∷◌, ◌++◌, length}
 use Rattle.atomic_table.specs.Table.{State}
-use Rattle.stm_words.specs.Image.{In}
-use Rattle.stm_core.specs.Client.{Client, Record}
-use Rattle.stm_core.specs.History.{Serial, image_after}
+use Rattle.stm_core.specs.Client.{Client}
 use Rattle.stm_core.specs.Core.{Core}
 use Rattle.stm_core.specs.Invariant.{Rule}
 use Rattle.stm_region.specs.Shown.{Opened, stripe_of}
@@ -12,12 +10,6 @@ use Rattle.stm_region.specs.Layout.{padding}
 -- the words of a core as those of a table: the clock, a gap, the lock words, a pad and the data words
 abbrev pub listed : List ℕ → List ℕ → Core → List ℕ
 listed gap pad c = c.clock ∷ (gap ++ (c.locks ++ (pad ++ c.cells)))
-
--- the records that a region began with: all of earlier renewals, serial from the first opening image, and leading to the present one
-pub record GoesBack (o : Opened) : Type 0 where
-  pub serial : Serial o.first o.start.records
-  pub leads : image_after o.first o.start.records ≡ o.image
-  pub eras : (r : Record) → In r o.start.records → r.renewal < o.renewal
 
 -- the table's words and all clients' values are a core state that meets the version invariant
 pub record Holds {S : Type 0} (fits : List ℕ → Type 0) (lawful : List ℕ → List (ℕ × ℕ) → List (ℕ × ℕ) → Type 0) (o : Opened) (s : State S Client) : Type 0 where
@@ -33,8 +25,6 @@ pub record Holds {S : Type 0} (fits : List ℕ → Type 0) (lawful : List ℕ �
   pub opening : core.opening ≡ o.image
   pub first : core.first ≡ o.first
   pub renewal : core.renewal ≡ o.renewal
-  -- the records of earlier renewals are those that the first client began with
-  pub past : core.past ≡ o.start.records
   pub rule : Rule lawful (stripe_of o.stripes) core
   pub fitting : fits o.first
   pub bounded : o.last < 2 ^ 62

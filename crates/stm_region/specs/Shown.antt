@@ -3,7 +3,6 @@ use Rattle.std.specs.Prelude.{◌≡◌, ℕ, ◌+◌, ◌%◌, min, List, [], O
 use Rattle.atomic_table.specs.Seated.{TableId}
 use Rattle.stm_core.specs.Client.{Client, Stamp, Step, nothing, began, probed, fetched, checked, locked, ticked, looked, ended}
 use Rattle.stm_core.specs.Event.{Action, Bounds, May, after, taking, renewing, opener}
-use Rattle.stm_core.specs.Invariant.{Sorted}
 
 -- what a region was opened with: the data words, the last version, how many lock words; and since renewals: the data words of the first opening, how many renewals there were, and the value of the client that opened, which has all records of earlier renewals
 pub record Opened : Type 0 where
@@ -36,10 +35,6 @@ nowhere = record { table = record { words = 0; slots = 0; views_name = 0; atom =
 
 abbrev pub opened_with : RegionShown → Opened
 opened_with r = record { image = r.opening; last = r.last; stripes = r.stripes; first = r.first; renewal = r.renewal; start = r.start }
-
--- a region that a table is, which was opened with this
-abbrev pub begun : TableId → ℕ → Opened → RegionShown
-begun t n o = record { table = t; size = n; last = o.last; stripes = o.stripes; opening = o.image; first = o.first; renewal = o.renewal; start = o.start }
 
 -- the lock of an address
 abbrev pub stripe_of : ℕ → ℕ → ℕ
@@ -80,10 +75,3 @@ KeepsProbe word (ended n) = Unit {0}
 abbrev pub started : Option Client → Client
 started None = opener
 started (Some v) = renewing v
-
--- a client that a region may begin with: it has all grants and no attempt, and its records stand in order
-pub record StartsAnew (v : Client) : Type 0 where
-  pub all : v.grants ≡ 63
-  pub none : v.wv ≡ 0
-  pub still : v.last ≡ nothing
-  pub sorted : Sorted v.records

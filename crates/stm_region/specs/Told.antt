@@ -35,7 +35,6 @@ pub record Decides (fits : List ℕ → Type 0) (lawful : List ℕ → List (ℕ
   pub rule : Rule lawful (stripe_of region.stripes) core
   pub first : core.first ≡ region.first
   pub renewal : core.renewal ≡ region.renewal
-  pub past : core.past ≡ region.start.records
   pub number : ℕ
   pub member : get_elem? core.clients number ≡ some v
   pub fitting : fits region.first

@@ -4,14 +4,12 @@ ghost use Rattle.std.specs.Slots.{slots_items, slots_len, IsFull};
 ghost use Rattle.stm_core.specs.Core.{IsFreeHanded};
 ghost use Rattle.stm_region.specs.Closed.{Ends};
 ghost use Rattle.stm_region.specs.Refused.{ClosesNot};
-ghost use Rattle.stm_region.specs.Layout.{first_cell};
 
 use crate::client::Client;
 use crate::fault::RegionFault;
 use crate::region::Region;
 use atomic_table::Closed;
 use std::alloc::Allocator;
-use std::snapshot::Snapshot;
 use stm_words::{Law, Version};
 
 // There is room.
@@ -58,7 +56,6 @@ impl<L: Law, A: Allocator> Region<L, A> {
         requires own { client.table ≡ self.table }
         requires free_handed { IsFreeHanded client.value }
         ensures ends { IfOk result (λ r. Ends L.lawful self client.value r.0.items r.1) }
-        ensures fits { IfOk result (λ r. L.fits self.first × L.fits r.0.items) }
         ensures all { IfOk result (λ _. client.value.grants ≡ 63) }
         ensures kept { IfErr result (λ r. (r.0 ≡ self) × (r.1 ≡ client) × ClosesNot client.value.grants r.2) }
     {
@@ -66,39 +63,19 @@ impl<L: Law, A: Allocator> Region<L, A> {
             let out = 63 - client.grants;
             return Err((self, client, RegionFault::StillOut { out }));
         }
-        let Ok(mut words) = Vec::with_capacity(alloc, self.numbers.size) else {
+        let Ok(mut words) = Vec::with_capacity(alloc, self.size) else {
             return Err((self, client, RegionFault::Memory));
         };
-        let (version, _) = self.end(client, &mut words);
-        Ok((words, version))
-    }
-
-    // The data words go where there is room for them. The answer is the clock, and the words of the
-    // first opening.
-    pub(crate) fn end<B: Allocator>(
-        self,
-        client: Client<L>,
-        words: &mut Vec<u64, B>,
-    ) -> (Version, Snapshot<Vec<u64, A>>)
-        requires own { client.table ≡ self.table }
-        requires free_handed { IsFreeHanded client.value }
-        requires all { client.value.grants ≡ 63 }
-        requires room { (words.old.items ≡ []) × (self.size ≤ vec_capacity words.old) }
-        ensures ends { Ends L.lawful self client.value words.new.items result.0 }
-        ensures fits { L.fits self.first × L.fits words.new.items }
-        ensures length { length words.new.items ≡ self.size }
-        ensures first { drop (first_cell self.stripes) result.1.value.items ≡ self.first }
-    {
-        let size = self.numbers.size;
-        let cells = self.numbers.cells;
-        let (table, first) = self.into_parts();
+        let size = self.size;
+        let cells = self.cells;
+        let table = self.into_table();
         let (seat, _) = client.into_parts();
         let closed = table.close_with(seat);
-        let clock = unload(&closed, cells, size, words);
+        let clock = unload(&closed, cells, size, &mut words);
         closed.free();
         let Some(version) = Version::new(clock) else {
             unreachable!()
         };
-        (version, first)
+        Ok((words, version))
     }
 }

@@ -7,10 +7,7 @@ ghost use Rattle.stm_core.specs.Client.{Record};
 ghost use Rattle.stm_core.specs.History.{Sub};
 ghost use Rattle.stm_core.specs.Core.{IsFreeHanded};
 ghost use Rattle.stm_core.specs.Event.{opener, giving, fresh};
-ghost use Rattle.std.specs.Prelude.{[], drop};
-ghost use Rattle.atomic_table.specs.Table.{opening as table_opening};
-ghost use Rattle.stm_region.specs.Rule.{Holds};
-ghost use Rattle.stm_region.specs.Shown.{joined, opened_with, begun, stripe_of, StartsAnew};
+ghost use Rattle.stm_region.specs.Shown.{joined, opened_with, stripe_of};
 ghost use Rattle.stm_region.specs.Layout.{first_cell};
 ghost use Rattle.stm_region.specs.Refused.{IsSize, IsLast, IsStripes, OpensNot};
 
@@ -21,7 +18,7 @@ use crate::opening::{Opening, RegionRule};
 use crate::plays::{Gives, Takes};
 use crate::view::View;
 use atomic_table::Table;
-use std::alloc::{AllocError, Allocator, Global};
+use std::alloc::{Allocator, Global};
 use std::marker::{Model, PhantomData};
 use std::snapshot::Snapshot;
 use stm_words::{Addr, Law};
@@ -33,48 +30,38 @@ pub(crate) const FIRST_LOCK: usize = 16;
 /// image, the last version and the number of lock words that it was opened with.
 pub struct Region<L: Law, A: Allocator = Global> {
     pub(crate) table: Table<(), View, Opening<A>, RegionRule<L>, A>,
-    pub(crate) numbers: Numbers,
-    // The words at the first opening, for the proof alone.
-    pub(crate) first: Snapshot<Vec<u64, A>>,
-}
-
-/// The numbers that a region is opened with.
-#[derive(Clone, Copy)]
-pub(crate) struct Numbers {
     pub(crate) size: usize,
     pub(crate) last: u64,
     pub(crate) stripes: u32,
     // The place of the first data word.
     pub(crate) cells: usize,
-    pub(crate) renewal: u32,
 }
 
 impl<L: Law, A: Allocator> Model for Region<L, A> {
     ghost use Rattle.stm_region.specs.Shown.{RegionShown};
-    ghost use Rattle.std.specs.Prelude.{drop};
-    ghost use Rattle.stm_region.specs.Layout.{IsLaid, first_cell};
+    ghost use Rattle.stm_region.specs.Layout.{IsLaid};
 
     ghost Value = { RegionShown };
 
-    ghost view = { λ r. record { table = r.table.shared.table_id; size = r.numbers.size; last = r.numbers.last; stripes = r.numbers.stripes; opening = r.table.shared.key.image; first = r.table.shared.key.first; renewal = r.table.shared.key.renewal; start = r.table.shared.key.start } };
+    ghost view = { λ r. record { table = r.table.shared.table_id; size = r.size; last = r.last; stripes = r.stripes; opening = r.table.shared.key.image; first = r.table.shared.key.first; renewal = r.table.shared.key.renewal; start = r.table.shared.key.start } };
 
-    ghost invariant = { λ r. IsLaid r.table.shared.table_id.words r.table.shared.table_id.slots r.table.shared.key r.numbers.size r.numbers.last r.numbers.stripes r.numbers.cells (drop (first_cell r.numbers.stripes) r.first.value.items) r.numbers.renewal };
+    ghost invariant = { λ r. IsLaid r.table.shared.table_id.words r.table.shared.table_id.slots r.table.shared.key r.size r.last r.stripes r.cells };
 }
 
 impl<L: Law, A: Allocator> Region<L, A> {
-    // The table, and the words of the first opening.
-    pub(crate) fn into_parts(self) -> (Table<(), View, Opening<A>, RegionRule<L>, A>, Snapshot<Vec<u64, A>>)
-        ensures table { result.0.shared.table_id ≡ self.table }
-        ensures counts { (result.0.shared.table_id.words ≡ first_cell self.stripes + self.size) × (result.0.shared.table_id.slots ≡ 0) }
-        ensures key { result.0.shared.key ≡ opened_with self }
-        ensures first { drop (first_cell self.stripes) result.1.value.items ≡ self.first }
+    pub(crate) fn into_table(self) -> Table<(), View, Opening<A>, RegionRule<L>, A>
+        ensures table { result.shared.table_id ≡ self.table }
+        ensures counts { (result.shared.table_id.words ≡ first_cell self.stripes + self.size) × (result.shared.table_id.slots ≡ 0) }
+        ensures key { result.shared.key ≡ opened_with self }
     {
         let Self {
             table,
-            numbers: _,
-            first,
+            size: _,
+            last: _,
+            stripes: _,
+            cells: _,
         } = self;
-        (table, first)
+        table
     }
 }
 
@@ -82,8 +69,10 @@ impl<L: Law, A: Allocator> Drop for Region<L, A> {
     fn drop(self) {
         let Self {
             table,
-            numbers: _,
-            first: _,
+            size: _,
+            last: _,
+            stripes: _,
+            cells: _,
         } = self;
         drop(table);
     }
@@ -121,42 +110,13 @@ impl<L: Law, A: Allocator + Copy> Region<L, A> {
             renewal: 0,
             start: None,
         };
-        Ok(Region::open(alloc, words.as_slice(), image.len(), opening)?)
-    }
-
-    // A region on these words, and the client that it begins with.
-    pub(crate) fn open(
-        alloc: A,
-        words: &[u64],
-        size: usize,
-        opening: Opening<A>,
-    ) -> Result<(Region<L, A>, Client<L>), AllocError>
-        requires rule { Holds {S = Unit {0}} L.fits L.lawful opening (table_opening words.now [] opening.start) }
-        requires words { (length words.now ≡ first_cell opening.stripes + size) × (length opening.image ≡ size) }
-        requires ranges { (size ≤ 4194304) × IsLast opening.last × IsStripes opening.stripes }
-        requires start { StartsAnew opening.start }
-        ensures region { IfOk result (λ r. r.0 ≡ begun r.0.table size opening) }
-        ensures client { IfOk result (λ r. r.1 ≡ record { table = r.0.table; value = opening.start }) }
-    {
-        let (table, seat) = Table::of_words(alloc, words, &opening)?;
-        let Opening {
-            words: _,
-            last,
-            stripes,
-            first,
-            renewal,
-            start: _,
-        } = opening;
+        let (table, seat) = Table::of_words(alloc, words.as_slice(), &opening)?;
         let region = Region {
             table,
-            numbers: Numbers {
-                size,
-                last,
-                stripes,
-                cells: FIRST_LOCK + stripes as usize + padding(stripes),
-                renewal,
-            },
-            first,
+            size: image.len(),
+            last,
+            stripes,
+            cells: FIRST_LOCK + stripes as usize + padding(stripes),
         };
         let client = Client {
             seat,
@@ -175,7 +135,7 @@ impl<L: Law, A: Allocator> Region<L, A> {
     pub fn size(&self) -> usize
         ensures { result ≡ self.now.size }
     {
-        self.numbers.size
+        self.size
     }
 
     /// The last version that the clock may reach.
@@ -184,7 +144,7 @@ impl<L: Law, A: Allocator> Region<L, A> {
         ensures value { result ≡ self.now.last }
         ensures small { result < 2 ^ 62 }
     {
-        self.numbers.last
+        self.last
     }
 
     /// The number of the lock of an address.
@@ -194,7 +154,7 @@ impl<L: Law, A: Allocator> Region<L, A> {
         ensures value { result ≡ stripe_of self.now.stripes addr.0 }
         ensures range { result < self.now.stripes }
     {
-        let stripes = self.numbers.stripes;
+        let stripes = self.stripes;
         if addr.0 < stripes {
             addr.0
         } else {

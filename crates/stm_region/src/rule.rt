@@ -8,18 +8,16 @@ ghost use Rattle.stm_core.specs.Client.{Client, Record, shed};
 ghost use Rattle.stm_core.specs.Event.{taking};
 ghost use Rattle.stm_core.specs.History.{Serial, Sub, all_records, image_at};
 ghost use Rattle.stm_region.specs.Shown.{Opened, joined};
-ghost use Rattle.stm_region.specs.Rule.{GoesBack, Holds};
+ghost use Rattle.stm_region.specs.Rule.{Holds};
 
 use stm_words::Law;
 
 /// Between any two steps of any threads the records of all clients are lawful and serial from the
-/// first opening image, and each client's own stand among them, each once and in its order. Those
-/// of earlier renewals lead to the image that the present renewal was opened on.
+/// first opening image, and each client's own stand among them, each once and in its order.
 pub fn records_are_serial<L: Law>()
     ensures serial { (o : Opened) (s : State (Unit {0}) Client) → Holds L.fits L.lawful o s → Serial o.first (all_records s.views) }
     ensures lawful { (o : Opened) (s : State (Unit {0}) Client) → Holds L.fits L.lawful o s → (r : Record) → In r (all_records s.views) → L.lawful r.tag r.reads r.writes }
     ensures among { (o : Opened) (s : State (Unit {0}) Client) → Holds L.fits L.lawful o s → (i : ℕ) (v : Client) → get_elem? s.views i ≡ some v → Sub v.records (all_records s.views) }
-    ensures earlier { (o : Opened) (s : State (Unit {0}) Client) → Holds L.fits L.lawful o s → GoesBack o }
 {}
 
 /// Between any two steps all words that an attempt has read are those of the image of its read

@@ -56,7 +56,7 @@ impl<L: Law, A: Allocator> Region<L, A> {
         requires allowed { IsAllowed L.lawful self.now (fetches addr.0) client.old }
         ensures { client.new ≡ acted self.now (fetches addr.0) result client.old }
     {
-        self.load_as::<Brand>(&mut client.seat, self.numbers.cells + addr.0 as usize, addr.0)
+        self.load_as::<Brand>(&mut client.seat, self.cells + addr.0 as usize, addr.0)
     }
 
     /// Loads the lock word of an address again. Where it is as it was, the value fetched enters
@@ -114,7 +114,7 @@ impl<L: Law, A: Allocator> Region<L, A> {
         ensures later { 0 < client.new.value.wv → client.new.value.rv < client.new.value.wv }
         ensures decides { decided client.new.value ≡ true → Decides L.fits L.lawful self.now client.new.value }
     {
-        prove!(from < self.numbers.last);
+        prove!(from < self.last);
         let found = self.tick_as::<Brand, T, B>(&mut client.seat, from, tag, writes);
         if found == from {
             client.version = from + 1;
@@ -133,7 +133,7 @@ impl<L: Law, A: Allocator> Region<L, A> {
         ensures word { IsLockWord self.now.last result }
         ensures decides { decided client.new.value ≡ true → Decides L.fits L.lawful self.now client.new.value }
     {
-        prove!(lock < self.numbers.stripes);
+        prove!(lock < self.stripes);
         self.load_as::<Brand>(&mut client.seat, FIRST_LOCK + lock as usize, lock)
     }
 
@@ -147,7 +147,7 @@ impl<L: Law, A: Allocator> Region<L, A> {
     {
         self.store_as::<Brand>(
             &mut client.seat,
-            self.numbers.cells + addr.0 as usize,
+            self.cells + addr.0 as usize,
             value,
             addr.0,
         );

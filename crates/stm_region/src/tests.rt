@@ -2,22 +2,17 @@ ghost use Rattle.std.specs.Prelude.{◌≡◌, ℕ, ◌<◌, IfOk, false, []};
 ghost use Rattle.stm_core.specs.Core.{IsFreeHanded};
 
 use super::{
-    Client, Region, RegionFault, RenewFault, gathering_keeps_all_grants, reads_are_of_one_version,
+    Client, Region, RegionFault, gathering_keeps_all_grants, reads_are_of_one_version,
     records_are_serial,
 };
-use linked_list_allocator::LocalHeap;
-use std::alloc::{AllocError, Allocator, Global};
+use std::alloc::{AllocError, Global};
 use std::test::Fail;
 use std::thread;
 use stm_logs::WriteLog;
 use stm_words::{Addr, FreeLaw};
 
 // What a read finds at an address, where no lock stops it.
-fn read_at<A: Allocator>(
-    region: &Region<FreeLaw, A>,
-    client: &mut Client<FreeLaw>,
-    addr: Addr,
-) -> Option<u64>
+fn read_at(region: &Region<FreeLaw>, client: &mut Client<FreeLaw>, addr: Addr) -> Option<u64>
     requires own { client.old.table ≡ region.now.table }
     requires free { IsFreeHanded client.old.value }
     requires range { addr.0 < region.now.size }
@@ -192,103 +187,5 @@ fn two_threads_write_one_memory(rt: HostRuntime) -> Result<(), Fail> {
     };
     assert_eq!(rt; words.as_slice(), [0u64, 10, 0, 0, 0, 50, 0, 0].as_slice());
     assert_eq!(rt; version.get(), 2);
-    Ok(())
-}
-
-#[test]
-fn a_renewed_clock_ticks_on(rt: HostRuntime) -> Result<(), Fail> {
-    let alloc = rt.alloc();
-    let (written, out_of_range, out, begun, last, value, again, words, version) = {
-        let (region, mut client) = Region::<FreeLaw>::new(alloc, &[0; 32], 1, 32)?;
-        let written = write_at(alloc, &region, &mut client, Addr(9), 5)?;
-        let Err(RenewFault::Kept(region, mut client, out_of_range)) = region.renew(alloc, client, 0)
-        else {
-            panic!(rt; "it took 0 as its last version")
-        };
-        let other = region.split(&mut client)?;
-        let Err(RenewFault::Kept(region, mut client, out)) = region.renew(alloc, client, 100) else {
-            panic!(rt; "it was renewed with a client out")
-        };
-        region.gather(&mut client, other);
-        let Ok((region, mut client)) = region.renew(alloc, client, 100) else {
-            panic!(rt; "it was not renewed")
-        };
-        let begun = region.begin(&mut client).get();
-        let value = read_at(&region, &mut client, Addr(9));
-        let again = write_at(alloc, &region, &mut client, Addr(9), 6)?;
-        let last = region.last();
-        let Ok((words, version)) = region.close(alloc, client) else {
-            panic!(rt; "it stayed open")
-        };
-        (written, out_of_range, out, begun, last, value, again, words, version)
-    };
-    assert!(rt; written && again);
-    assert_eq!(rt; out_of_range, RegionFault::Last);
-    assert_eq!(rt; out, RegionFault::StillOut { out: 1 });
-    assert_eq!(rt; begun, 0);
-    assert_eq!(rt; last, 100);
-    assert_eq!(rt; value, Some(5));
-    for (i, word) in words.iter().enumerate() {
-        assert_eq!(rt; *word, if i == 9 { 6 } else { 0 });
-    }
-    assert_eq!(rt; version.get(), 1);
-    Ok(())
-}
-
-#[test]
-fn a_region_is_renewed_65535_times(rt: HostRuntime) -> Result<(), Fail> {
-    let alloc = rt.alloc();
-    let mut open = Region::<FreeLaw>::new(alloc, &[7], 100, 1)?;
-    for _ in 0..65_535 {
-        let (region, client) = open;
-        let Ok(next) = region.renew(alloc, client, 100) else {
-            panic!(rt; "it was not renewed")
-        };
-        open = next;
-    }
-    let (region, client) = open;
-    let Err(RenewFault::Kept(region, client, fault)) = region.renew(alloc, client, 100) else {
-        panic!(rt; "it was renewed once more")
-    };
-    let Ok((words, version)) = region.close(alloc, client) else {
-        panic!(rt; "it stayed open")
-    };
-    assert_eq!(rt; fault, RegionFault::Renewals);
-    assert_eq!(rt; words.as_slice(), [7u64].as_slice());
-    assert_eq!(rt; version.get(), 0);
-    Ok(())
-}
-
-// 32 data words are 256 bytes, and all words of such a region with 32 locks are 688.
-#[test]
-fn each_growth_of_a_renewal_is_refused(rt: HostRuntime) -> Result<(), Fail> {
-    for (size, kept, closed) in [
-        (200, true, false),
-        (300, false, true),
-        (900, false, true),
-        (1_000, false, true),
-        (1_600, false, true),
-        (2_000, false, false),
-    ] {
-        let ample = LocalHeap::new(rt.alloc(), 10_000)?;
-        let heap = LocalHeap::new(rt.alloc(), size)?;
-        let (region, client) = Region::<FreeLaw, &LocalHeap>::new(&ample, &[3; 32], 100, 32)?;
-        match region.renew(&heap, client, 100) {
-            Ok((region, mut client)) => {
-                assert!(rt; !kept && !closed);
-                assert_eq!(rt; read_at(&region, &mut client, Addr(31)), Some(3));
-            }
-            Err(RenewFault::Kept(region, mut client, fault)) => {
-                assert!(rt; kept);
-                assert_eq!(rt; fault, RegionFault::Memory);
-                assert_eq!(rt; read_at(&region, &mut client, Addr(31)), Some(3));
-            }
-            Err(RenewFault::Closed(words, version)) => {
-                assert!(rt; closed);
-                assert_eq!(rt; words.as_slice(), [3u64; 32].as_slice());
-                assert_eq!(rt; version.get(), 0);
-            }
-        }
-    }
     Ok(())
 }

@@ -1,4 +1,4 @@
-use Rattle.stm_region.proofs.Laws.{serial, abides, among, goes_back}
+use Rattle.stm_region.proofs.Laws.{serial, abides, among}
 use Rattle.stm_region.proofs.rule.records_are_serial.Goals as goal
 
 pub returns-clause-serial : goal.returns-clause-serial
@@ -9,6 +9,3 @@ returns-clause-lawful g c o s h = abides g.L.Law.fits g.L.Law.lawful o s h
 
 pub returns-clause-among : goal.returns-clause-among
 returns-clause-among g c o s h = among g.L.Law.fits g.L.Law.lawful o s h
-
-pub returns-clause-earlier : goal.returns-clause-earlier
-returns-clause-earlier g c o s h = goes_back g.L.Law.fits g.L.Law.lawful o s h

@@ -1,0 +1,14 @@
+use Rattle.std.proofs.Common.{arith, ◌∙◌, ap, drop}
+use Rattle.std.specs.Slots.{slots_items}
+use Rattle.stm_region.specs.Layout.{first_cell}
+use Rattle.stm_region.proofs.Ending.{ends_with}
+use Rattle.stm_region.proofs.region.Region.close.Goals as goal
+
+pub returns-clause-ends : goal.returns-clause-ends
+returns-clause-ends g c =
+    let v = c.args.client.value in
+    let grants = ap (λ w. w.value.grants) c.client.view_is in
+    let stripes = ap (λ w. w.stripes) c.self.view_is in
+    let behind = c.self.invariant.behind in
+    ends_with g.L.Law.fits g.L.Law.lawful c.args.self _ c.into_table-table.ensures.key _ _ v (ap (λ w. w.0) c.into_parts-seat.ensures.seat.1) c.requires.free_handed (omega (arith, c.client.invariant)) _ _ c.close_with-closed.ensures.values.2 _ _
+    (c.unload-clock.ensures.words ∙ ap (λ n. drop n (slots_items c.close_with-closed.result.words)) (behind ∙ ap first_cell stripes)) (c.in-Some.ensures.some ∙ c.unload-clock.ensures.clock)
