@@ -7,3 +7,6 @@ mod script;
 
 pub use command_line::{refuse_words, run_words};
 pub use script::{RunFault, run_script};
+
+#[cfg(test)]
+mod tests;
