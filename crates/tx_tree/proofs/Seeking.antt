@@ -34,6 +34,12 @@ path_set xs root top i v l h = get_or-set_other xs i 0 v 0 (omega arith) ∙ h
 path_set xs root (step right c r o w) i v l h =
     (get_or-set_other xs i (depth w + 1) v 0 (omega arith) ∙ h.0, path_set xs root w i v (omega arith) h.1)
 
+-- the first link is set
+pub start_link : (xs ys : List ℕ) (root : ℕ) → length ys ≡ 40 → ys ≡ slice_set xs 0 root → slice_index ys 0 ≡ root
+start_link xs ys root l e =
+    let n : length xs ≡ 40 = sym (length-set xs 0 root) ∙ (ap length (sym e) ∙ l) in
+    ap (λ (zs : List ℕ). slice_index zs 0) e ∙ get_or-set_same xs 0 root 0 (omega (arith, n))
+
 pub path_step : (xs : List ℕ) (root : ℕ) (w : Way) (d : ℕ) (right c : Bool) (k b : ℕ) (o : Tree) → d ≡ depth w → d + 1 < length xs → IsPath xs root w → IsPath (slice_set xs (d + 1) (b + off right)) root (step right c (k, b) o w)
 path_step xs root w d right c k b o e l h =
     let e' : depth w + 1 ≡ d + 1 = omega arith in

@@ -14,6 +14,7 @@ mod insertion;
 mod laws;
 mod mending;
 mod nodes;
+mod path;
 pub mod place;
 mod removal;
 mod search;

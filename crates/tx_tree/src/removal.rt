@@ -5,8 +5,9 @@ ghost use Rattle.tx_tree.specs.Next.{HasBoth, NextUnlinked};
 
 use crate::mending::repair_black;
 use crate::nodes::{is_red, load_node, transplant};
+use crate::path::Path;
 use crate::place::{BLACK, COLOUR, LEFT, RIGHT};
-use crate::search::{LEVELS, Path, seek, seek_successor};
+use crate::search::{seek, seek_successor};
 use stm_words::{Addr, TxMem, store};
 use tx_alloc::Block;
 
@@ -24,7 +25,7 @@ pub fn unlink<M: TxMem>(
         Unlinked (M.view memory.old) (M.view memory.new) path.now depth node child) }
 {
     let node_red = is_red(memory, node)?;
-    store(memory, Addr(path[depth]), child as u64)?;
+    store(memory, Addr(path.link(depth)), child as u64)?;
     if node_red {
         return Ok(());
     }
@@ -66,14 +67,14 @@ pub fn unlink_with_successor<M: TxMem>(
     ensures answer { IfOk result (λ _.
         NextUnlinked (M.view memory.old) (M.view memory.new) path.old depth node) }
 {
-    let upper = path[depth];
-    path[depth + 1] = node + RIGHT;
+    let upper = path.link(depth);
+    path.set(depth + 1, node + RIGHT);
     let (last, successor) = seek_successor(memory, path, depth + 1)?;
     let child = load_node(memory, successor + RIGHT)?;
     let successor_red = is_red(memory, successor)?;
-    store(memory, Addr(path[last]), child as u64)?;
+    store(memory, Addr(path.link(last)), child as u64)?;
     transplant(memory, upper, node, successor)?;
-    path[depth + 1] = successor + RIGHT;
+    path.set(depth + 1, successor + RIGHT);
     if successor_red {
         return Ok(());
     }
@@ -89,7 +90,7 @@ pub fn remove<M: TxMem>(memory: &mut M, root: Addr, key: u64) -> Result<Option<B
         (Found (M.view memory.old) (M.view memory.new) root.0 key 0)
         (λ block. Removed (M.view memory.old) (M.view memory.new) root.0 key block.0.0)) }
 {
-    let mut path: Path = [0; LEVELS];
+    let mut path = Path::new();
     let (depth, node) = seek(memory, root.0, key, &mut path)?;
     if node == 0 {
         return Ok(None);

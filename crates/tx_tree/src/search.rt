@@ -4,17 +4,10 @@ ghost use Rattle.tx_tree.specs.Steps.{Sought};
 ghost use Rattle.tx_tree.specs.Lowest.{HasSpan, Lowest};
 
 use crate::nodes::load_node;
+use crate::path::{LEVELS, Path};
 use crate::place::{LEFT, RIGHT};
 use stm_words::{Addr, TxRead, load};
 use tx_alloc::Block;
-
-/// How many links a path has. A tree of 262,144 nodes has at most 36 nodes on a way down.
-pub const LEVELS: usize = 40;
-
-/// The way down from the root word. A link is the address of a word that leads to a node: the root
-/// word, or a left or right word of the node that the link before it leads to. So a link gives the
-/// parent's block and the side, and no node has a word for its parent.
-pub type Path = [u32; LEVELS];
 
 /// An entry of a table: its key and its block.
 #[derive(Clone, Copy, Debug, PartialEq, Eq)]
@@ -92,10 +85,10 @@ pub fn seek<M: TxRead>(
     ensures answer { IfOk result (λ end.
         Sought (M.view memory.old) (M.view memory.new) root key path.new end.0 end.1) }
 {
-    path[0] = root;
+    path.set(0, root);
     let mut depth = 0;
     loop {
-        let node = load_node(memory, path[depth])?;
+        let node = load_node(memory, path.link(depth))?;
         if node == 0 {
             return Ok((depth, 0));
         }
@@ -105,7 +98,7 @@ pub fn seek<M: TxRead>(
         }
         let side = if key < found { LEFT } else { RIGHT };
         depth += 1;
-        path[depth] = node + side;
+        path.set(depth, node + side);
     }
 }
 
@@ -122,14 +115,14 @@ pub fn seek_successor<M: TxRead>(
         Lowest (M.view memory.old) (M.view memory.new) path.old depth path.new end.0 end.1) }
 {
     let mut depth = depth;
-    let mut node = load_node(memory, path[depth])?;
+    let mut node = load_node(memory, path.link(depth))?;
     loop {
         let left = load_node(memory, node + LEFT)?;
         if left == 0 {
             return Ok((depth, node));
         }
         depth += 1;
-        path[depth] = node + LEFT;
+        path.set(depth, node + LEFT);
         node = left;
     }
 }

@@ -10,7 +10,7 @@ overflow_sub-side g c =
 
 pub load_node-requires : goal.load_node-requires
 load_node-requires g c =
-    record { leads = way_beside _ _ _ (short_way _ _ _ c.requires.short) c.requires.deep (g.met.M.TxRead.seen c.args.memory.now) }
+    record { leads = rw (c.parent-parent.ensures.node, c.parent-parent.ensures.side) (way_beside _ _ _ (short_way _ _ _ c.requires.short) c.requires.deep (g.met.M.TxRead.seen c.args.memory.now)) }
 
 pub overflow_sub-side-then-sibling_red : goal.overflow_sub-side-then-sibling_red
 overflow_sub-side-then-sibling_red g c =
@@ -39,20 +39,20 @@ overflow_sub-side-then-sibling_red-2 g c =
 
 pub load_node-requires-then-sibling_red : goal.load_node-requires-then-sibling_red
 load_node-requires-then-sibling_red g c =
-    record { leads = raised_leads _ _ _ _ _ _ _ _ c.requires.short c.requires.deep c.in_ok-sibling.ensures.answer c.in_ok-sibling_red.ensures.answer c.if-sibling_red.true c.in_ok-rotate_and_recolour.ensures.answer (g.met.M.TxRead.seen c.rotate_and_recolour.new.memory) }
+    record { leads = rw (c.parent-parent.ensures.node, c.parent-parent.ensures.side) (raised_leads _ _ _ _ _ _ _ _ c.requires.short c.requires.deep (rw (c.parent-parent.ensures.node, c.parent-parent.ensures.side) at c.in_ok-sibling.ensures.answer) c.in_ok-sibling_red.ensures.answer c.if-sibling_red.true (rw (c.link-upper.ensures, c.parent-parent.ensures.node, c.parent-parent.ensures.side) at c.in_ok-rotate_and_recolour.ensures.answer) (g.met.M.TxRead.seen c.rotate_and_recolour.new.memory)) }
 
 pub repair_at_black_sibling-requires : goal.repair_at_black_sibling-requires
 repair_at_black_sibling-requires g c =
-    record { lift = has_lift_red _ _ _ _ _ _ c.requires.short (red_seen _ _ _ _ _ _ _ _ _ _ c.requires.deep c.in_ok-sibling.ensures.answer c.in_ok-sibling_red.ensures.answer c.if-sibling_red.true c.in_ok-rotate_and_recolour.ensures.answer c.in_ok-inner.ensures.answer) }
+    record { lift = rw (c.parent-parent.ensures.node, c.parent-parent.ensures.side) (has_lift_red _ _ _ _ _ _ c.requires.short (red_seen _ _ _ _ _ _ _ _ _ _ c.requires.deep (rw (c.parent-parent.ensures.node, c.parent-parent.ensures.side) at c.in_ok-sibling.ensures.answer) c.in_ok-sibling_red.ensures.answer c.if-sibling_red.true (rw (c.link-upper.ensures, c.parent-parent.ensures.node, c.parent-parent.ensures.side) at c.in_ok-rotate_and_recolour.ensures.answer) (rw (c.parent-parent.ensures.node, c.parent-parent.ensures.side) at c.in_ok-inner.ensures.answer))) }
 
 pub returns-then-sibling_red-clause-answer : goal.returns-then-sibling_red-clause-answer
 returns-then-sibling_red-clause-answer g c =
-    stepped_red _ _ _ _ _ _ _ _ (red_seen _ _ _ _ _ _ _ _ _ _ c.requires.deep c.in_ok-sibling.ensures.answer c.in_ok-sibling_red.ensures.answer c.if-sibling_red.true c.in_ok-rotate_and_recolour.ensures.answer c.in_ok-inner.ensures.answer) c.in_ok-done.ensures.answer
+    stepped_red _ _ _ _ _ _ _ _ (red_seen _ _ _ _ _ _ _ _ _ _ c.requires.deep (rw (c.parent-parent.ensures.node, c.parent-parent.ensures.side) at c.in_ok-sibling.ensures.answer) c.in_ok-sibling_red.ensures.answer c.if-sibling_red.true (rw (c.link-upper.ensures, c.parent-parent.ensures.node, c.parent-parent.ensures.side) at c.in_ok-rotate_and_recolour.ensures.answer) (rw (c.parent-parent.ensures.node, c.parent-parent.ensures.side) at c.in_ok-inner.ensures.answer)) (rw (c.parent-parent.ensures.node, c.parent-parent.ensures.side) at c.in_ok-done.ensures.answer)
 
 pub repair_at_black_sibling-requires-2 : goal.repair_at_black_sibling-requires-2
 repair_at_black_sibling-requires-2 g c =
-    record { lift = has_lift _ _ _ _ _ c.requires.short c.requires.deep (black_seen _ _ _ _ _ _ _ c.in_ok-sibling.ensures.answer c.in_ok-sibling_red.ensures.answer c.if-sibling_red.false) }
+    record { lift = rw (c.link.ensures, c.parent-parent.ensures.node, c.parent-parent.ensures.side) (has_lift _ _ _ _ _ c.requires.short c.requires.deep (black_seen _ _ _ _ _ _ _ (rw (c.parent-parent.ensures.node, c.parent-parent.ensures.side) at c.in_ok-sibling.ensures.answer) c.in_ok-sibling_red.ensures.answer c.if-sibling_red.false)) }
 
 pub returns-clause-answer : goal.returns-clause-answer
 returns-clause-answer g c =
-    stepped _ _ _ _ _ _ _ c.requires.deep (black_seen _ _ _ _ _ _ _ c.in_ok-sibling.ensures.answer c.in_ok-sibling_red.ensures.answer c.if-sibling_red.false) c.in_ok-done-2.ensures.answer
+    stepped _ _ _ _ _ _ _ c.requires.deep (black_seen _ _ _ _ _ _ _ (rw (c.parent-parent.ensures.node, c.parent-parent.ensures.side) at c.in_ok-sibling.ensures.answer) c.in_ok-sibling_red.ensures.answer c.if-sibling_red.false) (rw (c.link.ensures, c.parent-parent.ensures.node, c.parent-parent.ensures.side) at c.in_ok-done-2.ensures.answer)
