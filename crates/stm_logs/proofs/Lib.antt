@@ -13,3 +13,4 @@ pub mod ChainLemmas
 pub mod ClearLemmas
 pub mod StripeLemmas
 pub mod LockLemmas
+pub mod Crosses

@@ -4,7 +4,7 @@ ghost use Rattle.core.specs.Mem.Slots.Ownership.{Filled, owned, lent, leased};
 ghost use Rattle.core.specs.Allocator.{FitsBlock};
 
 use std::alloc::{AllocError, Allocator};
-use std::marker::{Model, PhantomData};
+use std::marker::{Model, PhantomData, Send};
 use std::mem::{align_of, size_of};
 
 /// Places for values, one after the other in one block. `items` has a value for each place, and
@@ -23,6 +23,9 @@ impl<T> Model for Row<T> {
 
     ghost also_shares = { λ a _ κ. lent T.row a.ptr a.len a.items a.filled κ };
 }
+
+// A row's places are its own.
+unsafe impl<T: Send> Send for Row<T> {}
 
 impl<T> Row<T> {
     /// The value at place `i`.
@@ -57,6 +60,9 @@ pub(crate) struct Right<T, A: Allocator> {
 impl<T, A: Allocator> Model for Right<T, A> {
     ghost also_owns = { λ l. leased (A.dealloc_token l.alloc) T.row l.ptr l.len };
 }
+
+// What an allocator gave out may be given back from any thread, where the allocator may cross.
+unsafe impl<T, A: Allocator + Send> Send for Right<T, A> {}
 
 /// A row of `n` empty places, and the right to free it.
 ///
