@@ -21,7 +21,7 @@ use Rattle.tx_list.specs.Bookings.{IsList}
 use Rattle.vac_records.specs.Bookings.{kind_of, place_in, booking_in, place_key}
 use Rattle.vac_records.specs.Heap.{Parts, IsHeap}
 use Rattle.vac_records.specs.Represents.{items_in, bookings_in, customers_in, opened, Represents}
-use Rattle.vac_records.specs.Laws.{BookingFound, BookingMissing, BookingInserted, BookingReplaced, BookingRemoved, IsCustomerAt}
+use Rattle.vac_records.specs.Laws.{Stays, BookingFound, BookingMissing, BookingInserted, BookingReplaced, BookingRemoved, IsCustomerAt}
 use Rattle.vac_records.proofs.Keyed.{HasRow, Matches, entries_remove, find_absent, find_present, put_absent, put_present, cut_present, row_at, row_times, two_rows}
 use Rattle.tx_tree.proofs.TableFrame.{table_rises}
 use Rattle.tx_list.proofs.Frame.{list_from}
@@ -149,7 +149,8 @@ module _ (m : ℕ → ℕ) (n : ℕ) (out : List ℕ) (s : State) (h : Represent
 
   pub removed_booking : (m' : ℕ → ℕ) (place : Place) (b : ℕ) → place.1 < 2 ^ 32 → block_at (h.parts.lists c) (place_key place) ≡ b → b ≢ 0 →
       IsList m' n (m' (c + 4)) (cut_row (h.parts.lists c) (place_key place)) → Relinks m m' 3 (c + 4) (h.parts.lists c) →
-      Represents m' n (b ∷ out) (record s { customers = insert s.customers id (remove bookings place) })
+      Stays h m' (b ∷ out) (record s { customers = insert s.customers id (remove bookings place) })
+  unfolding shifts_customers
   removed_booking m' place b small is some new r =
       let p = h.parts in
       let ls = p.lists c in
@@ -157,7 +158,7 @@ module _ (m : ℕ → ℕ) (n : ℕ) (out : List ℕ) (s : State) (h : Represent
       let rest : Rows = cut_row ls key in
       let kept = words m' ls r (λ a o. in_list m n p h.heap c a there o) in
       let here : with_at p.lists c rest c ≡ rest = with_here p.lists c c rest refl in
-      shifts_customers m m' n out (b ∷ out) s h (insert s.customers id (remove bookings place)) (record p { lists = with_at p.lists c rest; out = b ∷ p.out }) (unbooked m m' n c key b p h.heap there is some new r) (ap (λ (z : List ℕ). b ∷ z) h.held)
+      let after = shifts_customers m m' n out (b ∷ out) s h (insert s.customers id (remove bookings place)) (record p { lists = with_at p.lists c rest; out = b ∷ p.out }) (unbooked m m' n c key b p h.heap there is some new r) (ap (λ (z : List ℕ). b ∷ z) h.held)
       (items_kept m' kept)
       (rebooked m' (remove bookings place) (with_at p.lists c rest)
       (entries_remove place_cmp_total place_cmp-IsAntisymmetric bookings place
@@ -167,10 +168,12 @@ module _ (m : ℕ → ℕ) (n : ℕ) (out : List ℕ) (s : State) (h : Represent
       let oa : 0 < times a ls = omega (arith, o, times_cut a key b ls is some) in
       kept a k (in_list m n p h.heap c a there oa) (list_not_table m n p h.heap c a 3 c there oa (omega arith) there) nk less))
       ∙ ap (bookings_in m') (sym here)))))
-      (λ d o ne. let e = with_else p.lists c d rest ne in ap (bookings_in m') e ∙ others_kept m' kept d o))
+      (λ d o ne. let e = with_else p.lists c d rest ne in ap (bookings_in m') e ∙ others_kept m' kept d o)) in
+      record { after = after; tables = λ j lj. refl }
 
   pub replaced_booking : (m' : ℕ → ℕ) (place : Place) (b : ℕ) → place.1 < 2 ^ 32 → block_at (h.parts.lists c) (place_key place) ≡ b → b ≢ 0 →
-      ((x : ℕ) → x ≢ b + 2 → x ≢ b + 4 → m' x ≡ m x) → Represents m' n out (record s { customers = insert s.customers id (insert bookings place (booking_in m' b)) })
+      ((x : ℕ) → x ≢ b + 2 → x ≢ b + 4 → m' x ≡ m x) → Stays h m' out (record s { customers = insert s.customers id (insert bookings place (booking_in m' b)) })
+  unfolding shifts_customers
   replaced_booking m' place b small is some w =
       let p = h.parts in
       let ls = p.lists c in
@@ -179,7 +182,7 @@ module _ (m : ℕ → ℕ) (n : ℕ) (out : List ℕ) (s : State) (h : Represent
       let tb = row_times key b ls row in
       let bb = in_list m n p h.heap c b there tb in
       let far : (x k : ℕ) → IsBlock n x → x ≢ b → k < 8 → m' (x + k) ≡ m (x + k) = λ x k bx nb less. w (x + k) (omega (arith, bx.1.1, bb.1.1)) (omega (arith, bx.1.1, bb.1.1)) in
-      shifts_customers m m' n out out s h (insert s.customers id (insert bookings place (booking_in m' b))) p (booked_law m m' n c b p h.heap there tb w) h.held
+      let after = shifts_customers m m' n out out s h (insert s.customers id (insert bookings place (booking_in m' b))) p (booked_law m m' n c b p h.heap there tb w) h.held
       (λ j l. items_frame m m' (p.tables j) (λ a k o low less.
       far a k (in_table m n p h.heap j a (omega arith) o) (λ q. list_not_table m n p h.heap c b j a there tb (omega arith) o (sym q)) less))
       (rebooked m' (insert bookings place (booking_in m' b)) p.lists
@@ -192,7 +195,8 @@ module _ (m : ℕ → ℕ) (n : ℕ) (out : List ℕ) (s : State) (h : Represent
       (λ k a r ne.
       let na : a ≢ b = λ q. absurd (omega (arith, two_rows k key a ls r (subst (λ (z : ℕ). HasRow key z ls) (sym q) row) ne, list_once a)) in
       booking_same m m' a (λ j nj less. far a j (in_list m n p h.heap c a there (row_times k a ls r)) na less))))
-      (λ d o ne. bookings_frame m m' (p.lists d) (λ a k o' nk less. far a k (in_list m n p h.heap d a o o') (lists_apart d a b ne o o' tb) less)))
+      (λ d o ne. bookings_frame m m' (p.lists d) (λ a k o' nk less. far a k (in_list m n p h.heap d a o o') (lists_apart d a b ne o o' tb) less))) in
+      record { after = after; tables = λ j lj. refl }
 
 module _ (m : ℕ → ℕ) (n b : ℕ) (out : List ℕ) (s : State) (bb : IsBlock n b) (h : Represents m n (b ∷ out) s) (id c : ℕ) (bookings : Bookings) (at : IsCustomerAt h id c bookings) where
   tc : 0 < times c (h.parts.tables 3)
@@ -200,7 +204,8 @@ module _ (m : ℕ → ℕ) (n b : ℕ) (out : List ℕ) (s : State) (bb : IsBloc
 
   pub inserted_booking : (m' : ℕ → ℕ) (place : Place) → place.1 < 2 ^ 32 → block_at (h.parts.lists c) (place_key place) ≡ 0 → place_in m b ≡ place →
       IsList m' n (m' (c + 4)) (put_row (h.parts.lists c) (place_key place) b) → Relinks m m' 3 (c + 4) (put_row (h.parts.lists c) (place_key place) b) →
-      Represents m' n out (record s { customers = insert s.customers id (insert bookings place (booking_in m b)) })
+      Stays h m' out (record s { customers = insert s.customers id (insert bookings place (booking_in m b)) })
+  unfolding shifts_customers
   inserted_booking m' place small none is new r =
       let p = h.parts in
       let ls = p.lists c in
@@ -216,7 +221,7 @@ module _ (m : ℕ → ℕ) (n b : ℕ) (out : List ℕ) (s : State) (bb : IsBloc
             let t : times a longer ≡ times a ls = (let f : nat_eq b a ≡ false = grind (arith, nat_tests) in times_put a key b ls ∙ rw (f, zero-add) refl) in
             list_not_table m n p h.heap c a 3 c tc (omega (arith, o, t)) (omega arith) tc)
       ] in
-      shifts_customers m m' n (b ∷ out) out s h (insert s.customers id (insert bookings place (booking_in m b))) (record p { lists = with_at p.lists c longer; out = out }) (booked m m' n c key b out p h.heap tc bb h.held new r) refl
+      let after = shifts_customers m m' n (b ∷ out) out s h (insert s.customers id (insert bookings place (booking_in m b))) (record p { lists = with_at p.lists c longer; out = out }) (booked m m' n c key b out p h.heap tc bb h.held new r) refl
       (items_kept m n (b ∷ out) s h id c bookings at m' kept)
       (rebooked m n (b ∷ out) s h id c bookings at m' (insert bookings place (booking_in m b)) (with_at p.lists c longer)
       (entries-insert place_cmp_total bookings place (booking_in m b)
@@ -224,7 +229,8 @@ module _ (m : ℕ → ℕ) (n b : ℕ) (out : List ℕ) (s : State) (bb : IsBloc
       ∙ (put_absent place_cmp place key (slot m) (booking_in m b) 0 b ls (list_from m n (m (c + 4)) ls (h.heap.lists c tc)) (matches m n (b ∷ out) s h id c bookings at place small) (list_some m n (m (c + 4)) ls (h.heap.lists c tc)) none
       (ap (λ (z : Place). (z, booking_in m b)) is)
       ∙ (sym (bookings_frame m m' longer (λ a k o nk less. kept a k (blocks a o) (apart a o) nk less)) ∙ ap (bookings_in m') (sym here)))))
-      (λ d o ne. let e = with_else p.lists c d longer ne in ap (bookings_in m') e ∙ others_kept m n (b ∷ out) s h id c bookings at m' kept d o))
+      (λ d o ne. let e = with_else p.lists c d longer ne in ap (bookings_in m') e ∙ others_kept m n (b ∷ out) s h id c bookings at m' kept d o)) in
+      record { after = after; tables = λ j lj. refl }
 
 pub booking_found : BookingFound
 booking_found m n out s h id c bookings place b at is = found m n out s h id c bookings at place b is.small is.at is.some

@@ -83,6 +83,7 @@ none_in g [] ys e f = refl
 none_in {A} {B} g (x ∷ xs) ys e f = absurd (let z : ◌≡◌ {A = List B} [] (g x ∷ map g xs) = sym f ∙ e in cc)
 
 pub customer_inserted : CustomerInserted
+unfolding shifts_customers
 customer_inserted m m' n b out s id bb h none zero_head grown =
     let p = h.parts in
     let rows = p.tables 3 in
@@ -114,7 +115,7 @@ customer_inserted m m' n b out s id bb h none zero_head grown =
           let far : times a rows ≡ 0 = elim (same_or (times a rows) 0) [ inl z ↦ z | inr nz ↦ absurd (list_not_table m n p h.heap c a 3 a oc oa l4 (omega arith) refl) ] in
           inserting.same m m' n 3 id b out q g l4 bb h.held bare zero grown.table grown.relinks a k ba far na less)
     ]) in
-    shifts_customers m m' n (b ∷ out) out s h (insert s.customers id empty) (record q { tables = with_at q.tables 3 (put_row (q.tables 3) id b); out = out }) heap refl
+    let after = shifts_customers m m' n (b ∷ out) out s h (insert s.customers id empty) (record q { tables = with_at q.tables 3 (put_row (q.tables 3) id b); out = out }) heap refl
     (λ j lj.
     let ne : j ≢ 3 = omega (arith, lj) in
     let is = with_else p.tables 3 j (put_row rows id b) ne in
@@ -127,9 +128,15 @@ customer_inserted m m' n b out s id bb h none zero_head grown =
     ∙ (ap (λ (z : List Entry). put nat_cmp id z (opened (entries s.customers))) (entries-empty place_cmp)
     ∙ (ap (λ (z : List (ℕ × List Entry)). put nat_cmp id [] z) (h.customers ∙ sym old)
     ∙ (put_absent nat_cmp id id (shelf m ls) [] 0 b rows (table_rises m n (m 4) rows (h.heap.tables 3 l4)) (shelf_matches m ls id rows) (table_some m n (m 4) rows (h.heap.tables 3 l4)) none first
-    ∙ (sym (customers_frame m m' ls ls (put_row rows id b) new) ∙ ap (customers_in m' ls) (sym is)))))))
+    ∙ (sym (customers_frame m m' ls ls (put_row rows id b) new) ∙ ap (customers_in m' ls) (sym is))))))) in
+    record {
+      after = after;
+      table = with_here p.tables 3 3 (put_row rows id b) refl;
+      tables = λ j lj ne. with_else p.tables 3 j (put_row rows id b) ne;
+    }
 
 pub customer_removed : CustomerRemoved
+unfolding shifts_customers
 customer_removed m m' n out s id c h at cut =
     let p = h.parts in
     let rows = p.tables 3 in
@@ -138,7 +145,7 @@ customer_removed m m' n out s id c h at cut =
     let none : (3 < 3) ⊎ (p.lists c ≡ []) = inr none_there in
     let heap = removed m m' n 3 id c p h.heap l4 at.at at.some none cut.table cut.relinks in
     let blocks = removing.blocks m m' n 3 id c p h.heap l4 at.at at.some none cut.table cut.relinks in
-    shifts_customers m m' n out (c ∷ out) s h (remove s.customers id) (record p { tables = with_at p.tables 3 (cut_row rows id); out = c ∷ p.out }) heap (ap (λ (z : List ℕ). c ∷ z) h.held)
+    let after = shifts_customers m m' n out (c ∷ out) s h (remove s.customers id) (record p { tables = with_at p.tables 3 (cut_row rows id); out = c ∷ p.out }) heap (ap (λ (z : List ℕ). c ∷ z) h.held)
     (λ j lj.
     let ne : j ≢ 3 = omega (arith, lj) in
     let is = with_else p.tables 3 j (cut_row rows id) ne in
@@ -156,4 +163,9 @@ customer_removed m m' n out s id c h at cut =
     let ba = in_list m n p h.heap d a od o' in
     let far : times a rows ≡ 0 = elim (same_or (times a rows) 0) [ inl z ↦ z | inr nz ↦ absurd (list_not_table m n p h.heap d a 3 a od o' l4 (omega arith) refl) ] in
     removing.same m m' n 3 id c p h.heap l4 at.at at.some none cut.table cut.relinks a k ba far less)))
-    ∙ ap (customers_in m' p.lists) (sym is))))))
+    ∙ ap (customers_in m' p.lists) (sym is)))))) in
+    record {
+      after = after;
+      table = with_here p.tables 3 3 (cut_row rows id) refl;
+      tables = λ j lj ne. with_else p.tables 3 j (cut_row rows id) ne;
+    }

@@ -12,12 +12,15 @@ use Rattle.vac_records.proofs.Take.{take_law, write_law, give_law}
 use Rattle.vac_records.proofs.Shifts.{keeps, all_same, out_first}
 
 pub block_taken : BlockTaken
+unfolding keeps
 block_taken m m' n start b out s h t =
     let p = h.parts in
     let same = all_same m m' n p h.heap (λ x k bx _ _ less. t.write.others (x + k) (omega (arith, bx.1.1, t.is_list))) in
-    keeps m m' n out (b ∷ out) s h (record p { free = with_at p.free t.list t.rest; out = b ∷ p.out }) (take_law m m' n start b p h.heap t) (ap (λ (z : List ℕ). b ∷ z) h.held) same.0 same.1
+    let after = keeps m m' n out (b ∷ out) s h (record p { free = with_at p.free t.list t.rest; out = b ∷ p.out }) (take_law m m' n start b p h.heap t) (ap (λ (z : List ℕ). b ∷ z) h.held) same.0 same.1 in
+    record { after = after; tables = λ j lj. refl }
 
 pub block_written : BlockWritten
+unfolding keeps
 block_written m m' n b out s bb h w =
     let p = h.parts in
     let o = out_first p b out h.held in
@@ -25,7 +28,8 @@ block_written m m' n b out s bb h w =
       | inl below ↦ inl (omega (arith, bx.1.1, bb.1.1))
       | inr above ↦ inr (let ne : x ≢ b = λ q. absurd (omega (arith, o, none, ap (λ (z : ℕ). held z p.out) q)) in omega (arith, bx.1.1, bb.1.1))
     ])) in
-    keeps m m' n (b ∷ out) (b ∷ out) s h p (write_law m m' n b out p h.heap bb h.held w) h.held same.0 same.1
+    let after = keeps m m' n (b ∷ out) (b ∷ out) s h p (write_law m m' n b out p h.heap bb h.held w) h.held same.0 same.1 in
+    record { after = after; tables = λ j lj. refl }
 
 -- a block in hand is taken
 pub out_used : (m : ℕ → ℕ) (n b : ℕ) (out : List ℕ) (p : Parts) → IsHeap m n p → IsBlock n b → p.out ≡ b ∷ out → IsUsed m n p.free (used_in (record p { out = out })) (count_in (record p { out = out })) b
@@ -36,6 +40,7 @@ out_used m n b out p h bb is = record {
 }
 
 pub block_given : BlockGiven
+unfolding keeps
 block_given m m' n start b out s l bb h give =
     let p = h.parts in
     let g = give (used_in (record p { out = out })) (count_in (record p { out = out })) (out_used m n b out p h.heap bb h.held) in
@@ -43,4 +48,5 @@ block_given m m' n start b out s l bb h give =
     let same = all_same m m' n p h.heap (λ x k bx _ none less.
     let ne : x ≢ b = λ q. absurd (omega (arith, o, none, ap (λ (z : ℕ). held z p.out) q)) in
     g.others (x + k) (omega (arith, bx.1.1, bb.1.1)) (omega (arith, bx.1.1))) in
-    keeps m m' n (b ∷ out) out s h (record p { free = with_at p.free start (b ∷ p.free start); out = out }) (give_law m m' n start b out p h.heap l bb h.held g) refl same.0 same.1
+    let after = keeps m m' n (b ∷ out) out s h (record p { free = with_at p.free start (b ∷ p.free start); out = out }) (give_law m m' n start b out p h.heap l bb h.held g) refl same.0 same.1 in
+    record { after = after; tables = λ j lj. refl }

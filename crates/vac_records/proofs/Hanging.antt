@@ -104,6 +104,7 @@ unbooked_none s s1 head customer kind id key eh ek ei r =
     record {
       kept = t.kept;
       none = λ e. t.none refl;
+      within = tt;
       is = t.is;
       units = λ image i. tt;
       list = t.list;
@@ -127,6 +128,7 @@ unbooked_at s s1 s2 head customer kind id key block units eh ek ei h r l =
     record {
       kept = kept_both s s1 s2 t.kept l.kept;
       none = λ e. absurd (let z : ◌≡◌ {A = Option (Block × ℕ)} (Some (block, units)) None = e in cc);
+      within = (let w = t.within in (w.0, omega (arith, w.1, l.kept.size)));
       is = λ image rows i at. t.is image rows (l.kept.seen image i) at;
       units = λ image i.
           let j = l.kept.seen image i in

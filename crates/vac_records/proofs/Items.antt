@@ -53,6 +53,7 @@ put_item : (m : ℕ → ℕ) (t : Table) (rows : Rows) (id : ℕ) (item : Item) 
 put_item m t rows id item e = entries-insert nat_cmp_total t id item ∙ ap (λ (z : List (ℕ × Item)). put nat_cmp id item z) e
 
 pub item_inserted : ItemInserted
+unfolding shifts_table
 item_inserted m m' n b out s kind id bb h none grown =
     let i = kind_number kind in
     let l = kind_small kind in
@@ -74,7 +75,7 @@ item_inserted m m' n b out s kind id bb h none grown =
     let ba = in_table m n p h.heap j a lj o in
     outside_links m m' n (1 + i) a k (put_row rows id b) grown.relinks blocks ba low less (omega (arith, ba.1.1)) in
     let ne3 : 3 ≢ i = omega (arith, l) in
-    shifts_table m m' n (b ∷ out) out s h kind (insert (table_of s kind) id (item_in m b)) (record q { tables = with_at q.tables i (put_row (q.tables i) id b); out = out }) heap refl
+    let after = shifts_table m m' n (b ∷ out) out s h kind (insert (table_of s kind) id (item_in m b)) (record q { tables = with_at q.tables i (put_row (q.tables i) id b); out = out }) heap refl
     (let is : with_at p.tables i (put_row rows id b) i ≡ put_row rows id b = with_here p.tables i i (put_row rows id b) refl in
     put_item m (table_of s kind) rows id (item_in m b) (h.items kind)
     ∙ put_absent nat_cmp id id (entry m) (item_in m b) 0 b rows (table_rises m n (m (1 + i)) rows (h.heap.tables i l4)) (matches m id rows) (table_some m n (m (1 + i)) rows (h.heap.tables i l4)) none refl
@@ -91,9 +92,15 @@ item_inserted m m' n b out s kind id bb h none grown =
     let ba = in_list m n p h.heap c a o o' in
     let na : a ≢ b = list_not_out m n p h.heap c a b o o' ob in
     let far : times a rows ≡ 0 = elim (same_or (times a rows) 0) [ inl z ↦ z | inr nz ↦ absurd (list_not_table m n p h.heap c a i a o o' l4 (omega arith) refl) ] in
-    inserting.same m m' n i id b out q g l4 bb h.held bare zero grown.table grown.relinks a k ba far na less)))
+    inserting.same m m' n i id b out q g l4 bb h.held bare zero grown.table grown.relinks a k ba far na less))) in
+    record {
+      after = after;
+      table = with_here p.tables i i (put_row rows id b) refl;
+      tables = λ j lj ne. with_else p.tables i j (put_row rows id b) ne;
+    }
 
 pub item_replaced : ItemReplaced
+unfolding shifts_table
 item_replaced m m' n out s kind id b h at w =
     let i = kind_number kind in
     let l = kind_small kind in
@@ -105,7 +112,7 @@ item_replaced m m' n out s kind id b h at w =
     let bb = in_table m n p h.heap i b l4 tb in
     let far : (x k : ℕ) → IsBlock n x → x ≢ b → k < 8 → m' (x + k) ≡ m (x + k) = λ x k bx ne less.
     w (x + k) (elim (cases_lt x b) [ inl below ↦ inl (omega (arith, bx.1.1, bb.1.1)) | inr above ↦ inr (omega (arith, bx.1.1, bb.1.1)) ]) in
-    shifts_table m m' n out out s h kind (insert (table_of s kind) id (item_in m' b)) p (payload_law m m' n i b p h.heap l tb w) h.held
+    let after = shifts_table m m' n out out s h kind (insert (table_of s kind) id (item_in m' b)) p (payload_law m m' n i b p h.heap l tb w) h.held
     (put_item m (table_of s kind) rows id (item_in m' b) (h.items kind)
     ∙ put_present nat_cmp id id (entry m) (entry m') (item_in m' b) 0 b rows (table_rises m n (m (1 + i)) rows (h.heap.tables i l4)) (matches m id rows) at.at at.some refl
     (λ k a r ne.
@@ -115,9 +122,11 @@ item_replaced m m' n out s kind id b h at w =
     (λ j lj ne. items_frame m m' (p.tables j) (λ a k o low less.
     far a k (in_table m n p h.heap j a (omega arith) o) (tables_apart m n p h.heap j i a b (omega arith) l4 ne o tb) less))
     (customers_frame m m' p.lists p.lists (p.tables 3) (λ c o. bookings_frame m m' (p.lists c) (λ a k o' nk less.
-    far a k (in_list m n p h.heap c a o o') (list_not_table m n p h.heap c a i b o o' l4 tb) less)))
+    far a k (in_list m n p h.heap c a o o') (list_not_table m n p h.heap c a i b o o' l4 tb) less))) in
+    record { after = after; tables = λ j lj. refl }
 
 pub item_removed : ItemRemoved
+unfolding shifts_table
 item_removed m m' n out s kind id b h at cut =
     let i = kind_number kind in
     let l = kind_small kind in
@@ -131,7 +140,7 @@ item_removed m m' n out s kind id b h at cut =
     let ba = in_table m n p h.heap j a lj o in
     outside_links m m' n (1 + i) a k rows cut.relinks blocks ba low less (omega (arith, ba.1.1)) in
     let ne3 : 3 ≢ i = omega (arith, l) in
-    shifts_table m m' n out (b ∷ out) s h kind (remove (table_of s kind) id) (record p { tables = with_at p.tables i (cut_row rows id); out = b ∷ p.out }) heap (ap (λ (z : List ℕ). b ∷ z) h.held)
+    let after = shifts_table m m' n out (b ∷ out) s h kind (remove (table_of s kind) id) (record p { tables = with_at p.tables i (cut_row rows id); out = b ∷ p.out }) heap (ap (λ (z : List ℕ). b ∷ z) h.held)
     (let is : with_at p.tables i (cut_row rows id) i ≡ cut_row rows id = with_here p.tables i i (cut_row rows id) refl in
     entries_remove nat_cmp_total nat_cmp-IsAntisymmetric (table_of s kind) id
     ∙ ap (λ (z : List (ℕ × Item)). where_key nat_cmp (λ x. not (eq_by_cmp nat_cmp id x)) z) (h.items kind)
@@ -145,4 +154,9 @@ item_removed m m' n out s kind id b h at cut =
     ∙ customers_frame m m' p.lists p.lists (p.tables 3) (λ c o. bookings_frame m m' (p.lists c) (λ a k o' nk less.
     let ba = in_list m n p h.heap c a o o' in
     let far : times a rows ≡ 0 = elim (same_or (times a rows) 0) [ inl z ↦ z | inr nz ↦ absurd (list_not_table m n p h.heap c a i a o o' l4 (omega arith) refl) ] in
-    removing.same m m' n i id b p h.heap l4 at.at at.some none cut.table cut.relinks a k ba far less)))
+    removing.same m m' n i id b p h.heap l4 at.at at.some none cut.table cut.relinks a k ba far less))) in
+    record {
+      after = after;
+      table = with_here p.tables i i (cut_row rows id) refl;
+      tables = λ j lj ne. with_else p.tables i j (cut_row rows id) ne;
+    }

@@ -44,17 +44,17 @@ one_table s Room t Car = inr (omega arith, refl)
 one_table s Room t Flight = inr (omega arith, refl)
 one_table s Room t Room = inl (refl, refl)
 
-same_customers : (s : State) (kind : Kind) (t : Table) → (with_table s kind t).customers ≡ s.customers
+pub same_customers : (s : State) (kind : Kind) (t : Table) → (with_table s kind t).customers ≡ s.customers
 same_customers s Car t = refl
 same_customers s Flight t = refl
 same_customers s Room t = refl
 
-same_capacity : (s : State) (kind : Kind) (t : Table) → (with_table s kind t).capacity ≡ s.capacity
+pub same_capacity : (s : State) (kind : Kind) (t : Table) → (with_table s kind t).capacity ≡ s.capacity
 same_capacity s Car t = refl
 same_capacity s Flight t = refl
 same_capacity s Room t = refl
 
-same_tables : (s : State) (cs : Customers) (k : Kind) → table_of (record s { customers = cs }) k ≡ table_of s k
+pub same_tables : (s : State) (cs : Customers) (k : Kind) → table_of (record s { customers = cs }) k ≡ table_of s k
 same_tables s cs Car = refl
 same_tables s cs Flight = refl
 same_tables s cs Room = refl
@@ -103,7 +103,7 @@ pub out_first : (p : Parts) (b : ℕ) (os : List ℕ) → p.out ≡ b ∷ os →
 out_first p b os is = omega (arith, held_first b os, ap (held b) is)
 
 -- the same state
-pub keeps : (m m' : ℕ → ℕ) (n : ℕ) (out out' : List ℕ) (s : State) (h : Represents m n out s) (p : Parts) → IsHeap m' n p → p.out ≡ out' →
+unfoldable pub keeps : (m m' : ℕ → ℕ) (n : ℕ) (out out' : List ℕ) (s : State) (h : Represents m n out s) (p : Parts) → IsHeap m' n p → p.out ≡ out' →
     ((j : ℕ) → j < 3 → items_in m' (p.tables j) ≡ items_in m (h.parts.tables j)) →
     customers_in m' p.lists (p.tables 3) ≡ customers_in m h.parts.lists (h.parts.tables 3) → Represents m' n out' s
 keeps m m' n out out' s h p heap is items customers = record {
@@ -116,7 +116,7 @@ keeps m m' n out out' s h p heap is items customers = record {
 }
 
 -- another table of one kind
-pub shifts_table : (m m' : ℕ → ℕ) (n : ℕ) (out out' : List ℕ) (s : State) (h : Represents m n out s) (kind : Kind) (t : Table) (p : Parts) → IsHeap m' n p → p.out ≡ out' →
+unfoldable pub shifts_table : (m m' : ℕ → ℕ) (n : ℕ) (out out' : List ℕ) (s : State) (h : Represents m n out s) (kind : Kind) (t : Table) (p : Parts) → IsHeap m' n p → p.out ≡ out' →
     entries t ≡ items_in m' (p.tables (kind_number kind)) →
     ((j : ℕ) → j < 3 → j ≢ kind_number kind → items_in m' (p.tables j) ≡ items_in m (h.parts.tables j)) →
     customers_in m' p.lists (p.tables 3) ≡ customers_in m h.parts.lists (h.parts.tables 3) → Represents m' n out' (with_table s kind t)
@@ -133,7 +133,7 @@ shifts_table m m' n out out' s h kind t p heap is new items customers = record {
 }
 
 -- other customers
-pub shifts_customers : (m m' : ℕ → ℕ) (n : ℕ) (out out' : List ℕ) (s : State) (h : Represents m n out s) (cs : Customers) (p : Parts) → IsHeap m' n p → p.out ≡ out' →
+unfoldable pub shifts_customers : (m m' : ℕ → ℕ) (n : ℕ) (out out' : List ℕ) (s : State) (h : Represents m n out s) (cs : Customers) (p : Parts) → IsHeap m' n p → p.out ≡ out' →
     ((j : ℕ) → j < 3 → items_in m' (p.tables j) ≡ items_in m (h.parts.tables j)) →
     opened (entries cs) ≡ customers_in m' p.lists (p.tables 3) → Represents m' n out' (record s { customers = cs })
 shifts_customers m m' n out out' s h cs p heap is items new = record {

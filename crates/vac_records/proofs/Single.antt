@@ -16,14 +16,14 @@ use Rattle.tx_list.proofs.Frame.{list_frame, list_block}
 use Rattle.vac_records.specs.Bookings.{place_in, booking_in}
 use Rattle.vac_records.specs.Heap.{Parts, over, used_in, count_in, IsHeap}
 use Rattle.vac_records.specs.Represents.{items_in, bookings_in, customers_in, opened, Represents}
-use Rattle.vac_records.specs.Laws.{OneState, SameWords, NoneLeft, SomeLeft}
+use Rattle.vac_records.specs.Laws.{OneState, OneShape, SameWords, NoneLeft, SomeLeft}
 use Rattle.vac_records.proofs.Links.{list_one}
 use Rattle.vac_records.proofs.Keyed.{HasRow, map_same, row_times}
 use Rattle.vac_records.proofs.Frames.{Entry, items_frame, bookings_frame, customers_frame, lengths, lengths_opened, lengths_customers, length_same, opened_one}
 use Rattle.vac_records.proofs.Shifts.{kind_small, in_table, in_list, keeps}
 
 module _ (m : ℕ → ℕ) (n : ℕ) (out out' : List ℕ) (s s' : State) (h : Represents m n out s) (g : Represents m n out' s') where
-  tables_one : (i : ℕ) → i < 4 → h.parts.tables i ≡ g.parts.tables i
+  pub tables_one : (i : ℕ) → i < 4 → h.parts.tables i ≡ g.parts.tables i
   tables_one i l = table_one m n (m (1 + i)) (h.parts.tables i) (g.parts.tables i) (h.heap.tables i l) (g.heap.tables i l)
 
   table_same : (kind : Kind) → table_of s kind ≡ table_of s' kind
@@ -48,6 +48,9 @@ module _ (m : ℕ → ℕ) (n : ℕ) (out out' : List ℕ) (s s' : State) (h : R
       let flights = table_same Flight in
       let rooms = table_same Room in
       λ i. record { capacity = capacity i; cars = cars i; flights = flights i; rooms = rooms i; customers = customers_same i }
+
+pub one_shape : OneShape
+one_shape m n out out' s s' h g i l = sym (tables_one m n out out' s s' h g i l)
 
 pub one_state : OneState
 one_state = same_state

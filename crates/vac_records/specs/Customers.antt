@@ -7,7 +7,7 @@ use Rattle.vac_model.specs.declared.items.Booking.{Booking}
 use Rattle.vac_model.specs.State.{Place, kind_number}
 use Rattle.vac_model.specs.Step.{new_booking}
 use Rattle.tx_alloc.specs.declared.pool.Block.{Block}
-use Rattle.tx_alloc.specs.Pointer.{pointer}
+use Rattle.tx_alloc.specs.Pointer.{pointer, IsWithin}
 use Rattle.tx_alloc.specs.Pool.{IsBlock}
 use Rattle.tx_alloc.specs.Rows.{Rows, times, put_row, cut_row, block_at, Relinks}
 use Rattle.tx_list.specs.Lists.{IsListAt, IsOutside}
@@ -111,6 +111,7 @@ pub record Unbooked (s s' : View) (customer : ℕ) (place : Place)
     (taken : Option (Block × ℕ)) : Type 0 where
   pub kept : Kept s s'
   pub none : taken ≡ None → s'.writes ≡ s.writes
+  pub within : IsWithin s' (block_of taken)
   pub is : (image : List ℕ) (rows : Rows) → Sees s' image →
       IsListAt (mem s image) (length image) (head_of customer) rows →
       pointer (block_of taken) ≡ block_at rows (place_key place)

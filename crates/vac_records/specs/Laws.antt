@@ -62,11 +62,30 @@ pub record HasBookings (m : ℕ → ℕ) (rows : Rows) (s : State) (id : ℕ) : 
   pub there : bookings_of s id ≡ Some bookings
   pub entries_are : entries bookings ≡ bookings_in m rows
 
+-- the memory m' represents the state s', with the tables that h has
+pub record Stays {m : ℕ → ℕ} {n : ℕ} {out : List ℕ} {s : State} (h : Represents m n out s)
+    (m' : ℕ → ℕ) (out' : List ℕ) (s' : State) : Type 0 where
+  pub after : Represents m' n out' s'
+  pub tables : (i : ℕ) → i < 4 → after.parts.tables i ≡ h.parts.tables i
+
+-- the same but for the j-th table, which has these rows
+pub record StaysBut {m : ℕ → ℕ} {n : ℕ} {out : List ℕ} {s : State} (h : Represents m n out s)
+    (j : ℕ) (rows : Rows) (m' : ℕ → ℕ) (out' : List ℕ) (s' : State) : Type 0 where
+  pub after : Represents m' n out' s'
+  pub table : after.parts.tables j ≡ rows
+  pub tables : (i : ℕ) → i < 4 → i ≢ j → after.parts.tables i ≡ h.parts.tables i
+
 -- a memory represents at most one state
 abbrev pub OneState : Type 0
 OneState =
     (m : ℕ → ℕ) (n : ℕ) (out out' : List ℕ) (s s' : State) →
     Represents m n out s → Represents m n out' s' → s ≡ s'
+
+-- and its tables have the same rows whenever it does
+abbrev pub OneShape : Type 0
+OneShape =
+    (m : ℕ → ℕ) (n : ℕ) (out out' : List ℕ) (s s' : State) (h : Represents m n out s)
+    (h' : Represents m n out' s') (i : ℕ) → i < 4 → h'.parts.tables i ≡ h.parts.tables i
 
 -- of a memory of n words no further word matters
 abbrev pub SameWords : Type 0
@@ -134,7 +153,7 @@ abbrev pub BlockTaken : Type 0
 BlockTaken =
     (m m' : ℕ → ℕ) (n start b : ℕ) (out : List ℕ) (s : State) (h : Represents m n out s) →
     IsTaking m m' n h.parts.free (used_in h.parts) (count_in h.parts) start b →
-    Represents m' n (b ∷ out) s
+    Stays h m' (b ∷ out) s
 
 -- a block in hand is given back
 abbrev pub BlockGiven : Type 0
@@ -142,14 +161,14 @@ BlockGiven =
     (m m' : ℕ → ℕ) (n start b : ℕ) (out : List ℕ) (s : State) → start < 8 → IsBlock n b →
     (h : Represents m n (b ∷ out) s) →
     ((used : ℕ → ℕ) (count : ℕ) → IsUsed m n h.parts.free used count b →
-    IsGiving m m' n h.parts.free used count start b) → Represents m' n out s
+    IsGiving m m' n h.parts.free used count start b) → Stays h m' out s
 
 -- words of a block in hand are written
 abbrev pub BlockWritten : Type 0
 BlockWritten =
     (m m' : ℕ → ℕ) (n b : ℕ) (out : List ℕ) (s : State) → IsBlock n b →
-    Represents m n (b ∷ out) s → ((x : ℕ) → (x < b) ⊎ (b + 8 ≤ x) → m' x ≡ m x) →
-    Represents m' n (b ∷ out) s
+    (h : Represents m n (b ∷ out) s) → ((x : ℕ) → (x < b) ⊎ (b + 8 ≤ x) → m' x ≡ m x) →
+    Stays h m' (b ∷ out) s
 
 -- a block in hand becomes an item
 abbrev pub ItemInserted : Type 0
@@ -157,7 +176,8 @@ ItemInserted =
     (m m' : ℕ → ℕ) (n b : ℕ) (out : List ℕ) (s : State) (kind : Kind) (id : ℕ) → IsBlock n b →
     (h : Represents m n (b ∷ out) s) → block_at (h.parts.tables (kind_number kind)) id ≡ 0 →
     TableGrown m m' n (kind_number kind) (h.parts.tables (kind_number kind)) id b →
-    Represents m' n out (with_item s kind id (item_in m b))
+    StaysBut h (kind_number kind) (put_row (h.parts.tables (kind_number kind)) id b) m' out
+    (with_item s kind id (item_in m b))
 
 -- the words of an item behind its links are written
 abbrev pub ItemReplaced : Type 0
@@ -165,7 +185,7 @@ ItemReplaced =
     (m m' : ℕ → ℕ) (n : ℕ) (out : List ℕ) (s : State) (kind : Kind) (id b : ℕ)
     (h : Represents m n out s) → IsItemAt h kind id b →
     ((x : ℕ) → (x < b + 4) ⊎ (b + 8 ≤ x) → m' x ≡ m x) →
-    Represents m' n out (with_item s kind id (item_in m' b))
+    Stays h m' out (with_item s kind id (item_in m' b))
 
 -- an item is removed, and its block is in hand
 abbrev pub ItemRemoved : Type 0
@@ -173,7 +193,8 @@ ItemRemoved =
     (m m' : ℕ → ℕ) (n : ℕ) (out : List ℕ) (s : State) (kind : Kind) (id b : ℕ)
     (h : Represents m n out s) → IsItemAt h kind id b →
     TableCut m m' n (kind_number kind) (h.parts.tables (kind_number kind)) id →
-    Represents m' n (b ∷ out) (without_item s kind id)
+    StaysBut h (kind_number kind) (cut_row (h.parts.tables (kind_number kind)) id) m' (b ∷ out)
+    (without_item s kind id)
 
 -- a block in hand becomes a customer
 abbrev pub CustomerInserted : Type 0
@@ -181,14 +202,14 @@ CustomerInserted =
     (m m' : ℕ → ℕ) (n b : ℕ) (out : List ℕ) (s : State) (id : ℕ) → IsBlock n b →
     (h : Represents m n (b ∷ out) s) → block_at (h.parts.tables 3) id ≡ 0 → m (b + 4) ≡ 0 →
     TableGrown m m' n 3 (h.parts.tables 3) id b →
-    Represents m' n out (with_bookings s id empty)
+    StaysBut h 3 (put_row (h.parts.tables 3) id b) m' out (with_bookings s id empty)
 
 -- a customer without bookings is removed, and the block is in hand
 abbrev pub CustomerRemoved : Type 0
 CustomerRemoved =
     (m m' : ℕ → ℕ) (n : ℕ) (out : List ℕ) (s : State) (id c : ℕ) (h : Represents m n out s) →
     IsCustomerAt h id c empty → TableCut m m' n 3 (h.parts.tables 3) id →
-    Represents m' n (c ∷ out) (without_customer s id)
+    StaysBut h 3 (cut_row (h.parts.tables 3) id) m' (c ∷ out) (without_customer s id)
 
 -- a block in hand becomes a booking
 abbrev pub BookingInserted : Type 0
@@ -198,7 +219,7 @@ BookingInserted =
     IsCustomerAt h id c bookings → place.1 < 2 ^ 32 →
     block_at (h.parts.lists c) (place_key place) ≡ 0 → place_in m b ≡ place →
     ListGrown m m' n c (h.parts.lists c) (place_key place) b →
-    Represents m' n out (with_bookings s id (insert bookings place (booking_in m b)))
+    Stays h m' out (with_bookings s id (insert bookings place (booking_in m b)))
 
 -- the units and the sum of a booking are written
 abbrev pub BookingReplaced : Type 0
@@ -206,7 +227,7 @@ BookingReplaced =
     (m m' : ℕ → ℕ) (n : ℕ) (out : List ℕ) (s : State) (id c : ℕ) (bookings : Bookings)
     (place : Place) (b : ℕ) (h : Represents m n out s) → IsCustomerAt h id c bookings →
     IsBookingAt h c place b → ((x : ℕ) → x ≢ b + 2 → x ≢ b + 4 → m' x ≡ m x) →
-    Represents m' n out (with_bookings s id (insert bookings place (booking_in m' b)))
+    Stays h m' out (with_bookings s id (insert bookings place (booking_in m' b)))
 
 -- a booking is removed, and its block is in hand
 abbrev pub BookingRemoved : Type 0
@@ -214,7 +235,7 @@ BookingRemoved =
     (m m' : ℕ → ℕ) (n : ℕ) (out : List ℕ) (s : State) (id c : ℕ) (bookings : Bookings)
     (place : Place) (b : ℕ) (h : Represents m n out s) → IsCustomerAt h id c bookings →
     IsBookingAt h c place b → ListCut m m' n c (h.parts.lists c) (place_key place) →
-    Represents m' n (b ∷ out) (with_bookings s id (remove bookings place))
+    Stays h m' (b ∷ out) (with_bookings s id (remove bookings place))
 
 -- the blocks are free or taken
 abbrev pub PoolThere : Type 0

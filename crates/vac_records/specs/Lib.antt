@@ -5,3 +5,4 @@ pub mod Heap
 pub mod Represents
 pub mod Laws
 pub mod Customers
+pub mod Holds

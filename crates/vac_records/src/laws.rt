@@ -1,10 +1,11 @@
 //! Laws on memories that represent states. Each is the contract of a function that does nothing.
 
-ghost use Rattle.vac_records.specs.Laws.{OneState, SameWords, FreshState, ItemFound, ItemMissing, CustomerFound, CustomerMissing, BookingFound, BookingMissing, NoneLeft, SomeLeft, BlockTaken, BlockGiven, BlockWritten, ItemInserted, ItemReplaced, ItemRemoved, CustomerInserted, CustomerRemoved, BookingInserted, BookingReplaced, BookingRemoved, PoolThere, HandThere, TableThere, ListThere, BillThere};
+ghost use Rattle.vac_records.specs.Laws.{OneState, OneShape, SameWords, FreshState, ItemFound, ItemMissing, CustomerFound, CustomerMissing, BookingFound, BookingMissing, NoneLeft, SomeLeft, BlockTaken, BlockGiven, BlockWritten, ItemInserted, ItemReplaced, ItemRemoved, CustomerInserted, CustomerRemoved, BookingInserted, BookingReplaced, BookingRemoved, PoolThere, HandThere, TableThere, ListThere, BillThere};
 
 /// A memory represents at most one state, and of a memory of n words no word behind them matters.
 pub fn one_state_for_a_memory()
     ensures one { OneState }
+    ensures shape { OneShape }
     ensures words { SameWords }
 {}
 

@@ -1,0 +1,18 @@
+-- Memories that hold a state, whatever image they stand on.
+use Rattle.std.specs.Prelude.{◌≡◌, ℕ, ◌≤◌, ◌^◌, List, length}
+use Rattle.stm_words.specs.View.{View, Sees, Kept}
+use Rattle.vac_model.specs.State.{State}
+use Rattle.vac_records.specs.Items.{mem}
+use Rattle.vac_records.specs.Represents.{IsState}
+
+-- under each image that there may be, the memory represents a balanced state. Addresses fit 32 bits.
+pub record HoldsState (s : View) : Type 0 where
+  pub inside : 16 ≤ s.size
+  pub small : s.size ≤ 2 ^ 32
+  pub under : (image : List ℕ) → Sees s image →
+      (state : State) × IsState (mem s image) (length image) state
+
+-- only reads were made
+pub record OnlyRead (s s' : View) : Type 0 where
+  pub kept : Kept s s'
+  pub writes : s'.writes ≡ s.writes
