@@ -1,0 +1,14 @@
+-- The report of the state that a memory holds.
+use Rattle.std.specs.Prelude.{◌≡◌, ℕ, List, length}
+use Rattle.stm_words.specs.View.{View, Sees}
+use Rattle.vac_model.specs.declared.replies.Report.{Report}
+use Rattle.vac_model.specs.State.{State, report}
+use Rattle.vac_records.specs.Items.{mem}
+use Rattle.vac_records.specs.Represents.{IsState}
+use Rattle.vac_records.specs.Holds.{OnlyRead}
+
+-- only reads were made, and under each image this is the report of the state
+pub record Reported (s s' : View) (r : Report) : Type 0 where
+  pub reads : OnlyRead s s'
+  pub is : (image : List ℕ) (state : State) → Sees s' image →
+      IsState (mem s image) (length image) state → report state ≡ r

@@ -1,0 +1,258 @@
+-- Units are booked of an item that has so many: by a customer who has no booking of it.
+use Rattle.std.proofs.Common.{◌≡◌, inl, inr, ℕ, ◌+◌, ◌<◌, ◌≤◌, ◌^◌, List, [], ◌∷◌, length, Option, Some, None, true, false, nat_le, nat_lt, IsTrue, refl, sym, ap, ◌∙◌, subst, arith}
+use Rattle.std.proofs.lemmas.Bool.Decides.{nat_tests}
+use Rattle.std.specs.FinMap.{get, insert}
+use Rattle.stm_words.specs.Seen.{same_or}
+use Rattle.stm_words.specs.View.{View, Sees}
+use Rattle.vac_model.specs.declared.items.Kind.{Kind}
+use Rattle.vac_model.specs.declared.items.Kind.TheVariants.{Car, Flight, Room}
+use Rattle.vac_model.specs.declared.items.Item.{Item}
+use Rattle.vac_model.specs.declared.items.Booking.{Booking}
+use Rattle.vac_model.specs.declared.commands.Command.TheVariants as command
+use Rattle.vac_model.specs.declared.commands.Why.TheVariants.{Full}
+use Rattle.vac_model.specs.declared.replies.Reply.TheVariants as reply
+use Rattle.vac_model.specs.Ranges.{is_command}
+use Rattle.vac_model.specs.State.{State, Bookings, Place, kind_number, item_of, with_item, with_bookings, size, is_full}
+use Rattle.vac_model.specs.Step.{done, refused, step, taken, new_booking}
+use Rattle.vac_model.proofs.States.{item_of-with_bookings}
+use Rattle.tx_alloc.specs.Pool.{IsTaking, NoneFree, Taken}
+use Rattle.tx_alloc.specs.Rows.{Rows, block_at}
+use Rattle.tx_list.specs.Lists.{IsListAt, HasList}
+use Rattle.vac_records.specs.Items.{mem, item_in, IsNode, IsItemNow, CanMake, ItemChanged}
+use Rattle.vac_records.specs.Bookings.{kind_of, place_in, place_key, booking_in}
+use Rattle.vac_records.specs.Customers.{head_of, IsLoose, CanBook, IsBooked, Booked}
+use Rattle.vac_records.specs.Heap.{used_in, count_in}
+use Rattle.vac_records.specs.Represents.{Represents, IsState}
+use Rattle.vac_records.specs.Holds.{HoldsState}
+use Rattle.vac_records.specs.Laws.{Stays, IsItemAt, IsCustomerAt, ListGrown}
+use Rattle.vac_records.specs.Steps.{kept_both}
+use Rattle.vac_records.proofs.Items.{item_replaced}
+use Rattle.vac_records.proofs.Booked.{booking_found, booking_inserted}
+use Rattle.vac_records.proofs.Bridges.{pool_there, list_there}
+use Rattle.vac_records.proofs.Hands.{block_taken, block_written}
+use Rattle.vac_records.proofs.Links.{list_one}
+use Rattle.vac_records.proofs.Single.{none_left, some_left}
+use Rattle.vac_commands.specs.Entries.{HasItemAt, HasCustomerAt}
+use Rattle.vac_commands.specs.BookingSteps.{booking_block, LacksBooking, IsOffered, RanInPlace}
+use Rattle.vac_commands.proofs.Serving.{Lands, in_place, reads_in_place}
+use Rattle.vac_commands.proofs.Owners.{Here, here, owned, at_owner, at_item, its_item, not_booked}
+use Rattle.vac_commands.proofs.InHand.{loose, outside, same_rows}
+use Rattle.vac_commands.proofs.Cancelling.{item_stays, item_words}
+use Rattle.vac_commands.proofs.Extending.{counts_fit}
+
+kind_back : (kind : Kind) → kind_of (kind_number kind) ≡ kind
+kind_back Car = refl
+kind_back Flight = refl
+kind_back Room = refl
+
+enough_free : (free num : ℕ) → num ≤ free → nat_lt free num ≡ false
+enough_free free num l = grind (arith, nat_tests)
+
+has_room : (s : State) → size s < s.capacity → is_full s ≡ false
+has_room s l = nat_le_false s.capacity (size s) l where
+  nat_le_false : (a b : ℕ) → b < a → nat_le a b ≡ false
+  nat_le_false a b l = grind (arith, nat_tests)
+
+has_no_room : (s : State) → size s ≡ s.capacity → is_full s ≡ true
+has_no_room s e = nat_le_true s.capacity (size s) e where
+  nat_le_true : (a b : ℕ) → b ≡ a → nat_le a b ≡ true
+  nat_le_true a b e = grind (arith, nat_tests)
+
+-- the customer stands where it stood, with the same bookings
+customer_stays : (m m' : ℕ → ℕ) (n : ℕ) (out out' : List ℕ) (s : State) (h : Represents m n out s) (customer owner : ℕ) (bs : Bookings) → (g : Stays h m' out' s) → IsCustomerAt h customer owner bs → IsCustomerAt g.after customer owner bs
+customer_stays m m' n out out' s h customer owner bs g at =
+    let four : 3 < 4 = omega arith in
+    record { at = ap (λ (rs : Rows). block_at rs customer) (g.tables 3 four) ∙ at.at; some = at.some; there = at.there }
+
+-- a booking that the state does not have is in no list
+no_row : (m : ℕ → ℕ) (n : ℕ) (out : List ℕ) (s : State) (h : Represents m n out s) (customer owner : ℕ) (bs : Bookings) (place : Place) → IsCustomerAt h customer owner bs → place.1 < 2 ^ 32 → get bs place ≡ None → block_at (h.parts.lists owner) (place_key place) ≡ 0
+no_row m n out s h customer owner bs place at small missing = elim (same_or (block_at (h.parts.lists owner) (place_key place)) 0) [
+  | inl z ↦ z
+  | inr nz ↦ (
+      let b = block_at (h.parts.lists owner) (place_key place) in
+      let never : ◌≡◌ {A = Option Booking} None (Some (booking_in m b)) = sym missing ∙ booking_found m n out s h customer owner bs place b at (record { small = small; at = refl; some = nz }) in
+      absurd cc)
+]
+
+module _ (m : ℕ → ℕ) (n : ℕ) (s : State) (h : IsState m n s) (customer owner : ℕ) (kind : Kind) (id item : ℕ) (e : Here h customer owner kind id item)
+    (none : booking_block h owner (kind, id) ≡ 0) where
+  abbrev had : Bookings
+  had = (owned m n s h customer owner kind id item e).bookings
+
+  missing : get had (kind, id) ≡ None
+  missing = not_booked m n s h customer owner kind id item e (owned m n s h customer owner kind id item e) none
+
+  there : item_of s kind id ≡ Some (item_in m item)
+  there = its_item m n s h customer owner kind id item e
+
+  pub no_place : (num : ℕ) → num ≤ m (item + 5) → ((i : ℕ) → i < 8 → h.represents.parts.free i ≡ []) → step s (command.Reserve customer kind id num) ≡ refused s Full
+  no_place num free all =
+      let f : nat_lt (item_in m item).free num ≡ false = enough_free (m (item + 5)) num free in
+      let t : is_full s ≡ true = has_no_room s (none_left m n s h.represents all) in
+      rw ((owned m n s h customer owner kind id item e).there, there, f, missing, t) refl
+
+  module _ (m1 : ℕ → ℕ) (b start : ℕ) (t : IsTaking m m1 n h.represents.parts.free (used_in h.represents.parts) (count_in h.represents.parts) start b) where
+    hand : Stays h.represents m1 (b ∷ []) s
+    hand = block_taken m m1 n start b [] s h.represents t
+
+    at_hand : IsCustomerAt hand.after customer owner had
+    at_hand = customer_stays m m1 n [] (b ∷ []) s h.represents customer owner had hand (at_owner m n s h customer owner kind id item e (owned m n s h customer owner kind id item e))
+
+    pub rows_now : Rows
+    rows_now = hand.after.parts.lists owner
+
+    pub list_now : IsListAt m1 n (head_of owner) rows_now
+    unfolding rows_now
+    list_now = list_there m1 n (b ∷ []) s customer owner had hand.after at_hand
+
+    pub can_hang : (rows : Rows) → IsListAt m1 n (head_of owner) rows → IsLoose m1 n owner rows (kind, id) b
+    unfolding rows_now
+    can_hang rows l =
+        let same : rows_now ≡ rows = list_one m1 n (m1 (head_of owner)) rows_now rows list_now.list l.list in
+        subst (λ (z : Rows). IsLoose m1 n owner z (kind, id) b) same (record {
+          block = t.block;
+          outside = outside m1 n b s t.block hand.after customer owner had at_hand;
+          absent = no_row m1 n (b ∷ []) s hand.after customer owner had (kind, id) at_hand e.small missing;
+          loose = loose m1 n b s t.block hand.after customer owner had at_hand;
+        })
+
+    module _ (m2 : ℕ → ℕ) (num price : ℕ) (k : IsBooked m1 m2 n owner rows_now (kind, id) num price b) (free : num ≤ m (item + 5)) (price_is : m (item + 7) ≡ price) where
+      written : Stays hand.after k.between (b ∷ []) s
+      written = block_written m1 k.between n b [] s t.block hand.after k.made.others
+
+      at_written : IsCustomerAt written.after customer owner had
+      at_written = customer_stays m1 k.between n (b ∷ []) (b ∷ []) s hand.after customer owner had written at_hand
+
+      grown : ListGrown k.between m2 n owner (written.after.parts.lists owner) (place_key (kind, id)) b
+      unfolding rows_now
+      grown = subst (λ (z : Rows). ListGrown k.between m2 n owner z (place_key (kind, id)) b) (same_rows m1 n b s t.block hand.after customer owner had at_hand k.between written k.made.others)
+          (record { list = k.list.list; relinks = k.relinks })
+
+      placed : place_in k.between b ≡ (kind, id)
+      placed =
+          let kind_is : kind_of (k.between b) ≡ kind = ap kind_of k.made.kind_is ∙ kind_back kind in
+          let id_is : k.between (b + 1) ≡ id = k.made.id_is in
+          λ i. (kind_is i, id_is i)
+
+      abbrev more : State
+      more = with_bookings s customer (insert had (kind, id) (booking_in k.between b))
+
+      hung : Stays written.after m2 [] more
+      hung = booking_inserted k.between m2 n b [] s customer owner had (kind, id) t.block written.after at_written e.small
+          (no_row k.between n (b ∷ []) s written.after customer owner had (kind, id) at_written e.small missing) placed grown
+
+      joined : Stays h.represents m2 [] more
+      joined = record { after = hung.after; tables = λ i l. hung.tables i l ∙ (written.tables i l ∙ hand.tables i l) }
+
+      item_at : IsItemAt joined.after kind id item
+      item_at = item_stays m m2 n [] [] s more h.represents kind id item joined (at_item m n s h customer owner kind id item e)
+
+      item_same : item_in m2 item ≡ item_in m item
+      item_same = item_words m m2 n [] [] s more h.represents kind id item joined (at_item m n s h customer owner kind id item e) (item_of-with_bookings s customer (insert had (kind, id) (booking_in k.between b)) kind id)
+
+      pub free_still : num ≤ m2 (item + 5)
+      free_still = omega (arith, free, ap (λ (x : Item). x.free) item_same)
+
+      pub used_fits : m2 (item + 4) + num < 2 ^ 64
+      used_fits = omega (arith, counts_fit m n s h kind id item num there free, ap (λ (x : Item). x.used) item_same)
+
+      pub added_lands : (m3 : ℕ → ℕ) → IsItemNow m2 m3 item (taken (item_in m2 item) num) → Lands h m3 (command.Reserve customer kind id num) reply.Done
+      added_lands m3 made =
+          let after = item_replaced m2 m3 n [] more kind id item joined.after item_at made.others in
+          let f : nat_lt (item_in m item).free num ≡ false = enough_free (m (item + 5)) num free in
+          let r : is_full s ≡ false = has_room s (some_left m1 n b s hand.after) in
+          let stepped : step s (command.Reserve customer kind id num) ≡ done (with_item (with_bookings s customer (insert had (kind, id) (new_booking num (m (item + 7))))) kind id (taken (item_in m item) num)) =
+          rw ((owned m n s h customer owner kind id item e).there, there, f, missing, r) refl in
+          let booked : new_booking num (m (item + 7)) ≡ booking_in k.between b = ap (new_booking num) price_is ∙ sym k.made.is in
+          let put : taken (item_in m item) num ≡ item_in m3 item = ap (λ (x : Item). taken x num) (sym item_same) ∙ sym made.is in
+          record {
+            state = with_item more kind id (item_in m3 item);
+            is = stepped ∙ (ap (λ (x : Booking). done (with_item (with_bookings s customer (insert had (kind, id) x)) kind id (taken (item_in m item) num))) booked
+                ∙ ap (λ (x : Item). done (with_item more kind id x)) put);
+            stays = record { after = after.after; tables = λ i l. after.tables i l ∙ joined.tables i l };
+          }
+
+-- the calls, under all images
+module _ (s : View) (customer owner : ℕ) (kind : Kind) (id item num price : ℕ) (held : HoldsState s) (c : HasCustomerAt s customer owner) (f : HasItemAt s kind id item)
+    (o : IsOffered s item num price) (g : LacksBooking s owner (kind, id)) (small : id < 2 ^ 32) where
+  pub no_block : (s1 : View) → IsTrue (is_command (command.Reserve customer kind id num)) → NoneFree s s1 → RanInPlace s s1 (command.Reserve customer kind id num) (reply.No Full)
+  no_block s1 range z = reads_in_place s s1 (command.Reserve customer kind id num) (reply.No Full) range (record { kept = z.kept; writes = z.writes }) (λ image state i h.
+      let i0 = z.kept.seen image i in
+      let p = h.represents.parts in
+      no_place (mem s image) (length image) state h customer owner kind id item (here s customer owner kind id item c f small image state i0 h) (g.none image state i0 h)
+      num (o.free.enough image i0) (z.none image p.free (used_in p) (count_in p) i (pool_there (mem s image) (length image) [] state h.represents)))
+
+  module _ (s1 : View) (b start : ℕ) (t : Taken s s1 start b) where
+    its_taking : (image : List ℕ) (state : State) → Sees s1 image → (h : IsState (mem s image) (length image) state) →
+        IsTaking (mem s image) (mem s1 image) (length image) h.represents.parts.free (used_in h.represents.parts) (count_in h.represents.parts) start b
+    its_taking image state i h = let p = h.represents.parts in t.taking image p.free (used_in p) (count_in p) i (pool_there (mem s image) (length image) [] state h.represents)
+
+    pub block_node : IsNode s1 b
+    block_node = record { inside = t.room; small = omega (arith, held.small, t.kept.size) }
+
+    pub has_list : HasList s1 (head_of owner)
+    has_list = record {
+      small = omega (arith, held.small, t.kept.size);
+      room = omega (arith, c.inside.1, t.kept.size);
+      under = λ image i.
+          let i0 = t.kept.seen image i in
+          let r = held.under image i0 in
+          let e = here s customer owner kind id item c f small image r.0 i0 r.1 in
+          record {
+            entries = rows_now (mem s image) (length image) r.0 r.1 customer owner kind id item e (g.none image r.0 i0 r.1) (mem s1 image) b start (its_taking image r.0 i r.1);
+            is = list_now (mem s image) (length image) r.0 r.1 customer owner kind id item e (g.none image r.0 i0 r.1) (mem s1 image) b start (its_taking image r.0 i r.1);
+          };
+    }
+
+    pub can_book : CanBook s1 owner (kind, id) b
+    can_book = record {
+      under = λ image rows i l.
+          let i0 = t.kept.seen image i in
+          let r = held.under image i0 in
+          let e = here s customer owner kind id item c f small image r.0 i0 r.1 in
+          can_hang (mem s image) (length image) r.0 r.1 customer owner kind id item e (g.none image r.0 i0 r.1) (mem s1 image) b start (its_taking image r.0 i r.1) rows l;
+    }
+
+    module _ (s2 : View) (w : Booked s1 s2 owner (kind, id) num price b) where
+      its_booking : (image : List ℕ) (state : State) → Sees s2 image → (i1 : Sees s1 image) (i0 : Sees s image) → (h : IsState (mem s image) (length image) state) →
+          IsBooked (mem s1 image) (mem s2 image) (length image) owner
+          (rows_now (mem s image) (length image) state h customer owner kind id item (here s customer owner kind id item c f small image state i0 h) (g.none image state i0 h) (mem s1 image) b start (its_taking image state i1 h))
+          (kind, id) num price b
+      its_booking image state i i1 i0 h =
+          let e = here s customer owner kind id item c f small image state i0 h in
+          w.booked image (rows_now (mem s image) (length image) state h customer owner kind id item e (g.none image state i0 h) (mem s1 image) b start (its_taking image state i1 h)) i
+          (list_now (mem s image) (length image) state h customer owner kind id item e (g.none image state i0 h) (mem s1 image) b start (its_taking image state i1 h))
+
+      pub can_make : CanMake s2 item num
+      can_make = record {
+        free = record {
+          enough = λ image i.
+              let i1 = w.kept.seen image i in
+              let i0 = t.kept.seen image i1 in
+              let r = held.under image i0 in
+              let e = here s customer owner kind id item c f small image r.0 i0 r.1 in
+              free_still (mem s image) (length image) r.0 r.1 customer owner kind id item e (g.none image r.0 i0 r.1) (mem s1 image) b start (its_taking image r.0 i1 r.1)
+              (mem s2 image) num price (its_booking image r.0 i i1 i0 r.1) (o.free.enough image i0) (o.price_is image i0);
+        };
+        used = record {
+          fits = λ image i.
+              let i1 = w.kept.seen image i in
+              let i0 = t.kept.seen image i1 in
+              let r = held.under image i0 in
+              let e = here s customer owner kind id item c f small image r.0 i0 r.1 in
+              used_fits (mem s image) (length image) r.0 r.1 customer owner kind id item e (g.none image r.0 i0 r.1) (mem s1 image) b start (its_taking image r.0 i1 r.1)
+              (mem s2 image) num price (its_booking image r.0 i i1 i0 r.1) (o.free.enough image i0) (o.price_is image i0);
+        };
+      }
+
+      pub add_done : (s3 : View) → IsTrue (is_command (command.Reserve customer kind id num)) → ItemChanged s2 s3 item (λ x. taken x num) → RanInPlace s s3 (command.Reserve customer kind id num) reply.Done
+      add_done s3 range made = in_place s s3 (command.Reserve customer kind id num) reply.Done range (record {
+        kept = kept_both s s2 s3 (kept_both s s1 s2 t.kept w.kept) made.kept;
+        lands = λ image state i h.
+            let i2 = made.kept.seen image i in
+            let i1 = w.kept.seen image i2 in
+            let i0 = t.kept.seen image i1 in
+            let e = here s customer owner kind id item c f small image state i0 h in
+            added_lands (mem s image) (length image) state h customer owner kind id item e (g.none image state i0 h) (mem s1 image) b start (its_taking image state i1 h)
+            (mem s2 image) num price (its_booking image state i2 i1 i0 h) (o.free.enough image i0) (o.price_is image i0) (mem s3 image) (made.changed image i);
+      })

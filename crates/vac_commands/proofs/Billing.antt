@@ -1,0 +1,89 @@
+-- The customer of a block: the bookings, their list and their bill.
+use Rattle.std.proofs.Common.{◌≡◌, ℕ, ◌≤◌, List, [], length, Some, None, refl, sym, ap, ◌∙◌, arith}
+use Rattle.std.specs.FinMap.{entries, len, len-entries}
+use Rattle.stm_words.specs.View.{View, Sees}
+use Rattle.vac_model.specs.declared.commands.Command.TheVariants as command
+use Rattle.vac_model.specs.declared.replies.Reply.TheVariants as reply
+use Rattle.vac_model.specs.State.{State, Bookings, bookings_of, bill_of}
+use Rattle.vac_model.specs.Step.{answered}
+use Rattle.vac_model.proofs.Balance.{size-without_customer}
+use Rattle.vac_model.proofs.Bounds.{bill_small}
+use Rattle.vac_records.specs.Items.{mem}
+use Rattle.vac_records.specs.Bookings.{place_in, booking_in}
+use Rattle.vac_records.specs.Represents.{IsState, bookings_in}
+use Rattle.vac_records.specs.Holds.{HoldsState, OnlyRead}
+use Rattle.vac_records.specs.Customers.{HasBill, CanBill, Billed}
+use Rattle.vac_records.specs.Laws.{IsCustomerAt}
+use Rattle.vac_records.proofs.Bridges.{list_there, bill_there}
+use Rattle.vac_records.proofs.Frames.{length_same}
+use Rattle.vac_commands.specs.Entries.{LacksCustomer, HasCustomerAt}
+use Rattle.vac_commands.specs.Ran.{Asked}
+use Rattle.vac_commands.proofs.Held.{customer_is, customer_none, asked_reads, asked_after, read_none}
+
+-- the customer in block c, with the bookings
+pub record Seated {m : ℕ → ℕ} {n : ℕ} {state : State} (h : IsState m n state) (id c : ℕ) : Type 0 where
+  pub bookings : Bookings
+  pub is : IsCustomerAt h.represents id c bookings
+  pub entries_are : entries bookings ≡ bookings_in m (h.represents.parts.lists c)
+
+pub seated : (s : View) (id c : ℕ) (image : List ℕ) (state : State) → HasCustomerAt s id c →
+    Sees s image → (h : IsState (mem s image) (length image) state) → Seated h id c
+seated s id c image state at i h =
+    let f = customer_is s id c at image state i h in
+    record {
+      bookings = f.bookings;
+      is = record { at = at.at image state i h; some = at.some; there = f.there };
+      entries_are = f.entries_are;
+    }
+
+-- a customer has no more bookings than a state has entries
+pub few_bookings : (m : ℕ → ℕ) (n : ℕ) (state : State) (id : ℕ) (b : Bookings) → IsState m n state →
+    bookings_of state id ≡ Some b → len b ≤ 262144
+few_bookings m n state id b h there =
+    omega (arith, size-without_customer state id b there, h.small.balanced.room, h.small.small)
+
+has_bill : (m : ℕ → ℕ) (n : ℕ) (state : State) (id c : ℕ) (h : IsState m n state) (t : Seated h id c) →
+    HasBill m n c (h.represents.parts.lists c)
+has_bill m n state id c h t =
+    let rows = h.represents.parts.lists c in
+    let long : length rows ≡ len t.bookings =
+    sym (len-entries t.bookings ∙ (ap length t.entries_are
+    ∙ length_same (λ (r : ℕ × ℕ). (place_in m r.1, booking_in m r.1)) rows)) in
+    let sum = bill_there m n [] state id c t.bookings h.represents t.is in
+    let small = bill_small state id t.bookings h.small t.is.there in
+    record {
+      list = list_there m n [] state id c t.bookings h.represents t.is;
+      few = omega (arith, few_bookings m n state id t.bookings h t.is.there, long);
+      fits = omega (arith, sum, small);
+    }
+
+pub can_bill : (s : View) (id c : ℕ) → HoldsState s → HasCustomerAt s id c → CanBill s c
+can_bill s id c h at = record {
+  small = h.small;
+  room = omega (arith, at.inside.1);
+  under = λ image i.
+      let t = h.under image i in
+      record {
+        entries = t.1.represents.parts.lists c;
+        is = has_bill (mem s image) (length image) t.0 id c t.1 (seated s id c image t.0 at i t.1);
+      };
+}
+
+pub bill_found : (s s' : View) (id c total : ℕ) → HasCustomerAt s id c → Billed s s' c total →
+    Asked s s' (command.Bill id) (reply.Number (Some total))
+bill_found s s' id c total at b =
+    asked_reads s s' (command.Bill id) (reply.Number (Some total)) (record { kept = b.kept; writes = b.writes })
+    (λ image state i h.
+    let t = seated s id c image state at (b.kept.seen image i) h in
+    let sum = b.is image (h.represents.parts.lists c) i (has_bill (mem s image) (length image) state id c h t) in
+    let bill : bill_of t.bookings ≡ total =
+    sym (bill_there (mem s image) (length image) [] state id c t.bookings h.represents t.is) ∙ sym sum in
+    let there = t.is.there in
+    rw there (ap (λ (z : ℕ). answered state (Some z)) bill))
+
+pub bill_missing : (s s' : View) (id : ℕ) → OnlyRead s s' → LacksCustomer s' id →
+    Asked s s' (command.Bill id) (reply.Number None)
+bill_missing s s' id r lacks =
+    asked_after s s' s' (command.Bill id) (reply.Number None) r
+    (asked_reads s' s' (command.Bill id) (reply.Number None) (read_none s') (λ image state i h.
+    let none = customer_none s' id lacks image state i h in rw none refl))

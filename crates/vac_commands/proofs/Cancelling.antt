@@ -1,0 +1,180 @@
+-- A booking leaves its list, its units are given back to the item, and its block is free.
+use Rattle.std.proofs.Common.{◌≡◌, ◌≢◌, ℕ, ◌+◌, ◌<◌, ◌≤◌, ◌^◌, List, [], ◌∷◌, length, Option, Some, None, IsTrue, refl, sym, ap, ◌∙◌, arith}
+use Rattle.std.specs.FinMap.{get, remove}
+use Rattle.stm_words.specs.View.{View, Sees}
+use Rattle.vac_model.specs.declared.items.Kind.{Kind}
+use Rattle.vac_model.specs.declared.items.Item.{Item}
+use Rattle.vac_model.specs.declared.commands.Command.TheVariants as command
+use Rattle.vac_model.specs.declared.commands.Why.TheVariants.{NotBooked}
+use Rattle.vac_model.specs.declared.replies.Reply.TheVariants as reply
+use Rattle.vac_model.specs.Ranges.{is_command}
+use Rattle.vac_model.specs.State.{State, Bookings, kind_number, item_of, with_item, with_bookings}
+use Rattle.vac_model.specs.Step.{done, step, given_back}
+use Rattle.vac_model.proofs.States.{item_of-with_bookings}
+use Rattle.vac_model.proofs.Balance.{some_same}
+use Rattle.vac_model.proofs.Holdings.{units-used}
+use Rattle.tx_alloc.specs.declared.pool.Block.{Block}
+use Rattle.tx_alloc.specs.Pointer.{pointer}
+use Rattle.tx_alloc.specs.Pool.{IsBlock, IsUsed, IsGiving, HasUsed, Given}
+use Rattle.tx_alloc.specs.Rows.{Rows, block_at}
+use Rattle.vac_records.specs.Items.{mem, item_in, IsItemNow, CanCancel, ItemChanged}
+use Rattle.vac_records.specs.Bookings.{place_key, booking_in}
+use Rattle.vac_records.specs.Customers.{block_of, Unbooked}
+use Rattle.vac_records.specs.Heap.{used_in, count_in}
+use Rattle.vac_records.specs.Represents.{Represents, IsState}
+use Rattle.vac_records.specs.Holds.{HoldsState}
+use Rattle.vac_records.specs.Laws.{Stays, ListCut, IsItemAt}
+use Rattle.vac_records.specs.Steps.{kept_both}
+use Rattle.vac_records.proofs.Shifts.{kind_small}
+use Rattle.vac_records.proofs.Items.{item_found, item_replaced}
+use Rattle.vac_records.proofs.Booked.{booking_removed}
+use Rattle.vac_records.proofs.Hands.{block_given}
+use Rattle.vac_records.proofs.Bridges.{hand_there}
+use Rattle.vac_commands.specs.Entries.{HasItemAt, HasCustomerAt}
+use Rattle.vac_commands.specs.BookingSteps.{booking_block, RanInPlace}
+use Rattle.vac_commands.proofs.Serving.{Lands, in_place, reads_in_place}
+use Rattle.vac_commands.proofs.Owners.{Here, here, owned, at_owner, its_list, at_item, its_item, booked_at, not_booked, booking_is_block}
+
+-- the item stands where it stood after a change that lets the tables stay
+pub item_stays : (m m' : ℕ → ℕ) (n : ℕ) (out out' : List ℕ) (s s' : State) (h : Represents m n out s) (kind : Kind) (id item : ℕ) → (g : Stays h m' out' s') → IsItemAt h kind id item → IsItemAt g.after kind id item
+item_stays m m' n out out' s s' h kind id item g at =
+    let small = kind_small kind in
+    record { at = ap (λ (rs : Rows). block_at rs id) (g.tables (kind_number kind) (omega (arith, small))) ∙ at.at; some = at.some }
+
+-- and it is the same item where the state's items are the same
+pub item_words : (m m' : ℕ → ℕ) (n : ℕ) (out out' : List ℕ) (s s' : State) (h : Represents m n out s) (kind : Kind) (id item : ℕ) → (g : Stays h m' out' s') → IsItemAt h kind id item →
+    item_of s' kind id ≡ item_of s kind id → item_in m' item ≡ item_in m item
+item_words m m' n out out' s s' h kind id item g at same =
+    some_same (item_in m' item) (item_in m item)
+    (sym (item_found m' n out' s' g.after kind id item (item_stays m m' n out out' s s' h kind id item g at)) ∙ (same ∙ item_found m n out s h kind id item at))
+
+module _ (m m1 : ℕ → ℕ) (n : ℕ) (s : State) (h : IsState m n s) (customer owner : ℕ) (kind : Kind) (id item b units : ℕ) (e : Here h customer owner kind id item)
+    (is : booking_block h owner (kind, id) ≡ b) (some : b ≢ 0) (cut : ListCut m m1 n owner (h.represents.parts.lists owner) (place_key (kind, id))) (units_is : m (b + 4) ≡ units) where
+  abbrev had : Bookings
+  had = (owned m n s h customer owner kind id item e).bookings
+
+  abbrev less : State
+  less = with_bookings s customer (remove had (kind, id))
+
+  unhung : Stays h.represents m1 (b ∷ []) less
+  unhung = booking_removed m m1 n [] s customer owner had (kind, id) b h.represents (at_owner m n s h customer owner kind id item e (owned m n s h customer owner kind id item e)) (record { small = e.small; at = is; some = some }) cut
+
+  item_at : IsItemAt unhung.after kind id item
+  item_at = item_stays m m1 n [] (b ∷ []) s less h.represents kind id item unhung (at_item m n s h customer owner kind id item e)
+
+  item_same : item_in m1 item ≡ item_in m item
+  item_same = item_words m m1 n [] (b ∷ []) s less h.represents kind id item unhung (at_item m n s h customer owner kind id item e) (item_of-with_bookings s customer (remove had (kind, id)) kind id)
+
+  found : get had (kind, id) ≡ Some (booking_in m b)
+  found = booked_at m n s h customer owner kind id item e (owned m n s h customer owner kind id item e) b is some
+
+  there : item_of s kind id ≡ Some (item_in m item)
+  there = its_item m n s h customer owner kind id item e
+
+  pub units_are_used : units ≤ m1 (item + 4)
+  units_are_used =
+      let used = units-used s customer had kind id (item_in m item) (booking_in m b) h.small.balanced (owned m n s h customer owner kind id item e).there there found in
+      omega (arith, used, units_is, ap (λ (x : Item). x.used) item_same)
+
+  pub units_fit : m1 (item + 5) + units < 2 ^ 64
+  units_fit =
+      let used = units-used s customer had kind id (item_in m item) (booking_in m b) h.small.balanced (owned m n s h customer owner kind id item e).there there found in
+      let f = h.small.balanced.items kind id (item_in m item) there in
+      omega (arith, used, units_is, f.counts, f.few_units, ap (λ (x : Item). x.free) item_same)
+
+  module _ (m2 : ℕ → ℕ) (now : IsItemNow m1 m2 item (given_back (item_in m1 item) units)) where
+    given : Stays unhung.after m2 (b ∷ []) (with_item less kind id (item_in m2 item))
+    given = item_replaced m1 m2 n (b ∷ []) less kind id item unhung.after item_at now.others
+
+    is_block : IsBlock n b
+    is_block = booking_is_block m n s h customer owner kind id item e b is some
+
+    pub in_hand : (free : ℕ → List ℕ) × ((used : ℕ → ℕ) × ((count : ℕ) × IsUsed m2 n free used count b))
+    in_hand = (given.after.parts.free, (used_in (record given.after.parts { out = [] }), (count_in (record given.after.parts { out = [] }), hand_there m2 n b [] (with_item less kind id (item_in m2 item)) is_block given.after)))
+
+    pub cancelled : (m3 : ℕ → ℕ) (start : ℕ) → start < 8 →
+        ((free : ℕ → List ℕ) (used : ℕ → ℕ) (count : ℕ) → IsUsed m2 n free used count b → IsGiving m2 m3 n free used count start b) →
+        Lands h m3 (command.Cancel customer kind id) reply.Done
+    cancelled m3 start low give =
+        let after = with_item less kind id (item_in m2 item) in
+        let free = block_given m2 m3 n start b [] after low is_block given.after (λ used count u. give given.after.parts.free used count u) in
+        let put : item_in m2 item ≡ given_back (item_in m item) (booking_in m b).units =
+        now.is ∙ (ap (λ (x : Item). given_back x units) item_same ∙ ap (given_back (item_in m item)) (sym units_is)) in
+        let stepped : step s (command.Cancel customer kind id) ≡ done (with_item less kind id (given_back (item_in m item) (booking_in m b).units)) =
+        rw ((owned m n s h customer owner kind id item e).there, there, found) refl in
+        record {
+          state = after;
+          is = stepped ∙ ap (λ (x : Item). done (with_item less kind id x)) (sym put);
+          stays = record { after = free.after; tables = λ i l. free.tables i l ∙ (given.tables i l ∙ unhung.tables i l) };
+        }
+
+-- the calls, under all images
+module _ (s s1 : View) (customer owner : ℕ) (kind : Kind) (id item : ℕ) (c : HasCustomerAt s customer owner) (f : HasItemAt s kind id item) (small : id < 2 ^ 32) where
+  -- the block that left the list is the booking's
+  block_is : (taken : Option (Block × ℕ)) → Unbooked s s1 owner (kind, id) taken → (image : List ℕ) (state : State) → Sees s1 image → Sees s image → (h : IsState (mem s image) (length image) state) → booking_block h owner (kind, id) ≡ pointer (block_of taken)
+  block_is taken u image state i i0 h =
+      let e = here s customer owner kind id item c f small image state i0 h in
+      sym (u.is image (h.represents.parts.lists owner) i (its_list (mem s image) (length image) state h customer owner kind id item e))
+
+  pub none_booked : IsTrue (is_command (command.Cancel customer kind id)) → Unbooked s s1 owner (kind, id) None → RanInPlace s s1 (command.Cancel customer kind id) (reply.No NotBooked)
+  none_booked range u = reads_in_place s s1 (command.Cancel customer kind id) (reply.No NotBooked) range (record { kept = u.kept; writes = u.none refl }) (λ image state i h.
+      let i0 = u.kept.seen image i in
+      let e = here s customer owner kind id item c f small image state i0 h in
+      let o = owned (mem s image) (length image) state h customer owner kind id item e in
+      let there = its_item (mem s image) (length image) state h customer owner kind id item e in
+      let gone = not_booked (mem s image) (length image) state h customer owner kind id item e o (block_is None u image state i i0 h) in
+      rw (o.there, there, gone) refl)
+
+  module _ (held : HoldsState s) (x : Block) (units : ℕ) (u : Unbooked s s1 owner (kind, id) (Some (x, units))) where
+    some : x.0.0 ≢ 0
+    some = let w = u.within in omega (arith, w.0)
+
+    its_cut : (image : List ℕ) (state : State) → Sees s1 image → Sees s image → (h : IsState (mem s image) (length image) state) → ListCut (mem s image) (mem s1 image) (length image) owner (h.represents.parts.lists owner) (place_key (kind, id))
+    its_cut image state i i0 h =
+        let rows = h.represents.parts.lists owner in
+        let e = here s customer owner kind id item c f small image state i0 h in
+        let l = its_list (mem s image) (length image) state h customer owner kind id item e in
+        record { list = (u.list image rows i l).list; relinks = u.relinks image rows i l }
+
+    pub can_cancel : CanCancel s1 item units
+    can_cancel = record {
+      used = record {
+        enough = λ image i.
+            let i0 = u.kept.seen image i in
+            let t = held.under image i0 in
+            let e = here s customer owner kind id item c f small image t.0 i0 t.1 in
+            units_are_used (mem s image) (mem s1 image) (length image) t.0 t.1 customer owner kind id item x.0.0 units e (block_is (Some (x, units)) u image t.0 i i0 t.1) some (its_cut image t.0 i i0 t.1) (u.units image i);
+      };
+      free = record {
+        fits = λ image i.
+            let i0 = u.kept.seen image i in
+            let t = held.under image i0 in
+            let e = here s customer owner kind id item c f small image t.0 i0 t.1 in
+            units_fit (mem s image) (mem s1 image) (length image) t.0 t.1 customer owner kind id item x.0.0 units e (block_is (Some (x, units)) u image t.0 i i0 t.1) some (its_cut image t.0 i i0 t.1) (u.units image i);
+      };
+    }
+
+    pub used_now : (s2 : View) → ItemChanged s1 s2 item (λ y. given_back y units) → HasUsed s2 x.0.0
+    used_now s2 w = record {
+      small = omega (arith, held.small, u.kept.size, w.kept.size);
+      under = λ image i.
+          let i1 = w.kept.seen image i in
+          let i0 = u.kept.seen image i1 in
+          let t = held.under image i0 in
+          let e = here s customer owner kind id item c f small image t.0 i0 t.1 in
+          let r = in_hand (mem s image) (mem s1 image) (length image) t.0 t.1 customer owner kind id item x.0.0 units e (block_is (Some (x, units)) u image t.0 i1 i0 t.1) some (its_cut image t.0 i1 i0 t.1) (u.units image i1)
+          (mem s2 image) (w.changed image i) in
+          record { free = r.0; used = r.1.0; count = r.1.1.0; is = r.1.1.1 };
+    }
+
+    pub cancel_done : (s2 s3 : View) (start : ℕ) → start < 8 → IsTrue (is_command (command.Cancel customer kind id)) → ItemChanged s1 s2 item (λ y. given_back y units) → Given s2 s3 start x.0.0 → RanInPlace s s3 (command.Cancel customer kind id) reply.Done
+    cancel_done s2 s3 start low range w v = in_place s s3 (command.Cancel customer kind id) reply.Done range (record {
+      kept = kept_both s s2 s3 (kept_both s s1 s2 u.kept w.kept) v.kept;
+      lands = λ image state i h.
+          let i2 = v.kept.seen image i in
+          let i1 = w.kept.seen image i2 in
+          let i0 = u.kept.seen image i1 in
+          let e = here s customer owner kind id item c f small image state i0 h in
+          cancelled (mem s image) (mem s1 image) (length image) state h customer owner kind id item x.0.0 units e (block_is (Some (x, units)) u image state i1 i0 h) some (its_cut image state i1 i0 h) (u.units image i1)
+          (mem s2 image) (w.changed image i2) (mem s3 image) start low (λ free used count z. v.giving image free used count i z);
+    })

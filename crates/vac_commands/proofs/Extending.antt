@@ -1,0 +1,183 @@
+-- Units are booked of an item that has so many: by a customer who has a booking of it.
+use Rattle.std.proofs.Common.{◌≡◌, ◌≢◌, ℕ, ◌+◌, ◌*◌, ◌<◌, ◌≤◌, ◌^◌, List, [], length, Some, true, false, nat_lt, IsTrue, refl, sym, ap, ◌∙◌, arith}
+use Rattle.std.proofs.lemmas.Bool.Decides.{nat_tests}
+use Rattle.std.proofs.Math.Nat.{mul-le-mul_left}
+use Rattle.std.specs.FinMap.{get, insert}
+use Rattle.stm_words.specs.Seen.{some_le}
+use Rattle.stm_words.specs.View.{View, Sees, Stands, Loaded}
+use Rattle.vac_model.specs.declared.items.Kind.{Kind}
+use Rattle.vac_model.specs.declared.items.Item.{Item}
+use Rattle.vac_model.specs.declared.items.Booking.{Booking}
+use Rattle.vac_model.specs.declared.commands.Command.TheVariants as command
+use Rattle.vac_model.specs.declared.commands.Why.TheVariants.{UnitLimit}
+use Rattle.vac_model.specs.declared.replies.Reply.TheVariants as reply
+use Rattle.vac_model.specs.Ranges.{is_command}
+use Rattle.vac_model.specs.State.{State, Bookings, item_of, with_item, with_bookings}
+use Rattle.vac_model.specs.Step.{done, refused, step, taken, extended, unit_limit}
+use Rattle.vac_model.specs.Balanced.{IsBooking}
+use Rattle.vac_model.proofs.States.{item_of-with_bookings}
+use Rattle.vac_records.specs.Items.{mem, item_in, IsItemNow, CanMake, ItemChanged}
+use Rattle.vac_records.specs.Bookings.{booking_in}
+use Rattle.vac_records.specs.Customers.{IsBookingNow, CanExtend, BookingChanged}
+use Rattle.vac_records.specs.Represents.{IsState}
+use Rattle.vac_records.specs.Holds.{HoldsState}
+use Rattle.vac_records.specs.Laws.{Stays, IsItemAt}
+use Rattle.vac_records.specs.Steps.{kept_both}
+use Rattle.vac_records.proofs.Items.{item_replaced}
+use Rattle.vac_records.proofs.Booked.{booking_replaced}
+use Rattle.vac_commands.specs.Entries.{HasItemAt, HasCustomerAt}
+use Rattle.vac_commands.specs.BookingSteps.{booking_block, HasBookingAt, IsOffered, RanInPlace}
+use Rattle.vac_commands.proofs.Serving.{Lands, in_place, reads_in_place}
+use Rattle.vac_commands.proofs.Held.{item_is}
+use Rattle.vac_commands.proofs.Owners.{Here, here, owned, at_owner, at_item, its_item, booked_at}
+use Rattle.vac_commands.proofs.Cancelling.{item_stays, item_words}
+
+-- an item that is offered has a price in its range
+pub price_small : (s : View) (kind : Kind) (id item num price : ℕ) → HoldsState s → HasItemAt s kind id item → IsOffered s item num price → ∥ ((image : List ℕ) × Stands s image) ∥₁ → price ≤ 1000000
+price_small s kind id item num price held f o ws = some_le price 1000000 ws (λ w.
+    let i = w.1.sees in
+    let t = held.under w.0 i in
+    let r = t.1.small.balanced.items kind id (item_in (mem s w.0) item) (item_is s kind id item f w.0 t.0 i t.1) in
+    omega (arith, r.price_range, o.price_is w.0 i))
+
+pub sum_small : (num price : ℕ) → num < 2 ^ 32 → price ≤ 1000000 → num * price < 2 ^ 64
+sum_small num price few small =
+    let product : num * price ≤ num * 1000000 = mul-le-mul_left num small in
+    omega (arith, product, few)
+
+-- the counts of an item of which so many units are free
+pub counts_fit : (m : ℕ → ℕ) (n : ℕ) (s : State) (h : IsState m n s) (kind : Kind) (id item num : ℕ) → item_of s kind id ≡ Some (item_in m item) → num ≤ m (item + 5) → m (item + 4) + num < 2 ^ 64
+counts_fit m n s h kind id item num there free =
+    let r = h.small.balanced.items kind id (item_in m item) there in
+    omega (arith, r.counts, r.few_units, free)
+
+module _ (m : ℕ → ℕ) (n : ℕ) (s : State) (h : IsState m n s) (customer owner : ℕ) (kind : Kind) (id item b : ℕ) (e : Here h customer owner kind id item)
+    (is : booking_block h owner (kind, id) ≡ b) (some : b ≢ 0) where
+  abbrev had : Bookings
+  had = (owned m n s h customer owner kind id item e).bookings
+
+  found : get had (kind, id) ≡ Some (booking_in m b)
+  found = booked_at m n s h customer owner kind id item e (owned m n s h customer owner kind id item e) b is some
+
+  there : item_of s kind id ≡ Some (item_in m item)
+  there = its_item m n s h customer owner kind id item e
+
+  pub its_range : IsBooking s kind id (booking_in m b)
+  its_range = h.small.balanced.bookings customer had kind id (booking_in m b) (owned m n s h customer owner kind id item e).there found
+
+  pub over_limit : (num : ℕ) → num ≤ m (item + 5) → unit_limit < m (b + 4) + num → step s (command.Reserve customer kind id num) ≡ refused s UnitLimit
+  over_limit num free over =
+      let f : nat_lt (item_in m item).free num ≡ false = grind (arith, nat_tests) in
+      let t : nat_lt unit_limit ((booking_in m b).units + num) ≡ true = grind (arith, nat_tests) in
+      rw ((owned m n s h customer owner kind id item e).there, there, f, found, t) refl
+
+  module _ (m2 : ℕ → ℕ) (num price : ℕ) (free : num ≤ m (item + 5)) (price_is : m (item + 7) ≡ price) (now : IsBookingNow m m2 b (extended (booking_in m b) num price)) where
+    abbrev more : State
+    more = with_bookings s customer (insert had (kind, id) (booking_in m2 b))
+
+    grown : Stays h.represents m2 [] more
+    grown = booking_replaced m m2 n [] s customer owner had (kind, id) b h.represents (at_owner m n s h customer owner kind id item e (owned m n s h customer owner kind id item e)) (record { small = e.small; at = is; some = some }) now.others
+
+    item_at : IsItemAt grown.after kind id item
+    item_at = item_stays m m2 n [] [] s more h.represents kind id item grown (at_item m n s h customer owner kind id item e)
+
+    item_same : item_in m2 item ≡ item_in m item
+    item_same = item_words m m2 n [] [] s more h.represents kind id item grown (at_item m n s h customer owner kind id item e) (item_of-with_bookings s customer (insert had (kind, id) (booking_in m2 b)) kind id)
+
+    pub free_still : num ≤ m2 (item + 5)
+    free_still = omega (arith, free, ap (λ (x : Item). x.free) item_same)
+
+    pub used_fits : m2 (item + 4) + num < 2 ^ 64
+    used_fits = omega (arith, counts_fit m n s h kind id item num there free, ap (λ (x : Item). x.used) item_same)
+
+    pub extended_lands : (m3 : ℕ → ℕ) → m (b + 4) + num ≤ unit_limit → IsItemNow m2 m3 item (taken (item_in m2 item) num) → Lands h m3 (command.Reserve customer kind id num) reply.Done
+    extended_lands m3 few made =
+        let after = item_replaced m2 m3 n [] more kind id item grown.after item_at made.others in
+        let f : nat_lt (item_in m item).free num ≡ false = grind (arith, nat_tests) in
+        let t : nat_lt unit_limit ((booking_in m b).units + num) ≡ false = grind (arith, nat_tests) in
+        let stepped : step s (command.Reserve customer kind id num) ≡ done (with_item (with_bookings s customer (insert had (kind, id) (extended (booking_in m b) num (m (item + 7))))) kind id (taken (item_in m item) num)) =
+        rw ((owned m n s h customer owner kind id item e).there, there, f, found, t) refl in
+        let booked : extended (booking_in m b) num (m (item + 7)) ≡ booking_in m2 b = ap (extended (booking_in m b) num) price_is ∙ sym now.is in
+        let put : taken (item_in m item) num ≡ item_in m3 item = ap (λ (x : Item). taken x num) (sym item_same) ∙ sym made.is in
+        record {
+          state = with_item more kind id (item_in m3 item);
+          is = stepped ∙ (ap (λ (x : Booking). done (with_item (with_bookings s customer (insert had (kind, id) x)) kind id (taken (item_in m item) num))) booked
+              ∙ ap (λ (x : Item). done (with_item more kind id x)) put);
+          stays = record { after = after.after; tables = λ i l. after.tables i l ∙ grown.tables i l };
+        }
+
+-- the calls, under all images
+module _ (s : View) (customer owner : ℕ) (kind : Kind) (id item num price b : ℕ) (held : HoldsState s) (c : HasCustomerAt s customer owner) (f : HasItemAt s kind id item)
+    (o : IsOffered s item num price) (g : HasBookingAt s owner (kind, id) b) (small : id < 2 ^ 32) (few : num < 2 ^ 32) (cheap : price ≤ 1000000) where
+  b_some : b ≢ 0
+  b_some = omega (arith, g.inside.0)
+
+  range_at : (image : List ℕ) (state : State) → Sees s image → IsState (mem s image) (length image) state → IsBooking state kind id (booking_in (mem s image) b)
+  range_at image state i h =
+      its_range (mem s image) (length image) state h customer owner kind id item b (here s customer owner kind id item c f small image state i h) (g.at image state i h) b_some
+
+  module _ (s1 : View) (v : ℕ) (l : Loaded s s1 (b + 4) v) where
+    pub units_small : ∥ ((image : List ℕ) × Stands s1 image) ∥₁ → v ≤ 10000
+    units_small ws = some_le v 10000 ws (λ w.
+        let i = l.kept.seen w.0 w.1.sees in
+        let t = held.under w.0 i in
+        omega (arith, (range_at w.0 t.0 i t.1).few_units, l.answer w.0 w.1.sees))
+
+    pub too_many : IsTrue (is_command (command.Reserve customer kind id num)) → 10000 < v + num → RanInPlace s s1 (command.Reserve customer kind id num) (reply.No UnitLimit)
+    too_many range over = reads_in_place s s1 (command.Reserve customer kind id num) (reply.No UnitLimit) range (record { kept = l.kept; writes = l.writes }) (λ image state i h.
+        let i0 = l.kept.seen image i in
+        over_limit (mem s image) (length image) state h customer owner kind id item b (here s customer owner kind id item c f small image state i0 h) (g.at image state i0 h) b_some
+        num (o.free.enough image i0) (omega (arith, over, l.answer image i)))
+
+    pub can_extend : CanExtend s1 b num price
+    can_extend =
+        let product : num * price ≤ num * 1000000 = mul-le-mul_left num cheap in
+        record {
+          sum = record {
+            fits = λ image i.
+                let i0 = l.kept.seen image i in
+                let t = held.under image i0 in
+                let r = range_at image t.0 i0 t.1 in
+                rw l.writes (omega (arith, r.few_units, r.sum_range, product, few));
+          };
+          units = record {
+            fits = λ image i.
+                let i0 = l.kept.seen image i in
+                let t = held.under image i0 in
+                rw l.writes (omega (arith, (range_at image t.0 i0 t.1).few_units, few));
+          };
+        }
+
+    module _ (s2 : View) (w : BookingChanged s1 s2 b (λ x. extended x num price)) where
+      its_change : (image : List ℕ) → Sees s2 image → IsBookingNow (mem s image) (mem s2 image) b (extended (booking_in (mem s image) b) num price)
+      its_change image i = rw l.writes at (w.changed image i)
+
+      pub can_make : CanMake s2 item num
+      can_make = record {
+        free = record {
+          enough = λ image i.
+              let i0 = l.kept.seen image (w.kept.seen image i) in
+              let t = held.under image i0 in
+              free_still (mem s image) (length image) t.0 t.1 customer owner kind id item b (here s customer owner kind id item c f small image t.0 i0 t.1) (g.at image t.0 i0 t.1) b_some
+              (mem s2 image) num price (o.free.enough image i0) (o.price_is image i0) (its_change image i);
+        };
+        used = record {
+          fits = λ image i.
+              let i0 = l.kept.seen image (w.kept.seen image i) in
+              let t = held.under image i0 in
+              used_fits (mem s image) (length image) t.0 t.1 customer owner kind id item b (here s customer owner kind id item c f small image t.0 i0 t.1) (g.at image t.0 i0 t.1) b_some
+              (mem s2 image) num price (o.free.enough image i0) (o.price_is image i0) (its_change image i);
+        };
+      }
+
+      pub extend_done : (s3 : View) → IsTrue (is_command (command.Reserve customer kind id num)) → v + num ≤ 10000 → ItemChanged s2 s3 item (λ x. taken x num) → RanInPlace s s3 (command.Reserve customer kind id num) reply.Done
+      extend_done s3 range under made = in_place s s3 (command.Reserve customer kind id num) reply.Done range (record {
+        kept = kept_both s s2 s3 (kept_both s s1 s2 l.kept w.kept) made.kept;
+        lands = λ image state i h.
+            let i2 = made.kept.seen image i in
+            let i1 = w.kept.seen image i2 in
+            let i0 = l.kept.seen image i1 in
+            extended_lands (mem s image) (length image) state h customer owner kind id item b (here s customer owner kind id item c f small image state i0 h) (g.at image state i0 h) b_some
+            (mem s2 image) num price (o.free.enough image i0) (o.price_is image i0) (its_change image i2)
+            (mem s3 image) (omega (arith, under, l.answer image i1)) (made.changed image i);
+      })

@@ -1,0 +1,220 @@
+-- Memories that hold a state: what reads leave, what the calls on blocks, tables and lists ask for,
+-- and how a command's outcome is shown.
+use Rattle.std.proofs.Common.{◌≡◌, ◌≢◌, ℕ, ◌+◌, ◌<◌, ◌≤◌, ◌^◌, List, [], length, Option, Some, None, true, refl, sym, ap, ◌∙◌, subst, arith}
+use Rattle.stm_words.specs.View.{View, Words, Sees, Kept, memory}
+use Rattle.vac_model.specs.declared.items.Kind.{Kind}
+use Rattle.vac_model.specs.declared.commands.Command.{Command}
+use Rattle.vac_model.specs.declared.replies.Reply.{Reply}
+use Rattle.vac_model.specs.State.{State, kind_number, item_of, bookings_of}
+use Rattle.vac_model.specs.Step.{Outcome, step}
+use Rattle.vac_model.specs.Fits.{IsSmall}
+use Rattle.vac_model.specs.Ranges.{is_command}
+use Rattle.vac_model.proofs.Kept.{small_after}
+use Rattle.tx_alloc.specs.Pool.{HasPool}
+use Rattle.tx_alloc.specs.Rows.{Rows, block_at}
+use Rattle.tx_tree.specs.Table.{HasTable}
+use Rattle.vac_records.specs.Items.{mem, item_in, IsNode}
+use Rattle.vac_records.specs.Steps.{kept_none, kept_both}
+use Rattle.vac_records.specs.Represents.{Represents, IsState}
+use Rattle.vac_records.specs.Holds.{HoldsState, OnlyRead}
+use Rattle.vac_records.specs.Laws.{HasBookings}
+use Rattle.vac_records.proofs.Shifts.{kind_small}
+use Rattle.vac_records.proofs.Items.{item_found, item_missing}
+use Rattle.vac_records.proofs.Customers.{customer_found, customer_missing}
+use Rattle.vac_records.proofs.Single.{one_shape}
+use Rattle.vac_records.proofs.Bridges.{pool_there, table_there}
+use Rattle.vac_commands.specs.Entries.{item_block, customer_block, LacksItem, HasItemAt, LacksCustomer, HasCustomerAt, ItemsStay, CustomersStay}
+use Rattle.vac_commands.specs.Ran.{IsOutcome, Ran, Asked}
+
+-- reads, one after the other
+pub read_none : (s : View) → OnlyRead s s
+read_none s = record { kept = kept_none s; writes = refl }
+
+pub read_both : (s s' s'' : View) → OnlyRead s s' → OnlyRead s' s'' → OnlyRead s s''
+read_both s s' s'' h k = record {
+  kept = kept_both s s' s'' h.kept k.kept;
+  writes = k.writes ∙ h.writes;
+}
+
+-- the state of a memory after reads is the one before
+pub state_on : (s s' : View) (image : List ℕ) (state : State) → s'.writes ≡ s.writes → IsState (mem s image) (length image) state → IsState (mem s' image) (length image) state
+state_on s s' image state w h = rw w h
+
+pub state_back : (s s' : View) (image : List ℕ) (state : State) → s'.writes ≡ s.writes → IsState (mem s' image) (length image) state → IsState (mem s image) (length image) state
+state_back s s' image state w h = rw (sym w) h
+
+pub held_on : (s s' : View) → OnlyRead s s' → HoldsState s → HoldsState s'
+held_on s s' r h = record {
+  inside = omega (arith, h.inside, r.kept.size);
+  small = omega (arith, h.small, r.kept.size);
+  under = λ image i. (let t = h.under image (r.kept.seen image i) in (t.0, state_on s s' image t.0 r.writes t.1));
+}
+
+-- the memory after a command holds a state
+pub held_ran : (s s' : View) (c : Command) (r : Reply) → Ran s s' c r → HoldsState s → HoldsState s'
+held_ran s s' c r ran h = record {
+  inside = omega (arith, h.inside, ran.kept.size);
+  small = omega (arith, h.small, ran.kept.size);
+  under = λ image i. (let t = h.under image (ran.kept.seen image i) in ((step t.0 c).0, (ran.outcome image t.0 i t.1).state));
+}
+
+-- the blocks of a state
+pub pool_held : (s : View) → HoldsState s → HasPool s
+pool_held s h = record {
+  small = h.small;
+  under = λ image i. (let t = h.under image i in
+      let p = t.1.represents in
+      record { free = p.parts.free; used = _; count = _; pool = pool_there (mem s image) (length image) [] t.0 p });
+}
+
+-- the tables of a state
+pub table_held : (s : View) (i : ℕ) → i < 4 → HoldsState s → HasTable s (1 + i)
+table_held s i l h = record {
+  small = h.small;
+  room = h.inside;
+  low = omega (arith, l);
+  under = λ image sees. (let t = h.under image sees in
+      let p = t.1.represents in
+      record { entries = p.parts.tables i; is = table_there (mem s image) (length image) [] t.0 i p t.1.small.small l });
+}
+
+pub items_held : (s : View) (root : ℕ) (kind : Kind) → root ≡ 1 + kind_number kind → HoldsState s → HasTable s root
+items_held s root kind e h = subst (λ (x : ℕ). HasTable s x) (sym e) (table_held s (kind_number kind) (omega (arith, kind_small kind)) h)
+
+pub customers_held : (s : View) → HoldsState s → HasTable s 4
+customers_held s h = table_held s 3 (omega arith) h
+
+-- the block of an entry is eight words of the memory
+pub item_node : (s : View) (kind : Kind) (id b : ℕ) → HoldsState s → HasItemAt s kind id b → IsNode s b
+item_node s kind id b h at = record { inside = at.inside.1; small = h.small }
+
+pub customer_node : (s : View) (id c : ℕ) → HoldsState s → HasCustomerAt s id c → IsNode s c
+customer_node s id c h at = record { inside = at.inside.1; small = h.small }
+
+-- what holds under the memory before reads holds under the memory after them
+pub item_same : (s s' : View) (image : List ℕ) (state : State) (kind : Kind) (id b : ℕ) → s'.writes ≡ s.writes →
+    ((h : IsState (mem s image) (length image) state) → item_block h kind id ≡ b) →
+    (h : IsState (mem s' image) (length image) state) → item_block h kind id ≡ b
+item_same s s' image state kind id b w f = subst (λ (ws : Words). (h : IsState (memory image ws) (length image) state) → item_block h kind id ≡ b) (sym w) f
+
+pub customer_same : (s s' : View) (image : List ℕ) (state : State) (id c : ℕ) → s'.writes ≡ s.writes →
+    ((h : IsState (mem s image) (length image) state) → customer_block h id ≡ c) →
+    (h : IsState (mem s' image) (length image) state) → customer_block h id ≡ c
+customer_same s s' image state id c w f = subst (λ (ws : Words). (h : IsState (memory image ws) (length image) state) → customer_block h id ≡ c) (sym w) f
+
+-- what was found is there after further reads, and what was missing is missing
+pub item_at_on : (s s' : View) (kind : Kind) (id b : ℕ) → OnlyRead s s' → HasItemAt s kind id b → HasItemAt s' kind id b
+item_at_on s s' kind id b r at = record {
+  some = at.some;
+  inside = (at.inside.0, omega (arith, at.inside.1, r.kept.size));
+  at = λ image state i. item_same s s' image state kind id b r.writes (at.at image state (r.kept.seen image i));
+}
+
+pub item_lacks_on : (s s' : View) (kind : Kind) (id : ℕ) → OnlyRead s s' → LacksItem s kind id → LacksItem s' kind id
+item_lacks_on s s' kind id r l = record { none = λ image state i. item_same s s' image state kind id 0 r.writes (l.none image state (r.kept.seen image i)) }
+
+pub customer_at_on : (s s' : View) (id c : ℕ) → OnlyRead s s' → HasCustomerAt s id c → HasCustomerAt s' id c
+customer_at_on s s' id c r at = record {
+  some = at.some;
+  inside = (at.inside.0, omega (arith, at.inside.1, r.kept.size));
+  at = λ image state i. customer_same s s' image state id c r.writes (at.at image state (r.kept.seen image i));
+}
+
+pub customer_lacks_on : (s s' : View) (id : ℕ) → OnlyRead s s' → LacksCustomer s id → LacksCustomer s' id
+customer_lacks_on s s' id r l = record { none = λ image state i. customer_same s s' image state id 0 r.writes (l.none image state (r.kept.seen image i)) }
+
+-- the state's entries, by the blocks that were found
+pub item_is : (s : View) (kind : Kind) (id b : ℕ) → HasItemAt s kind id b → (image : List ℕ) (state : State) → Sees s image → IsState (mem s image) (length image) state → item_of state kind id ≡ Some (item_in (mem s image) b)
+item_is s kind id b at image state i h =
+    item_found (mem s image) (length image) [] state h.represents kind id b (record { at = at.at image state i h; some = at.some })
+
+pub item_none : (s : View) (kind : Kind) (id : ℕ) → LacksItem s kind id → (image : List ℕ) (state : State) → Sees s image → IsState (mem s image) (length image) state → item_of state kind id ≡ None
+item_none s kind id l image state i h = item_missing (mem s image) (length image) [] state h.represents kind id (l.none image state i h)
+
+pub customer_is : (s : View) (id c : ℕ) → HasCustomerAt s id c → (image : List ℕ) (state : State) → Sees s image → (h : IsState (mem s image) (length image) state) → HasBookings (mem s image) (h.represents.parts.lists c) state id
+customer_is s id c at image state i h = customer_found (mem s image) (length image) [] state h.represents id c (at.at image state i h) at.some
+
+pub customer_none : (s : View) (id : ℕ) → LacksCustomer s id → (image : List ℕ) (state : State) → Sees s image → IsState (mem s image) (length image) state → bookings_of state id ≡ None
+customer_none s id l image state i h = customer_missing (mem s image) (length image) [] state h.represents id (l.none image state i h)
+
+-- an outcome: the memory represents its state, which is balanced as the command keeps it so
+pub outcome_of : (m m' : ℕ → ℕ) (n : ℕ) (state after : State) (c : Command) (r : Reply) → IsState m n state → is_command c ≡ true → step state c ≡ (after, r) → Represents m' n [] after → IsOutcome m' n (step state c) r
+outcome_of m m' n state after c r h range e k =
+    subst (λ (z : Outcome). IsOutcome m' n z r) (sym e) (record {
+      state = record { represents = k; small = small_after state after c r h.small range e };
+      reply_is = refl;
+    })
+
+-- the outcome is the state as it was, and a reply
+pub outcome_same : (m : ℕ → ℕ) (n : ℕ) (state : State) (c : Command) (r : Reply) → IsState m n state → step state c ≡ (state, r) → IsOutcome m n (step state c) r
+outcome_same m n state c r h e = subst (λ (z : Outcome). IsOutcome m n z r) (sym e) (record { state = h; reply_is = refl })
+
+-- a command that only reads lead to
+pub ran_reads : (s s' : View) (c : Command) (r : Reply) → OnlyRead s s' →
+    ((image : List ℕ) (state : State) → Sees s' image → IsState (mem s image) (length image) state → step state c ≡ (state, r)) → Ran s s' c r
+ran_reads s s' c r reads e = record {
+  kept = reads.kept;
+  outcome = λ image state i h. outcome_same (mem s' image) (length image) state c r (state_on s s' image state reads.writes h) (e image state i h);
+}
+
+pub asked_reads : (s s' : View) (c : Command) (r : Reply) → OnlyRead s s' →
+    ((image : List ℕ) (state : State) → Sees s' image → IsState (mem s image) (length image) state → step state c ≡ (state, r)) → Asked s s' c r
+asked_reads s s' c r reads e = record { ran = ran_reads s s' c r reads e; writes = reads.writes }
+
+-- a command that ran after reads ran from the memory before them
+pub ran_after : (s s' s'' : View) (c : Command) (r : Reply) → OnlyRead s s' → Ran s' s'' c r → Ran s s'' c r
+ran_after s s' s'' c r reads h = record {
+  kept = kept_both s s' s'' reads.kept h.kept;
+  outcome = λ image state i is. h.outcome image state i (state_on s s' image state reads.writes is);
+}
+
+pub asked_after : (s s' s'' : View) (c : Command) (r : Reply) → OnlyRead s s' → Asked s' s'' c r → Asked s s'' c r
+asked_after s s' s'' c r reads h = record { ran = ran_after s s' s'' c r reads h.ran; writes = h.writes ∙ reads.writes }
+
+-- entries that stay in their blocks
+pub items_stay_reads : (s s' : View) → OnlyRead s s' → ItemsStay s s'
+items_stay_reads s s' r = record {
+  stay = λ image state state' i h h' kind id.
+      item_same s s' image state' kind id (item_block h kind id) r.writes
+      (λ g. ap (λ (rows : Rows). block_at rows id) (one_shape (mem s image) (length image) [] [] state state' h.represents g.represents (kind_number kind) (omega (arith, kind_small kind)))) h';
+}
+
+pub customers_stay_reads : (s s' : View) → OnlyRead s s' → CustomersStay s s'
+customers_stay_reads s s' r = record {
+  stay = λ image state state' i h h' id.
+      customer_same s s' image state' id (customer_block h id) r.writes
+      (λ g. ap (λ (rows : Rows). block_at rows id) (one_shape (mem s image) (length image) [] [] state state' h.represents g.represents 3 (omega arith))) h';
+}
+
+pub items_stay_both : (s s' s'' : View) (c : Command) (r : Reply) → Ran s s' c r → Kept s' s'' → ItemsStay s s' → ItemsStay s' s'' → ItemsStay s s''
+items_stay_both s s' s'' c r ran k a b = record {
+  stay = λ image state state' i h h' kind id.
+      let mid = (ran.outcome image state (k.seen image i) h).state in
+      b.stay image (step state c).0 state' i mid h' kind id ∙ a.stay image state (step state c).0 (k.seen image i) h mid kind id;
+}
+
+pub customers_stay_both : (s s' s'' : View) (c : Command) (r : Reply) → Ran s s' c r → Kept s' s'' → CustomersStay s s' → CustomersStay s' s'' → CustomersStay s s''
+customers_stay_both s s' s'' c r ran k a b = record {
+  stay = λ image state state' i h h' id.
+      let mid = (ran.outcome image state (k.seen image i) h).state in
+      b.stay image (step state c).0 state' i mid h' id ∙ a.stay image state (step state c).0 (k.seen image i) h mid id;
+}
+
+-- what was found stands in its block after a change that lets it stay
+pub item_at_stays : (s s' : View) (kind : Kind) (id b : ℕ) → HoldsState s → Kept s s' → ItemsStay s s' → HasItemAt s kind id b → HasItemAt s' kind id b
+item_at_stays s s' kind id b held k stays at = record {
+  some = at.some;
+  inside = (at.inside.0, omega (arith, at.inside.1, k.size));
+  at = λ image state' i h'.
+      let t = held.under image (k.seen image i) in
+      stays.stay image t.0 state' i t.1 h' kind id ∙ at.at image t.0 (k.seen image i) t.1;
+}
+
+pub customer_at_stays : (s s' : View) (id c : ℕ) → HoldsState s → Kept s s' → CustomersStay s s' → HasCustomerAt s id c → HasCustomerAt s' id c
+customer_at_stays s s' id c held k stays at = record {
+  some = at.some;
+  inside = (at.inside.0, omega (arith, at.inside.1, k.size));
+  at = λ image state' i h'.
+      let t = held.under image (k.seen image i) in
+      stays.stay image t.0 state' i t.1 h' id ∙ at.at image t.0 (k.seen image i) t.1;
+}

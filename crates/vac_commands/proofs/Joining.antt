@@ -1,0 +1,203 @@
+-- A customer comes: a block is taken, made a customer, and hung into the table.
+use Rattle.std.proofs.Common.{◌≡◌, inl, inr, ℕ, ◌<◌, ◌≤◌, List, [], ◌∷◌, length, Some, None, true, false, cond, nat_eq, refl, ap, ◌∙◌, arith}
+use Rattle.std.proofs.lemmas.Bool.Decides.{nat_tests}
+use Rattle.std.specs.FinMap.{empty}
+use Rattle.stm_words.specs.View.{View, Sees, Stands}
+use Rattle.stm_words.specs.Seen.{some_le}
+use Rattle.vac_model.specs.declared.commands.Command.TheVariants as command
+use Rattle.vac_model.specs.declared.commands.Why.TheVariants.{Full, Exists}
+use Rattle.vac_model.specs.declared.replies.Reply.TheVariants as reply
+use Rattle.vac_model.specs.State.{State, Bookings, kind_number, bookings_of, with_bookings, size, is_full}
+use Rattle.vac_model.specs.Ranges.{is_command}
+use Rattle.vac_model.specs.Step.{step}
+use Rattle.tx_alloc.specs.Pool.{IsTaking, NoneFree, Taken}
+use Rattle.tx_alloc.specs.Rows.{Rows, put_row, block_at}
+use Rattle.tx_alloc.proofs.Order.{at_put}
+use Rattle.tx_tree.specs.Table.{Table, HasTable, IsFresh, Inserted}
+use Rattle.vac_records.specs.Items.{mem, IsNode}
+use Rattle.vac_records.specs.Customers.{CustomerMade}
+use Rattle.vac_records.specs.Heap.{used_in, count_in}
+use Rattle.vac_records.specs.Represents.{IsState}
+use Rattle.vac_records.specs.Holds.{HoldsState, OnlyRead}
+use Rattle.vac_records.specs.Laws.{Stays, StaysBut}
+use Rattle.vac_records.specs.Steps.{kept_both}
+use Rattle.vac_records.proofs.Bridges.{pool_there, table_there}
+use Rattle.vac_records.proofs.Customers.{customer_inserted}
+use Rattle.vac_records.proofs.Hands.{block_taken, block_written}
+use Rattle.vac_records.proofs.Shifts.{kind_small}
+use Rattle.vac_records.proofs.Single.{none_left, some_left, one_shape}
+use Rattle.vac_records.proofs.TableRows.{table_one}
+use Rattle.vac_commands.specs.Entries.{LacksCustomer, HasCustomerAt, ItemsStay}
+use Rattle.vac_commands.specs.Ran.{Ran}
+use Rattle.vac_commands.proofs.Held.{customer_is, customer_none, outcome_of, read_none, ran_reads, ran_after}
+
+-- the customer is there already
+there_step : (state : State) (id : ℕ) (b : Bookings) → bookings_of state id ≡ Some b →
+    step state (command.NewCustomer id) ≡ (state, reply.No Exists)
+there_step state id b h = rw h refl
+
+pub exists_already : (s s' : View) (id c : ℕ) → OnlyRead s s' → HasCustomerAt s' id c →
+    Ran s s' (command.NewCustomer id) (reply.No Exists)
+exists_already s s' id c r at =
+    ran_after s s' s' (command.NewCustomer id) (reply.No Exists) r
+    (ran_reads s' s' (command.NewCustomer id) (reply.No Exists) (read_none s')
+    (λ image state i h.
+    let t = customer_is s' id c at image state i h in
+    there_step state id t.bookings t.there))
+
+-- no block is left
+full_step : (state : State) (id : ℕ) → bookings_of state id ≡ None → size state ≡ state.capacity →
+    step state (command.NewCustomer id) ≡ (state, reply.No Full)
+full_step state id none full =
+    let t : is_full state ≡ true = grind (arith, nat_tests) in
+    rw (none, t) refl
+
+pub none_left_over : (s s' : View) (id : ℕ) → LacksCustomer s id → NoneFree s s' →
+    Ran s s' (command.NewCustomer id) (reply.No Full)
+none_left_over s s' id lacks n =
+    ran_reads s s' (command.NewCustomer id) (reply.No Full) (record { kept = n.kept; writes = n.writes })
+    (λ image state i h.
+    let r = h.represents in
+    let none = customer_none s id lacks image state (n.kept.seen image i) h in
+    full_step state id none (none_left (mem s image) (length image) state r
+    (n.none image r.parts.free (used_in r.parts) (count_in r.parts) i (pool_there (mem s image) (length image) [] state r))))
+
+-- the block that was taken
+taking : (s s1 : View) (start b : ℕ) (image : List ℕ) (state : State) → Taken s s1 start b →
+    Sees s1 image → (h : IsState (mem s image) (length image) state) →
+    IsTaking (mem s image) (mem s1 image) (length image) h.represents.parts.free
+    (used_in h.represents.parts) (count_in h.represents.parts) start b
+taking s s1 start b image state t i h =
+    t.taking image h.represents.parts.free (used_in h.represents.parts) (count_in h.represents.parts) i
+    (pool_there (mem s image) (length image) [] state h.represents)
+
+pub taken_node : (s s1 : View) (start b : ℕ) → HoldsState s → Taken s s1 start b → IsNode s1 b
+taken_node s s1 start b h t = record { inside = t.room; small = omega (arith, h.small, t.kept.size) }
+
+-- the state while the block is in hand
+module _ (s s1 s2 : View) (id start b : ℕ) (t : Taken s s1 start b) (w : CustomerMade s1 s2 b id) where
+  in_hand : (image : List ℕ) (state : State) → Sees s2 image →
+      (h : IsState (mem s image) (length image) state) →
+      Stays h.represents (mem s2 image) (b ∷ []) state
+  in_hand image state i h =
+      let m = mem s image in
+      let n = length image in
+      let k = taking s s1 start b image state t (w.kept.seen image i) h in
+      let new = w.made image i in
+      let one = block_taken m (mem s1 image) n start b [] state h.represents k in
+      let two = block_written (mem s1 image) (mem s2 image) n b [] state k.block one.after (λ x far.
+      new.others x (elim far [ inl below ↦ omega arith | inr above ↦ omega arith ])
+      (elim far [ inl below ↦ inl (omega arith) | inr above ↦ inr above ])) in
+      record { after = two.after; tables = λ j l. two.tables j l ∙ one.tables j l }
+
+  hand_table : (image : List ℕ) (state : State) → (i : Sees s2 image) →
+      (h : IsState (mem s image) (length image) state) → (g : Stays h.represents (mem s2 image) (b ∷ []) state) →
+      Table (mem s2 image) (length image) 4 (g.after.parts.tables 3)
+  hand_table image state i h g =
+      table_there (mem s2 image) (length image) (b ∷ []) state 3 g.after h.small.small (omega arith)
+
+  pub table_in_hand : HoldsState s → HasTable s2 4
+  table_in_hand has = record {
+    small = omega (arith, has.small, t.kept.size, w.kept.size);
+    room = omega (arith, has.inside, t.kept.size, w.kept.size);
+    low = omega arith;
+    under = λ image i.
+        let h = has.under image (t.kept.seen image (w.kept.seen image i)) in
+        let g = in_hand image h.0 i h.1 in
+        record { entries = g.after.parts.tables 3; is = hand_table image h.0 i h.1 g };
+  }
+
+  -- the id is missing while the block is in hand
+  missing : LacksCustomer s id → (image : List ℕ) (state : State) → Sees s2 image →
+      (h : IsState (mem s image) (length image) state) → (g : Stays h.represents (mem s2 image) (b ∷ []) state) →
+      block_at (g.after.parts.tables 3) id ≡ 0
+  missing lacks image state i h g =
+      ap (λ (z : Rows). block_at z id) (g.tables 3 (omega arith))
+      ∙ lacks.none image state (t.kept.seen image (w.kept.seen image i)) h
+
+  pub fresh_in_hand : HoldsState s → LacksCustomer s id → IsFresh s2 4 id b
+  fresh_in_hand has lacks = record {
+    under = λ image rs i table.
+        let i1 = w.kept.seen image i in
+        let h = has.under image (t.kept.seen image i1) in
+        let g = in_hand image h.0 i h.1 in
+        let here = hand_table image h.0 i h.1 g in
+        let same : rs ≡ g.after.parts.tables 3 =
+        table_one (mem s2 image) (length image) (mem s2 image 4) rs (g.after.parts.tables 3) table.table here.table in
+        record {
+          block = (taking s s1 start b image h.0 t i1 h.1).block;
+          absent = ap (λ (z : Rows). block_at z id) same ∙ missing lacks image h.0 i h.1 g;
+          key_is = (w.made image i).key_is;
+        };
+  }
+
+  -- the state with the customer
+  module _ (s3 : View) (v : Inserted s2 s3 4 id b) (lacks : LacksCustomer s id) where
+    joined : (image : List ℕ) (state : State) → (i : Sees s3 image) →
+        (h : IsState (mem s image) (length image) state) →
+        (g : Stays h.represents (mem s2 image) (b ∷ []) state) →
+        StaysBut g.after 3 (put_row (g.after.parts.tables 3) id b) (mem s3 image) [] (with_bookings state id empty)
+    joined image state i h g =
+        let i2 = v.kept.seen image i in
+        let table = hand_table image state i2 h g in
+        customer_inserted (mem s2 image) (mem s3 image) (length image) b [] state id
+        (taking s s1 start b image state t (w.kept.seen image i2) h).block g.after
+        (missing lacks image state i2 h g) (w.made image i2).head_is (record {
+          table = v.table image (g.after.parts.tables 3) i table;
+          relinks = v.relinks image (g.after.parts.tables 3) i table;
+        })
+
+    new_step : (state : State) → bookings_of state id ≡ None → size state < state.capacity →
+        step state (command.NewCustomer id) ≡ (with_bookings state id empty, reply.Done)
+    new_step state none room =
+        let f : is_full state ≡ false = grind (arith, nat_tests) in
+        rw (none, f) refl
+
+    pub joined_ran : is_command (command.NewCustomer id) ≡ true → Ran s s3 (command.NewCustomer id) reply.Done
+    joined_ran range = record {
+      kept = kept_both s s2 s3 (kept_both s s1 s2 t.kept w.kept) v.kept;
+      outcome = λ image state i h.
+          let i2 = v.kept.seen image i in
+          let g = in_hand image state i2 h in
+          let none = customer_none s id lacks image state (t.kept.seen image (w.kept.seen image i2)) h in
+          outcome_of (mem s image) (mem s3 image) (length image) state (with_bookings state id empty)
+          (command.NewCustomer id) reply.Done h range
+          (new_step state none (some_left (mem s2 image) (length image) b state g.after))
+          (joined image state i h g).after;
+    }
+
+    pub items_stay_joined : ItemsStay s s3
+    items_stay_joined = record {
+      stay = λ image state state' i h h' kind id'.
+          let g = in_hand image state (v.kept.seen image i) h in
+          let j = joined image state i h g in
+          let k = kind_number kind in
+          let l = kind_small kind in
+          ap (λ (z : Rows). block_at z id')
+          (one_shape (mem s3 image) (length image) [] [] (with_bookings state id empty) state' j.after h'.represents k (omega arith)
+          ∙ (j.tables k (omega arith) (omega arith) ∙ g.tables k (omega arith)));
+    }
+
+    put_here : (rs : Rows) → block_at (put_row rs id b) id ≡ b
+    put_here rs =
+        let e : nat_eq id id ≡ true = grind (arith, nat_tests) in
+        at_put rs id b id ∙ ap (λ z. cond {A = ℕ} z b (block_at rs id)) e
+
+    pub seated_at : HoldsState s → ∥ ((image : List ℕ) × Stands s3 image) ∥₁ → HasCustomerAt s3 id b
+    seated_at has ws =
+        let low : 16 ≤ b = some_le 16 b ws (λ x.
+        let i1 = w.kept.seen x.0 (v.kept.seen x.0 x.1.sees) in
+        let h = has.under x.0 (t.kept.seen x.0 i1) in
+        omega (arith, (taking s s1 start b x.0 h.0 t i1 h.1).block.1.1)) in
+        record {
+          some = omega arith;
+          inside = (low, omega (arith, t.room, w.kept.size, v.kept.size));
+          at = λ image state' i h'.
+              let i2 = v.kept.seen image i in
+              let h = has.under image (t.kept.seen image (w.kept.seen image i2)) in
+              let g = in_hand image h.0 i2 h.1 in
+              let j = joined image h.0 i h.1 g in
+              ap (λ (z : Rows). block_at z id)
+              (one_shape (mem s3 image) (length image) [] [] (with_bookings h.0 id empty) state' j.after h'.represents 3 (omega arith) ∙ j.table)
+              ∙ put_here (g.after.parts.tables 3);
+        }

@@ -1,0 +1,110 @@
+-- The customer and the item of a command on bookings.
+use Rattle.std.proofs.Common.{◌≡◌, ◌≢◌, ℕ, ◌<◌, ◌^◌, List, [], length, Option, Some, None, sym, subst, arith}
+use Rattle.std.specs.FinMap.{get}
+use Rattle.stm_words.specs.View.{View, Words, Sees, memory}
+use Rattle.vac_model.specs.declared.items.Kind.{Kind}
+use Rattle.vac_model.specs.State.{State, Place, item_of}
+use Rattle.tx_alloc.specs.declared.pool.Block.{Block}
+use Rattle.tx_alloc.specs.Pool.{IsBlock}
+use Rattle.tx_list.specs.Lists.{IsListAt, HasList, Found}
+use Rattle.vac_records.specs.Items.{mem, item_in}
+use Rattle.vac_records.specs.Bookings.{place_key, booking_in}
+use Rattle.vac_records.specs.Customers.{head_of}
+use Rattle.vac_records.specs.Represents.{IsState}
+use Rattle.vac_records.specs.Holds.{HoldsState, OnlyRead}
+use Rattle.vac_records.specs.Laws.{HasBookings, IsCustomerAt, IsItemAt}
+use Rattle.vac_records.proofs.Keyed.{row_at, row_times}
+use Rattle.vac_records.proofs.Shifts.{in_list}
+use Rattle.vac_records.proofs.Items.{item_found}
+use Rattle.vac_records.proofs.Customers.{customer_found}
+use Rattle.vac_records.proofs.Booked.{booking_found, booking_missing}
+use Rattle.vac_records.proofs.Bridges.{list_there}
+use Rattle.vac_commands.specs.Entries.{item_block, customer_block, HasItemAt, HasCustomerAt}
+use Rattle.vac_commands.specs.BookingSteps.{booking_block, LacksBooking, HasBookingAt}
+
+-- the blocks of the customer and of the item
+pub record Here {m : ℕ → ℕ} {n : ℕ} {s : State} (h : IsState m n s) (customer owner : ℕ) (kind : Kind) (id item : ℕ) : Type 0 where
+  pub owner_is : customer_block h customer ≡ owner
+  pub owner_some : owner ≢ 0
+  pub item_is : item_block h kind id ≡ item
+  pub item_some : item ≢ 0
+  pub small : id < 2 ^ 32
+
+pub here : (s : View) (customer owner : ℕ) (kind : Kind) (id item : ℕ) → HasCustomerAt s customer owner → HasItemAt s kind id item → id < 2 ^ 32 →
+    (image : List ℕ) (state : State) → Sees s image → (h : IsState (mem s image) (length image) state) → Here h customer owner kind id item
+here s customer owner kind id item c f small image state i h = record {
+  owner_is = c.at image state i h;
+  owner_some = c.some;
+  item_is = f.at image state i h;
+  item_some = f.some;
+  small = small;
+}
+
+module _ (m : ℕ → ℕ) (n : ℕ) (s : State) (h : IsState m n s) (customer owner : ℕ) (kind : Kind) (id item : ℕ) (e : Here h customer owner kind id item) where
+  pub owned : HasBookings m (h.represents.parts.lists owner) s customer
+  owned = customer_found m n [] s h.represents customer owner e.owner_is e.owner_some
+
+  pub at_owner : (o : HasBookings m (h.represents.parts.lists owner) s customer) → IsCustomerAt h.represents customer owner o.bookings
+  at_owner o = record { at = e.owner_is; some = e.owner_some; there = o.there }
+
+  pub its_list : IsListAt m n (head_of owner) (h.represents.parts.lists owner)
+  its_list = list_there m n [] s customer owner owned.bookings h.represents (at_owner owned)
+
+  pub at_item : IsItemAt h.represents kind id item
+  at_item = record { at = e.item_is; some = e.item_some }
+
+  pub its_item : item_of s kind id ≡ Some (item_in m item)
+  its_item = item_found m n [] s h.represents kind id item at_item
+
+  pub booked_at : (o : HasBookings m (h.represents.parts.lists owner) s customer) (b : ℕ) → booking_block h owner (kind, id) ≡ b → b ≢ 0 → get o.bookings (kind, id) ≡ Some (booking_in m b)
+  booked_at o b is some = booking_found m n [] s h.represents customer owner o.bookings (kind, id) b (at_owner o) (record { small = e.small; at = is; some = some })
+
+  pub not_booked : (o : HasBookings m (h.represents.parts.lists owner) s customer) → booking_block h owner (kind, id) ≡ 0 → get o.bookings (kind, id) ≡ None
+  not_booked o none = booking_missing m n [] s h.represents customer owner o.bookings (kind, id) e.small (at_owner o) none
+
+  pub booking_is_block : (b : ℕ) → booking_block h owner (kind, id) ≡ b → b ≢ 0 → IsBlock n b
+  booking_is_block b is some =
+      let p = h.represents.parts in
+      in_list m n p h.represents.heap owner b
+      (row_times customer owner (p.tables 3) (row_at customer owner (p.tables 3) e.owner_is e.owner_some))
+      (row_times (place_key (kind, id)) b (p.lists owner) (row_at (place_key (kind, id)) b (p.lists owner) is some))
+
+-- the customer's list of bookings
+owner_list : (m : ℕ → ℕ) (n : ℕ) (s : State) (h : IsState m n s) (customer owner : ℕ) → customer_block h customer ≡ owner → owner ≢ 0 → IsListAt m n (head_of owner) (h.represents.parts.lists owner)
+owner_list m n s h customer owner is some =
+    let o = customer_found m n [] s h.represents customer owner is some in
+    list_there m n [] s customer owner o.bookings h.represents (record { at = is; some = some; there = o.there })
+
+pub list_held : (s : View) (customer owner : ℕ) → HoldsState s → HasCustomerAt s customer owner → HasList s (head_of owner)
+list_held s customer owner has c = record {
+  small = has.small;
+  room = omega (arith, c.inside.1);
+  under = λ image i.
+      let t = has.under image i in
+      record { entries = t.1.represents.parts.lists owner; is = owner_list (mem s image) (length image) t.0 t.1 customer owner (c.at image t.0 i t.1) c.some };
+}
+
+-- what holds of a booking's block before reads holds after them
+booking_same : (s s' : View) (image : List ℕ) (state : State) (owner : ℕ) (place : Place) (b : ℕ) → s'.writes ≡ s.writes →
+    ((h : IsState (mem s image) (length image) state) → booking_block h owner place ≡ b) →
+    (h : IsState (mem s' image) (length image) state) → booking_block h owner place ≡ b
+booking_same s s' image state owner place b w f = subst (λ (ws : Words). (h : IsState (memory image ws) (length image) state) → booking_block h owner place ≡ b) (sym w) f
+
+-- a look for a booking
+pub found_only : (s s' : View) (head key : ℕ) (o : Option Block) → Found s s' head key o → OnlyRead s s'
+found_only s s' head key o f = record { kept = f.kept; writes = f.writes }
+
+pub found_none : (s s' : View) (customer owner : ℕ) (place : Place) → HasCustomerAt s customer owner → Found s s' (head_of owner) (place_key place) None → LacksBooking s' owner place
+found_none s s' customer owner place c f = record {
+  none = λ image state i. booking_same s s' image state owner place 0 f.writes (λ h.
+      let i0 = f.kept.seen image i in
+      sym (f.is image (h.represents.parts.lists owner) i (owner_list (mem s image) (length image) state h customer owner (c.at image state i0 h) c.some)));
+}
+
+pub found_some : (s s' : View) (customer owner : ℕ) (place : Place) (b : Block) → HasCustomerAt s customer owner → Found s s' (head_of owner) (place_key place) (Some b) → HasBookingAt s' owner place b.0.0
+found_some s s' customer owner place b c f = record {
+  inside = f.within;
+  at = λ image state i. booking_same s s' image state owner place b.0.0 f.writes (λ h.
+      let i0 = f.kept.seen image i in
+      sym (f.is image (h.represents.parts.lists owner) i (owner_list (mem s image) (length image) state h customer owner (c.at image state i0 h) c.some)));
+}

@@ -1,0 +1,24 @@
+use Rattle.vac_commands.proofs.Answering.{if_ok}
+use Rattle.vac_commands.proofs.Held.{held_on, read_both, customer_at_on, ran_after}
+use Rattle.vac_commands.proofs.Refusals.{cancel_needs, lacks_customer, lacks_item}
+use Rattle.vac_commands.proofs.bookings.cancel.Goals as goal
+
+pub returns-in_default-clause-answer : goal.returns-in_default-clause-answer
+returns-in_default-clause-answer g c = lacks_customer _ _ _ _ _ _ (cancel_needs _ _ _) c.in_ok-owner.ensures.reads (rw c.in_default.is at c.in_ok-owner.ensures.answer)
+
+pub find_item-requires : goal.find_item-requires
+find_item-requires g c = held_on _ _ c.in_ok-owner.ensures.reads c.requires.state
+
+pub returns-in_default-2-clause-answer : goal.returns-in_default-2-clause-answer
+returns-in_default-2-clause-answer g c =
+    lacks_item _ _ _ _ _ _ _ _ (cancel_needs _ _ _) c.in_ok-owner.ensures.reads (rw c.in-Some.is at c.in_ok-owner.ensures.answer)
+    c.in_ok-item.ensures.reads (rw c.in_default-2.is at c.in_ok-item.ensures.answer)
+
+pub cancel_at-requires-clause-state : goal.cancel_at-requires-clause-state
+cancel_at-requires-clause-state g c = held_on _ _ (read_both _ _ _ c.in_ok-owner.ensures.reads c.in_ok-item.ensures.reads) c.requires.state
+
+pub cancel_at-requires-clause-customer : goal.cancel_at-requires-clause-customer
+cancel_at-requires-clause-customer g c = customer_at_on _ _ _ _ c.in_ok-item.ensures.reads (rw c.in-Some.is at c.in_ok-owner.ensures.answer)
+
+pub returns-clause-answer : goal.returns-clause-answer
+returns-clause-answer g c = if_ok _ _ _ (λ r h. ran_after _ _ _ _ r (read_both _ _ _ c.in_ok-owner.ensures.reads c.in_ok-item.ensures.reads) h) c.cancel_at.ensures.answer

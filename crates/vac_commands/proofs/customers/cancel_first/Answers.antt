@@ -1,0 +1,40 @@
+use Rattle.vac_commands.proofs.Held.{held_on, customer_at_on}
+use Rattle.vac_commands.proofs.Leaving.{in_a_list, reads_of, item_not_missing, cancel_range, one_given, customers_still}
+use Rattle.vac_commands.proofs.customers.cancel_first.Goals as goal
+
+pub place_at-requires-clause-booking : goal.place_at-requires-clause-booking
+place_at-requires-clause-booking g c = in_a_list _ _ _ c.requires.state c.requires.first
+
+pub find_item-requires : goal.find_item-requires
+find_item-requires g c =
+    let r = c.in_ok-kind.ensures.answer in
+    held_on _ _ (record { kept = r.kept; writes = r.writes }) c.requires.state
+
+pub unreachable-requires : goal.unreachable-requires
+unreachable-requires g c =
+    item_not_missing _ _ _ _ _ _ c.requires.state c.requires.first c.in_ok-kind.ensures.answer c.in_ok-find_item.ensures.reads
+    (rw c.in-None.is at c.in_ok-find_item.ensures.answer) (g.met.M.TxRead.seen c.find_item.new.memory)
+
+pub cancel_at-requires-clause-state : goal.cancel_at-requires-clause-state
+cancel_at-requires-clause-state g c =
+    held_on _ _ (reads_of _ _ _ _ _ c.in_ok-kind.ensures.answer c.in_ok-find_item.ensures.reads) c.requires.state
+
+pub cancel_at-requires-clause-customer : goal.cancel_at-requires-clause-customer
+cancel_at-requires-clause-customer g c =
+    customer_at_on _ _ _ _ (reads_of _ _ _ _ _ c.in_ok-kind.ensures.answer c.in_ok-find_item.ensures.reads) c.requires.customer
+
+pub cancel_at-requires-clause-range : goal.cancel_at-requires-clause-range
+cancel_at-requires-clause-range g c =
+    cancel_range _ _ _ _ _ _ c.requires.state c.requires.first c.in_ok-kind.ensures.answer c.in_ok-find_item.ensures.reads
+    _ c.requires.range (rw c.in-Some.is at c.in_ok-find_item.ensures.answer) (g.met.M.TxRead.seen c.find_item.new.memory)
+
+pub returns-clause-answer : goal.returns-clause-answer
+returns-clause-answer g c =
+    one_given _ _ _ _ _ _ c.requires.state c.requires.first c.in_ok-kind.ensures.answer c.in_ok-find_item.ensures.reads
+    _ _ _ (rw c.in-Some.is at c.in_ok-find_item.ensures.answer) c.in_ok-cancel_at-in-Some.ensures.answer
+
+pub returns-clause-customers : goal.returns-clause-customers
+returns-clause-customers g c =
+    customers_still _ _ _ _ _ _ c.requires.state c.requires.first c.in_ok-kind.ensures.answer c.in_ok-find_item.ensures.reads
+    _ _ _ (rw c.in-Some.is at c.in_ok-find_item.ensures.answer) c.in_ok-cancel_at-in-Some.ensures.answer
+    c.in_ok-cancel_at-in-Some.ensures.customers

@@ -1,0 +1,5 @@
+pub mod Entries
+pub mod ItemSteps
+pub mod Ran
+pub mod BookingSteps
+pub mod CustomerSteps

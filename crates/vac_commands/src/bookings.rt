@@ -1,0 +1,194 @@
+//! Commands on bookings.
+
+ghost use Rattle.std.specs.Prelude.{◌≡◌, ◌<◌, IfOk, IsTrue};
+ghost use Rattle.vac_model.specs.Ranges.{is_command};
+ghost use Rattle.vac_records.specs.Holds.{HoldsState};
+ghost use Rattle.vac_commands.specs.Entries.{HasItemAt, HasCustomerAt, ItemsStay, CustomersStay};
+ghost use Rattle.vac_commands.specs.Ran.{Ran};
+ghost use Rattle.vac_commands.specs.BookingSteps.{LacksBooking, HasBookingAt, IsOffered, RanInPlace};
+
+use crate::find::{find_customer, find_item};
+use stm_words::TxMem;
+use tx_alloc::{Block, give, take};
+use vac_model::limits::MOST_UNITS;
+use vac_model::{Command, Kind, Reply, Why};
+use vac_records::{
+    book, book_more, booking_of, cancel as give_units_back, free_at, make, price_at, unbook,
+    units_at,
+};
+
+/// Books units of an item for a customer, at the item's price of now. A booking that is there takes
+/// more units; a new one takes its block from the first free list that has one, from `start` on.
+pub fn reserve<M: TxMem>(
+    memory: &mut M,
+    customer: u32,
+    kind: Kind,
+    id: u32,
+    num: u32,
+    start: u32,
+) -> Result<Reply, M::Stop>
+    requires start { start < 8 }
+    requires state { HoldsState (M.view memory.old) }
+    requires range { IsTrue (is_command (Command.Reserve customer kind id num)) }
+    ensures origin { M.origin memory.new ≡ M.origin memory.old }
+    ensures answer { IfOk result (λ reply. Ran (M.view memory.old) (M.view memory.new)
+        (Command.Reserve customer kind id num) reply) }
+{
+    let Some(owner) = find_customer(memory, customer)? else {
+        return Ok(Reply::No(Why::NoCustomer));
+    };
+    let Some(item) = find_item(memory, kind, id)? else {
+        return Ok(Reply::No(Why::NoItem));
+    };
+    reserve_at(memory, customer, owner, kind, id, item, num, start)
+}
+
+/// The same at the blocks of the customer and of the item.
+pub fn reserve_at<M: TxMem>(
+    memory: &mut M,
+    customer: u32,
+    owner: Block,
+    kind: Kind,
+    id: u32,
+    item: Block,
+    num: u32,
+    start: u32,
+) -> Result<Reply, M::Stop>
+    requires start { start < 8 }
+    requires state { HoldsState (M.view memory.old) }
+    requires customer { HasCustomerAt (M.view memory.old) customer owner.0.0 }
+    requires item { HasItemAt (M.view memory.old) kind id item.0.0 }
+    requires range { IsTrue (is_command (Command.Reserve customer kind id num)) }
+    ensures origin { M.origin memory.new ≡ M.origin memory.old }
+    ensures answer { IfOk result (λ reply. Ran (M.view memory.old) (M.view memory.new)
+        (Command.Reserve customer kind id num) reply) }
+    ensures items { IfOk result (λ _. ItemsStay (M.view memory.old) (M.view memory.new)) }
+    ensures customers { IfOk result (λ _. CustomersStay (M.view memory.old) (M.view memory.new)) }
+{
+    if free_at(memory, item.0)? < num as u64 {
+        return Ok(Reply::No(Why::SoldOut));
+    }
+    let price = price_at(memory, item.0)?;
+    match booking_of(memory, owner.0, kind, id)? {
+        Some(booking) => {
+            extend_booking(memory, customer, owner, kind, id, item, num, price, booking)
+        }
+        None => add_booking(memory, customer, owner, kind, id, item, num, price, start),
+    }
+}
+
+/// Books more units of an item that has so many, at its price, for a customer who has a booking of
+/// it.
+fn extend_booking<M: TxMem>(
+    memory: &mut M,
+    customer: u32,
+    owner: Block,
+    kind: Kind,
+    id: u32,
+    item: Block,
+    num: u32,
+    price: u64,
+    booking: Block,
+) -> Result<Reply, M::Stop>
+    requires state { HoldsState (M.view memory.old) }
+    requires customer { HasCustomerAt (M.view memory.old) customer owner.0.0 }
+    requires item { HasItemAt (M.view memory.old) kind id item.0.0 }
+    requires offered { IsOffered (M.view memory.old) item.0.0 num price }
+    requires booking { HasBookingAt (M.view memory.old) owner.0.0 (kind, id) booking.0.0 }
+    requires range { IsTrue (is_command (Command.Reserve customer kind id num)) }
+    ensures origin { M.origin memory.new ≡ M.origin memory.old }
+    ensures answer { IfOk result (λ reply. RanInPlace (M.view memory.old) (M.view memory.new)
+        (Command.Reserve customer kind id num) reply) }
+{
+    if units_at(memory, booking.0)? + num as u64 > MOST_UNITS {
+        return Ok(Reply::No(Why::UnitLimit));
+    }
+    book_more(memory, booking.0, num, price)?;
+    make(memory, item.0, num)?;
+    Ok(Reply::Done)
+}
+
+/// Books units of an item that has so many, at its price, for a customer who has no booking of it.
+fn add_booking<M: TxMem>(
+    memory: &mut M,
+    customer: u32,
+    owner: Block,
+    kind: Kind,
+    id: u32,
+    item: Block,
+    num: u32,
+    price: u64,
+    start: u32,
+) -> Result<Reply, M::Stop>
+    requires start { start < 8 }
+    requires state { HoldsState (M.view memory.old) }
+    requires customer { HasCustomerAt (M.view memory.old) customer owner.0.0 }
+    requires item { HasItemAt (M.view memory.old) kind id item.0.0 }
+    requires offered { IsOffered (M.view memory.old) item.0.0 num price }
+    requires missing { LacksBooking (M.view memory.old) owner.0.0 (kind, id) }
+    requires range { IsTrue (is_command (Command.Reserve customer kind id num)) }
+    ensures origin { M.origin memory.new ≡ M.origin memory.old }
+    ensures answer { IfOk result (λ reply. RanInPlace (M.view memory.old) (M.view memory.new)
+        (Command.Reserve customer kind id num) reply) }
+{
+    let Some(block) = take(memory, start)? else {
+        return Ok(Reply::No(Why::Full));
+    };
+    book(memory, owner.0, block, kind, id, num, price)?;
+    make(memory, item.0, num)?;
+    Ok(Reply::Done)
+}
+
+/// Gives all units of a booking back and removes the booking. Its block becomes the first of free
+/// list `start`.
+pub fn cancel<M: TxMem>(
+    memory: &mut M,
+    customer: u32,
+    kind: Kind,
+    id: u32,
+    start: u32,
+) -> Result<Reply, M::Stop>
+    requires start { start < 8 }
+    requires state { HoldsState (M.view memory.old) }
+    requires range { IsTrue (is_command (Command.Cancel customer kind id)) }
+    ensures origin { M.origin memory.new ≡ M.origin memory.old }
+    ensures answer { IfOk result (λ reply. Ran (M.view memory.old) (M.view memory.new)
+        (Command.Cancel customer kind id) reply) }
+{
+    let Some(owner) = find_customer(memory, customer)? else {
+        return Ok(Reply::No(Why::NoCustomer));
+    };
+    let Some(item) = find_item(memory, kind, id)? else {
+        return Ok(Reply::No(Why::NoItem));
+    };
+    cancel_at(memory, customer, owner, kind, id, item, start)
+}
+
+/// The same at the blocks of the customer and of the item.
+pub(crate) fn cancel_at<M: TxMem>(
+    memory: &mut M,
+    customer: u32,
+    owner: Block,
+    kind: Kind,
+    id: u32,
+    item: Block,
+    start: u32,
+) -> Result<Reply, M::Stop>
+    requires start { start < 8 }
+    requires state { HoldsState (M.view memory.old) }
+    requires customer { HasCustomerAt (M.view memory.old) customer owner.0.0 }
+    requires item { HasItemAt (M.view memory.old) kind id item.0.0 }
+    requires range { IsTrue (is_command (Command.Cancel customer kind id)) }
+    ensures origin { M.origin memory.new ≡ M.origin memory.old }
+    ensures answer { IfOk result (λ reply. Ran (M.view memory.old) (M.view memory.new)
+        (Command.Cancel customer kind id) reply) }
+    ensures items { IfOk result (λ _. ItemsStay (M.view memory.old) (M.view memory.new)) }
+    ensures customers { IfOk result (λ _. CustomersStay (M.view memory.old) (M.view memory.new)) }
+{
+    let Some((booking, units)) = unbook(memory, owner.0, kind, id)? else {
+        return Ok(Reply::No(Why::NotBooked));
+    };
+    give_units_back(memory, item.0, units)?;
+    give(memory, start, booking)?;
+    Ok(Reply::Done)
+}

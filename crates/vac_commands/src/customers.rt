@@ -1,0 +1,223 @@
+//! Commands on customers.
+
+ghost use Rattle.std.specs.Prelude.{◌≡◌, ◌+◌, ◌<◌, ◌≤◌, IfOk, IsTrue, MatchOption, Some};
+ghost use Rattle.vac_model.specs.Ranges.{is_command};
+ghost use Rattle.tx_list.specs.Lists.{HasBooking};
+ghost use Rattle.vac_records.specs.Bookings.{kind_of};
+ghost use Rattle.vac_records.specs.Holds.{HoldsState};
+ghost use Rattle.vac_commands.specs.Entries.{LacksCustomer, HasCustomerAt, ItemsStay, CustomersStay};
+ghost use Rattle.vac_commands.specs.CustomerSteps.{HasNoBookings, StartsAt, PlaceRead, OneGivenBack, GivenBack};
+ghost use Rattle.vac_commands.specs.Ran.{Ran, Asked, CustomerGone, joining};
+
+use crate::bookings::cancel_at;
+use crate::find::{CUSTOMERS, find_customer, find_item};
+use stm_words::{Addr, TxMem, TxRead, load};
+use tx_alloc::place::MOST_BLOCKS;
+use tx_alloc::{Block, give, take};
+use vac_model::{Command, Kind, Reply, Why};
+use vac_records::{init_customer, place};
+
+/// Makes a customer without bookings, in a block of the first free list that has one, from `start`
+/// on.
+pub fn new_customer<M: TxMem>(memory: &mut M, id: u32, start: u32) -> Result<Reply, M::Stop>
+    requires start { start < 8 }
+    requires state { HoldsState (M.view memory.old) }
+    requires range { IsTrue (is_command (Command.NewCustomer id)) }
+    ensures origin { M.origin memory.new ≡ M.origin memory.old }
+    ensures answer { IfOk result (λ reply. Ran (M.view memory.old) (M.view memory.new)
+        (Command.NewCustomer id) reply) }
+{
+    match find_customer(memory, id)? {
+        Some(_) => Ok(Reply::No(Why::Exists)),
+        None => {
+            let added = add_customer(memory, id, start)?;
+            match added {
+                None => Ok(Reply::No(Why::Full)),
+                Some(_) => Ok(Reply::Done),
+            }
+        }
+    }
+}
+
+/// Makes a customer who is missing, and answers the block. `None` says that no block is free.
+pub fn add_customer<M: TxMem>(memory: &mut M, id: u32, start: u32) -> Result<Option<Block>, M::Stop>
+    requires start { start < 8 }
+    requires state { HoldsState (M.view memory.old) }
+    requires missing { LacksCustomer (M.view memory.old) id }
+    requires range { IsTrue (is_command (Command.NewCustomer id)) }
+    ensures origin { M.origin memory.new ≡ M.origin memory.old }
+    ensures answer { IfOk result (λ added. Ran (M.view memory.old) (M.view memory.new)
+        (Command.NewCustomer id) (joining added)) }
+    ensures block { IfOk result (λ added. MatchOption added (Unit {0})
+        (λ c. HasCustomerAt (M.view memory.new) id c.0.0)) }
+    ensures items { IfOk result (λ _. ItemsStay (M.view memory.old) (M.view memory.new)) }
+{
+    let Some(block) = take(memory, start)? else {
+        return Ok(None);
+    };
+    init_customer(memory, block.0, id)?;
+    tx_tree::insert(memory, CUSTOMERS, id as u64, block)?;
+    Ok(Some(block))
+}
+
+/// The sum of the prices at which the customer's units were booked, if the customer is there.
+pub fn bill<M: TxRead>(memory: &mut M, id: u32) -> Result<Option<u64>, M::Stop>
+    requires { HoldsState (M.view memory.old) }
+    ensures origin { M.origin memory.new ≡ M.origin memory.old }
+    ensures answer { IfOk result (λ n. Asked (M.view memory.old) (M.view memory.new)
+        (Command.Bill id) (Reply.Number n)) }
+{
+    match find_customer(memory, id)? {
+        None => Ok(None),
+        Some(customer) => {
+            let bill = bill_at(memory, id, customer)?;
+            Ok(Some(bill))
+        }
+    }
+}
+
+/// The same at the customer's block.
+pub fn bill_at<M: TxRead>(memory: &mut M, id: u32, customer: Block) -> Result<u64, M::Stop>
+    requires state { HoldsState (M.view memory.old) }
+    requires customer { HasCustomerAt (M.view memory.old) id customer.0.0 }
+    ensures origin { M.origin memory.new ≡ M.origin memory.old }
+    ensures answer { IfOk result (λ n. Asked (M.view memory.old) (M.view memory.new)
+        (Command.Bill id) (Reply.Number (Some n))) }
+{
+    let bill = vac_records::bill(memory, customer.0)?;
+    Ok(bill)
+}
+
+/// Gives back all that the customer has booked, and removes the customer. The blocks become the
+/// first of free list `start`.
+pub fn drop_customer<M: TxMem>(memory: &mut M, id: u32, start: u32) -> Result<Reply, M::Stop>
+    requires start { start < 8 }
+    requires state { HoldsState (M.view memory.old) }
+    requires range { IsTrue (is_command (Command.DropCustomer id)) }
+    ensures origin { M.origin memory.new ≡ M.origin memory.old }
+    ensures answer { IfOk result (λ reply. Ran (M.view memory.old) (M.view memory.new)
+        (Command.DropCustomer id) reply) }
+{
+    match find_customer(memory, id)? {
+        None => Ok(Reply::No(Why::NoCustomer)),
+        Some(customer) => {
+            drop_customer_at(memory, id, customer, start)?;
+            Ok(Reply::Done)
+        }
+    }
+}
+
+/// The same at the customer's block.
+pub fn drop_customer_at<M: TxMem>(
+    memory: &mut M,
+    id: u32,
+    customer: Block,
+    start: u32,
+) -> Result<(), M::Stop>
+    requires start { start < 8 }
+    requires state { HoldsState (M.view memory.old) }
+    requires customer { HasCustomerAt (M.view memory.old) id customer.0.0 }
+    requires range { IsTrue (is_command (Command.DropCustomer id)) }
+    ensures origin { M.origin memory.new ≡ M.origin memory.old }
+    ensures answer { IfOk result (λ _. Ran (M.view memory.old) (M.view memory.new)
+        (Command.DropCustomer id) Reply.Done) }
+{
+    give_bookings_back(memory, id, customer, start)?;
+    remove_customer(memory, id, start)?;
+    Ok(())
+}
+
+// Cancels the customer's first booking until there is none. A customer has no more bookings than
+// there are blocks.
+fn give_bookings_back<M: TxMem>(
+    memory: &mut M,
+    id: u32,
+    customer: Block,
+    start: u32,
+) -> Result<(), M::Stop>
+    requires start { start < 8 }
+    requires state { HoldsState (M.view memory.old) }
+    requires customer { HasCustomerAt (M.view memory.old) id customer.0.0 }
+    requires range { IsTrue (is_command (Command.DropCustomer id)) }
+    ensures origin { M.origin memory.new ≡ M.origin memory.old }
+    ensures answer { IfOk result (λ _. GivenBack (M.view memory.old) (M.view memory.new) id 0) }
+{
+    let head = Addr(customer.0.0 + place::BOOKINGS);
+    for _ in 0..MOST_BLOCKS {
+        let Some(booking) = tx_list::first(memory, head)? else {
+            return Ok(());
+        };
+        cancel_first(memory, id, customer, booking, start)?;
+    }
+    Ok(())
+}
+
+// Cancels the customer's first booking, by its block.
+fn cancel_first<M: TxMem>(
+    memory: &mut M,
+    id: u32,
+    customer: Block,
+    booking: Block,
+    start: u32,
+) -> Result<(), M::Stop>
+    requires start { start < 8 }
+    requires state { HoldsState (M.view memory.old) }
+    requires customer { HasCustomerAt (M.view memory.old) id customer.0.0 }
+    requires first { StartsAt (M.view memory.old) id booking.0.0 }
+    requires range { IsTrue (is_command (Command.DropCustomer id)) }
+    ensures origin { M.origin memory.new ≡ M.origin memory.old }
+    ensures answer { IfOk result (λ _. OneGivenBack (M.view memory.old) (M.view memory.new) id) }
+    ensures customers { IfOk result (λ _. CustomersStay (M.view memory.old) (M.view memory.new)) }
+{
+    let (kind, item_id) = place_at(memory, booking)?;
+    match find_item(memory, kind, item_id)? {
+        None => unreachable!(),
+        Some(item) => {
+            cancel_at(memory, id, customer, kind, item_id, item, start)?;
+            Ok(())
+        }
+    }
+}
+
+// The item that is booked.
+fn place_at<M: TxRead>(memory: &mut M, booking: Block) -> Result<(Kind, u32), M::Stop>
+    requires booking { HasBooking (M.view memory.old) booking.0.0 }
+    requires room { booking.0.0 + 8 ≤ (M.view memory.old).size }
+    ensures origin { M.origin memory.new ≡ M.origin memory.old }
+    ensures answer { IfOk result (λ item.
+        PlaceRead (M.view memory.old) (M.view memory.new) booking.0.0 item) }
+{
+    let number = load(memory, Addr(booking.0.0 + tx_list::place::KIND))?;
+    let id = load(memory, Addr(booking.0.0 + tx_list::place::ID))?;
+    Ok((kind_from(number), id as u32))
+}
+
+// The kind of a number, as a booking's words have it.
+fn kind_from(number: u64) -> Kind
+    ensures { result ≡ kind_of number }
+{
+    match number {
+        0 => Kind::Car,
+        1 => Kind::Flight,
+        _ => Kind::Room,
+    }
+}
+
+// Takes a customer without bookings out of the table. The block becomes the first of free list
+// `start`.
+fn remove_customer<M: TxMem>(memory: &mut M, id: u32, start: u32) -> Result<(), M::Stop>
+    requires start { start < 8 }
+    requires state { HoldsState (M.view memory.old) }
+    requires bare { HasNoBookings (M.view memory.old) id }
+    ensures origin { M.origin memory.new ≡ M.origin memory.old }
+    ensures answer { IfOk result (λ _. CustomerGone (M.view memory.old) (M.view memory.new) id) }
+{
+    let removed = tx_tree::remove(memory, CUSTOMERS, id as u64)?;
+    match removed {
+        None => Ok(()),
+        Some(block) => {
+            give(memory, start, block)?;
+            Ok(())
+        }
+    }
+}

@@ -1,0 +1,51 @@
+//! Finding entries in the tables.
+
+ghost use Rattle.std.specs.Prelude.{◌≡◌, ◌+◌, IfOk, MatchOption};
+ghost use Rattle.vac_model.specs.State.{kind_number};
+ghost use Rattle.vac_records.specs.Holds.{HoldsState, OnlyRead};
+ghost use Rattle.vac_commands.specs.Entries.{LacksItem, HasItemAt, LacksCustomer, HasCustomerAt};
+
+use stm_words::{Addr, TxRead};
+use tx_alloc::Block;
+use vac_model::Kind;
+
+/// The word that leads to the table of customers.
+pub(crate) const CUSTOMERS: Addr = Addr(4);
+
+/// The word that leads to the table of a kind.
+#[inline]
+pub(crate) fn root_of(kind: Kind) -> Addr
+    ensures { result.0 ≡ 1 + kind_number kind }
+{
+    match kind {
+        Kind::Car => Addr(1),
+        Kind::Flight => Addr(2),
+        Kind::Room => Addr(3),
+    }
+}
+
+/// The block of an item, if the item is there.
+pub fn find_item<M: TxRead>(memory: &mut M, kind: Kind, id: u32) -> Result<Option<Block>, M::Stop>
+    requires { HoldsState (M.view memory.old) }
+    ensures origin { M.origin memory.new ≡ M.origin memory.old }
+    ensures reads { IfOk result (λ _. OnlyRead (M.view memory.old) (M.view memory.new)) }
+    ensures answer { IfOk result (λ found. MatchOption found
+        (LacksItem (M.view memory.new) kind id)
+        (λ b. HasItemAt (M.view memory.new) kind id b.0.0)) }
+{
+    let found = tx_tree::find(memory, root_of(kind), id as u64)?;
+    Ok(found)
+}
+
+/// The block of a customer, if the customer is there.
+pub fn find_customer<M: TxRead>(memory: &mut M, id: u32) -> Result<Option<Block>, M::Stop>
+    requires { HoldsState (M.view memory.old) }
+    ensures origin { M.origin memory.new ≡ M.origin memory.old }
+    ensures reads { IfOk result (λ _. OnlyRead (M.view memory.old) (M.view memory.new)) }
+    ensures answer { IfOk result (λ found. MatchOption found
+        (LacksCustomer (M.view memory.new) id)
+        (λ c. HasCustomerAt (M.view memory.new) id c.0.0)) }
+{
+    let found = tx_tree::find(memory, CUSTOMERS, id as u64)?;
+    Ok(found)
+}

@@ -1,0 +1,246 @@
+//! Commands on items.
+
+ghost use Rattle.std.specs.Prelude.{◌≡◌, ◌<◌, IfOk, IsTrue};
+ghost use Rattle.vac_model.specs.Ranges.{is_command};
+ghost use Rattle.vac_model.specs.Step.{deleted};
+ghost use Rattle.vac_records.specs.Holds.{HoldsState};
+ghost use Rattle.vac_records.specs.Items.{IsNode, HasRoom, HasFree, UnitsAdded, ItemChanged};
+ghost use Rattle.vac_commands.specs.Entries.{LacksItem, HasItem, HasItemAt};
+ghost use Rattle.vac_commands.specs.ItemSteps.{PriceGiven};
+ghost use Rattle.vac_commands.specs.Ran.{Ran, Asked, ItemGone};
+
+use crate::find::{find_item, root_of};
+use stm_words::{Addr, TxMem, TxRead};
+use tx_alloc::{Block, give, take};
+use vac_model::limits::MOST_TOTAL;
+use vac_model::{Command, Kind, Reply, Why};
+use vac_records::{
+    add_total, free_at, init_item, price_at, set_price, sub_total, total_at, used_at,
+};
+
+/// How many units of an item can be booked, if the item is there.
+pub fn free<M: TxRead>(memory: &mut M, kind: Kind, id: u32) -> Result<Option<u64>, M::Stop>
+    requires { HoldsState (M.view memory.old) }
+    ensures origin { M.origin memory.new ≡ M.origin memory.old }
+    ensures answer { IfOk result (λ n. Asked (M.view memory.old) (M.view memory.new)
+        (Command.Free kind id) (Reply.Number n)) }
+{
+    match find_item(memory, kind, id)? {
+        None => Ok(None),
+        Some(item) => {
+            let free = free_at(memory, item.0)?;
+            Ok(Some(free))
+        }
+    }
+}
+
+/// The price of an item, if the item is there.
+pub fn price<M: TxRead>(memory: &mut M, kind: Kind, id: u32) -> Result<Option<u64>, M::Stop>
+    requires { HoldsState (M.view memory.old) }
+    ensures origin { M.origin memory.new ≡ M.origin memory.old }
+    ensures answer { IfOk result (λ n. Asked (M.view memory.old) (M.view memory.new)
+        (Command.Price kind id) (Reply.Number n)) }
+{
+    match find_item(memory, kind, id)? {
+        None => Ok(None),
+        Some(item) => {
+            let price = price_at(memory, item.0)?;
+            Ok(Some(price))
+        }
+    }
+}
+
+/// Makes an item that is missing, in a block of the first free list that has one, from `start` on.
+fn add_new<M: TxMem>(
+    memory: &mut M,
+    kind: Kind,
+    id: u32,
+    num: u32,
+    price: Option<u32>,
+    start: u32,
+) -> Result<Reply, M::Stop>
+    requires start { start < 8 }
+    requires state { HoldsState (M.view memory.old) }
+    requires missing { LacksItem (M.view memory.old) kind id }
+    requires range { IsTrue (is_command (Command.Add kind id num price)) }
+    ensures origin { M.origin memory.new ≡ M.origin memory.old }
+    ensures answer { IfOk result (λ reply. Ran (M.view memory.old) (M.view memory.new)
+        (Command.Add kind id num price) reply) }
+{
+    let Some(price) = price else {
+        return Ok(Reply::No(Why::NeedsCountAndPrice));
+    };
+    if num == 0 {
+        return Ok(Reply::No(Why::NeedsCountAndPrice));
+    }
+    let taken = take(memory, start)?;
+    let Some(block) = taken else {
+        return Ok(Reply::No(Why::Full));
+    };
+    init_item(memory, block.0, id, num, price)?;
+    tx_tree::insert(memory, root_of(kind), id as u64, block)?;
+    Ok(Reply::Done)
+}
+
+/// Adds units to an item. Where there are none to add, nothing is written.
+#[inline]
+fn add_units<M: TxMem>(memory: &mut M, node: Addr, num: u32) -> Result<(), M::Stop>
+    requires node { IsNode (M.view memory.old) node.0 }
+    requires room { HasRoom (M.view memory.old) node.0 num }
+    ensures origin { M.origin memory.new ≡ M.origin memory.old }
+    ensures answer { IfOk result (λ _.
+        UnitsAdded (M.view memory.old) (M.view memory.new) node.0 num) }
+{
+    match num {
+        0 => Ok(()),
+        _ => add_total(memory, node, num),
+    }
+}
+
+/// Replaces the price of an item, where one is given.
+#[inline]
+fn replace_price<M: TxMem>(memory: &mut M, node: Addr, price: Option<u32>) -> Result<(), M::Stop>
+    requires { IsNode (M.view memory.old) node.0 }
+    ensures origin { M.origin memory.new ≡ M.origin memory.old }
+    ensures answer { IfOk result (λ _.
+        PriceGiven (M.view memory.old) (M.view memory.new) node.0 price) }
+{
+    match price {
+        None => Ok(()),
+        Some(price) => set_price(memory, node, price),
+    }
+}
+
+/// Adds units to an item that is there, and replaces its price where one is given. What does not
+/// change is not written.
+fn add_more<M: TxMem>(
+    memory: &mut M,
+    kind: Kind,
+    id: u32,
+    num: u32,
+    price: Option<u32>,
+    item: Block,
+) -> Result<Reply, M::Stop>
+    requires state { HoldsState (M.view memory.old) }
+    requires item { HasItemAt (M.view memory.old) kind id item.0.0 }
+    requires range { IsTrue (is_command (Command.Add kind id num price)) }
+    ensures origin { M.origin memory.new ≡ M.origin memory.old }
+    ensures answer { IfOk result (λ reply. Ran (M.view memory.old) (M.view memory.new)
+        (Command.Add kind id num price) reply) }
+{
+    let total = total_at(memory, item.0)?;
+    if total + num as u64 > MOST_TOTAL {
+        return Ok(Reply::No(Why::TotalLimit));
+    }
+    add_units(memory, item.0, num)?;
+    replace_price(memory, item.0, price)?;
+    Ok(Reply::Done)
+}
+
+/// Makes an item, or adds units to the one that is there. A new item takes its block from the
+/// first free list that has one, from `start` on.
+pub fn add<M: TxMem>(
+    memory: &mut M,
+    kind: Kind,
+    id: u32,
+    num: u32,
+    price: Option<u32>,
+    start: u32,
+) -> Result<Reply, M::Stop>
+    requires start { start < 8 }
+    requires state { HoldsState (M.view memory.old) }
+    requires range { IsTrue (is_command (Command.Add kind id num price)) }
+    ensures origin { M.origin memory.new ≡ M.origin memory.old }
+    ensures answer { IfOk result (λ reply. Ran (M.view memory.old) (M.view memory.new)
+        (Command.Add kind id num price) reply) }
+{
+    let found = find_item(memory, kind, id)?;
+    match found {
+        None => add_new(memory, kind, id, num, price, start),
+        Some(item) => add_more(memory, kind, id, num, price, item),
+    }
+}
+
+/// Takes an item out of its table. Its block becomes the first of free list `start`.
+fn remove_item<M: TxMem>(memory: &mut M, kind: Kind, id: u32, start: u32) -> Result<(), M::Stop>
+    requires start { start < 8 }
+    requires state { HoldsState (M.view memory.old) }
+    requires item { HasItem (M.view memory.old) kind id }
+    ensures origin { M.origin memory.new ≡ M.origin memory.old }
+    ensures answer { IfOk result (λ _. ItemGone (M.view memory.old) (M.view memory.new) kind id) }
+{
+    let removed = tx_tree::remove(memory, root_of(kind), id as u64)?;
+    let Some(block) = removed else {
+        return Ok(());
+    };
+    give(memory, start, block)?;
+    Ok(())
+}
+
+/// Takes free units away from an item. Where there are none to take, nothing is written.
+#[inline]
+fn take_units<M: TxMem>(memory: &mut M, node: Addr, num: u32) -> Result<(), M::Stop>
+    requires node { IsNode (M.view memory.old) node.0 }
+    requires free { HasFree (M.view memory.old) node.0 num }
+    ensures origin { M.origin memory.new ≡ M.origin memory.old }
+    ensures answer { IfOk result (λ _. ItemChanged (M.view memory.old) (M.view memory.new) node.0
+        (λ item. deleted item num)) }
+{
+    match num {
+        0 => Ok(()),
+        _ => sub_total(memory, node, num),
+    }
+}
+
+/// Takes free units from an item; one with no unit left is removed, and its block becomes the
+/// first of free list `start`.
+pub fn delete<M: TxMem>(
+    memory: &mut M,
+    kind: Kind,
+    id: u32,
+    num: u32,
+    start: u32,
+) -> Result<Reply, M::Stop>
+    requires start { start < 8 }
+    requires state { HoldsState (M.view memory.old) }
+    requires range { IsTrue (is_command (Command.Delete kind id num)) }
+    ensures origin { M.origin memory.new ≡ M.origin memory.old }
+    ensures answer { IfOk result (λ reply. Ran (M.view memory.old) (M.view memory.new)
+        (Command.Delete kind id num) reply) }
+{
+    let found = find_item(memory, kind, id)?;
+    let Some(item) = found else {
+        return Ok(Reply::No(Why::NoItem));
+    };
+    let free = free_at(memory, item.0)?;
+    if free < num as u64 {
+        return Ok(Reply::No(Why::NotFree));
+    }
+    let total = total_at(memory, item.0)?;
+    if total > num as u64 {
+        take_units(memory, item.0, num)?;
+        return Ok(Reply::Done);
+    }
+    remove_item(memory, kind, id, start)?;
+    Ok(Reply::Done)
+}
+
+/// Removes a flight of which nothing is booked. Its block becomes the first of free list `start`.
+pub fn drop_flight<M: TxMem>(memory: &mut M, id: u32, start: u32) -> Result<Reply, M::Stop>
+    requires start { start < 8 }
+    requires state { HoldsState (M.view memory.old) }
+    ensures origin { M.origin memory.new ≡ M.origin memory.old }
+    ensures answer { IfOk result (λ reply. Ran (M.view memory.old) (M.view memory.new)
+        (Command.DropFlight id) reply) }
+{
+    let found = find_item(memory, Kind::Flight, id)?;
+    let Some(flight) = found else {
+        return Ok(Reply::No(Why::NoItem));
+    };
+    let used = used_at(memory, flight.0)?;
+    if used > 0 {
+        return Ok(Reply::No(Why::InUse));
+    }
+    remove_item(memory, Kind::Flight, id, start)?;
+    Ok(Reply::Done)
+}

@@ -1,0 +1,5 @@
+pub mod Held
+pub mod Parts
+pub mod Choosing
+pub mod Booking
+pub mod Plain

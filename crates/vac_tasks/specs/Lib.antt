@@ -1,0 +1,4 @@
+pub mod Reading
+pub mod RanTask
+pub mod Runs
+pub mod Trips

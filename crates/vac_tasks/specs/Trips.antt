@@ -1,0 +1,89 @@
+-- What the parts of a trip do to a memory that holds a state, under every image.
+use Rattle.std.specs.Prelude.{◌≡◌, ℕ, List, Option, Some, None, IfSome, IsTrue, MatchOption, length, nat_lt, ◌||◌, Bool, is_some, if◌then◌else◌}
+use Rattle.std.specs.Option.{option_map}
+use Rattle.stm_words.specs.View.{View, Sees}
+use Rattle.tx_alloc.specs.declared.pool.Block.{Block}
+use Rattle.vac_model.specs.declared.items.Kind.{Kind}
+use Rattle.vac_model.specs.declared.items.Kind.TheVariants.{Car, Flight, Room}
+use Rattle.vac_model.specs.declared.commands.Command.TheVariants as command
+use Rattle.vac_model.specs.declared.replies.Joined.{Joined}
+use Rattle.vac_model.specs.Amounts.{is_id}
+use Rattle.vac_model.specs.State.{State, Place}
+use Rattle.vac_model.specs.Step.{step, price_of}
+use Rattle.vac_model.specs.Run.{choice_of, joined_of}
+use Rattle.vac_records.specs.Items.{mem}
+use Rattle.vac_records.specs.Represents.{IsState}
+use Rattle.vac_records.specs.Holds.{OnlyRead}
+use Rattle.vac_commands.specs.Entries.{HasItemAt, LacksCustomer, HasCustomerAt, ItemsStay}
+use Rattle.vac_tasks.specs.declared.trip.Choice.{Choice}
+use Rattle.vac_tasks.specs.declared.trip.Choices.{Choices}
+use Rattle.vac_tasks.specs.declared.trip.Owner.{Owner}
+use Rattle.vac_tasks.specs.Runs.{Runs}
+
+-- the id and the price of what is chosen
+abbrev pub priced : Option Choice → Option (ℕ × ℕ)
+priced None = None
+priced (Some c) = Some (c.id, c.price)
+
+-- what is chosen of a kind
+abbrev pub choice_in : Choices → Kind → Option Choice
+choice_in cs Car = cs.car
+choice_in cs Flight = cs.flight
+choice_in cs Room = cs.room
+
+-- whether anything is chosen
+abbrev pub any_chosen : Choices → Bool
+any_chosen cs = is_some cs.car || is_some cs.flight || is_some cs.room
+
+-- the dearer of two, and the first of two that cost the same
+abbrev pub dearer_of : Option Choice → Option Choice → Option Choice
+dearer_of best None = best
+dearer_of None (Some found) = Some found
+dearer_of (Some best) (Some found) =
+    if nat_lt best.price found.price then Some found else Some best
+
+-- the choices after one more item of a kind was looked up
+abbrev pub with_found : Choices → Kind → Option Choice → Choices
+with_found cs Car found = record cs { car = dearer_of cs.car found }
+with_found cs Flight found = record cs { flight = dearer_of cs.flight found }
+with_found cs Room found = record cs { room = dearer_of cs.room found }
+
+-- the item is one of this kind, in the block that is noted
+pub record IsKnown (s : View) (kind : Kind) (c : Choice) : Type 0 where
+  pub id : IsTrue (is_id c.id)
+  pub at : HasItemAt s kind c.id c.item.0.0
+
+-- so is each that is chosen
+pub record AreKnown (s : View) (cs : Choices) : Type 0 where
+  pub known : (kind : Kind) → IfSome (choice_in cs kind) (λ c. IsKnown s kind c)
+
+-- only reads were made, and under each image this is the item with its price, if it is there
+pub record LookedUp (s s' : View) (kind : Kind) (id : ℕ) (found : Option Choice) : Type 0 where
+  pub reads : OnlyRead s s'
+  pub price : (image : List ℕ) (state : State) → Sees s' image →
+      IsState (mem s image) (length image) state →
+      price_of state kind id ≡ option_map (λ c. c.price) found
+  pub asked : IfSome found (λ c. c.id ≡ id)
+  pub known : IfSome found (λ c. IsKnown s' kind c)
+
+-- only reads were made, and under each image these are the definition's choices
+pub record Chosen (s s' : View) (asks : List Place) (cs : Choices) : Type 0 where
+  pub reads : OnlyRead s s'
+  pub are : (image : List ℕ) (state : State) → Sees s' image →
+      IsState (mem s image) (length image) state → (kind : Kind) →
+      choice_of state kind asks ≡ priced (choice_in cs kind)
+  pub known : AreKnown s' cs
+
+-- the block of the customer; where there is none, the customer is missing
+abbrev pub IsOwner : View → ℕ → Option Block → Type 0
+IsOwner s id block = MatchOption block (LacksCustomer s id) (λ c. HasCustomerAt s id c.0.0)
+
+-- the state after the customer was asked for, and what became of the customer
+abbrev pub joined : ℕ → State → State × Joined
+joined id s = ((step s (command.NewCustomer id)).0, joined_of (step s (command.NewCustomer id)).1)
+
+-- under each image the customer was asked for, and the items stand in the same blocks as before
+pub record HasJoined (s s' : View) (id : ℕ) (owner : Owner) : Type 0 where
+  pub runs : Runs s s' (joined id) owner.joined
+  pub block : IsOwner s' id owner.block
+  pub items : ItemsStay s s'

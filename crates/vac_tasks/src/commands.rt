@@ -1,0 +1,99 @@
+//! Each command by its body.
+
+ghost use Rattle.std.specs.Prelude.{◌≡◌, ◌<◌, IfOk, IsTrue};
+ghost use Rattle.vac_model.specs.Ranges.{is_command};
+ghost use Rattle.vac_model.specs.Run.{refusal_of};
+ghost use Rattle.vac_records.specs.Holds.{HoldsState};
+ghost use Rattle.vac_commands.specs.Ran.{Ran, Asked};
+ghost use Rattle.vac_tasks.specs.Reading.{is_question};
+
+use stm_words::{TxMem, TxRead};
+use vac_audit::report;
+use vac_commands::{
+    add, bill, cancel, delete, drop_customer, drop_flight, free, new_customer, price, reserve,
+};
+use vac_model::{Command, Reply, Why};
+
+/// Whether the command only asks.
+pub(crate) fn asks_only(command: &Command) -> bool
+    ensures { result ≡ is_question command.now }
+{
+    matches!(
+        command,
+        Command::Free { .. } | Command::Price { .. } | Command::Bill { .. } | Command::Audit
+    )
+}
+
+/// Why a reply refused, if it did.
+pub(crate) fn refusal(reply: &Reply) -> Option<Why>
+    ensures { result ≡ refusal_of reply.now }
+{
+    match reply {
+        Reply::No(why) => Some(*why),
+        _ => None,
+    }
+}
+
+/// Runs a command that only asks.
+pub(crate) fn read_command<M: TxRead>(memory: &mut M, command: Command) -> Result<Reply, M::Stop>
+    requires state { HoldsState (M.view memory.old) }
+    requires asks { IsTrue (is_question command) }
+    ensures origin { M.origin memory.new ≡ M.origin memory.old }
+    ensures answer { IfOk result (λ reply. Asked (M.view memory.old) (M.view memory.new)
+        command reply) }
+{
+    match command {
+        Command::Free { kind, id } => {
+            let n = free(memory, kind, id)?;
+            Ok(Reply::Number(n))
+        }
+        Command::Price { kind, id } => {
+            let n = price(memory, kind, id)?;
+            Ok(Reply::Number(n))
+        }
+        Command::Bill { id } => {
+            let n = bill(memory, id)?;
+            Ok(Reply::Number(n))
+        }
+        Command::Audit => {
+            let report = report(memory)?;
+            Ok(Reply::Report(report))
+        }
+        _ => unreachable!(),
+    }
+}
+
+/// Runs a command. New entries take their blocks from free list `start` on.
+pub(crate) fn run_command<M: TxMem>(
+    memory: &mut M,
+    command: Command,
+    start: u32,
+) -> Result<Reply, M::Stop>
+    requires start { start < 8 }
+    requires state { HoldsState (M.view memory.old) }
+    requires range { IsTrue (is_command command) }
+    ensures origin { M.origin memory.new ≡ M.origin memory.old }
+    ensures answer { IfOk result (λ reply. Ran (M.view memory.old) (M.view memory.new)
+        command reply) }
+{
+    match command {
+        Command::Add {
+            kind,
+            id,
+            num,
+            price,
+        } => add(memory, kind, id, num, price, start),
+        Command::Delete { kind, id, num } => delete(memory, kind, id, num, start),
+        Command::DropFlight { id } => drop_flight(memory, id, start),
+        Command::NewCustomer { id } => new_customer(memory, id, start),
+        Command::DropCustomer { id } => drop_customer(memory, id, start),
+        Command::Reserve {
+            customer,
+            kind,
+            id,
+            num,
+        } => reserve(memory, customer, kind, id, num, start),
+        Command::Cancel { customer, kind, id } => cancel(memory, customer, kind, id, start),
+        _ => read_command(memory, command),
+    }
+}

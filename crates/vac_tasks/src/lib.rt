@@ -1,0 +1,17 @@
+//! The tasks of the reservation system as the bodies of transactions, over any memory that holds a
+//! state.
+//!
+//! Each meets the definition of the same task (`vac_model`), under every image that agrees with
+//! what was read. A task looks each entry up once. No call takes memory of its own.
+#![tactic(auto)]
+
+mod commands;
+mod leave;
+mod tasks;
+mod trip;
+mod update;
+
+pub use tasks::{only_reads, read_task, run_task};
+
+#[cfg(test)]
+mod tests;

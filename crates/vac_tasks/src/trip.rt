@@ -1,0 +1,229 @@
+//! Trips: of each kind the dearest of the items that were asked for, for one customer.
+
+ghost use Rattle.std.specs.Prelude.{◌≡◌, ◌<◌, IfOk, IfSome, IsTrue};
+ghost use Rattle.std.specs.List.{list_all};
+ghost use Rattle.vac_model.specs.Amounts.{is_id};
+ghost use Rattle.vac_model.specs.Ranges.{is_task};
+ghost use Rattle.vac_model.specs.Run as rules;
+ghost use Rattle.vac_records.specs.Holds.{HoldsState};
+ghost use Rattle.vac_commands.specs.Entries.{ItemsStay, CustomersStay};
+ghost use Rattle.vac_tasks.specs.RanTask.{RanTask};
+ghost use Rattle.vac_tasks.specs.Runs.{Runs};
+ghost use Rattle.vac_tasks.specs.Trips.{priced, any_chosen, dearer_of, with_found};
+ghost use Rattle.vac_tasks.specs.Trips.{IsKnown, AreKnown, LookedUp, Chosen, IsOwner, HasJoined};
+
+use crate::commands::refusal;
+use stm_words::{TxMem, TxRead};
+use tx_alloc::Block;
+use vac_commands::{add_customer, find_customer, find_item, reserve_at};
+use vac_model::{Joined, Kind, Pick, Reply, Task, TripReply, Why};
+use vac_records::price_at;
+
+/// An item that a trip may book: its id, its price and its block.
+#[derive(Clone, Copy)]
+struct Choice {
+    id: u32,
+    price: u64,
+    item: Block,
+}
+
+/// Of each kind the dearest item so far.
+#[derive(Clone, Copy)]
+struct Choices {
+    car: Option<Choice>,
+    flight: Option<Choice>,
+    room: Option<Choice>,
+}
+
+/// What became of the customer of a trip, and the block, if the customer is there.
+#[derive(Clone, Copy)]
+struct Owner {
+    joined: Joined,
+    block: Option<Block>,
+}
+
+/// The dearer of two items; the first of two that cost the same.
+fn dearer(best: Option<Choice>, found: Option<Choice>) -> Option<Choice>
+    ensures { result ≡ dearer_of best found }
+{
+    match (best, found) {
+        (_, None) => best,
+        (None, Some(_)) => found,
+        (Some(first), Some(next)) => {
+            if first.price < next.price {
+                found
+            } else {
+                best
+            }
+        }
+    }
+}
+
+impl Choices {
+    /// Whether anything is chosen.
+    fn are_any(&self) -> bool
+        ensures { result ≡ any_chosen self.now }
+    {
+        self.car.is_some() || self.flight.is_some() || self.room.is_some()
+    }
+
+    /// Chooses what was found where it is dearer than the item so far.
+    fn see(&mut self, kind: Kind, found: Option<Choice>)
+        ensures { self.new ≡ with_found self.old kind found }
+    {
+        match kind {
+            Kind::Car => self.car = dearer(self.car, found),
+            Kind::Flight => self.flight = dearer(self.flight, found),
+            Kind::Room => self.room = dearer(self.room, found),
+        }
+    }
+}
+
+/// An item with its price and its block, if it is there.
+fn look_up<M: TxRead>(memory: &mut M, kind: Kind, id: u32) -> Result<Option<Choice>, M::Stop>
+    requires state { HoldsState (M.view memory.old) }
+    requires range { IsTrue (is_id id) }
+    ensures origin { M.origin memory.new ≡ M.origin memory.old }
+    ensures answer { IfOk result (λ found. LookedUp (M.view memory.old) (M.view memory.new)
+        kind id found) }
+{
+    let Some(item) = find_item(memory, kind, id)? else {
+        return Ok(None);
+    };
+    let price = price_at(memory, item.0)?;
+    Ok(Some(Choice { id, price, item }))
+}
+
+/// Looks each ask up once, and chooses the dearest of each kind.
+fn choose<M: TxRead>(memory: &mut M, asks: &[(Kind, u32)]) -> Result<Choices, M::Stop>
+    requires state { HoldsState (M.view memory.old) }
+    requires range { IsTrue (list_all (λ ask. is_id ask.1) asks.now) }
+    ensures origin { M.origin memory.new ≡ M.origin memory.old }
+    ensures answer { IfOk result (λ choices. Chosen (M.view memory.old) (M.view memory.new)
+        asks.now choices) }
+{
+    let mut choices = Choices {
+        car: None,
+        flight: None,
+        room: None,
+    };
+    for ask in asks {
+        let found = look_up(memory, ask.0, ask.1)?;
+        choices.see(ask.0, found);
+    }
+    Ok(choices)
+}
+
+/// Looks for the customer once, and makes one who is missing.
+fn join<M: TxMem>(memory: &mut M, customer: u32, start: u32) -> Result<Owner, M::Stop>
+    requires start { start < 8 }
+    requires state { HoldsState (M.view memory.old) }
+    requires range { IsTrue (is_id customer) }
+    ensures origin { M.origin memory.new ≡ M.origin memory.old }
+    ensures answer { IfOk result (λ owner. HasJoined (M.view memory.old) (M.view memory.new)
+        customer owner) }
+{
+    if let Some(block) = find_customer(memory, customer)? {
+        return Ok(Owner {
+            joined: Joined::Refused(Why::Exists),
+            block: Some(block),
+        });
+    }
+    match add_customer(memory, customer, start)? {
+        Some(block) => Ok(Owner {
+            joined: Joined::Added,
+            block: Some(block),
+        }),
+        None => Ok(Owner {
+            joined: Joined::Refused(Why::Full),
+            block: None,
+        }),
+    }
+}
+
+/// Books one unit of what was chosen of a kind. Without a customer the pick is refused.
+fn reserve_choice<M: TxMem>(
+    memory: &mut M,
+    customer: u32,
+    owner: Option<Block>,
+    kind: Kind,
+    choice: Option<Choice>,
+    start: u32,
+) -> Result<Option<Pick>, M::Stop>
+    requires start { start < 8 }
+    requires state { HoldsState (M.view memory.old) }
+    requires range { IsTrue (is_id customer) }
+    requires owner { IsOwner (M.view memory.old) customer owner }
+    requires known { IfSome choice (λ c. IsKnown (M.view memory.old) kind c) }
+    ensures origin { M.origin memory.new ≡ M.origin memory.old }
+    ensures answer { IfOk result (λ pick. Runs (M.view memory.old) (M.view memory.new)
+        (λ state. rules.reserve_choice state customer kind (priced choice)) pick) }
+    ensures items { IfOk result (λ _. ItemsStay (M.view memory.old) (M.view memory.new)) }
+    ensures customers { IfOk result (λ _. CustomersStay (M.view memory.old) (M.view memory.new)) }
+{
+    let Some(Choice { id, price, item }) = choice else {
+        return Ok(None);
+    };
+    let Some(owner) = owner else {
+        return Ok(Some(Pick {
+            id,
+            price,
+            refused: Some(Why::NoCustomer),
+        }));
+    };
+    let reply = reserve_at(memory, customer, owner, kind, id, item, 1, start)?;
+    let refused = refusal(&reply);
+    Ok(Some(Pick { id, price, refused }))
+}
+
+/// Sees to the customer, and books what was chosen: a car, a flight, a room.
+fn book_choices<M: TxMem>(
+    memory: &mut M,
+    customer: u32,
+    choices: &Choices,
+    start: u32,
+) -> Result<Reply, M::Stop>
+    requires start { start < 8 }
+    requires state { HoldsState (M.view memory.old) }
+    requires range { IsTrue (is_id customer) }
+    requires known { AreKnown (M.view memory.old) choices.now }
+    ensures origin { M.origin memory.new ≡ M.origin memory.old }
+    ensures answer { IfOk result (λ reply. Runs (M.view memory.old) (M.view memory.new)
+        (λ state. rules.book_choices state customer (priced choices.now.car)
+        (priced choices.now.flight) (priced choices.now.room)) reply) }
+{
+    let owner = join(memory, customer, start)?;
+    let block = owner.block;
+    let car = reserve_choice(memory, customer, block, Kind::Car, choices.car, start)?;
+    let flight = reserve_choice(memory, customer, block, Kind::Flight, choices.flight, start)?;
+    let room = reserve_choice(memory, customer, block, Kind::Room, choices.room, start)?;
+    Ok(Reply::Trip(TripReply {
+        joined: owner.joined,
+        picks: [car, flight, room],
+    }))
+}
+
+/// Finds the item of each ask once, picks the dearest of each kind, sees to the customer, and
+/// books one unit of each pick.
+pub(crate) fn trip<M: TxMem>(
+    memory: &mut M,
+    customer: u32,
+    asks: &[(Kind, u32)],
+    start: u32,
+) -> Result<Reply, M::Stop>
+    requires start { start < 8 }
+    requires state { HoldsState (M.view memory.old) }
+    requires range { IsTrue (is_task (Task.Trip customer asks.now)) }
+    ensures origin { M.origin memory.new ≡ M.origin memory.old }
+    ensures answer { IfOk result (λ reply. RanTask (M.view memory.old) (M.view memory.new)
+        (Task.Trip customer asks.now) reply) }
+{
+    let choices = choose(memory, asks)?;
+    if choices.are_any() {
+        return book_choices(memory, customer, &choices, start);
+    }
+    Ok(Reply::Trip(TripReply {
+        joined: Joined::NotAsked,
+        picks: [None, None, None],
+    }))
+}
