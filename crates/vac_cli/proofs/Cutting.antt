@@ -11,7 +11,7 @@ use Rattle.vac_lines.proofs.Extends.{take_least, extends_longer}
 use Rattle.vac_model.specs.State.{State}
 use Rattle.vac_lines.specs.declared.fault.LineFault.TheVariants.{LongLine}
 use Rattle.vac_lines.specs.Lines.{lines_of, without_empty_end}
-use Rattle.vac_cli.specs.FirstLines.{first_task}
+use Rattle.vac_lines.specs.LineTable.{line_task}
 use Rattle.vac_cli.specs.Script.{answers, pending, HasNoEnd, HasBegun}
 use Rattle.vac_lines.specs.Script.{answer}
 
@@ -55,7 +55,7 @@ lines_last line h =
     ap lines_of (sym (append-nil line)) ∙ ap without_empty_end (e ∙ ap (λ t. t ∷ []) (append-nil line))
 
 -- a line that is too long
-long_line : (line : List ℕ) → 1024 < length line → first_task line ≡ Err LongLine
+long_line : (line : List ℕ) → 1024 < length line → line_task line ≡ Err LongLine
 long_line line h = rw (lt-ltb 1024 (length line) h) refl
 
 -- whether a text is empty
@@ -63,26 +63,26 @@ abbrev is_empty : List ℕ → Bool
 is_empty text = eqb (length text) 0
 
 -- of a line that is too long it matters only that it is
-first_task_kept : (line text : List ℕ) → first_task (take 1025 line ++ text) ≡ first_task (line ++ text)
-first_task_kept line text =
+line_task_kept : (line text : List ℕ) → line_task (take 1025 line ++ text) ≡ line_task (line ++ text)
+line_task_kept line text =
     elim (cases_lt 1025 (length line)) [
       | inl h ↦
           let kept : length (take 1025 line) ≡ 1025 = length-take-le 1025 line (omega arith) in
           long_line (take 1025 line ++ text) (omega (arith, length-append (take 1025 line) text)) ∙ sym (long_line (line ++ text) (omega (arith, length-append line text)))
-      | inr h ↦ ap (λ l. first_task (l ++ text)) (take_all 1025 line h)
+      | inr h ↦ ap (λ l. line_task (l ++ text)) (take_all 1025 line h)
     ]
 
 -- the same at the end of the line
-pub first_task_prefix : (line : List ℕ) → first_task (take 1025 line) ≡ first_task line
-first_task_prefix line =
-    ap first_task (sym (append-nil (take 1025 line))) ∙ first_task_kept line [] ∙ ap first_task (append-nil line)
+pub line_task_prefix : (line : List ℕ) → line_task (take 1025 line) ≡ line_task line
+line_task_prefix line =
+    ap line_task (sym (append-nil (take 1025 line))) ∙ line_task_kept line [] ∙ ap line_task (append-nil line)
 
 long_first : (line : List ℕ) (rest : List (List ℕ)) → 1024 < length line
-    → map first_task (without_empty_end (line ∷ rest)) ≡ Err LongLine ∷ map first_task (without_empty_end rest)
+    → map line_task (without_empty_end (line ∷ rest)) ≡ Err LongLine ∷ map line_task (without_empty_end rest)
 long_first line [] h =
     let some : is_empty line ≡ false = ne_eqb (length line) 0 (λ z. omega arith) in
-    ap (λ v. map first_task (cond v [] (line ∷ []))) some ∙ ap (λ t. t ∷ []) (long_line line h)
-long_first line (next ∷ more) h = ap (λ t. t ∷ map first_task (without_empty_end (next ∷ more))) (long_line line h)
+    ap (λ v. map line_task (cond v [] (line ∷ []))) some ∙ ap (λ t. t ∷ []) (long_line line h)
+long_first line (next ∷ more) h = ap (λ t. t ∷ map line_task (without_empty_end (next ∷ more))) (long_line line h)
 
 -- so the start of a line that is too long need not be kept whole
 pub pending_kept : (s : State) (line text : List ℕ) → HasNoEnd line → pending s (take 1025 line) text ≡ pending s line text
@@ -93,29 +93,29 @@ pending_kept s line text h =
           let kept : length (take 1025 line) ≡ 1025 = length-take-le 1025 line (omega arith) in
           let prefix = parts_behind (take 1025 line) text p.0 p.1 (All-take (λ x. x ≢ 10) 1025 line h) p.2 in
           let whole = parts_behind line text p.0 p.1 h p.2 in
-          ap (λ t. answers s (map first_task (without_empty_end t))) prefix
+          ap (λ t. answers s (map line_task (without_empty_end t))) prefix
           ∙ ap (answers s) (long_first (take 1025 line ++ p.0) p.1 (omega (arith, length-append (take 1025 line) p.0)) ∙ sym (long_first (line ++ p.0) p.1 (omega (arith, length-append line p.0))))
-          ∙ ap (λ t. answers s (map first_task (without_empty_end t))) (sym whole)
+          ∙ ap (λ t. answers s (map line_task (without_empty_end t))) (sym whole)
       | inr short ↦ ap (λ l. pending s l text) (take_all 1025 line short)
     ]
 
 -- what is still to be written, where a line end is known
 pub pending_cut : (s : State) (start line text : List ℕ) → HasNoEnd (start ++ line)
-    → pending s start (line ++ 10 ∷ text) ≡ (answer s (first_task (start ++ line))).1 ++ pending ((answer s (first_task (start ++ line))).0) [] text
+    → pending s start (line ++ 10 ∷ text) ≡ (answer s (line_task (start ++ line))).1 ++ pending ((answer s (line_task (start ++ line))).0) [] text
 pending_cut s start line text h =
-    ap (λ t. answers s (map first_task (lines_of t))) (sym (append_assoc start line (10 ∷ text)))
-    ∙ ap (λ t. answers s (map first_task t)) (lines_cut (start ++ line) text h)
+    ap (λ t. answers s (map line_task (lines_of t))) (sym (append_assoc start line (10 ∷ text)))
+    ∙ ap (λ t. answers s (map line_task t)) (lines_cut (start ++ line) text h)
 
 -- what is still to be written, where more of the last line is known
 pub pending_moved : (s : State) (start more text : List ℕ) → pending s start (more ++ text) ≡ pending s (start ++ more) text
-pending_moved s start more text = ap (λ t. answers s (map first_task (lines_of t))) (sym (append_assoc start more text))
+pending_moved s start more text = ap (λ t. answers s (map line_task (lines_of t))) (sym (append_assoc start more text))
 
 -- what is still to be written at the end of the input
-pub pending_last : (s : State) (start : List ℕ) → HasNoEnd start → 0 < length start → pending s start [] ≡ (answer s (first_task start)).1
+pub pending_last : (s : State) (start : List ℕ) → HasNoEnd start → 0 < length start → pending s start [] ≡ (answer s (line_task start)).1
 pending_last s start h n =
     let some : is_empty start ≡ false = ne_eqb (length start) 0 (λ z. omega arith) in
-    ap (λ t. answers s (map first_task (lines_of t))) (append-nil start) ∙ ap (λ t. answers s (map first_task t)) (lines_last start h)
-    ∙ ap (λ v. answers s (map first_task (cond v [] (start ∷ [])))) some ∙ append-nil ((answer s (first_task start)).1)
+    ap (λ t. answers s (map line_task (lines_of t))) (append-nil start) ∙ ap (λ t. answers s (map line_task t)) (lines_last start h)
+    ∙ ap (λ v. answers s (map line_task (cond v [] (start ∷ [])))) some ∙ append-nil ((answer s (line_task start)).1)
 
 take_over : (n : ℕ) (xs ys : List ℕ) → length xs ≤ n → take n (xs ++ ys) ≡ xs ++ take (n - length xs) ys
 take_over n xs ys h =
@@ -135,18 +135,18 @@ has_begun start more h g =
 
 -- one more line is run: the same is written together with what is still to be written
 pub line_run : (s t : State) (out new start line behind rest after text : List ℕ) → HasNoEnd start → HasNoEnd line → rest ≡ line ++ 10 ∷ behind
-    → new ≡ out ++ (answer s (first_task (start ++ line))).1 → t ≡ (answer s (first_task (start ++ line))).0 → after ≡ []
+    → new ≡ out ++ (answer s (line_task (start ++ line))).1 → t ≡ (answer s (line_task (start ++ line))).0 → after ≡ []
     → out ++ pending s start (rest ++ text) ≡ new ++ pending t after (behind ++ text)
 line_run s t out new start line behind rest after text h g e f k z =
     let cut = pending_cut s start line (behind ++ text) (All-append (λ x. x ≢ 10) start line h g) in
     ap (λ r. out ++ pending s start (r ++ text)) e ∙ ap (λ r. out ++ pending s start r) (append_assoc line (10 ∷ behind) text) ∙ ap (λ r. out ++ r) cut
     ∙ sym (append_assoc out _ _)
-    ∙ ap (λ r. r ++ pending ((answer s (first_task (start ++ line))).0) [] (behind ++ text)) (sym f)
+    ∙ ap (λ r. r ++ pending ((answer s (line_task (start ++ line))).0) [] (behind ++ text)) (sym f)
     ∙ ap (λ r. new ++ pending r [] (behind ++ text)) (sym k) ∙ ap (λ r. new ++ pending t r (behind ++ text)) (sym z)
 
 -- a line of which a prefix was written: so far all that is written is a prefix of what is to be written
 pub line_stopped : (s : State) (out new start line behind rest text : List ℕ) → HasNoEnd start → HasNoEnd line → rest ≡ line ++ 10 ∷ behind
-    → Extends new (out ++ (answer s (first_task (start ++ line))).1) → Extends new (out ++ pending s start (rest ++ text))
+    → Extends new (out ++ (answer s (line_task (start ++ line))).1) → Extends new (out ++ pending s start (rest ++ text))
 line_stopped s out new start line behind rest text h g e f =
     let run = line_run s _ out _ start line behind rest [] text h g e refl refl refl in
     subst (Extends new) (sym run) (extends_longer new _ _ f)
@@ -159,17 +159,17 @@ line_kept s t out new start rest after text h g e f k =
     ∙ ap (λ r. out ++ pending s r text) (sym k) ∙ ap (λ r. out ++ pending r after text) (sym f) ∙ ap (λ r. r ++ pending t after text) (sym e)
 
 -- the last line is all that is still to be written
-pub last_answer : (s : State) (start : List ℕ) → HasNoEnd start → 0 < length start → (answer s (first_task (start ++ []))).1 ≡ pending s start []
-last_answer s start h n = ap (λ l. (answer s (first_task l)).1) (append-nil start) ∙ sym (pending_last s start h n)
+pub last_answer : (s : State) (start : List ℕ) → HasNoEnd start → 0 < length start → (answer s (line_task (start ++ []))).1 ≡ pending s start []
+last_answer s start h n = ap (λ l. (answer s (line_task l)).1) (append-nil start) ∙ sym (pending_last s start h n)
 
 -- the last line was run, or its run stopped
 pub last_run : {T E : Type 0} (r : Result T E) (s : State) (out new start : List ℕ) → HasNoEnd start → 0 < length start
-    → OnOk r (new ≡ out ++ (answer s (first_task (start ++ []))).1) → OnOk r (new ≡ out ++ pending s start [])
+    → OnOk r (new ≡ out ++ (answer s (line_task (start ++ []))).1) → OnOk r (new ≡ out ++ pending s start [])
 last_run (Ok t) s out new start h n e = e ∙ ap (λ t. out ++ t) (last_answer s start h n)
 last_run (Err f) s out new start h n e = tt
 
 pub last_stopped : {T E : Type 0} (r : Result T E) (s : State) (out new start : List ℕ) → HasNoEnd start → 0 < length start
-    → OnErr r (Extends new (out ++ (answer s (first_task (start ++ []))).1)) → OnErr r (Extends new (out ++ pending s start []))
+    → OnErr r (Extends new (out ++ (answer s (line_task (start ++ []))).1)) → OnErr r (Extends new (out ++ pending s start []))
 last_stopped (Ok t) s out new start h n e = tt
 last_stopped (Err f) s out new start h n e = subst (λ t. Extends new (out ++ t)) (last_answer s start h n) e
 

@@ -1,2 +1,2 @@
-pub mod FirstLines
 pub mod Script
+pub mod System

@@ -8,7 +8,7 @@ use Rattle.vac_lines.specs.declared.line.TheConstants.{LINE_BYTES}
 use Rattle.vac_lines.specs.Lines.{lines_of, HasNo}
 use Rattle.vac_lines.specs.Script.{script}
 use Rattle.vac_lines.specs.Text.{Extends}
-use Rattle.vac_cli.specs.FirstLines.{first_task}
+use Rattle.vac_lines.specs.LineTable.{line_task}
 
 -- the output lines of these lines, one after another
 abbrev pub answers : State → List (Result Task LineFault) → List ℕ
@@ -16,7 +16,7 @@ answers s lines = (script s lines).1
 
 -- what a script writes for a system of n blocks
 abbrev pub script_out : ℕ → List ℕ → List ℕ
-script_out n bytes = answers (empty_state n) (map first_task (lines_of bytes))
+script_out n bytes = answers (empty_state n) (map line_task (lines_of bytes))
 
 -- the input was read to its end, and its script output was written and nothing else
 pub record WroteAll (n : ℕ) (unread left held holds : Option (List ℕ)) : Type 0 where
@@ -25,7 +25,8 @@ pub record WroteAll (n : ℕ) (unread left held holds : Option (List ℕ)) : Typ
   pub ended : IsAtEnd left
   pub written : Appends held holds (script_out n bytes)
 
--- what was written is a prefix of the output of the bytes that were read, and of the output of the whole input
+-- what was written is a prefix of the output of the bytes that were read, and of the output of the
+-- whole input
 pub record WrotePrefix (n : ℕ) (unread left held holds : Option (List ℕ)) : Type 0 where
   pub bytes : List ℕ
   pub consumed : Consumes unread left bytes
@@ -38,9 +39,10 @@ pub record WrotePrefix (n : ℕ) (unread left held holds : Option (List ℕ)) : 
 abbrev pub HasNoEnd : List ℕ → Type 0
 HasNoEnd text = HasNo 10 text
 
--- what is still to be written from a state on, where the last line has begun with start and rest follows it
+-- what is still to be written from a state on, where the last line has begun with start and rest
+-- follows it
 abbrev pub pending : State → List ℕ → List ℕ → List ℕ
-pending s start rest = answers s (map first_task (lines_of (start ++ rest)))
+pending s start rest = answers s (map line_task (lines_of (start ++ rest)))
 
 -- a prefix of the text was appended
 abbrev pub AppendsPrefix : Option (List ℕ) → Option (List ℕ) → List ℕ → Type 0

@@ -1,7 +1,7 @@
 //! The command line of the program.
 
 ghost use Rattle.std.specs.Prelude.{◌≡◌, ◌≤◌, IfOk, IfSome, true};
-ghost use Rattle.vac_manager.specs.FirstPath.{is_block_count};
+ghost use Rattle.vac_manager.specs.Opening.{is_block_count};
 ghost use Rattle.vac_cli.specs.Script.{WroteAll};
 
 use crate::script::{RunFault, run_script};
@@ -108,6 +108,8 @@ fn end_by<W: Write>(fault: RunFault, output: &mut W) -> u8
         RunFault::Read => b"fault read\n".as_slice(),
         RunFault::Write => return FAULT,
         RunFault::Memory => b"fault memory\n",
+        RunFault::Spent => b"fault spent\n",
+        RunFault::Busy => b"fault busy\n",
         RunFault::Bound => b"fault bound\n",
     };
     if output.write_all(line).is_ok() {

@@ -2,8 +2,8 @@
 #![tactic(auto)]
 
 mod command_line;
-mod first_lines;
 mod script;
+mod system;
 
 pub use command_line::{refuse_words, run_words};
 pub use script::{RunFault, run_script};

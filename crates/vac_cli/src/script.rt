@@ -1,21 +1,23 @@
 //! Running a script: lines in, output lines out.
 
-ghost use Rattle.std.specs.Prelude.{◌≡◌, ◌≤◌, ◌+◌, ℕ, List, [], ◌++◌, OnOk, OnErr, IfOk, true, length, take};
+ghost use Rattle.std.specs.Prelude.{◌≡◌, ◌≢◌, ◌≤◌, ◌+◌, [], ◌++◌, length, take, true};
+ghost use Rattle.std.specs.Prelude.{OnOk, OnErr, IfOk, IfErr};
 ghost use Rattle.std.specs.Io.KnownBytes.{Appends};
-ghost use Rattle.vac_model.specs.State.{empty_state};
+ghost use Rattle.vac_model.specs.State.{State, empty_state};
 ghost use Rattle.vac_model.specs.Ranges.{is_task};
-ghost use Rattle.vac_manager.specs.FirstPath.{IsFirstPath, is_block_count};
+ghost use Rattle.vac_manager.specs.Opening.{is_block_count};
 ghost use Rattle.vac_lines.specs.Text.{Extends};
-ghost use Rattle.vac_lines.specs.Script.{answer};
-ghost use Rattle.vac_cli.specs.FirstLines.{first_task};
+ghost use Rattle.vac_lines.specs.LineTable.{line_task};
+ghost use Rattle.vac_cli.specs.declared.script.RunFault.TheVariants.{Busy};
+ghost use Rattle.vac_cli.specs.System.{StandsAt, Answered, AnsweredInPart, Ran, RanInPart};
+ghost use Rattle.vac_cli.specs.System.{Wrote, WroteInPart, WroteEnd, WroteEndInPart};
 ghost use Rattle.vac_cli.specs.Script.{pending, HasBegun, AppendsPrefix, WroteAll, WrotePrefix};
 
-use crate::first_lines::read_first;
+use crate::system::System;
 use std::alloc::{AllocError, Global};
 use std::io::{ErrorKind, Read, Write};
 use thiserror::Error;
-use vac_lines::{LINE_BYTES, LineFault, cut_at, print_fault, print_reply};
-use vac_manager::FlatManager;
+use vac_lines::{LINE_BYTES, LineFault, cut_at, print_fault, print_reply, read_line};
 use vac_model::Task;
 
 /// The most reads of a script, but for one: the read after these is the last.
@@ -39,6 +41,12 @@ pub enum RunFault {
     /// There was no memory.
     #[error("out of memory")]
     Memory = 3,
+    /// The clock is at its last version, so that nothing more can be written.
+    #[error("the clock is at its last version")]
+    Spent = 4,
+    /// A call met a conflict. No script answers this: its one client is alone.
+    #[error("a call met a conflict")]
+    Busy = 5,
     /// More than 4,294,967,296 reads were made.
     #[error("the input takes too many reads")]
     Bound = 6,
@@ -57,7 +65,7 @@ impl From<AllocError> for RunFault {
 /// A script that runs.
 #[derive(Drop)]
 struct Script {
-    manager: FlatManager,
+    system: System,
     /// The line that has begun, up to [`KEPT_BYTES`] of it.
     line: Vec<u8>,
     /// The output lines that are not yet written.
@@ -66,51 +74,52 @@ struct Script {
 
 /// Runs the task of a line that was read, and prints its reply; or prints its fault.
 fn run_read(
-    manager: &mut FlatManager,
+    system: &mut System,
     read: Result<Task, LineFault>,
     out: &mut Vec<u8>,
-) -> Result<(), AllocError>
-    requires first_path { IfOk read (λ task. IsFirstPath task) }
+) -> Result<(), RunFault>
     requires in_range { IfOk read (λ task. is_task task ≡ true) }
-    ensures text { OnOk result (out.new.items ≡ out.old.items ++ (answer manager.old read).1) }
-    ensures state { OnOk result (manager.new ≡ (answer manager.old read).0) }
-    ensures err { OnErr result (Extends out.new.items (out.old.items ++ (answer manager.old read).1)) }
+    ensures ok { OnOk result (Answered system.old system.new out.old.items out.new.items read) }
+    ensures err { OnErr result (AnsweredInPart system.old out.old.items out.new.items read) }
+    ensures not_busy { IfErr result (λ fault. fault ≢ Busy) }
 {
     match read {
         Ok(task) => {
-            let Ok(reply) = manager.apply(&task) else {
-                unreachable!()
-            };
+            let reply = system.apply(&task)?;
             print_reply(&reply, out)?;
         }
         Err(fault) => print_fault(fault, out)?,
     }
-    out.extend_from_slice(b"\n")
+    out.extend_from_slice(b"\n")?;
+    Ok(())
 }
 
 /// Reads and runs a line, and prints its output line.
 fn run_line(
     alloc: Global,
-    manager: &mut FlatManager,
+    system: &mut System,
     line: &[u8],
     out: &mut Vec<u8>,
 ) -> Result<(), RunFault>
-    ensures text { OnOk result (out.new.items ≡ out.old.items ++ (answer manager.old (first_task line.now)).1) }
-    ensures state { OnOk result (manager.new ≡ (answer manager.old (first_task line.now)).0) }
-    ensures err { OnErr result (Extends out.new.items (out.old.items ++ (answer manager.old (first_task line.now)).1)) }
+    ensures ok { OnOk result
+        (Answered system.old system.new out.old.items out.new.items (line_task line.now)) }
+    ensures err { OnErr result
+        (AnsweredInPart system.old out.old.items out.new.items (line_task line.now)) }
+    ensures not_busy { IfErr result (λ fault. fault ≢ Busy) }
 {
-    let read = read_first(alloc, line);
+    let read = read_line(alloc, line);
     if matches!(read, Err(LineFault::Memory)) {
         return Err(RunFault::Memory);
     }
-    run_read(manager, read, out)?;
-    Ok(())
+    run_read(system, read, out)
 }
 
 /// Writes the text. A write that fails, and one that takes nothing, ends it.
 fn write_all<W: Write>(output: &mut W, text: &[u8]) -> Result<(), RunFault>
     ensures ok { OnOk result (Appends (W.contents output.old) (W.contents output.new) text.now) }
-    ensures err { OnErr result (AppendsPrefix (W.contents output.old) (W.contents output.new) text.now) }
+    ensures err { OnErr result
+        (AppendsPrefix (W.contents output.old) (W.contents output.new) text.now) }
+    ensures not_busy { IfErr result (λ fault. fault ≢ Busy) }
 {
     let mut sent = 0;
     'writes: for _ in 0..u64::MAX {
@@ -134,23 +143,23 @@ impl Script {
     /// A script of which nothing was read.
     fn new(alloc: Global, blocks: u32) -> Result<Script, RunFault>
         requires { is_block_count blocks ≡ true }
-        ensures state { IfOk result (λ script. script.manager ≡ empty_state blocks) }
+        ensures state { IfOk result (λ script. StandsAt script.system (empty_state blocks)) }
         ensures line { IfOk result (λ script. script.line.items ≡ []) }
         ensures out { IfOk result (λ script. script.out.items ≡ []) }
+        ensures not_busy { IfErr result (λ fault. fault ≢ Busy) }
     {
-        let Ok(manager) = FlatManager::new(alloc, blocks) else {
-            return Err(RunFault::Memory);
-        };
+        let system = System::new(alloc, blocks)?;
         let line = Vec::with_capacity(alloc, KEPT_BYTES)?;
         let out = Vec::with_capacity(alloc, CHUNK_BYTES)?;
-        Ok(Script { manager, line, out })
+        Ok(Script { system, line, out })
     }
 
     /// Keeps what follows of the line that has begun, as far as there is need.
     #[tactic(auto, using(crate::proofs::Cutting::kept_prefix))]
     fn keep(&mut self, more: &[u8]) -> Result<(), AllocError>
         requires { length self.old.line.items ≤ LINE_BYTES + 1 }
-        ensures line { OnOk result (self.new.line.items ≡ take (LINE_BYTES + 1) (self.old.line.items ++ more.now)) }
+        ensures line { OnOk result
+            (self.new.line.items ≡ take (LINE_BYTES + 1) (self.old.line.items ++ more.now)) }
         ensures others { self.new ≡ record self.old { line = self.new.line } }
     {
         let room = KEPT_BYTES - self.line.len();
@@ -161,24 +170,18 @@ impl Script {
     /// Runs the line that has begun, of which this is the rest.
     fn end_line(&mut self, alloc: Global, rest: &[u8]) -> Result<(), RunFault>
         requires { length self.old.line.items ≤ LINE_BYTES + 1 }
-        ensures text { OnOk result (self.new.out.items
-            ≡ self.old.out.items ++ (answer self.old.manager (first_task (self.old.line.items ++ rest.now))).1) }
-        ensures state { OnOk result (self.new.manager
-            ≡ (answer self.old.manager (first_task (self.old.line.items ++ rest.now))).0) }
+        ensures ok { OnOk result (Answered self.old.system self.new.system
+            self.old.out.items self.new.out.items (line_task (self.old.line.items ++ rest.now))) }
         ensures line { OnOk result (self.new.line.items ≡ []) }
-        ensures err { OnErr result (Extends self.new.out.items
-            (self.old.out.items ++ (answer self.old.manager (first_task (self.old.line.items ++ rest.now))).1)) }
+        ensures err { OnErr result (AnsweredInPart self.old.system
+            self.old.out.items self.new.out.items (line_task (self.old.line.items ++ rest.now))) }
+        ensures not_busy { IfErr result (λ fault. fault ≢ Busy) }
     {
         if self.line.is_empty() {
-            return run_line(alloc, &mut self.manager, rest, &mut self.out);
+            return run_line(alloc, &mut self.system, rest, &mut self.out);
         }
         self.keep(rest)?;
-        run_line(
-            alloc,
-            &mut self.manager,
-            self.line.as_slice(),
-            &mut self.out,
-        )?;
+        run_line(alloc, &mut self.system, self.line.as_slice(), &mut self.out)?;
         self.line.clear();
         Ok(())
     }
@@ -187,11 +190,12 @@ impl Script {
     fn feed(&mut self, alloc: Global, chunk: &[u8]) -> Result<(), RunFault>
         requires { HasBegun self.old.line.items }
         ensures begun { OnOk result (HasBegun self.new.line.items) }
-        ensures ok { OnOk result ((x : List ℕ) →
-            self.old.out.items ++ pending self.old.manager self.old.line.items (chunk.now ++ x)
-            ≡ self.new.out.items ++ pending self.new.manager self.new.line.items x) }
-        ensures err { OnErr result ((x : List ℕ) → Extends self.new.out.items
-            (self.old.out.items ++ pending self.old.manager self.old.line.items (chunk.now ++ x))) }
+        ensures ok { OnOk result (Ran self.old.system self.new.system
+            self.old.line.items self.new.line.items
+            self.old.out.items self.new.out.items chunk.now) }
+        ensures err { OnErr result (RanInPart self.old.system
+            self.old.line.items self.old.out.items self.new.out.items chunk.now) }
+        ensures not_busy { IfErr result (λ fault. fault ≢ Busy) }
     {
         let mut rest = chunk;
         while let Some((line, behind)) = cut_at(b'\n', rest) {
@@ -205,10 +209,12 @@ impl Script {
     /// Runs the last line, where it has begun and has no end.
     fn finish(&mut self, alloc: Global) -> Result<(), RunFault>
         requires { HasBegun self.old.line.items }
-        ensures ok { OnOk result (self.new.out.items
-            ≡ self.old.out.items ++ pending self.old.manager self.old.line.items []) }
-        ensures err { OnErr result (Extends self.new.out.items
-            (self.old.out.items ++ pending self.old.manager self.old.line.items [])) }
+        ensures ok { OnOk result ((s : State) → StandsAt self.old.system s
+            → self.new.out.items ≡ self.old.out.items ++ pending s self.old.line.items []) }
+        ensures err { OnErr result ((s : State) → StandsAt self.old.system s
+            → Extends self.new.out.items
+            (self.old.out.items ++ pending s self.old.line.items [])) }
+        ensures not_busy { IfErr result (λ fault. fault ≢ Busy) }
     {
         if self.line.is_empty() {
             return Ok(());
@@ -218,10 +224,13 @@ impl Script {
 
     /// Writes the output lines that are not yet written.
     fn write_out<W: Write>(&mut self, output: &mut W) -> Result<(), RunFault>
-        ensures ok { OnOk result (Appends (W.contents output.old) (W.contents output.new) self.old.out.items) }
+        ensures ok { OnOk result
+            (Appends (W.contents output.old) (W.contents output.new) self.old.out.items) }
         ensures empty { OnOk result (self.new.out.items ≡ []) }
         ensures others { self.new ≡ record self.old { out = self.new.out } }
-        ensures err { OnErr result (AppendsPrefix (W.contents output.old) (W.contents output.new) self.old.out.items) }
+        ensures err { OnErr result
+            (AppendsPrefix (W.contents output.old) (W.contents output.new) self.old.out.items) }
+        ensures not_busy { IfErr result (λ fault. fault ≢ Busy) }
     {
         write_all(output, self.out.as_slice())?;
         self.out.clear();
@@ -229,6 +238,7 @@ impl Script {
     }
 
     /// Runs a chunk of the input, and writes the output lines of the lines that end in it.
+    #[tactic(auto, using(crate::proofs::Running::wrote))]
     fn run_chunk<W: Write>(
         &mut self,
         alloc: Global,
@@ -239,11 +249,12 @@ impl Script {
         requires empty { self.old.out.items ≡ [] }
         ensures begun { OnOk result (HasBegun self.new.line.items) }
         ensures empty { OnOk result (self.new.out.items ≡ []) }
-        ensures ok { OnOk result ((text : List ℕ) × Appends (W.contents output.old) (W.contents output.new) text
-            × ((x : List ℕ) → pending self.old.manager self.old.line.items (chunk.now ++ x)
-            ≡ text ++ pending self.new.manager self.new.line.items x)) }
-        ensures err { OnErr result ((text : List ℕ) × Appends (W.contents output.old) (W.contents output.new) text
-            × ((x : List ℕ) → Extends text (pending self.old.manager self.old.line.items (chunk.now ++ x)))) }
+        ensures ok { OnOk result (Wrote self.old.system self.new.system
+            self.old.line.items self.new.line.items chunk.now
+            (W.contents output.old) (W.contents output.new)) }
+        ensures err { OnErr result (WroteInPart self.old.system
+            self.old.line.items chunk.now (W.contents output.old) (W.contents output.new)) }
+        ensures not_busy { IfErr result (λ fault. fault ≢ Busy) }
     {
         let fed = self.feed(alloc, chunk);
         self.write_out(output)?;
@@ -254,10 +265,11 @@ impl Script {
     fn run_end<W: Write>(&mut self, alloc: Global, output: &mut W) -> Result<(), RunFault>
         requires begun { HasBegun self.old.line.items }
         requires empty { self.old.out.items ≡ [] }
-        ensures ok { OnOk result (Appends (W.contents output.old) (W.contents output.new)
-            (pending self.old.manager self.old.line.items [])) }
-        ensures err { OnErr result ((text : List ℕ) × Appends (W.contents output.old) (W.contents output.new) text
-            × Extends text (pending self.old.manager self.old.line.items [])) }
+        ensures ok { OnOk result (WroteEnd self.old.system self.old.line.items
+            (W.contents output.old) (W.contents output.new)) }
+        ensures err { OnErr result (WroteEndInPart self.old.system self.old.line.items
+            (W.contents output.old) (W.contents output.new)) }
+        ensures not_busy { IfErr result (λ fault. fault ≢ Busy) }
     {
         let finished = self.finish(alloc);
         self.write_out(output)?;
@@ -281,6 +293,7 @@ pub fn run_script<R: Read, W: Write>(
         (W.contents output.old) (W.contents output.new)) }
     ensures err { OnErr result (WrotePrefix blocks (R.remaining input.old) (R.remaining input.new)
         (W.contents output.old) (W.contents output.new)) }
+    ensures not_busy { IfErr result (λ fault. fault ≢ Busy) }
 {
     let mut script = Script::new(alloc, blocks)?;
     let mut buffer = vec![in alloc; 0; CHUNK_BYTES]?;

@@ -1,5 +1,5 @@
 -- A task that was run over a running transaction makes a lawful record.
-use Rattle.std.proofs.Common.{◌≡◌, ℕ, ◌+◌, ◌<◌, ◌≤◌, ◌^◌, Bool, true, false, List, [], Option, IsTrue, unwrap_or, length, slice_index, refl, sym, ap, ◌∙◌, subst, arith}
+use Rattle.std.proofs.Common.{◌≡◌, ℕ, ◌+◌, ◌<◌, ◌≤◌, ◌^◌, Bool, true, false, List, [], ◌∷◌, Option, IsTrue, unwrap_or, length, slice_index, refl, sym, ap, ◌∙◌, subst, arith}
 use Rattle.std.specs.FinMap.{empty, entries, get-empty, len-entries, len-empty}
 use Rattle.std.specs.Ordering.{nat_cmp}
 use Rattle.stm_words.specs.Image.{Agrees, laid}
@@ -15,11 +15,20 @@ use Rattle.vac_model.specs.State.{State}
 use Rattle.vac_model.specs.Run.{run}
 use Rattle.vac_model.specs.Ranges.{is_task}
 use Rattle.vac_model.specs.Code.{code}
-use Rattle.vac_manager.specs.Represents.{IsState, HoldsState, IsOutcome, RanTask}
+use Rattle.vac_records.specs.Represents.{IsState}
+use Rattle.vac_records.specs.Holds.{HoldsState}
+use Rattle.vac_records.proofs.Single.{same_words}
+use Rattle.vac_tasks.specs.RanTask.{RanTask}
 use Rattle.vac_manager.specs.Law.{words_of, IsFitting, IsLawful}
 use Rattle.vac_manager.specs.Called.{IsOpened}
-use Rattle.vac_manager.proofs.States.{no_entries}
-use Rattle.vac_manager.proofs.Within.{state_within}
+
+no_entries : {A : Type 0} (xs : List A) → length xs ≡ 0 → xs ≡ []
+no_entries [] e = refl
+no_entries (x ∷ xs) e = absurd (omega arith)
+
+-- words that are the same as far as the memory goes represent the same state
+state_within : (m m' : ℕ → ℕ) (n : ℕ) (s : State) → ((x : ℕ) → x < n → m' x ≡ m x) → IsState m n s → IsState m' n s
+state_within m m' n s same h = record { represents = same_words m m' n [] s h.represents same; small = h.small }
 
 -- nothing is laid over the image
 unwritten : (image : List ℕ) → memory image (empty {K = ℕ} {X = ℕ} {R = nat_cmp}) ≡ words_of image

@@ -1,6 +1,6 @@
 -- A serial list of lawful records is legal.
-use Rattle.std.proofs.Common.{◌≡◌, ℕ, List, [], ◌∷◌, refl, sym, ap, subst, zero}
-use Rattle.stm_words.specs.Image.{In, Agrees, laid}
+use Rattle.std.proofs.Common.{◌≡◌, ◌∙◌, ℕ, List, [], ◌∷◌, false, refl, sym, ap, subst, zero}
+use Rattle.stm_words.specs.Image.{In, laid}
 use Rattle.stm_words.proofs.Paired.{in_later}
 use Rattle.stm_core.specs.Client.{Client, Record}
 use Rattle.stm_core.specs.History.{Serial, Sub, image_after, all_records}
@@ -25,8 +25,9 @@ legal image s (r ∷ rs) h serial lawful =
     (rest.0, ((after, step, rest.1.0), rest.1.1))
 
 -- what was known at the deciding step, in the manager's words
-pub was_legal : (region : RegionShown) (v : Client) → Shows region.first (empty_state (capacity_of region)) → WasDecided (λ (image : List ℕ). IsFitting image) (λ (tag : List ℕ) reads writes. IsLawful tag reads writes) region v → WasLegal region v.records
-was_legal region v h d =
+pub was_legal : (region : RegionShown) (v : Client) → Shows region.first (empty_state (capacity_of region)) → v.spent ≡ false →
+    WasDecided (λ (image : List ℕ). IsFitting image) (λ (tag : List ℕ) reads writes. IsLawful tag reads writes) region v → WasLegal region v
+was_legal region v h out d =
     let k = d.decides in
     let all = all_records k.core.clients in
     let l = legal region.first (empty_state (capacity_of region)) all h k.serial k.abides in
@@ -39,6 +40,8 @@ was_legal region v h d =
       number = k.number;
       caller = d.then;
       member = k.member;
+      out = ap (λ (c : Client). c.spent) (sym d.same) ∙ out;
+      grants = ap (λ (c : Client). c.grants) (sym d.same);
       records = records;
       last = l.0;
       legal = l.1.0;
@@ -46,11 +49,13 @@ was_legal region v h d =
     }
 
 -- the region of an attempt is the one that it began in
-pub committed_legal : (region region' : RegionShown) (v : Client) (rs : List Record) → region' ≡ region → IsOpened region → WasDecided (λ (image : List ℕ). IsFitting image) (λ (tag : List ℕ) reads writes. IsLawful tag reads writes) region' v → rs ≡ v.records → WasLegal region rs
-committed_legal region region' v rs same h d e =
-    subst (λ (xs : List Record). WasLegal region xs) (sym e)
-    (was_legal region v h.shown (subst (λ (r : RegionShown). WasDecided (λ (image : List ℕ). IsFitting image) (λ (tag : List ℕ) reads writes. IsLawful tag reads writes) r v) same d))
+pub committed_legal : (region region' : RegionShown) (v v' : Client) → region' ≡ region → IsOpened region → v.spent ≡ false →
+    WasDecided (λ (image : List ℕ). IsFitting image) (λ (tag : List ℕ) reads writes. IsLawful tag reads writes) region' v → v' ≡ v → WasLegal region v'
+committed_legal region region' v v' same h out d e =
+    subst (λ (x : Client). WasLegal region x) (sym e)
+    (was_legal region v h.shown out (subst (λ (r : RegionShown). WasDecided (λ (image : List ℕ). IsFitting image) (λ (tag : List ℕ) reads writes. IsLawful tag reads writes) r v) same d))
 
 -- the same of a task that only read
-pub finished_legal : (region region' : RegionShown) (v : Client) (rs : List Record) → region' ≡ region → IsOpened region → Decides (λ (image : List ℕ). IsFitting image) (λ (tag : List ℕ) reads writes. IsLawful tag reads writes) region' v → rs ≡ v.records → WasLegal region rs
-finished_legal region region' v rs same h k e = committed_legal region region' v rs same h (record { then = v; same = refl; decides = k }) e
+pub finished_legal : (region region' : RegionShown) (v v' : Client) → region' ≡ region → IsOpened region → v.spent ≡ false →
+    Decides (λ (image : List ℕ). IsFitting image) (λ (tag : List ℕ) reads writes. IsLawful tag reads writes) region' v → v' ≡ v → WasLegal region v'
+finished_legal region region' v v' same h out k e = committed_legal region region' v v' same h out (record { then = v; same = refl; decides = k }) e

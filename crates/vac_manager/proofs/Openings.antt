@@ -1,43 +1,54 @@
 -- How a manager begins and ends.
-use Rattle.std.proofs.Common.{◌≡◌, ◌⊎◌, ℕ, ◌+◌, ◌*◌, ◌≤◌, List, length, refl, sym, ap, subst, ◌∙◌, arith}
+use Rattle.std.proofs.Common.{◌≡◌, ◌⊎◌, ℕ, ◌+◌, ◌*◌, ◌≤◌, List, length, slice_index, sym, ap, subst, ◌∙◌, arith}
 use Rattle.stm_words.specs.Image.{In}
 use Rattle.stm_core.specs.Client.{Client, Record}
 use Rattle.stm_core.specs.Event.{opener}
 use Rattle.stm_region.specs.Shown.{RegionShown, ClientShown}
 use Rattle.stm_region.specs.Closed.{Ends}
 use Rattle.vac_model.specs.State.{empty_state}
-use Rattle.vac_manager.specs.Blocks.{IsEmptyHeap}
+use Rattle.tx_alloc.specs.Pool.{IsPool, IsEmptyHeap, fresh_lists}
+use Rattle.vac_records.proofs.Fresh.{fresh_state}
+use Rattle.vac_model.proofs.Empty.{empty-balanced}
 use Rattle.vac_manager.specs.Law.{Shows, IsFitting, IsLawful}
 use Rattle.vac_manager.specs.Legal.{capacity_of}
-use Rattle.vac_manager.specs.Called.{CallerShown, IsOpened}
+use Rattle.vac_manager.specs.Called.{IsOpened}
 use Rattle.vac_manager.specs.Opening.{Opens, Closes}
-use Rattle.vac_manager.proofs.Fresh.{fresh_state}
 use Rattle.vac_manager.proofs.Legality.{legal}
 
-fresh_shows : (xs ys : List ℕ) (n : ℕ) → ys ≡ xs → IsEmptyHeap xs n → Shows ys (empty_state n)
-fresh_shows xs ys n e h = subst (λ (zs : List ℕ). Shows zs (empty_state n)) (sym e) (fresh_state xs n h)
+-- the words of a fresh heap, all of whose blocks are free
+pub record IsFresh (words : List ℕ) (n : ℕ) : Type 0 where
+  pub empty : IsEmptyHeap words n
+  pub pool : IsPool (λ (a : ℕ). slice_index words a) (length words) (fresh_lists n) (λ (x : ℕ). 0) 0
+  pub few : n ≤ 262144
+
+fresh_shows : (xs ys : List ℕ) (n : ℕ) → ys ≡ xs → IsFresh xs n → Shows ys (empty_state n)
+fresh_shows xs ys n e h = subst (λ (zs : List ℕ). Shows zs (empty_state n)) (sym e) (record {
+  represents = fresh_state xs n h.empty h.pool;
+  small = record { balanced = empty-balanced n; small = h.few };
+})
 
 -- the words of an empty heap fit
-pub fresh_fits : (xs ys : List ℕ) (n : ℕ) → ys ≡ xs → IsEmptyHeap xs n → IsFitting ys
+pub fresh_fits : (xs ys : List ℕ) (n : ℕ) → ys ≡ xs → IsFresh xs n → IsFitting ys
 fresh_fits xs ys n e h = record { state = empty_state n; shown = fresh_shows xs ys n e h }
 
-fresh_size : (xs ys : List ℕ) (n size : ℕ) → ys ≡ xs → IsEmptyHeap xs n → size ≡ length ys → size ≡ 16 + 8 * n
-fresh_size xs ys n size e h same = same ∙ (ap (λ (zs : List ℕ). length zs) e ∙ h.size)
+fresh_size : (xs ys : List ℕ) (n size : ℕ) → ys ≡ xs → IsFresh xs n → size ≡ length ys → size ≡ 16 + 8 * n
+fresh_size xs ys n size e h same = same ∙ (ap (λ (zs : List ℕ). length zs) e ∙ h.empty.size)
 
 capacity_is : (region : RegionShown) (n : ℕ) → region.size ≡ 16 + 8 * n → capacity_of region ≡ n
 capacity_is region n e = omega (arith, e)
 
-pub opened_on : (region : RegionShown) (xs ys : List ℕ) (n : ℕ) → ys ≡ xs → IsEmptyHeap xs n → region.size ≡ length ys → region.first ≡ ys → length ys ≤ 4194304 → IsOpened region
-opened_on region xs ys n e h size first few =
+pub opened_on : (region : RegionShown) (xs ys : List ℕ) (n : ℕ) → ys ≡ xs → IsFresh xs n → region.size ≡ length ys → region.first ≡ ys → length ys ≤ 4194304 → region.renewal ≡ 0 → IsOpened region
+opened_on region xs ys n e h size first few none =
     let all = fresh_size xs ys n region.size e h size in
     let capacity = capacity_is region n all in
     record {
       size = omega (arith, all, capacity);
       small = omega (arith, size, few);
       shown = subst (λ (k : ℕ). Shows region.first (empty_state k)) (sym capacity) (subst (λ (zs : List ℕ). Shows zs (empty_state n)) (sym first) (fresh_shows xs ys n e h));
+      unrenewed = none;
     }
 
-pub opens : (region : RegionShown) (client : ClientShown) (xs ys : List ℕ) (n last stripes : ℕ) → ys ≡ xs → IsEmptyHeap xs n → region ≡ record { table = region.table; size = length ys; last = last; stripes = stripes; opening = ys; first = ys; renewal = 0; start = opener } →
+pub opens : (region : RegionShown) (client : ClientShown) (xs ys : List ℕ) (n last stripes : ℕ) → ys ≡ xs → IsFresh xs n → region ≡ record { table = region.table; size = length ys; last = last; stripes = stripes; opening = ys; first = ys; renewal = 0; start = opener } →
     client ≡ record { table = region.table; value = opener } → Opens n last stripes region (record { table = client.table; value = client.value; start = 0; next = 1 })
 opens region client xs ys n last stripes e h is c =
     let all = fresh_size xs ys n region.size e h (ap (λ (r : RegionShown). r.size) is) in

@@ -10,7 +10,7 @@ use Rattle.stm_attempt.specs.declared.conflict.Conflict.{Conflict}
 use Rattle.stm_attempt.specs.declared.conflict.Stop.{Stop}
 use Rattle.stm_attempt.specs.declared.conflict.Stop.TheVariants as stop
 use Rattle.vac_model.specs.declared.tasks.Task.{Task}
-use Rattle.vac_manager.specs.Reading.{only_reads}
+use Rattle.vac_tasks.specs.Reading.{only_reads}
 use Rattle.vac_manager.specs.Called.{WasShown, IsStop}
 
 -- of so many tries this many are left, and all others met a conflict

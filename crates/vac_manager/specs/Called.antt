@@ -1,25 +1,32 @@
 -- What a call of a manager does to its client's value, and why it may not be made.
-use Rattle.std.specs.Prelude.{◌≡◌, ℕ, ◌+◌, ◌*◌, ◌<◌, ◌≤◌, ◌⊎◌, Bool, false, ◌&&◌, nat_le, List, Result, Ok, Err}
+use Rattle.std.specs.Prelude.{◌≡◌, ℕ, ◌+◌, ◌*◌, ◌%◌, ◌<◌, ◌≤◌, ◌⊎◌, Bool, false, ◌&&◌, nat_le}
+use Rattle.std.specs.Prelude.{List, [], ◌∷◌, ◌++◌, Result, Ok, Err}
 use Rattle.atomic_table.specs.Seated.{TableId}
-use Rattle.stm_core.specs.Client.{Client, Record, inserted}
+use Rattle.stm_words.specs.Image.{In}
+use Rattle.stm_core.specs.Client.{Client, Record}
 use Rattle.stm_logs.specs.Log.{LogValue}
+use Rattle.stm_core.specs.Event.{giving, fresh}
 use Rattle.stm_region.specs.Shown.{RegionShown, stripe_of}
+use Rattle.stm_region.specs.declared.fault.RegionFault.{RegionFault}
+use Rattle.stm_region.specs.declared.fault.RegionFault.TheVariants.{Clients}
 use Rattle.stm_attempt.specs.Shown.{IsReadConflict, IsCommitConflict}
 use Rattle.stm_attempt.specs.declared.conflict.Conflict.{Conflict}
 use Rattle.stm_attempt.specs.declared.conflict.Stop.{Stop}
 use Rattle.stm_attempt.specs.declared.conflict.Stop.TheVariants as stop
 use Rattle.vac_model.specs.declared.tasks.Task.{Task}
 use Rattle.vac_model.specs.declared.replies.Reply.{Reply}
-use Rattle.vac_model.specs.State.{empty_state}
+use Rattle.vac_model.specs.State.{State, empty_state}
+use Rattle.vac_model.specs.Run.{run}
 use Rattle.vac_model.specs.Ranges.{is_task}
 use Rattle.vac_model.specs.Code.{code}
 use Rattle.vac_manager.specs.declared.fault.Fault.{Fault}
 use Rattle.vac_manager.specs.declared.fault.Fault.TheVariants as fault
-use Rattle.vac_manager.specs.Reading.{only_reads}
+use Rattle.vac_tasks.specs.Reading.{only_reads}
 use Rattle.vac_manager.specs.Law.{Shows}
-use Rattle.vac_manager.specs.Legal.{capacity_of}
+use Rattle.vac_manager.specs.Legal.{capacity_of, IsHistory}
 
--- a client of a manager: of which region it is, its value, and the free lists that its new entries and the next client split off begin with
+-- a client of a manager: of which region it is, its value, and the free lists that its new entries
+-- and the next client split off begin with
 pub record CallerShown : Type 0 where
   pub table : TableId
   pub value : Client
@@ -31,6 +38,18 @@ pub record IsOpened (region : RegionShown) : Type 0 where
   pub size : region.size ≡ 16 + 8 * capacity_of region
   pub small : region.size ≤ 4194304
   pub shown : Shows region.first (empty_state (capacity_of region))
+  pub unrenewed : region.renewal ≡ 0
+
+-- a record is of at most this renewal of the clock: of an earlier one, or with a version of at
+-- most this floor
+pub record IsKnown (renewal floor : ℕ) (r : Record) : Type 0 where
+  pub present : r.renewal ≤ renewal
+  pub version : r.renewal ≡ renewal → r.version ≤ floor
+  pub unplaced : r.point ≡ 0
+
+-- the client knows the version of each of its records of this renewal
+pub record KnowsAll (renewal : ℕ) (v : Client) : Type 0 where
+  pub each : (r : Record) → In r v.records → IsKnown renewal v.floor r
 
 -- so many tries may be asked for
 abbrev pub is_try_count : ℕ → Bool
@@ -40,18 +59,39 @@ is_try_count tries = nat_le 1 tries && nat_le tries 1048576
 abbrev pub is_call : Task → ℕ → Bool
 is_call t tries = is_task t && is_try_count tries
 
--- exactly one record was added, with this tag, by the last attempt, and of no version below the floor
+-- exactly one record was added, as the last one, with this tag, by the last attempt, and of no
+-- version below the floor
 pub record Adds (tag : List ℕ) (v v' : Client) : Type 0 where
   pub added : Record
   pub tag_is : added.tag ≡ tag
   pub attempt_is : added.attempt ≡ v'.attempt
   pub later : v.floor ≤ added.version
-  pub records : v'.records ≡ inserted added v.records
+  pub known : added.version ≤ v'.floor
+  pub records : v'.records ≡ v.records ++ (added ∷ [])
 
 -- at an answer the record of the task and this reply was added, at a refusal none
 abbrev pub Records : {E : Type 0} → Task → Result Reply E → Client → Client → Type 0
 Records t (Ok reply) v v' = Adds (code t reply) v v'
 Records t (Err e) v v' = v'.records ≡ v.records
+
+-- the records, which were a history that leads to the state s, are one that leads on to the state
+-- after the task, and the answer is its reply
+pub record LeadsOn (region : RegionShown) (t : Task) (reply : Reply) (s : State) (v' : Client) :
+    Type 0 where
+  pub reply_is : reply ≡ (run s t).1
+  pub history : IsHistory region v'.records (run s t).0
+
+-- what a call makes of a history: at an answer it leads on, at a refusal to the same state
+abbrev pub Continues : {E : Type 0} → RegionShown → Task → Result Reply E → Client → Client
+    → Type 0
+Continues region t (Ok reply) v v' =
+    (s : State) → IsHistory region v.records s → LeadsOn region t reply s v'
+Continues region t (Err e) v v' =
+    (s : State) → IsHistory region v.records s → IsHistory region v'.records s
+
+-- the records of a client that is alone are a whole history
+abbrev pub IsWhole : RegionShown → Client → Type 0
+IsWhole region v = (last : State) × IsHistory region v.records last
 
 -- one attempt was made
 pub record Tried {E : Type 0} (t : Task) (v v' : Client) (result : Result Reply E) : Type 0 where
@@ -63,14 +103,16 @@ pub record Tried {E : Type 0} (t : Task) (v v' : Client) (result : Result Reply 
 -- the client's last step showed the conflict: in a read, or in a commit
 abbrev pub WasShown : RegionShown → Conflict → Client → Type 0
 WasShown region conflict v =
-    ∥ ((address : ℕ) × IsReadConflict (stripe_of region.stripes) address conflict v) ∥₁ ⊎ ((log : LogValue) × IsCommitConflict (stripe_of region.stripes) log conflict v)
+    ∥ ((address : ℕ) × IsReadConflict (stripe_of region.stripes) address conflict v) ∥₁
+    ⊎ ((log : LogValue) × IsCommitConflict (stripe_of region.stripes) log conflict v)
 
 -- the clock was found at the last version
 pub record IsSpent (region : RegionShown) (version : ℕ) (v : Client) : Type 0 where
   pub version_is : version ≡ region.last
   pub from : v.next_from ≡ region.last
 
--- why an attempt of a task stopped: for a conflict that was shown, or, where the task may write, for a spent clock
+-- why an attempt of a task stopped: for a conflict that was shown, or, where the task may write,
+-- for a spent clock
 abbrev pub IsStop : RegionShown → Task → Stop → Client → Type 0
 IsStop region t stop.Memory v = Unit {0}
 IsStop region t (stop.Conflict conflict) v = WasShown region conflict v
@@ -82,7 +124,8 @@ IsNoConflict stop.Memory = Unit {0}
 IsNoConflict (stop.Conflict conflict) = ⊥
 IsNoConflict (stop.Spent version) = Unit {0}
 
--- how many attempts were made, where each stop but a conflict ends the call: all of them where the last one met a conflict
+-- how many attempts were made, where each stop but a conflict ends the call: all of them where the
+-- last one met a conflict
 abbrev pub IsCount : ℕ → ℕ → ℕ → Result Reply Stop → Type 0
 IsCount tries before now (Ok reply) = (before < now) × (now ≤ before + tries)
 IsCount tries before now (Err stop.Memory) = (before < now) × (now ≤ before + tries)
@@ -90,13 +133,15 @@ IsCount tries before now (Err (stop.Conflict conflict)) = now ≡ before + tries
 IsCount tries before now (Err (stop.Spent version)) = (before < now) × (now ≤ before + tries)
 
 -- some attempts were made, one after the other
-pub record Repeated (region : RegionShown) (t : Task) (tries : ℕ) (v v' : Client) (result : Result Reply Stop) : Type 0 where
+pub record Repeated (region : RegionShown) (t : Task) (tries : ℕ) (v v' : Client)
+    (result : Result Reply Stop) : Type 0 where
   pub count : IsCount tries v.attempt v'.attempt result
   pub grants : v'.grants ≡ v.grants
   pub floor : v.floor ≤ v'.floor
   pub records : Records t result v v'
 
--- how many attempts a call made: at most as many as tries, all of them where it answers Busy, none where it answers Arguments
+-- how many attempts a call made: at most as many as tries, all of them where it answers Busy, none
+-- where it answers Arguments
 abbrev pub Attempts : ℕ → ℕ → ℕ → Result Reply Fault → Type 0
 Attempts tries before now (Ok reply) = (before < now) × (now ≤ before + tries)
 Attempts tries before now (Err fault.Arguments) = now ≡ before
@@ -104,12 +149,14 @@ Attempts tries before now (Err fault.Memory) = (before < now) × (now ≤ before
 Attempts tries before now (Err (fault.Busy conflict)) = now ≡ before + tries
 Attempts tries before now (Err (fault.Spent version)) = (before < now) × (now ≤ before + tries)
 
--- why a call of a task was not made: its numbers, a conflict that the last attempt showed, or, where the task may write, a spent clock
+-- why a call of a task was not made: its numbers, a conflict that the last attempt showed, or,
+-- where the task may write, a spent clock
 abbrev pub IsFault : RegionShown → Task → ℕ → Fault → Client → Client → Type 0
 IsFault region t tries fault.Arguments v v' = (is_call t tries ≡ false) × (v' ≡ v)
 IsFault region t tries fault.Memory v v' = Unit {0}
 IsFault region t tries (fault.Busy conflict) v v' = WasShown region conflict v'
-IsFault region t tries (fault.Spent version) v v' = (only_reads t ≡ false) × IsSpent region version v'
+IsFault region t tries (fault.Spent version) v v' =
+    (only_reads t ≡ false) × IsSpent region version v'
 
 -- it is not that the client met a conflict
 abbrev pub IsNotBusy : Fault → Type 0
@@ -117,3 +164,23 @@ IsNotBusy fault.Arguments = Unit {0}
 IsNotBusy fault.Memory = Unit {0}
 IsNotBusy (fault.Busy conflict) = ⊥
 IsNotBusy (fault.Spent version) = Unit {0}
+
+-- a client was split off, which cost a grant: its new entries begin with the next free list
+pub record Splits (before after other : CallerShown) : Type 0 where
+  pub some : 0 < before.value.grants
+  pub mine : after ≡ record before { value = giving before.value; next = (before.next + 1) % 8 }
+  pub theirs : other ≡ record before {
+    value = fresh before.value;
+    start = before.next;
+    next = (before.next + 1) % 8;
+  }
+
+-- no client could be split off, for want of a grant
+pub record SplitsNot (fault : RegionFault) (before after : CallerShown) : Type 0 where
+  pub fault_is : fault ≡ Clients
+  pub none : before.value.grants ≡ 0
+  pub same : after ≡ before
+
+-- nothing but what the two clients had is in the records of the one that took the other in
+abbrev pub OnlyOf : Client → Client → Client → Type 0
+OnlyOf v w after = (r : Record) → In r after.records → In r v.records ⊎ In r w.records

@@ -7,7 +7,8 @@ use Rattle.vac_model.specs.State.{State}
 use Rattle.vac_model.specs.Run.{run}
 use Rattle.vac_model.specs.Ranges.{is_task}
 use Rattle.vac_model.specs.Code.{code}
-use Rattle.vac_manager.specs.Represents.{IsState, IsOutcome}
+use Rattle.vac_records.specs.Represents.{IsState}
+use Rattle.vac_commands.specs.Ran.{IsOutcome}
 
 -- the words of an image as a memory
 abbrev pub words_of : List ℕ → ℕ → ℕ

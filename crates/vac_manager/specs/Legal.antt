@@ -1,5 +1,5 @@
 -- Histories of tasks: when a list of records is what running tasks one after the other gives.
-use Rattle.std.specs.Prelude.{◌≡◌, ℕ, ◌-◌, ◌/◌, List, [], ◌∷◌, IsTrue}
+use Rattle.std.specs.Prelude.{◌≡◌, ℕ, ◌-◌, ◌/◌, List, [], ◌∷◌, IsTrue, false}
 use mathlib.Core.Option.{some}
 use lib.ListN.{get_elem?}
 use Rattle.stm_core.specs.Client.{Client, Record}
@@ -32,9 +32,15 @@ IsLegal s (r ∷ rs) last = (s' : State) × Runs r s s' × IsLegal s' rs last
 abbrev pub capacity_of : RegionShown → ℕ
 capacity_of region = (region.size - 16) / 8
 
--- when a client decided the last of these records, in this core state of its region, the records of all clients were legal from the empty
--- state, and its own stood among them, each once and in its order
-pub record WasLegal (region : RegionShown) (own : List Record) : Type 0 where
+-- the records are a whole history of a manager's region: legal from the empty state, and leading
+-- to this one
+abbrev pub IsHistory : RegionShown → List Record → State → Type 0
+IsHistory region records last = IsLegal (empty_state (capacity_of region)) records last
+
+-- when a client that now has this value decided its last record, in this core state of its region,
+-- the records of all clients were a history, and its own stood among them, each once and in their
+-- order
+pub record WasLegal (region : RegionShown) (v : Client) : Type 0 where
   pub core : Core
   pub rule : Rule IsLawful (stripe_of region.stripes) core
   pub first : core.first ≡ region.first
@@ -42,7 +48,9 @@ pub record WasLegal (region : RegionShown) (own : List Record) : Type 0 where
   pub number : ℕ
   pub caller : Client
   pub member : get_elem? core.clients number ≡ some caller
-  pub records : caller.records ≡ own
+  pub out : caller.spent ≡ false
+  pub grants : caller.grants ≡ v.grants
+  pub records : caller.records ≡ v.records
   pub last : State
-  pub legal : IsLegal (empty_state (capacity_of region)) (all_records core.clients) last
-  pub among : Sub own (all_records core.clients)
+  pub legal : IsHistory region (all_records core.clients) last
+  pub among : Sub v.records (all_records core.clients)

@@ -1,11 +1,3 @@
-pub mod Rows
-pub mod Heap
-pub mod Table
-pub mod Blocks
-pub mod FirstPath
-pub mod Represents
-pub mod Plain
-pub mod Reading
 pub mod Law
 pub mod Legal
 pub mod Called

@@ -5,10 +5,13 @@ use Rattle.stm_core.specs.Event.{opener}
 use Rattle.stm_region.specs.Shown.{RegionShown}
 use Rattle.stm_region.specs.Closed.{Ends}
 use Rattle.vac_model.specs.State.{State, empty_state}
-use Rattle.vac_manager.specs.FirstPath.{is_block_count}
 use Rattle.vac_manager.specs.Law.{Shows, IsLawful}
 use Rattle.vac_manager.specs.Legal.{IsLegal, capacity_of}
 use Rattle.vac_manager.specs.Called.{CallerShown}
+
+-- a heap has 1 to 262,144 blocks
+abbrev pub is_block_count : ℕ → Bool
+is_block_count n = nat_le 1 n && nat_le n 262144
 
 -- the clock may end at this version
 abbrev pub is_last : ℕ → Bool
@@ -22,9 +25,10 @@ is_stripe_count stripes = nat_le 1 stripes && nat_le stripes 1048576
 abbrev pub is_opening : ℕ → ℕ → ℕ → Bool
 is_opening blocks last stripes = is_block_count blocks && (is_last last && is_stripe_count stripes)
 
--- a manager's region was opened with so many blocks and lock words, this last version, and words that represent the empty state; its first
--- client has all grants and no record
-pub record Opens (blocks last stripes : ℕ) (region : RegionShown) (client : CallerShown) : Type 0 where
+-- a manager's region was opened with so many blocks and lock words, this last version, and words
+-- that represent the empty state; its first client has all grants and no record
+pub record Opens (blocks last stripes : ℕ) (region : RegionShown) (client : CallerShown) :
+    Type 0 where
   pub size : region.size ≡ 16 + 8 * blocks
   pub last_is : region.last ≡ last
   pub stripes_is : region.stripes ≡ stripes
@@ -33,8 +37,8 @@ pub record Opens (blocks last stripes : ℕ) (region : RegionShown) (client : Ca
   pub shown : Shows region.opening (empty_state blocks)
   pub client_is : client ≡ record { table = region.table; value = opener; start = 0; next = 1 }
 
--- the words and the version are the last ones of the region; the closing client's records are legal from the empty state, and the words
--- represent their last state
+-- the words and the version are the last ones of the region; the closing client's records are
+-- legal from the empty state, and the words represent their last state
 pub record Closes (region : RegionShown) (v : Client) (words : List ℕ) (version : ℕ) : Type 0 where
   pub ends : Ends (λ (tag : List ℕ) reads writes. IsLawful tag reads writes) region v words version
   pub last : State

@@ -3,18 +3,18 @@
 ghost use Rattle.std.specs.Prelude.{◌≡◌, ◌<◌, ◌≤◌, IfOk, IfErr, IsTrue, false};
 ghost use Rattle.stm_core.specs.Core.{IsFreeHanded};
 ghost use Rattle.vac_model.specs.Ranges.{is_task};
-ghost use Rattle.vac_manager.specs.FirstPath.{IsFirstPath};
-ghost use Rattle.vac_manager.specs.Reading as reading;
+ghost use Rattle.vac_tasks.specs.Reading as reading;
 ghost use Rattle.vac_manager.specs.Legal.{WasLegal};
-ghost use Rattle.vac_manager.specs.Called.{IsOpened, Tried, IsStop, IsNoConflict, Repeated};
+ghost use Rattle.vac_manager.specs.Called.{IsOpened, KnowsAll, Tried, Repeated};
+ghost use Rattle.vac_manager.specs.Called.{IsStop, IsNoConflict};
 
 use crate::law::ManagerLaw;
-use crate::tasks::{only_reads, read_task, run_task};
 use crate::told::Told;
 use crossbeam_utils::Backoff;
 use stm_attempt::{Attempt, Gate, Logs, Point, ReadAttempt, Stop};
 use stm_region::{Client, Region};
 use vac_model::{Reply, Task};
+use vac_tasks::{only_reads, read_task, run_task};
 
 /// One attempt of a task that only reads. It keeps no log.
 fn try_reading<G: Gate>(
@@ -26,13 +26,14 @@ fn try_reading<G: Gate>(
     requires own { client.old.table ≡ region.now.table }
     requires free_handed { IsFreeHanded client.old.value }
     requires opened { IsOpened region.now }
+    requires known { KnowsAll 0 client.old.value }
     requires range { IsTrue (is_task task.now) }
-    requires first { IsFirstPath task.now }
     requires reads { IsTrue (reading.only_reads task.now) }
     ensures own { client.new.table ≡ client.old.table }
     ensures free_handed { IsFreeHanded client.new.value }
+    ensures known { KnowsAll 0 client.new.value }
     ensures tried { Tried task.now client.old.value client.new.value result }
-    ensures legal { IfOk result (λ _. WasLegal region.now client.new.value.records) }
+    ensures legal { IfOk result (λ _. WasLegal region.now client.new.value) }
     ensures stopped { IfErr result (λ stop. IsStop region.now task.now stop client.new.value) }
     ensures lone { client.old.value.grants ≡ 63 → IfErr result (λ stop. IsNoConflict stop) }
 {
@@ -68,14 +69,15 @@ fn try_writing<G: Gate>(
     requires own { client.old.table ≡ region.now.table }
     requires free_handed { IsFreeHanded client.old.value }
     requires opened { IsOpened region.now }
+    requires known { KnowsAll 0 client.old.value }
     requires range { IsTrue (is_task task.now) }
-    requires first { IsFirstPath task.now }
     requires writes { reading.only_reads task.now ≡ false }
     requires start { start < 8 }
     ensures own { client.new.table ≡ client.old.table }
     ensures free_handed { IsFreeHanded client.new.value }
+    ensures known { KnowsAll 0 client.new.value }
     ensures tried { Tried task.now client.old.value client.new.value result }
-    ensures legal { IfOk result (λ _. WasLegal region.now client.new.value.records) }
+    ensures legal { IfOk result (λ _. WasLegal region.now client.new.value) }
     ensures stopped { IfErr result (λ stop. IsStop region.now task.now stop client.new.value) }
     ensures lone { client.old.value.grants ≡ 63 → IfErr result (λ stop. IsNoConflict stop) }
 {
@@ -111,13 +113,14 @@ fn try_once<G: Gate>(
     requires own { client.old.table ≡ region.now.table }
     requires free_handed { IsFreeHanded client.old.value }
     requires opened { IsOpened region.now }
+    requires known { KnowsAll 0 client.old.value }
     requires range { IsTrue (is_task task.now) }
-    requires first { IsFirstPath task.now }
     requires start { start < 8 }
     ensures own { client.new.table ≡ client.old.table }
     ensures free_handed { IsFreeHanded client.new.value }
+    ensures known { KnowsAll 0 client.new.value }
     ensures tried { Tried task.now client.old.value client.new.value result }
-    ensures legal { IfOk result (λ _. WasLegal region.now client.new.value.records) }
+    ensures legal { IfOk result (λ _. WasLegal region.now client.new.value) }
     ensures stopped { IfErr result (λ stop. IsStop region.now task.now stop client.new.value) }
     ensures lone { client.old.value.grants ≡ 63 → IfErr result (λ stop. IsNoConflict stop) }
 {
@@ -142,14 +145,16 @@ pub(crate) fn run_in_attempts<G: Gate>(
     requires own { client.old.table ≡ region.now.table }
     requires free_handed { IsFreeHanded client.old.value }
     requires opened { IsOpened region.now }
+    requires known { KnowsAll 0 client.old.value }
     requires range { IsTrue (is_task task.now) }
-    requires first { IsFirstPath task.now }
     requires start { start < 8 }
     requires tries { 1 ≤ tries }
     ensures own { client.new.table ≡ client.old.table }
     ensures free_handed { IsFreeHanded client.new.value }
-    ensures repeated { Repeated region.now task.now tries client.old.value client.new.value result }
-    ensures legal { IfOk result (λ _. WasLegal region.now client.new.value.records) }
+    ensures known { KnowsAll 0 client.new.value }
+    ensures repeated { Repeated region.now task.now tries
+        client.old.value client.new.value result }
+    ensures legal { IfOk result (λ _. WasLegal region.now client.new.value) }
     ensures stopped { IfErr result (λ stop. IsStop region.now task.now stop client.new.value) }
     ensures lone { client.old.value.grants ≡ 63 → IfErr result (λ stop. IsNoConflict stop) }
 {

@@ -20,11 +20,17 @@ pub struct Client {
 impl Model for Client {
     ghost use Rattle.std.specs.Prelude.{◌<◌};
     ghost use Rattle.stm_core.specs.Core.{IsFreeHanded};
-    ghost use Rattle.vac_manager.specs.Called.{CallerShown};
+    ghost use Rattle.vac_manager.specs.Called.{CallerShown, KnowsAll};
 
     ghost Value = { CallerShown };
 
-    ghost view = { λ c. record { table = c.client.table; value = c.client.value; start = c.start; next = c.next } };
+    ghost view = { λ c. record {
+      table = c.client.table;
+      value = c.client.value;
+      start = c.start;
+      next = c.next;
+    } };
 
-    ghost invariant = { λ c. IsFreeHanded c.client.value × (c.start < 8) × (c.next < 8) };
+    ghost invariant = { λ c. IsFreeHanded c.client.value × (c.start < 8) × (c.next < 8)
+        × KnowsAll 0 c.client.value };
 }

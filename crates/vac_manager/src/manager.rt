@@ -1,21 +1,16 @@
 //! The manager over a region, which many clients call at once.
 
-ghost use Rattle.std.specs.Prelude.{◌≡◌, ◌↔◌, ◌<◌, ◌+◌, ◌*◌, ◌%◌, ◌⊎◌, min, false, IfOk, IfErr, IsErrOf};
-ghost use Rattle.stm_words.specs.Image.{In};
-ghost use Rattle.stm_core.specs.Client.{Record};
+ghost use Rattle.std.specs.Prelude.{◌≡◌, ◌↔◌, ◌+◌, ◌*◌, ◌⊎◌, min, false, IfOk, IfErr, IsErrOf};
 ghost use Rattle.stm_core.specs.Core.{IsFreeHanded};
-ghost use Rattle.stm_core.specs.Event.{giving, fresh};
 ghost use Rattle.stm_core.specs.History.{Sub};
 ghost use Rattle.stm_region.specs.Shown.{joined};
 ghost use Rattle.stm_region.specs.Refused.{ClosesNot};
-ghost use Rattle.stm_region.specs.declared.fault.RegionFault.TheVariants.{Clients};
-ghost use Rattle.vac_manager.specs.FirstPath.{IsFirstPath};
 ghost use Rattle.vac_manager.specs.Legal.{WasLegal};
-ghost use Rattle.vac_manager.specs.Called.{is_call, Records, Attempts, IsFault, IsNotBusy};
+ghost use Rattle.vac_manager.specs.Called.{is_call, Records, Continues, IsWhole, Attempts};
+ghost use Rattle.vac_manager.specs.Called.{IsFault, IsNotBusy, Splits, SplitsNot, OnlyOf};
 ghost use Rattle.vac_manager.specs.Opening.{is_opening, Opens, Closes};
 
 use crate::attempts::run_in_attempts;
-use crate::blocks::fresh_words;
 use crate::client::Client;
 use crate::fault::Fault;
 use crate::law::ManagerLaw;
@@ -24,6 +19,7 @@ use std::marker::Model;
 use stm_attempt::{Gate, Logs, NoGate};
 use stm_region::{Region, RegionFault};
 use stm_words::Version;
+use tx_alloc::fresh_words;
 use vac_model::{Reply, Task};
 
 /// The most blocks that a heap has.
@@ -69,7 +65,8 @@ impl Manager {
     pub fn new(alloc: Global, blocks: u32, last: u64) -> Result<(Manager, Client), Fault>
         ensures ok { IfOk result (λ r. Opens blocks last (min (16 + 8 * blocks) 1048576) r.0 r.1) }
         ensures arguments { IsErrOf result Fault.Arguments ↔ (is_opening blocks last 1 ≡ false) }
-        ensures memory { IfErr result (λ fault. (fault ≡ Fault.Arguments) ⊎ (fault ≡ Fault.Memory)) }
+        ensures memory { IfErr result
+            (λ fault. (fault ≡ Fault.Arguments) ⊎ (fault ≡ Fault.Memory)) }
     {
         if blocks == 0 || blocks > BLOCK_LIMIT {
             return Err(Fault::Arguments);
@@ -86,8 +83,10 @@ impl Manager {
         stripes: u32,
     ) -> Result<(Manager, Client), Fault>
         ensures ok { IfOk result (λ r. Opens blocks last stripes r.0 r.1) }
-        ensures arguments { IsErrOf result Fault.Arguments ↔ (is_opening blocks last stripes ≡ false) }
-        ensures memory { IfErr result (λ fault. (fault ≡ Fault.Arguments) ⊎ (fault ≡ Fault.Memory)) }
+        ensures arguments { IsErrOf result Fault.Arguments
+            ↔ (is_opening blocks last stripes ≡ false) }
+        ensures memory { IfErr result
+            (λ fault. (fault ≡ Fault.Arguments) ⊎ (fault ≡ Fault.Memory)) }
     {
         let blocks_fit = 1 <= blocks && blocks <= BLOCK_LIMIT;
         let last_fits = 1 <= last && last < VERSION_LIMIT;
@@ -115,15 +114,20 @@ impl Manager {
     /// all grants is alone, and meets no conflict.
     pub fn call(&self, client: &mut Client, task: &Task, tries: u32) -> Result<Reply, Fault>
         requires own { client.old.table ≡ self.now.table }
-        requires first { IsFirstPath task.now }
         ensures client { client.new ≡ record client.old { value = client.new.value } }
         ensures grants { client.new.value.grants ≡ client.old.value.grants }
         ensures free_handed { IsFreeHanded client.new.value }
         ensures arguments { IsErrOf result Fault.Arguments ↔ (is_call task.now tries ≡ false) }
         ensures records { Records task.now result client.old.value client.new.value }
-        ensures attempts { Attempts tries client.old.value.attempt client.new.value.attempt result }
-        ensures legal { IfOk result (λ _. WasLegal self.now client.new.value.records) }
-        ensures fault { IfErr result (λ fault. IsFault self.now task.now tries fault client.old.value client.new.value) }
+        ensures attempts { Attempts tries
+            client.old.value.attempt client.new.value.attempt result }
+        ensures legal { IfOk result (λ _. WasLegal self.now client.new.value) }
+        ensures whole { client.old.value.grants ≡ 63
+            → IfOk result (λ _. IsWhole self.now client.new.value) }
+        ensures history { client.old.value.grants ≡ 63
+            → Continues self.now task.now result client.old.value client.new.value }
+        ensures fault { IfErr result
+            (λ fault. IsFault self.now task.now tries fault client.old.value client.new.value) }
         ensures alone { client.old.value.grants ≡ 63 → IfErr result (λ fault. IsNotBusy fault) }
     {
         self.call_gated(client, task, tries, &mut NoGate)
@@ -139,15 +143,20 @@ impl Manager {
         gate: &mut G,
     ) -> Result<Reply, Fault>
         requires own { client.old.table ≡ self.now.table }
-        requires first { IsFirstPath task.now }
         ensures client { client.new ≡ record client.old { value = client.new.value } }
         ensures grants { client.new.value.grants ≡ client.old.value.grants }
         ensures free_handed { IsFreeHanded client.new.value }
         ensures arguments { IsErrOf result Fault.Arguments ↔ (is_call task.now tries ≡ false) }
         ensures records { Records task.now result client.old.value client.new.value }
-        ensures attempts { Attempts tries client.old.value.attempt client.new.value.attempt result }
-        ensures legal { IfOk result (λ _. WasLegal self.now client.new.value.records) }
-        ensures fault { IfErr result (λ fault. IsFault self.now task.now tries fault client.old.value client.new.value) }
+        ensures attempts { Attempts tries
+            client.old.value.attempt client.new.value.attempt result }
+        ensures legal { IfOk result (λ _. WasLegal self.now client.new.value) }
+        ensures whole { client.old.value.grants ≡ 63
+            → IfOk result (λ _. IsWhole self.now client.new.value) }
+        ensures history { client.old.value.grants ≡ 63
+            → Continues self.now task.now result client.old.value client.new.value }
+        ensures fault { IfErr result
+            (λ fault. IsFault self.now task.now tries fault client.old.value client.new.value) }
         ensures alone { client.old.value.grants ≡ 63 → IfErr result (λ fault. IsNotBusy fault) }
     {
         let start = client.start;
@@ -174,8 +183,8 @@ impl Manager {
     /// another free list.
     pub fn split(&self, client: &mut Client) -> Result<Client, RegionFault>
         requires { client.old.table ≡ self.now.table }
-        ensures ok { IfOk result (λ other. (0 < client.old.value.grants) × (client.new ≡ record client.old { value = giving client.old.value; next = (client.old.next + 1) % 8 }) × (other ≡ record client.old { value = fresh client.old.value; start = client.old.next; next = (client.old.next + 1) % 8 })) }
-        ensures refused { IfErr result (λ fault. (fault ≡ Clients) × (client.old.value.grants ≡ 0) × (client.new ≡ client.old)) }
+        ensures ok { IfOk result (λ other. Splits client.old client.new other) }
+        ensures refused { IfErr result (λ fault. SplitsNot fault client.old client.new) }
     {
         let other = self.region.split(&mut client.client)?;
         let start = client.next;
@@ -191,10 +200,11 @@ impl Manager {
     /// Takes in another client: its records, its grants and one grant more.
     pub fn gather(&self, client: &mut Client, other: Client)
         requires { (client.old.table ≡ self.now.table) × (other.table ≡ self.now.table) }
-        ensures client { client.new ≡ record client.old { value = joined client.old.value other.value } }
+        ensures client { client.new
+            ≡ record client.old { value = joined client.old.value other.value } }
         ensures mine { Sub client.old.value.records client.new.value.records }
         ensures theirs { Sub other.value.records client.new.value.records }
-        ensures only { (r : Record) → In r client.new.value.records → In r client.old.value.records ⊎ In r other.value.records }
+        ensures only { OnlyOf client.old.value other.value client.new.value }
     {
         let Client {
             client: other,
@@ -211,7 +221,8 @@ impl Manager {
         requires { client.table ≡ self.table }
         ensures closes { IfOk result (λ r. Closes self client.value r.0.items r.1) }
         ensures all { IfOk result (λ _. client.value.grants ≡ 63) }
-        ensures kept { IfErr result (λ r. (r.0 ≡ self) × (r.1 ≡ client) × ClosesNot client.value.grants r.2) }
+        ensures kept { IfErr result
+            (λ r. (r.0 ≡ self) × (r.1 ≡ client) × ClosesNot client.value.grants r.2) }
     {
         let Manager { alloc, region } = self;
         let Client {

@@ -1,7 +1,9 @@
-//! How a script is written, and played on a new plain manager.
+//! How a script is written, and played on a new plain manager and on a new manager over a region.
+ghost use Rattle.std.specs.Prelude.{◌≡◌};
 
 use std::alloc::{AllocError, Global};
 use std::process::Abort;
+use vac_manager::Manager;
 use vac_model::{
     Command, Joined, Kind, Pick, Reply, Report, Sequential, Task, TripReply, UpdateReply, Why,
 };
@@ -28,9 +30,17 @@ fn task_of(alloc: Global, line: &Line<'_>) -> Result<Task, AllocError> {
     }
 }
 
-/// Plays a script on a new manager of so many blocks, and compares each reply.
+/// The greatest last version.
+const LAST: u64 = (1 << 62) - 1;
+
+/// Plays a script on a new plain manager of so many blocks, and as transactions of one client over a
+/// region, and compares each reply.
 pub(crate) fn play(rt: &impl Abort, alloc: Global, blocks: u32, script: &[(Line<'_>, Reply)]) {
     let mut manager = Sequential::new(alloc, blocks).expect(rt, "the blocks are in range");
+    let (shared, mut client) = Manager::new(alloc, blocks, LAST).expect(
+        rt,
+        "the blocks are in range",
+    );
     for (at, (line, want)) in script.iter().enumerate() {
         let task = task_of(alloc, line).expect(rt, "there is memory");
         let times = match line {
@@ -40,6 +50,8 @@ pub(crate) fn play(rt: &impl Abort, alloc: Global, blocks: u32, script: &[(Line<
         for _ in 0..times {
             let reply = manager.run(&task).expect(rt, "the task is in range");
             assert_eq!(rt; reply, *want, "at line {at}");
+            let answer = shared.call(&mut client, &task, 1);
+            assert!(rt; answer == Ok(*want), "over a region, at line {at}");
         }
     }
 }

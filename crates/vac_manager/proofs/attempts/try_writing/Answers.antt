@@ -1,10 +1,10 @@
-use Rattle.std.proofs.Common.{rules, ◌≡◌, ap, ◌∙◌, sym}
+use Rattle.std.proofs.Common.{rules, ap, ◌∙◌}
 use Rattle.stm_region.specs.Shown.{RegionShown}
 use Rattle.stm_attempt.specs.Seen.{Origin}
-use Rattle.vac_manager.proofs.Adding.{committed_tried}
+use Rattle.vac_manager.proofs.Adding.{committed, known_begun, known_stopped}
 use Rattle.vac_manager.proofs.Lawful.{holds_begun, lawful}
 use Rattle.vac_manager.proofs.Legality.{committed_legal}
-use Rattle.vac_manager.proofs.Trying.{none_of, shown_by_read, commit_stop}
+use Rattle.vac_manager.proofs.Trying.{shown_by_read, commit_stop}
 use Rattle.vac_manager.proofs.attempts.try_writing.Goals as goal
 
 pub run_task-answer-requires-clause-state : goal.run_task-answer-requires-clause-state
@@ -23,7 +23,7 @@ commit-requires-clause-lawful g c = λ _.
 
 pub returns-in-Ok-commit-clause-legal : goal.returns-in-Ok-commit-clause-legal
 returns-in-Ok-commit-clause-legal g c =
-    committed_legal _ _ _ _ (ap (λ (o : Origin). o.region) c.run_task-answer.ensures.origin ∙ c.begin-attempt.ensures.region) c.requires.opened c.in-Ok-commit.ensures.decides (search rules)
+    committed_legal _ _ _ _ (ap (λ (o : Origin). o.region) c.run_task-answer.ensures.origin ∙ c.begin-attempt.ensures.region) c.requires.opened c.commit.ensures.free_handed.0 c.in-Ok-commit.ensures.decides (search rules)
 
 pub returns-in-Err-clause-stopped : goal.returns-in-Err-clause-stopped
 returns-in-Err-clause-stopped g c =
@@ -31,5 +31,23 @@ returns-in-Err-clause-stopped g c =
 
 pub returns-in-Ok-commit-clause-tried : goal.returns-in-Ok-commit-clause-tried
 returns-in-Ok-commit-clause-tried g c =
-    committed_tried c.args.region.now _ _ _ _ _ _ _ _ _ _ _ c.begin-attempt.ensures.value (ap (λ (o : Origin). o.client.value) c.run_task-answer.ensures.origin) c.begin-attempt.ensures.version
-    c.in-Ok-commit.ensures.ok (search rules)
+    (committed c.args.region.now c.run_task-answer.new.memory.region.now _ _ _ _ _ _ _ c.run_task-answer.new.memory.client.now.value _ _ (ap (λ (o : Origin). o.region.renewal) c.run_task-answer.ensures.origin ∙ (ap (λ (r : RegionShown). r.renewal) c.begin-attempt.ensures.region ∙ c.requires.opened.unrenewed)) c.requires.known c.begin-attempt.ensures.value
+    (ap (λ (o : Origin). o.client.value) c.run_task-answer.ensures.origin) c.begin-attempt.ensures.version c.in-Ok-commit.ensures.ok (search rules)).tried
+
+pub returns-in-Ok-commit-clause-known : goal.returns-in-Ok-commit-clause-known
+returns-in-Ok-commit-clause-known g c =
+    (committed c.args.region.now c.run_task-answer.new.memory.region.now c.args.task.now c.in-Ok.reply _ _ _ _ _ c.run_task-answer.new.memory.client.now.value _ _ (ap (λ (o : Origin). o.region.renewal) c.run_task-answer.ensures.origin ∙ (ap (λ (r : RegionShown). r.renewal) c.begin-attempt.ensures.region ∙ c.requires.opened.unrenewed)) c.requires.known c.begin-attempt.ensures.value
+    (ap (λ (o : Origin). o.client.value) c.run_task-answer.ensures.origin) c.begin-attempt.ensures.version c.in-Ok-commit.ensures.ok (search rules)).known
+
+pub returns-in-Err-clause-known : goal.returns-in-Err-clause-known
+returns-in-Err-clause-known g c =
+    known_stopped c.args.region.now _ _ _ _ _ _ _ _ _ c.requires.known c.begin-attempt.ensures.value (ap (λ (o : Origin). o.client.value) c.run_task-answer.ensures.origin) c.begin-attempt.ensures.version
+    (c.in-Err.ensures.refused (search rules)) (search rules)
+
+pub returns-in-Some-clause-known : goal.returns-in-Some-clause-known
+returns-in-Some-clause-known g c =
+    known_begun c.args.region.now _ _ _ c.run_task-answer.new.memory.client.now.value _ c.requires.known c.begin-attempt.ensures.value (ap (λ (o : Origin). o.client.value) c.run_task-answer.ensures.origin) c.begin-attempt.ensures.version (search rules)
+
+pub returns-in_default-answer-clause-known : goal.returns-in_default-answer-clause-known
+returns-in_default-answer-clause-known g c =
+    known_begun c.args.region.now _ _ _ c.run_task-answer.new.memory.client.now.value _ c.requires.known c.begin-attempt.ensures.value (ap (λ (o : Origin). o.client.value) c.run_task-answer.ensures.origin) c.begin-attempt.ensures.version (search rules)

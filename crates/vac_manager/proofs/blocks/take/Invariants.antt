@@ -1,9 +1,0 @@
-use Rattle.std.proofs.Common.{◌≡◌}
-use Rattle.vac_manager.proofs.Taking.{Looking}
-use Rattle.vac_manager.proofs.blocks.take.Given as goal
-
-abbrev pub invariant-loop-i : goal.invariant-loop-i
-invariant-loop-i g l = record {
-  origin : g.M.TxRead.origin l.memory ≡ g.M.TxRead.origin l.initial.memory;
-  looking : Looking (g.M.TxRead.view l.initial.memory) (g.M.TxRead.view l.memory) l.start l.i;
-}

@@ -1,8 +1,0 @@
-use Rattle.vac_manager.proofs.Outcomes.{price_missing, price_there}
-use Rattle.vac_manager.proofs.commands.price.Goals as goal
-
-pub returns-in-None-clause-answer : goal.returns-in-None-clause-answer
-returns-in-None-clause-answer g c = price_missing _ _ _ _ _ c.root_of.ensures (rw c.in-None.is at c.in_ok-found.ensures.answer)
-
-pub returns-in_ok-price-in-Some-clause-answer : goal.returns-in_ok-price-in-Some-clause-answer
-returns-in_ok-price-in-Some-clause-answer g c = price_there _ _ _ _ _ _ _ _ c.root_of.ensures (rw c.in-Some.is at c.in_ok-found.ensures.answer) c.in_ok-price-in-Some.ensures.answer
