@@ -308,6 +308,14 @@ fn spent(rt: &impl Abort, alloc: Global) -> Core {
     played(rt, core, Event::Release { client: 1, lock: 9 }, 1, None)
 }
 
+// The renewal that lets the clock go on to 100.
+fn renewal() -> Event {
+    Event::Renew {
+        client: 1,
+        last: 100,
+    }
+}
+
 #[test]
 fn a_spent_clock_is_renewed(rt: HostRuntime) {
     let core = spent(&rt, rt.alloc());
@@ -321,25 +329,9 @@ fn a_spent_clock_is_renewed(rt: HostRuntime) {
         writes: writes(&rt, rt.alloc(), &[(9, 6)]),
     };
     let core = refused(&rt, core, tick);
-    let core = refused(
-        &rt,
-        core,
-        Event::Renew {
-            client: 1,
-            last: 100,
-        },
-    );
+    let core = refused(&rt, core, renewal());
     let core = played(&rt, core, Event::GiveBack { client: 1, lock: 9 }, 1, None);
-    let core = played(
-        &rt,
-        core,
-        Event::Renew {
-            client: 1,
-            last: 100,
-        },
-        1,
-        None,
-    );
+    let core = played(&rt, core, renewal(), 1, None);
     let core = played(&rt, core, Event::Begin { client: 1 }, 1, Some(0));
     let core = played(&rt, core, Event::Probe { client: 1, lock: 9 }, 1, Some(0));
     let core = played(&rt, core, Event::Fetch { client: 1, addr: 9 }, 1, Some(5));

@@ -5,7 +5,8 @@ use Rattle.vac_model.specs.State.{State}
 use Rattle.vac_records.specs.Items.{mem}
 use Rattle.vac_records.specs.Represents.{IsState}
 
--- under each image that there may be, the memory represents a balanced state. Addresses fit 32 bits.
+-- under each image that there may be, the memory represents a balanced state. Addresses fit 32
+-- bits.
 pub record HoldsState (s : View) : Type 0 where
   pub inside : 16 ≤ s.size
   pub small : s.size ≤ 2 ^ 32

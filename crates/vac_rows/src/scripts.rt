@@ -33,8 +33,8 @@ fn task_of(alloc: Global, line: &Line<'_>) -> Result<Task, AllocError> {
 /// The greatest last version.
 const LAST: u64 = (1 << 62) - 1;
 
-/// Plays a script on a new plain manager of so many blocks, and as transactions of one client over a
-/// region, and compares each reply.
+/// Plays a script on a new plain manager of so many blocks, and as transactions of one client over
+/// a region, and compares each reply.
 pub(crate) fn play(rt: &impl Abort, alloc: Global, blocks: u32, script: &[(Line<'_>, Reply)]) {
     let mut manager = Sequential::new(alloc, blocks).expect(rt, "the blocks are in range");
     let (shared, mut client) = Manager::new(alloc, blocks, LAST).expect(
