@@ -248,6 +248,8 @@ module _ (s : View) (customer owner : ℕ) (kind : Kind) (id item num price : �
       pub add_done : (s3 : View) → IsTrue (is_command (command.Reserve customer kind id num)) → ItemChanged s2 s3 item (λ x. taken x num) → RanInPlace s s3 (command.Reserve customer kind id num) reply.Done
       add_done s3 range made = in_place s s3 (command.Reserve customer kind id num) reply.Done range (record {
         kept = kept_both s s2 s3 (kept_both s s1 s2 t.kept w.kept) made.kept;
+        untouched = tt;
+        idle = tt;
         lands = λ image state i h.
             let i2 = made.kept.seen image i in
             let i1 = w.kept.seen image i2 in

@@ -170,6 +170,8 @@ module _ (s s1 : View) (customer owner : ℕ) (kind : Kind) (id item : ℕ) (c :
     pub cancel_done : (s2 s3 : View) (start : ℕ) → start < 8 → IsTrue (is_command (command.Cancel customer kind id)) → ItemChanged s1 s2 item (λ y. given_back y units) → Given s2 s3 start x.0.0 → RanInPlace s s3 (command.Cancel customer kind id) reply.Done
     cancel_done s2 s3 start low range w v = in_place s s3 (command.Cancel customer kind id) reply.Done range (record {
       kept = kept_both s s2 s3 (kept_both s s1 s2 u.kept w.kept) v.kept;
+      untouched = tt;
+      idle = tt;
       lands = λ image state i h.
           let i2 = v.kept.seen image i in
           let i1 = w.kept.seen image i2 in

@@ -24,7 +24,9 @@ use Rattle.vac_records.proofs.Customers.{customer_found, customer_missing}
 use Rattle.vac_records.proofs.Single.{one_shape}
 use Rattle.vac_records.proofs.Bridges.{pool_there, table_there}
 use Rattle.vac_commands.specs.Entries.{item_block, customer_block, LacksItem, HasItemAt, LacksCustomer, HasCustomerAt, ItemsStay, CustomersStay}
-use Rattle.vac_commands.specs.Ran.{IsOutcome, Ran, Asked}
+use Rattle.vac_model.specs.declared.replies.Reply.TheVariants as reply
+use Rattle.vac_model.specs.declared.commands.Command.TheVariants as command
+use Rattle.vac_commands.specs.Ran.{IsOutcome, Ran, Asked, Untouched, Idle}
 
 -- reads, one after the other
 pub read_none : (s : View) → OnlyRead s s
@@ -149,11 +151,58 @@ outcome_of m m' n state after c r h range e k =
 pub outcome_same : (m : ℕ → ℕ) (n : ℕ) (state : State) (c : Command) (r : Reply) → IsState m n state → step state c ≡ (state, r) → IsOutcome m n (step state c) r
 outcome_same m n state c r h e = subst (λ (z : Outcome). IsOutcome m n z r) (sym e) (record { state = h; reply_is = refl })
 
+-- reads alone write nothing, whatever the reply
+pub untouched_reads : (s s' : View) (r : Reply) → s'.writes ≡ s.writes → Untouched s s' r
+untouched_reads s s' reply.Done w = tt
+untouched_reads s s' (reply.Number n) w = tt
+untouched_reads s s' (reply.Report report) w = tt
+untouched_reads s s' (reply.No why) w = w
+untouched_reads s s' (reply.Trip trip) w = tt
+untouched_reads s s' (reply.Update update) w = tt
+
+-- what was untouched after reads was untouched from the memory before them on
+pub untouched_after : (s s' s'' : View) (r : Reply) → s'.writes ≡ s.writes → Untouched s' s'' r → Untouched s s'' r
+untouched_after s s' s'' reply.Done w u = tt
+untouched_after s s' s'' (reply.Number n) w u = tt
+untouched_after s s' s'' (reply.Report report) w u = tt
+untouched_after s s' s'' (reply.No why) w u = u ∙ w
+untouched_after s s' s'' (reply.Trip trip) w u = tt
+untouched_after s s' s'' (reply.Update update) w u = tt
+
+-- reads alone write nothing, whatever the command
+pub idle_reads : (s s' : View) (c : Command) → s'.writes ≡ s.writes → Idle s s' c
+idle_reads s s' (command.Add kind id num price) w = λ z n. w
+idle_reads s s' (command.Delete kind id num) w = λ z. w
+idle_reads s s' (command.DropFlight id) w = tt
+idle_reads s s' (command.NewCustomer id) w = tt
+idle_reads s s' (command.DropCustomer id) w = tt
+idle_reads s s' (command.Free kind id) w = tt
+idle_reads s s' (command.Price kind id) w = tt
+idle_reads s s' (command.Bill id) w = tt
+idle_reads s s' (command.Reserve customer kind id num) w = tt
+idle_reads s s' (command.Cancel customer kind id) w = tt
+idle_reads s s' command.Audit w = tt
+
+pub idle_after : (s s' s'' : View) (c : Command) → s'.writes ≡ s.writes → Idle s' s'' c → Idle s s'' c
+idle_after s s' s'' (command.Add kind id num price) w u = λ z n. u z n ∙ w
+idle_after s s' s'' (command.Delete kind id num) w u = λ z. u z ∙ w
+idle_after s s' s'' (command.DropFlight id) w u = tt
+idle_after s s' s'' (command.NewCustomer id) w u = tt
+idle_after s s' s'' (command.DropCustomer id) w u = tt
+idle_after s s' s'' (command.Free kind id) w u = tt
+idle_after s s' s'' (command.Price kind id) w u = tt
+idle_after s s' s'' (command.Bill id) w u = tt
+idle_after s s' s'' (command.Reserve customer kind id num) w u = tt
+idle_after s s' s'' (command.Cancel customer kind id) w u = tt
+idle_after s s' s'' command.Audit w u = tt
+
 -- a command that only reads lead to
 pub ran_reads : (s s' : View) (c : Command) (r : Reply) → OnlyRead s s' →
     ((image : List ℕ) (state : State) → Sees s' image → IsState (mem s image) (length image) state → step state c ≡ (state, r)) → Ran s s' c r
 ran_reads s s' c r reads e = record {
   kept = reads.kept;
+  untouched = untouched_reads s s' r reads.writes;
+  idle = idle_reads s s' c reads.writes;
   outcome = λ image state i h. outcome_same (mem s' image) (length image) state c r (state_on s s' image state reads.writes h) (e image state i h);
 }
 
@@ -165,6 +214,8 @@ asked_reads s s' c r reads e = record { ran = ran_reads s s' c r reads e; writes
 pub ran_after : (s s' s'' : View) (c : Command) (r : Reply) → OnlyRead s s' → Ran s' s'' c r → Ran s s'' c r
 ran_after s s' s'' c r reads h = record {
   kept = kept_both s s' s'' reads.kept h.kept;
+  untouched = untouched_after s s' s'' r reads.writes h.untouched;
+  idle = idle_after s s' s'' c reads.writes h.idle;
   outcome = λ image state i is. h.outcome image state i (state_on s s' image state reads.writes is);
 }
 

@@ -1,5 +1,5 @@
 -- Units are added to an item that is there, and its price is replaced where one is given.
-use Rattle.std.proofs.Common.{◌≡◌, ◌≢◌, ◌⊎◌, inl, inr, ℕ, ◌+◌, ◌<◌, ◌≤◌, ◌^◌, List, [], length, Option, Some, true, false, IsTrue, nat_lt, unwrap_or, refl, sym, ap, ◌∙◌, arith}
+use Rattle.std.proofs.Common.{◌≡◌, ◌≢◌, ◌⊎◌, inl, inr, ℕ, ◌+◌, ◌<◌, ◌≤◌, ◌^◌, List, [], length, Option, Some, None, true, false, IsTrue, nat_lt, unwrap_or, refl, sym, ap, ◌∙◌, arith}
 use Rattle.std.proofs.lemmas.Bool.Decides.{nat_tests}
 use Rattle.stm_words.specs.Seen.{some_le}
 use Rattle.stm_words.specs.View.{View, Sees, Stands, Loaded, Stored}
@@ -78,9 +78,11 @@ more_others m m1 m2 b num w others x far = elim far [
 ]
 
 pub more_done : (s s1 s2 s3 : View) (kind : Kind) (id b num v : ℕ) (price : Option ℕ) → HasItemAt s kind id b → IsTrue (is_command (command.Add kind id num price)) → Loaded s s1 (b + 6) v → v + num ≤ 1000000000 →
-    UnitsAdded s1 s2 b num → PriceGiven s2 s3 b price → Ran s s3 (command.Add kind id num price) reply.Done
-more_done s s1 s2 s3 kind id b num v price at range l le u p = record {
+    UnitsAdded s1 s2 b num → (num ≡ 0 → s2.writes ≡ s1.writes) → PriceGiven s2 s3 b price → (price ≡ None → s3.writes ≡ s2.writes) → Ran s s3 (command.Add kind id num price) reply.Done
+more_done s s1 s2 s3 kind id b num v price at range l le u none p same = record {
   kept = kept_both s s2 s3 (kept_both s s1 s2 l.kept u.kept) p.kept;
+  untouched = tt;
+  idle = λ z n. same n ∙ none z ∙ l.writes;
   outcome = λ image state i h.
       let i2 = p.kept.seen image i in let i1 = u.kept.seen image i2 in let i0 = l.kept.seen image i1 in
       let m = mem s image in

@@ -140,6 +140,8 @@ pub new_done : (s s1 s2 s3 : View) (kind : Kind) (id num p start b root : ℕ) �
     Taken s s1 start b → ItemMade s1 s2 b id num p → Inserted s2 s3 root id b → Ran s s3 (command.Add kind id num (Some p)) reply.Done
 new_done s s1 s2 s3 kind id num p start b root e l range nz t w v = record {
   kept = kept_both s s2 s3 (kept_both s s1 s2 t.kept w.kept) v.kept;
+  untouched = tt;
+  idle = λ z n. absurd (nz z);
   outcome = λ image state i h.
       let i2 = v.kept.seen image i in let i1 = w.kept.seen image i2 in let i0 = t.kept.seen image i1 in
       let m = mem s image in

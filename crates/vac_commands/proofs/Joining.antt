@@ -156,6 +156,8 @@ module _ (s s1 s2 : View) (id start b : ℕ) (t : Taken s s1 start b) (w : Custo
     pub joined_ran : is_command (command.NewCustomer id) ≡ true → Ran s s3 (command.NewCustomer id) reply.Done
     joined_ran range = record {
       kept = kept_both s s2 s3 (kept_both s s1 s2 t.kept w.kept) v.kept;
+      untouched = tt;
+      idle = tt;
       outcome = λ image state i h.
           let i2 = v.kept.seen image i in
           let g = in_hand image state i2 h in

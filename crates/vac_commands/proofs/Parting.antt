@@ -130,6 +130,8 @@ pub dropped : (s s1 s2 : View) (id : ℕ) → is_command (command.DropCustomer i
     CustomerGone s1 s2 id → Ran s s2 (command.DropCustomer id) reply.Done
 dropped s s1 s2 id range given gone = record {
   kept = kept_both s s1 s2 given.kept gone.kept;
+  untouched = tt;
+  idle = tt;
   outcome = λ image state i h.
       let l = given.under image state (gone.kept.seen image i) h in
       let none : l.bookings ≡ empty = empty_of_len l.bookings (let f = l.few in omega arith) in

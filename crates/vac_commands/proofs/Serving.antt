@@ -16,7 +16,8 @@ use Rattle.vac_records.proofs.Shifts.{kind_small}
 use Rattle.vac_records.proofs.Single.{one_shape}
 use Rattle.vac_commands.specs.Entries.{item_block, customer_block}
 use Rattle.vac_commands.specs.BookingSteps.{RanInPlace}
-use Rattle.vac_commands.proofs.Held.{outcome_of, ran_after}
+use Rattle.vac_commands.specs.Ran.{Untouched, Idle}
+use Rattle.vac_commands.proofs.Held.{outcome_of, ran_after, untouched_reads, idle_reads}
 
 -- the memory represents the state after the command, in the same tables, and this is the reply
 pub record Lands {m : ℕ → ℕ} {n : ℕ} {s : State} (h : IsState m n s) (m' : ℕ → ℕ) (c : Command) (r : Reply) : Type 0 where
@@ -26,6 +27,8 @@ pub record Lands {m : ℕ → ℕ} {n : ℕ} {s : State} (h : IsState m n s) (m'
 
 pub record Serves (s s' : View) (c : Command) (r : Reply) : Type 0 where
   pub kept : Kept s s'
+  pub untouched : Untouched s s' r
+  pub idle : Idle s s' c
   pub lands : (image : List ℕ) (state : State) → Sees s' image → (h : IsState (mem s image) (length image) state) → Lands h (mem s' image) c r
 
 -- the tables in which the state after the command stands
@@ -37,6 +40,8 @@ pub in_place : (s s' : View) (c : Command) (r : Reply) → IsTrue (is_command c)
 in_place s s' c r range v = record {
   ran = record {
     kept = v.kept;
+    untouched = v.untouched;
+    idle = v.idle;
     outcome = λ image state i h.
         let l = v.lands image state i h in
         outcome_of (mem s image) (mem s' image) (length image) state l.state c r h range l.is l.stays.after;
@@ -63,6 +68,8 @@ pub reads_in_place : (s s' : View) (c : Command) (r : Reply) → IsTrue (is_comm
     ((image : List ℕ) (state : State) → Sees s' image → IsState (mem s image) (length image) state → step state c ≡ (state, r)) → RanInPlace s s' c r
 reads_in_place s s' c r range k e = in_place s s' c r range (record {
   kept = k.kept;
+  untouched = untouched_reads s s' r k.writes;
+  idle = idle_reads s s' c k.writes;
   lands = λ image state i h. record { state = state; is = e image state i h; stays = read_stays s s' image (length image) state h.represents k.writes };
 })
 

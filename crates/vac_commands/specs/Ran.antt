@@ -4,6 +4,7 @@ use Rattle.std.specs.FinMap.{empty}
 use Rattle.vac_model.specs.declared.items.Kind.{Kind}
 use Rattle.stm_words.specs.View.{View, Sees, Kept}
 use Rattle.vac_model.specs.declared.commands.Command.{Command}
+use Rattle.vac_model.specs.declared.commands.Command.TheVariants as command
 use Rattle.vac_model.specs.declared.commands.Why.TheVariants.{Full}
 use Rattle.vac_model.specs.declared.replies.Reply.{Reply}
 use Rattle.vac_model.specs.declared.replies.Reply.TheVariants as reply
@@ -18,10 +19,36 @@ pub record IsOutcome (m : ℕ → ℕ) (n : ℕ) (o : Outcome) (r : Reply) : Typ
   pub state : IsState m n o.0
   pub reply_is : o.1 ≡ r
 
+-- where the reply is a refusal, nothing was written
+abbrev pub Untouched : View → View → Reply → Type 0
+Untouched s s' reply.Done = Unit {0}
+Untouched s s' (reply.Number n) = Unit {0}
+Untouched s s' (reply.Report report) = Unit {0}
+Untouched s s' (reply.No why) = s'.writes ≡ s.writes
+Untouched s s' (reply.Trip trip) = Unit {0}
+Untouched s s' (reply.Update update) = Unit {0}
+
+-- where the command has nothing to change, nothing was written: an Add of no units without a
+-- price, a Delete of no units
+abbrev pub Idle : View → View → Command → Type 0
+Idle s s' (command.Add kind id num price) = num ≡ 0 → price ≡ None → s'.writes ≡ s.writes
+Idle s s' (command.Delete kind id num) = num ≡ 0 → s'.writes ≡ s.writes
+Idle s s' (command.DropFlight id) = Unit {0}
+Idle s s' (command.NewCustomer id) = Unit {0}
+Idle s s' (command.DropCustomer id) = Unit {0}
+Idle s s' (command.Free kind id) = Unit {0}
+Idle s s' (command.Price kind id) = Unit {0}
+Idle s s' (command.Bill id) = Unit {0}
+Idle s s' (command.Reserve customer kind id num) = Unit {0}
+Idle s s' (command.Cancel customer kind id) = Unit {0}
+Idle s s' command.Audit = Unit {0}
+
 -- under each image the memory was changed as the command changes the state, and the reply is the
--- command's
+-- command's; a command that is refused, or has nothing to change, writes nothing
 pub record Ran (s s' : View) (c : Command) (r : Reply) : Type 0 where
   pub kept : Kept s s'
+  pub untouched : Untouched s s' r
+  pub idle : Idle s s' c
   pub outcome : (image : List ℕ) (state : State) → Sees s' image →
       IsState (mem s image) (length image) state →
       IsOutcome (mem s' image) (length image) (step state c) r

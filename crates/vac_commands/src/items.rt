@@ -1,6 +1,6 @@
 //! Commands on items.
 
-ghost use Rattle.std.specs.Prelude.{◌≡◌, ◌<◌, IfOk, IsTrue};
+ghost use Rattle.std.specs.Prelude.{◌≡◌, ◌<◌, IfOk, IsTrue, None};
 ghost use Rattle.vac_model.specs.Ranges.{is_command};
 ghost use Rattle.vac_model.specs.Step.{deleted};
 ghost use Rattle.vac_records.specs.Holds.{HoldsState};
@@ -90,6 +90,8 @@ fn add_units<M: TxMem>(memory: &mut M, node: Addr, num: u32) -> Result<(), M::St
     ensures origin { M.origin memory.new ≡ M.origin memory.old }
     ensures answer { IfOk result (λ _.
         UnitsAdded (M.view memory.old) (M.view memory.new) node.0 num) }
+    ensures idle { num ≡ 0 → IfOk result (λ _.
+        (M.view memory.new).writes ≡ (M.view memory.old).writes) }
 {
     match num {
         0 => Ok(()),
@@ -104,6 +106,8 @@ fn replace_price<M: TxMem>(memory: &mut M, node: Addr, price: Option<u32>) -> Re
     ensures origin { M.origin memory.new ≡ M.origin memory.old }
     ensures answer { IfOk result (λ _.
         PriceGiven (M.view memory.old) (M.view memory.new) node.0 price) }
+    ensures idle { price ≡ None → IfOk result (λ _.
+        (M.view memory.new).writes ≡ (M.view memory.old).writes) }
 {
     match price {
         None => Ok(()),
@@ -185,11 +189,13 @@ fn take_units<M: TxMem>(memory: &mut M, node: Addr, num: u32) -> Result<(), M::S
     ensures origin { M.origin memory.new ≡ M.origin memory.old }
     ensures answer { IfOk result (λ _. ItemChanged (M.view memory.old) (M.view memory.new) node.0
         (λ item. deleted item num)) }
+    ensures idle { num ≡ 0 → IfOk result (λ _.
+        (M.view memory.new).writes ≡ (M.view memory.old).writes) }
 {
-    match num {
-        0 => Ok(()),
-        _ => sub_total(memory, node, num),
+    if num > 0 {
+        sub_total(memory, node, num)?;
     }
+    Ok(())
 }
 
 /// Takes free units from an item; one with no unit left is removed, and its block becomes the

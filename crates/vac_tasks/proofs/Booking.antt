@@ -33,7 +33,7 @@ use Rattle.vac_tasks.specs.declared.trip.Owner.{Owner}
 use Rattle.vac_tasks.specs.RanTask.{RanTask}
 use Rattle.vac_tasks.specs.Runs.{Runs}
 use Rattle.vac_tasks.specs.Trips.{priced, choice_in, any_chosen, IsKnown, AreKnown, Chosen, IsOwner, joined, HasJoined}
-use Rattle.vac_tasks.proofs.Held.{read_none, state_on, customer_is, customer_none, items_stay_reads, item_at_stays, customer_at_stays}
+use Rattle.vac_commands.proofs.Held.{read_none, state_on, customer_is, customer_none, items_stay_reads, item_at_stays, customer_at_stays}
 use Rattle.vac_tasks.proofs.Parts.{outcome_is, held_runs}
 
 -- what a step without an effect and with this answer is
@@ -238,6 +238,8 @@ pub tripped : (s s1 s2 : View) (id : ℕ) (asks : List Place) (cs : Choices) (r 
     Runs s1 s2 (λ state. book_choices state id (priced cs.car) (priced cs.flight) (priced cs.room)) r → RanTask s s2 (task.Trip id asks) r
 tripped s s1 s2 id asks cs r chosen any runs = record {
   kept = kept_both s s1 s2 chosen.reads.kept runs.kept;
+  untouched = tt;
+  idle = tt;
   outcome = λ image state i h.
       let i1 = runs.kept.seen image i in
       let h1 = state_on s s1 image state chosen.reads.writes h in
@@ -251,6 +253,8 @@ pub tripped_none : (s s' : View) (id : ℕ) (asks : List Place) (cs : Choices) �
     RanTask s s' (task.Trip id asks) (reply.Trip (record { joined = NotAsked; picks = None ∷ None ∷ None ∷ [] }))
 tripped_none s s' id asks cs chosen none = record {
   kept = chosen.reads.kept;
+  untouched = tt;
+  idle = tt;
   outcome = λ image state i h.
       outcome_is (mem s' image) (length image) (trip state id asks) state (reply.Trip (record { joined = NotAsked; picks = None ∷ None ∷ None ∷ [] }))
       (trip_is state id asks cs (chosen.are image state i h) ∙ none_chosen state id cs none) (state_on s s' image state chosen.reads.writes h);

@@ -27,7 +27,7 @@ use Rattle.vac_commands.specs.Ran.{IsOutcome, Ran, Asked}
 use Rattle.vac_audit.specs.Reported.{Reported}
 use Rattle.vac_tasks.specs.RanTask.{RanTask}
 use Rattle.vac_tasks.specs.Runs.{Runs, changed}
-use Rattle.vac_tasks.proofs.Held.{state_on, asked_reads, customer_none}
+use Rattle.vac_commands.proofs.Held.{state_on, asked_reads, customer_none}
 
 -- the outcome is this one, so the memory represents its state
 pub outcome_is : (m : ℕ → ℕ) (n : ℕ) (o : Outcome) (after : State) (r : Reply) → o ≡ (after, r) → IsState m n after → IsOutcome m n o r
@@ -47,7 +47,7 @@ held_runs s s' f a runs h = record {
 }
 
 pub ran_one : (s s' : View) (c : Command) (r : Reply) → Ran s s' c r → RanTask s s' (task.One c) r
-ran_one s s' c r h = record { kept = h.kept; outcome = h.outcome }
+ran_one s s' c r h = record { kept = h.kept; untouched = h.untouched; idle = h.idle; outcome = h.outcome }
 
 pub asked_report : (s s' : View) (r : Report) → Reported s s' r → Asked s s' command.Audit (reply.Report r)
 asked_report s s' r h = asked_reads s s' command.Audit (reply.Report r) h.reads (λ image state i is. ap (λ (x : Report). (state, reply.Report x)) (h.is image state i is))
@@ -59,6 +59,8 @@ asked_only s s' c r h = record { kept = h.ran.kept; writes = h.writes }
 pub left_none : (s s' : View) (id : ℕ) → OnlyRead s s' → LacksCustomer s' id → RanTask s s' (task.Leave id) (reply.Number None)
 left_none s s' id reads l = record {
   kept = reads.kept;
+  untouched = tt;
+  idle = tt;
   outcome = λ image state i h.
       let h' = state_on s s' image state reads.writes h in
       let none = customer_none s' id l image state i h' in
@@ -88,6 +90,8 @@ leave_is state id n b =
 pub left : (s s1 s2 s3 : View) (id n : ℕ) → OnlyRead s s1 → Asked s1 s2 (command.Bill id) (reply.Number (Some n)) → Ran s2 s3 (command.DropCustomer id) reply.Done → RanTask s s3 (task.Leave id) (reply.Number (Some n))
 left s s1 s2 s3 id n reads asked ran = record {
   kept = kept_both s s2 s3 (kept_both s s1 s2 reads.kept asked.ran.kept) ran.kept;
+  untouched = tt;
+  idle = tt;
   outcome = λ image state i h.
       let h1 = state_on s s1 image state reads.writes h in
       let h2 = state_on s1 s2 image state asked.writes h1 in
@@ -151,6 +155,8 @@ pub updated : (s s' : View) (cs : List Command) (whys : List (Option Why)) → R
     RanTask s s' (task.Update cs) (reply.Update (record { len = length cs; refused = whys }))
 updated s s' cs whys runs = record {
   kept = runs.kept;
+  untouched = tt;
+  idle = tt;
   outcome = λ image state i h. record {
     state = runs.state image state i h;
     reply_is = ap (λ (ws : List (Option Why)). reply.Update (record { len = length cs; refused = ws })) (runs.answer image state i h);

@@ -7,12 +7,29 @@ use Rattle.vac_model.specs.State.{State}
 use Rattle.vac_model.specs.Run.{run}
 use Rattle.vac_records.specs.Items.{mem}
 use Rattle.vac_records.specs.Represents.{IsState}
-use Rattle.vac_commands.specs.Ran.{IsOutcome}
+use Rattle.vac_model.specs.declared.tasks.Task.TheVariants as task
+use Rattle.vac_commands.specs.Ran.{IsOutcome, Untouched, Idle}
+
+-- where the task is a single command that was refused, nothing was written
+abbrev pub UntouchedBy : View → View → Task → Reply → Type 0
+UntouchedBy s s' (task.One c) r = Untouched s s' r
+UntouchedBy s s' (task.Trip customer asks) r = Unit {0}
+UntouchedBy s s' (task.Leave customer) r = Unit {0}
+UntouchedBy s s' (task.Update changes) r = Unit {0}
+
+-- where it is a single command that has nothing to change, nothing was written
+abbrev pub IdleBy : View → View → Task → Type 0
+IdleBy s s' (task.One c) = Idle s s' c
+IdleBy s s' (task.Trip customer asks) = Unit {0}
+IdleBy s s' (task.Leave customer) = Unit {0}
+IdleBy s s' (task.Update changes) = Unit {0}
 
 -- under each image the memory was changed as the task changes the state, and the reply is the
--- task's
+-- task's; a command that is refused, or has nothing to change, writes nothing
 pub record RanTask (s s' : View) (t : Task) (r : Reply) : Type 0 where
   pub kept : Kept s s'
+  pub untouched : UntouchedBy s s' t r
+  pub idle : IdleBy s s' t
   pub outcome : (image : List ℕ) (state : State) → Sees s' image →
       IsState (mem s image) (length image) state →
       IsOutcome (mem s' image) (length image) (run state t) r

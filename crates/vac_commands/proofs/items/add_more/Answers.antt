@@ -15,4 +15,4 @@ add_units-requires-clause-room g c = more_room _ _ c.args.kind c.args.id _ _ _ c
 
 pub returns-clause-answer : goal.returns-clause-answer
 returns-clause-answer g c =
-    more_done _ _ _ _ _ _ _ _ _ _ c.requires.item c.requires.range c.in_ok-total.ensures.answer c.if-total-num-gt-MOST_TOTAL.false c.in_ok-add_units.ensures.answer c.in_ok-replace_price.ensures.answer
+    more_done _ _ _ _ _ _ _ _ _ _ c.requires.item c.requires.range c.in_ok-total.ensures.answer c.if-total-num-gt-MOST_TOTAL.false c.in_ok-add_units.ensures.answer c.in_ok-add_units.ensures.idle c.in_ok-replace_price.ensures.answer c.in_ok-replace_price.ensures.idle

@@ -1,4 +1,4 @@
-use Rattle.vac_tasks.proofs.Held.{held_on, customer_at_on}
+use Rattle.vac_commands.proofs.Held.{held_on, customer_at_on}
 use Rattle.vac_tasks.proofs.Parts.{left_none, left, asked_only}
 use Rattle.vac_tasks.proofs.leave.leave.Goals as goal
 

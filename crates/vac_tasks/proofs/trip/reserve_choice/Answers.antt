@@ -1,4 +1,4 @@
-use Rattle.vac_tasks.proofs.Held.{read_none, items_stay_reads, customers_stay_reads}
+use Rattle.vac_commands.proofs.Held.{read_none, items_stay_reads, customers_stay_reads}
 use Rattle.vac_tasks.proofs.Booking.{reserved_missing, reserved}
 use Rattle.vac_tasks.proofs.trip.reserve_choice.Goals as goal
 
