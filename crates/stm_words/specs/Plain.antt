@@ -9,4 +9,9 @@ numbered i [] = empty
 numbered i (x ∷ xs) = insert (numbered (i + 1) xs) i x
 
 abbrev pub flat_view : List ℕ → View
-flat_view xs = record { size = length xs; fits = λ image. length image ≡ length xs; reads = empty; writes = numbered 0 xs }
+flat_view xs = record {
+  size = length xs;
+  fits = λ image. length image ≡ length xs;
+  reads = empty;
+  writes = numbered 0 xs;
+}

@@ -12,7 +12,8 @@ none_at : (q : ℕ) → get {R = nat_cmp} (empty {X = ℕ}) q ≡ None
 none_at q = get-empty nat_cmp q
 
 -- the word at an address that the list has, and none before the first or behind the last
-pub get_in : (xs : List ℕ) (i k : ℕ) → k < length xs → get (numbered i xs) (i + k) ≡ Some (get_or xs k 0)
+pub get_in : (xs : List ℕ) (i k : ℕ) → k < length xs →
+    get (numbered i xs) (i + k) ≡ Some (get_or xs k 0)
 get_in [] i k l = absurd (omega arith)
 get_in (x ∷ xs) i zero l = rw add-zero (get_here (numbered (i + 1) xs) i x)
 get_in (x ∷ xs) i (suc k) l =
@@ -21,11 +22,13 @@ get_in (x ∷ xs) i (suc k) l =
 
 pub get_before : (xs : List ℕ) (i q : ℕ) → q < i → get (numbered i xs) q ≡ None
 get_before [] i q l = none_at q
-get_before (x ∷ xs) i q l = get_other (numbered (i + 1) xs) i x q (omega arith) ∙ get_before xs (i + 1) q (omega arith)
+get_before (x ∷ xs) i q l =
+    get_other (numbered (i + 1) xs) i x q (omega arith) ∙ get_before xs (i + 1) q (omega arith)
 
 pub get_behind : (xs : List ℕ) (i q : ℕ) → i + length xs ≤ q → get (numbered i xs) q ≡ None
 get_behind [] i q l = none_at q
-get_behind (x ∷ xs) i q l = get_other (numbered (i + 1) xs) i x q (omega arith) ∙ get_behind xs (i + 1) q (omega arith)
+get_behind (x ∷ xs) i q l =
+    get_other (numbered (i + 1) xs) i x q (omega arith) ∙ get_behind xs (i + 1) q (omega arith)
 
 pub get_at : (xs : List ℕ) (a : ℕ) → a < length xs → get (numbered 0 xs) a ≡ Some (get_or xs a 0)
 get_at xs a l = rw zero-add at (get_in xs 0 a l)
@@ -36,13 +39,15 @@ some_not_none o x p q = cc
 pub flat_seen : (xs : List ℕ) → (image : List ℕ) × Stands (flat_view xs) image
 flat_seen xs = (xs, record { size = refl; sees = record { fits = refl; agrees = λ a v e. absurd (some_not_none _ v e (none_at a)) } })
 
-pub flat_read : (xs : List ℕ) (a : ℕ) → a < length xs → HasRead (flat_view xs) (flat_view xs) a (get_or xs a 0)
+pub flat_read : (xs : List ℕ) (a : ℕ) → a < length xs →
+    HasRead (flat_view xs) (flat_view xs) a (get_or xs a 0)
 flat_read xs a l = record {
   own = λ w e. (let s = get_at xs a l in cc, refl);
   entered = λ e. absurd (some_not_none _ _ (get_at xs a l) e);
 }
 
-pub flat_write : (xs : List ℕ) (a v : ℕ) → a < length xs → numbered 0 (set xs a v) ≡ insert (numbered 0 xs) a v
+pub flat_write : (xs : List ℕ) (a v : ℕ) → a < length xs →
+    numbered 0 (set xs a v) ≡ insert (numbered 0 xs) a v
 flat_write xs a v l = same_map nat_cmp_total nat_cmp-IsAntisymmetric _ _ (λ q.
     let n = length-set xs a v in
     elim (cases_lt q (length xs)) [

@@ -39,10 +39,12 @@ pub record SameFrame (s s' : View) : Type 0 where
   pub size : s'.size ≡ s.size
   pub fits : (image : List ℕ) → s'.fits image → s.fits image
 
--- a read at an address answered v: the own write there, with the reads as before; or, where there is none, v entered the reads, which had no other value there
+-- a read at an address answered v: the own write there, with the reads as before; or, where there
+-- is none, v entered the reads, which had no other value there
 pub record HasRead (s s' : View) (address v : ℕ) : Type 0 where
   pub own : (w : ℕ) → get s.writes address ≡ Some w → (v ≡ w) × (s'.reads ≡ s.reads)
-  pub entered : get s.writes address ≡ None → (s'.reads ≡ insert s.reads address v) × ((w : ℕ) → get s.reads address ≡ Some w → v ≡ w)
+  pub entered : get s.writes address ≡ None →
+      (s'.reads ≡ insert s.reads address v) × ((w : ℕ) → get s.reads address ≡ Some w → v ≡ w)
 
 -- m' is m but for v at an address
 pub record IsWrite (m m' : ℕ → ℕ) (address v : ℕ) : Type 0 where
@@ -58,4 +60,5 @@ pub record Loaded (s s' : View) (address v : ℕ) : Type 0 where
 -- a store put v at an address, under each image
 pub record Stored (s s' : View) (address v : ℕ) : Type 0 where
   pub kept : Kept s s'
-  pub written : (image : List ℕ) → IsWrite (memory image s.writes) (memory image s'.writes) address v
+  pub written : (image : List ℕ) →
+      IsWrite (memory image s.writes) (memory image s'.writes) address v

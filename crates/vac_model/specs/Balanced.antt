@@ -12,7 +12,8 @@ pub record IsId (n : ℕ) : Type 0 where
   pub low : 1 ≤ n
   pub high : n < 2 ^ 32
 
--- an item of a balanced state: its numbers are in their ranges, its units are booked or free, and as many are booked as customers hold
+-- an item of a balanced state: its numbers are in their ranges, its units are booked or free, and
+-- as many are booked as customers hold
 pub record IsItem (s : State) (kind : Kind) (id : ℕ) (item : Item) : Type 0 where
   pub id_range : IsId id
   pub some_units : 1 ≤ item.total
@@ -31,7 +32,9 @@ pub record IsBooking (s : State) (kind : Kind) (id : ℕ) (b : Booking) : Type 0
 -- a state whose entries fit one another, and are no more than its capacity
 pub record IsBalanced (s : State) : Type 0 where
   pub room : size s ≤ s.capacity
-  pub items : (kind : Kind) (id : ℕ) (item : Item) → item_of s kind id ≡ Some item → IsItem s kind id item
+  pub items : (kind : Kind) (id : ℕ) (item : Item) → item_of s kind id ≡ Some item →
+      IsItem s kind id item
   pub customers : (id : ℕ) (bookings : Bookings) → bookings_of s id ≡ Some bookings → IsId id
   pub bookings : (customer : ℕ) (bookings : Bookings) (kind : Kind) (id : ℕ) (b : Booking) →
-      bookings_of s customer ≡ Some bookings → get bookings (kind, id) ≡ Some b → IsBooking s kind id b
+      bookings_of s customer ≡ Some bookings → get bookings (kind, id) ≡ Some b →
+      IsBooking s kind id b

@@ -1,5 +1,6 @@
--- A task and its reply as a list of numbers: the fields in their order, an enum as the place of its variant from 0 and then its
--- fields, a list as its length and then its items, an `Option` as 0, or as 1 and then its value.
+-- A task and its reply as a list of numbers: the fields in their order, an enum as the place of its
+-- variant from 0 and then its fields, a list as its length and then its items, an `Option` as 0, or
+-- as 1 and then its value.
 use Rattle.std.specs.Prelude.{ℕ, Option, Some, None, List, [], ◌∷◌, ◌++◌, length}
 use Rattle.std.specs.List.{flat_map}
 use Rattle.vac_model.specs.declared.commands.Command.{Command}
@@ -34,7 +35,8 @@ abbrev pub ask_code : Place → List ℕ
 ask_code ask = kind_number ask.0 ∷ ask.1 ∷ []
 
 abbrev pub command_code : Command → List ℕ
-command_code (command.Add kind id num price) = 0 ∷ kind_number kind ∷ id ∷ num ∷ option_code number_code price
+command_code (command.Add kind id num price) =
+    0 ∷ kind_number kind ∷ id ∷ num ∷ option_code number_code price
 command_code (command.Delete kind id num) = 1 ∷ kind_number kind ∷ id ∷ num ∷ []
 command_code (command.DropFlight id) = 2 ∷ id ∷ []
 command_code (command.NewCustomer id) = 3 ∷ id ∷ []
@@ -42,7 +44,8 @@ command_code (command.DropCustomer id) = 4 ∷ id ∷ []
 command_code (command.Free kind id) = 5 ∷ kind_number kind ∷ id ∷ []
 command_code (command.Price kind id) = 6 ∷ kind_number kind ∷ id ∷ []
 command_code (command.Bill id) = 7 ∷ id ∷ []
-command_code (command.Reserve customer kind id num) = 8 ∷ customer ∷ kind_number kind ∷ id ∷ num ∷ []
+command_code (command.Reserve customer kind id num) =
+    8 ∷ customer ∷ kind_number kind ∷ id ∷ num ∷ []
 command_code (command.Cancel customer kind id) = 9 ∷ customer ∷ kind_number kind ∷ id ∷ []
 command_code command.Audit = 10 ∷ []
 
@@ -70,7 +73,9 @@ abbrev pub why_code : Why → List ℕ
 why_code why = why_place why ∷ []
 
 abbrev pub report_code : Report → List ℕ
-report_code r = r.cars ∷ r.flights ∷ r.rooms ∷ r.customers ∷ r.bookings ∷ r.used ∷ r.free ∷ r.total ∷ r.billed ∷ []
+report_code r =
+    r.cars ∷ r.flights ∷ r.rooms ∷ r.customers ∷ r.bookings
+    ∷ r.used ∷ r.free ∷ r.total ∷ r.billed ∷ []
 
 abbrev pub joined_code : Joined → List ℕ
 joined_code joined.NotAsked = 0 ∷ []

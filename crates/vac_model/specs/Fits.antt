@@ -26,11 +26,13 @@ pub record IsItemInRange (item : Item) : Type 0 where
 -- how many units of an item are among these bookings
 abbrev pub units_in : List (Place × Booking) → Place → ℕ
 units_in [] place = 0
-units_in (b ∷ bs) place = (if eq_by_cmp place_cmp place b.0 then b.1.units else 0) + units_in bs place
+units_in (b ∷ bs) place =
+    (if eq_by_cmp place_cmp place b.0 then b.1.units else 0) + units_in bs place
 
 -- the items are in their ranges, and as many units of each are used as these bookings have
 pub record CanGiveBack (s : State) (bookings : List (Place × Booking)) : Type 0 where
-  pub in_range : (kind : Kind) (id : ℕ) (item : Item) → item_of s kind id ≡ Some item → IsItemInRange item
+  pub in_range : (kind : Kind) (id : ℕ) (item : Item) → item_of s kind id ≡ Some item →
+      IsItemInRange item
   pub used : (kind : Kind) (id : ℕ) (item : Item) → item_of s kind id ≡ Some item → units_in bookings (kind, id) ≤ item.used
 
 -- a booking whose numbers are in their ranges

@@ -15,7 +15,8 @@ pub record AddNeedsEntry (s : State) (kind : Kind) (id num : ℕ) (given : Optio
   pub price : is_some given ≡ true
   pub count : 1 ≤ num
 
--- a Reserve needs an entry: its customer is there and has no booking of the item, which has enough free units
+-- a Reserve needs an entry: its customer is there and has no booking of the item, which has enough
+-- free units
 pub record ReserveNeedsEntry (s : State) (c : ℕ) (kind : Kind) (id num : ℕ) : Type 0 where
   pub bookings : Bookings
   pub item : Item

@@ -38,6 +38,8 @@ is_change command.Audit = false
 -- whether a task can be asked for: its numbers are in their ranges and its lists are not too long
 abbrev pub is_task : Task → Bool
 is_task (task.One c) = is_command c
-is_task (task.Trip customer asks) = is_id customer && is_list_length (length asks) && list_all (λ a. is_id a.1) asks
+is_task (task.Trip customer asks) =
+    is_id customer && is_list_length (length asks) && list_all (λ a. is_id a.1) asks
 is_task (task.Leave customer) = is_id customer
-is_task (task.Update changes) = is_list_length (length changes) && list_all (λ c. is_change c && is_command c) changes
+is_task (task.Update changes) =
+    is_list_length (length changes) && list_all (λ c. is_change c && is_command c) changes

@@ -1,5 +1,5 @@
--- What a task does: one command, or a trip, a leave or an update, which are made of commands. The kinds of task are those of
--- STAMP's client; the picks of a trip are this product's own.
+-- What a task does: one command, or a trip, a leave or an update, which are made of commands. The
+-- kinds of task are those of STAMP's client; the picks of a trip are this product's own.
 use Rattle.std.specs.Prelude.{ℕ, ◌-◌, ◌||◌, Option, Some, None, is_some, List, [], ◌∷◌, ◌++◌, length, fold, replicate, nat_lt, ◌==◌, if◌then◌else◌}
 use Rattle.vac_model.specs.declared.limits.TheConstants.{MOST_PARTS}
 use Rattle.vac_model.specs.declared.items.Kind.{Kind}
@@ -30,16 +30,20 @@ refusal_of (reply.Update r) = None
 abbrev pub Choice : Type 0
 Choice = ℕ × ℕ
 
--- the choice after one more ask was answered: any price beats none, and a later one must be strictly greater
+-- the choice after one more ask was answered: any price beats none, and a later one must be
+-- strictly greater
 abbrev pub dearer : Option Choice → ℕ → Option ℕ → Option Choice
 dearer best id None = best
 dearer None id (Some price) = Some (id, price)
 dearer (Some best) id (Some price) = if nat_lt best.1 price then Some (id, price) else Some best
 
--- of the asks for one kind the first of the dearest that are found; one with nothing free counts as found
+-- of the asks for one kind the first of the dearest that are found; one with nothing free counts as
+-- found
 abbrev pub choice_of : State → Kind → List Place → Option Choice
 choice_of s kind asks =
-    fold (λ best ask. if kind_number ask.0 == kind_number kind then dearer best ask.1 (price_of s ask.0 ask.1) else best) None asks
+    fold (λ best ask.
+    if kind_number ask.0 == kind_number kind then dearer best ask.1 (price_of s ask.0 ask.1)
+    else best) None asks
 
 -- what became of the customer of a trip
 abbrev pub joined_of : Reply → Joined
@@ -74,7 +78,8 @@ trip_with s customer car flight room =
 
 -- a trip books the dearest item of each kind that was asked for
 abbrev pub trip : State → ℕ → List Place → Outcome
-trip s customer asks = trip_with s customer (choice_of s Car asks) (choice_of s Flight asks) (choice_of s Room asks)
+trip s customer asks =
+    trip_with s customer (choice_of s Car asks) (choice_of s Flight asks) (choice_of s Room asks)
 
 -- a leave answers the bill of a customer that is there, and drops that customer
 abbrev pub leave : State → ℕ → Outcome
@@ -93,8 +98,13 @@ steps s (c ∷ cs) =
 -- an update does its changes in order; a refusal is noted and the next one follows
 abbrev pub update : State → List Command → Outcome
 update s changes =
-    let after = steps s changes in
-    (after.0, reply.Update (record { len = length changes; refused = after.1 ++ replicate (MOST_PARTS - length changes) None }))
+    let after = steps s changes in (
+      after.0,
+      reply.Update (record {
+        len = length changes;
+        refused = after.1 ++ replicate (MOST_PARTS - length changes) None;
+      }),
+    )
 
 -- the outcome of a task
 abbrev pub run : State → Task → Outcome

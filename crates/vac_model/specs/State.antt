@@ -1,4 +1,5 @@
--- A state of the reservation system, after STAMP's Vacation: tables of cars, flights and rooms, and customers with their bookings.
+-- A state of the reservation system, after STAMP's Vacation: tables of cars, flights and rooms, and
+-- customers with their bookings.
 use Rattle.std.specs.Prelude.{ℕ, ◌+◌, Bool, Option, sum_by, nat_le}
 use Rattle.std.specs.Option.{option_map_or}
 use Rattle.std.specs.Ordering.{nat_cmp, ordering_then}
@@ -46,7 +47,13 @@ pub record State : Type 0 where
 
 -- the state with no entries
 abbrev pub empty_state : ℕ → State
-empty_state n = record { capacity = n; cars = empty; flights = empty; rooms = empty; customers = empty }
+empty_state n = record {
+  capacity = n;
+  cars = empty;
+  flights = empty;
+  rooms = empty;
+  customers = empty;
+}
 
 -- the table of a kind
 abbrev pub table_of : State → Kind → Table
@@ -86,7 +93,8 @@ without_customer s customer = record s { customers = remove s.customers customer
 
 -- how many entries a state has: its items, its customers and their bookings
 abbrev pub size : State → ℕ
-size s = len s.cars + len s.flights + len s.rooms + len s.customers + sum_by len (values s.customers)
+size s =
+    len s.cars + len s.flights + len s.rooms + len s.customers + sum_by len (values s.customers)
 
 -- whether no further entry has a place
 abbrev pub is_full : State → Bool
@@ -110,9 +118,11 @@ units_held s place = sum_by (λ bookings. units_of bookings place) (values s.cus
 
 -- a number of each item, added up over the three tables
 abbrev pub sum_of_items : (Item → ℕ) → State → ℕ
-sum_of_items f s = sum_by f (values s.cars) + sum_by f (values s.flights) + sum_by f (values s.rooms)
+sum_of_items f s =
+    sum_by f (values s.cars) + sum_by f (values s.flights) + sum_by f (values s.rooms)
 
--- the report of a state: the entries of each table, the units booked, the sums over all items, and the sum of all bills
+-- the report of a state: the entries of each table, the units booked, the sums over all items, and
+-- the sum of all bills
 abbrev pub report : State → Report
 report s = record {
   cars = len s.cars;

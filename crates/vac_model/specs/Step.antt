@@ -1,5 +1,6 @@
--- What each command does to a state and what it answers. The commands and their refusals are those of STAMP's Vacation, but
--- for the refusals TotalLimit, Full, UnitLimit and NoCustomer of DropCustomer, the limits, and the report, which are this product's own.
+-- What each command does to a state and what it answers. The commands and their refusals are those
+-- of STAMP's Vacation, but for the refusals TotalLimit, Full, UnitLimit and NoCustomer of
+-- DropCustomer, the limits, and the report, which are this product's own.
 use Rattle.std.specs.Prelude.{ℕ, ◌+◌, ◌-◌, ◌*◌, Option, Some, None, List, unwrap_or, fold, nat_lt, ◌==◌, if◌then◌else◌}
 use Rattle.std.specs.Option.{option_map}
 use Rattle.std.specs.FinMap.{empty, get, insert, remove, entries}
@@ -50,19 +51,39 @@ new_item num price = record { used = 0; free = num; total = num; price = price }
 
 -- an item with more units, and another price where one is given
 abbrev pub added : Item → ℕ → Option ℕ → Item
-added item num price = record { used = item.used; free = item.free + num; total = item.total + num; price = unwrap_or price item.price }
+added item num price = record {
+  used = item.used;
+  free = item.free + num;
+  total = item.total + num;
+  price = unwrap_or price item.price;
+}
 
 -- an item with fewer free units
 abbrev pub deleted : Item → ℕ → Item
-deleted item num = record { used = item.used; free = item.free - num; total = item.total - num; price = item.price }
+deleted item num = record {
+  used = item.used;
+  free = item.free - num;
+  total = item.total - num;
+  price = item.price;
+}
 
 -- an item of which so many more units are booked
 abbrev pub taken : Item → ℕ → Item
-taken item num = record { used = item.used + num; free = item.free - num; total = item.total; price = item.price }
+taken item num = record {
+  used = item.used + num;
+  free = item.free - num;
+  total = item.total;
+  price = item.price;
+}
 
 -- an item of which so many units are booked no longer
 abbrev pub given_back : Item → ℕ → Item
-given_back item num = record { used = item.used - num; free = item.free + num; total = item.total; price = item.price }
+given_back item num = record {
+  used = item.used - num;
+  free = item.free + num;
+  total = item.total;
+  price = item.price;
+}
 
 -- a booking of units at a price
 abbrev pub new_booking : ℕ → ℕ → Booking
@@ -72,7 +93,8 @@ new_booking num price = record { units = num; sum = num * price }
 abbrev pub extended : Booking → ℕ → ℕ → Booking
 extended b num price = record { units = b.units + num; sum = b.sum + num * price }
 
--- Add of an item that is missing makes it, and needs a count and a price. Its total cannot pass the limit.
+-- Add of an item that is missing makes it, and needs a count and a price. Its total cannot pass the
+-- limit.
 abbrev pub add_new : State → Kind → ℕ → ℕ → Option ℕ → Outcome
 add_new s kind id num None = refused s NeedsCountAndPrice
 add_new s kind id num (Some price) =
@@ -87,7 +109,8 @@ add_more s kind id num price item =
     else done (with_item s kind id (added item num price))
 
 abbrev pub add : State → Kind → ℕ → ℕ → Option ℕ → Outcome
-add s kind id num price = when_found (item_of s kind id) (add_new s kind id num price) (add_more s kind id num price)
+add s kind id num price =
+    when_found (item_of s kind id) (add_new s kind id num price) (add_more s kind id num price)
 
 -- Delete takes free units away; an item with no unit left is removed
 abbrev pub delete : State → Kind → ℕ → ℕ → Outcome
@@ -107,7 +130,9 @@ drop_flight s id =
 -- NewCustomer makes a customer without bookings
 abbrev pub new_customer : State → ℕ → Outcome
 new_customer s id =
-    when_found (bookings_of s id) (if is_full s then refused s Full else done (with_bookings s id empty)) (λ _. refused s Exists)
+    when_found (bookings_of s id)
+    (if is_full s then refused s Full else done (with_bookings s id empty))
+    (λ _. refused s Exists)
 
 -- the state after so many units of an item are given back
 abbrev pub give_back : State → Place → ℕ → Option Item → State
@@ -116,7 +141,8 @@ give_back s place units (Some item) = with_item s place.0 place.1 (given_back it
 
 -- the state after all units of these bookings are given back
 abbrev pub give_back_all : State → List (Place × Booking) → State
-give_back_all s bookings = fold (λ s b. give_back s b.0 b.1.units (item_of s b.0.0 b.0.1)) s bookings
+give_back_all s bookings =
+    fold (λ s b. give_back s b.0 b.1.units (item_of s b.0.0 b.0.1)) s bookings
 
 -- DropCustomer removes the customer and gives all bookings back
 abbrev pub drop_customer : State → ℕ → Outcome
@@ -128,13 +154,17 @@ drop_customer s id =
 abbrev pub book_new : State → ℕ → Kind → ℕ → ℕ → Bookings → Item → Outcome
 book_new s customer kind id num bookings item =
     if is_full s then refused s Full
-    else done (with_item (with_bookings s customer (insert bookings (kind, id) (new_booking num item.price))) kind id (taken item num))
+    else done (with_item
+    (with_bookings s customer (insert bookings (kind, id) (new_booking num item.price)))
+    kind id (taken item num))
 
 -- a booking that is there takes more units, and no entry
 abbrev pub book_more : State → ℕ → Kind → ℕ → ℕ → Bookings → Item → Booking → Outcome
 book_more s customer kind id num bookings item b =
     if nat_lt unit_limit (b.units + num) then refused s UnitLimit
-    else done (with_item (with_bookings s customer (insert bookings (kind, id) (extended b num item.price))) kind id (taken item num))
+    else done (with_item
+    (with_bookings s customer (insert bookings (kind, id) (extended b num item.price)))
+    kind id (taken item num))
 
 -- Reserve books units of an item for a customer, at the item's price of now
 abbrev pub reserve : State → ℕ → Kind → ℕ → ℕ → Outcome
@@ -142,7 +172,9 @@ reserve s customer kind id num =
     when_found (bookings_of s customer) (refused s NoCustomer) (λ bookings.
     when_found (item_of s kind id) (refused s NoItem) (λ item.
     if nat_lt item.free num then refused s SoldOut
-    else when_found (get bookings (kind, id)) (book_new s customer kind id num bookings item) (book_more s customer kind id num bookings item)))
+    else when_found (get bookings (kind, id))
+    (book_new s customer kind id num bookings item)
+    (book_more s customer kind id num bookings item)))
 
 -- Cancel gives all units of a booking back and removes the booking
 abbrev pub cancel : State → ℕ → Kind → ℕ → Outcome
@@ -150,7 +182,8 @@ cancel s customer kind id =
     when_found (bookings_of s customer) (refused s NoCustomer) (λ bookings.
     when_found (item_of s kind id) (refused s NoItem) (λ item.
     when_found (get bookings (kind, id)) (refused s NotBooked) (λ b.
-    done (with_item (with_bookings s customer (remove bookings (kind, id))) kind id (given_back item b.units)))))
+    done (with_item (with_bookings s customer (remove bookings (kind, id)))
+    kind id (given_back item b.units)))))
 
 -- the price of an item, if it is there
 abbrev pub price_of : State → Kind → ℕ → Option ℕ

@@ -1,4 +1,5 @@
--- Items in blocks of a transactional memory. The words of a block are key, left, right, colour, used, free, total, price.
+-- Items in blocks of a transactional memory. The words of a block are key, left, right, colour,
+-- used, free, total, price.
 use Rattle.std.specs.Prelude.{◌≡◌, ◌≢◌, ◌⊎◌, ℕ, ◌+◌, ◌<◌, ◌≤◌, ◌^◌, List}
 use Rattle.stm_words.specs.View.{View, Sees, Kept, IsWrite}
 use Rattle.vac_model.specs.declared.items.Item.{Item}
@@ -6,7 +7,12 @@ pub use Rattle.tx_alloc.specs.Steps.{mem}
 
 -- the item in the block that starts at node
 abbrev pub item_in : (ℕ → ℕ) → ℕ → Item
-item_in m node = record { used = m (node + 4); free = m (node + 5); total = m (node + 6); price = m (node + 7) }
+item_in m node = record {
+  used = m (node + 4);
+  free = m (node + 5);
+  total = m (node + 6);
+  price = m (node + 7);
+}
 
 -- the eight words from node on are words of the memory, and each address fits 32 bits
 pub record IsNode (s : View) (node : ℕ) : Type 0 where
@@ -36,7 +42,8 @@ pub record HasMore (m m' : ℕ → ℕ) (node num : ℕ) : Type 0 where
 -- under each image the block became a new item
 pub record ItemMade (s s' : View) (node key num price : ℕ) : Type 0 where
   pub kept : Kept s s'
-  pub made : (image : List ℕ) → Sees s' image → IsNewItem (mem s image) (mem s' image) node key num price
+  pub made : (image : List ℕ) → Sees s' image →
+      IsNewItem (mem s image) (mem s' image) node key num price
 
 -- under each image so many units were added
 pub record UnitsAdded (s s' : View) (node num : ℕ) : Type 0 where
