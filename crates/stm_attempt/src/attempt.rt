@@ -7,6 +7,7 @@ ghost use Rattle.stm_core.specs.Core.{IsFreeHanded};
 ghost use Rattle.stm_core.specs.Event.{begin as begins};
 ghost use Rattle.stm_logs.specs.Log.{empty_log};
 ghost use Rattle.stm_region.specs.Shown.{acted, stripe_of};
+ghost use Rattle.stm_region.specs.Told.{AreEarlier};
 ghost use Rattle.stm_attempt.specs.Running.{IsBegun, IsPlaced, IsUnstopped, addresses};
 ghost use Rattle.stm_attempt.specs.Shown.{HasMet, refused, most_steps};
 ghost use Rattle.stm_attempt.specs.Committing.{AreInside};
@@ -72,6 +73,7 @@ impl<'a, L: Law, R: Allocator, A: Allocator + Copy> Attempt<'a, L, R, A> {
         ensures region { result.region.now ≡ region.now }
         ensures value { result.client.now ≡ acted region.now begins result.rv client.old }
         ensures version { client.old.value.floor ≤ result.rv }
+        ensures earlier { AreEarlier region.now.renewal result.rv client.old.value.records }
         ensures empty { (result.logs.now.reads ≡ []) × (result.logs.now.writes ≡ empty_log) × (result.logs.now.in_use ≡ true) }
         ensures running { result.stopped ≡ None }
         ensures lone { (result.client.now.value.lone ≡ true) ↔ (client.old.value.grants ≡ 63) }

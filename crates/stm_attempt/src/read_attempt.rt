@@ -4,7 +4,7 @@ ghost use Rattle.stm_core.specs.Client.{running};
 ghost use Rattle.stm_core.specs.Core.{IsFreeHanded};
 ghost use Rattle.stm_core.specs.Event.{begin as begins, finish as finishes};
 ghost use Rattle.stm_region.specs.Shown.{acted, stripe_of};
-ghost use Rattle.stm_region.specs.Told.{Decides};
+ghost use Rattle.stm_region.specs.Told.{AreEarlier, Decides};
 ghost use Rattle.stm_attempt.specs.Running.{IsBegun, IsUnstopped, is_unfinished};
 ghost use Rattle.stm_attempt.specs.Shown.{HasMet, refused, most_steps};
 ghost use Rattle.stm_attempt.specs.declared.conflict.Conflict.{Conflict};
@@ -44,6 +44,7 @@ impl<'a, L: Law, R: Allocator> ReadAttempt<'a, L, R> {
         ensures region { result.region.now ≡ region.now }
         ensures value { result.client.now ≡ acted region.now begins result.rv client.old }
         ensures version { client.old.value.floor ≤ result.rv }
+        ensures earlier { AreEarlier region.now.renewal result.rv client.old.value.records }
         ensures running { result.stopped ≡ None }
         ensures lone { (result.client.now.value.lone ≡ true) ↔ (client.old.value.grants ≡ 63) }
     {

@@ -105,6 +105,10 @@ module _ (fits : List ℕ → Type 0) (lawful : List ℕ → List (ℕ × ℕ) �
       rw (is, now) (subst (λ ys. Ends lawful r v (drop (first_cell r.stripes) ys) (slice_index ys 0)) f.2
       (ends id v free all f.0 (subst (λ k. Holds {S = S} fits lawful k f.0) e f.1.0) (subst (λ w. get_elem? f.0.views id ≡ some w) q f.1.1)))
 
+  -- the first image of such a table fits
+  pub fits_with : {S : Type 0} (key : Opened) → key ≡ opened_with r → (id : ℕ) (u : Client) (ws : List ℕ) (xs : List S) → Final (Seen (Holds fits lawful key) id u) ws xs → fits r.first
+  fits_with key e id u ws xs f = subst (λ (k : Opened). fits k.first) e f.1.0.fitting
+
   pub ends_small : (v : Client) (words : List ℕ) (clock : ℕ) → Ends lawful r v words clock → clock ≤ r.last
   ends_small v words clock h = let b = h.rule.inv.bounded in let l = h.last in let c = h.clock in omega arith
 
@@ -129,3 +133,10 @@ reopens {S} fits lawful r v words version last h all f top one = record {
   bounded = top;
   some = one;
 }
+
+-- and so does a table of these words
+pub renews_on : {S : Type 0} (fits : List ℕ → Type 0) (lawful : List ℕ → List (ℕ × ℕ) → List (ℕ × ℕ) → Type 0) (r : RegionShown) (v : Client) (words laid : List ℕ) (version last : ℕ) → Ends lawful r v words version → v.grants ≡ 63 → fits r.first → last < 2 ^ 62 → 0 < r.stripes
+    → laid ≡ replicate (first_cell r.stripes) 0 ++ words → Holds {S = S} fits lawful record { image = drop (first_cell r.stripes) laid; last = last; stripes = r.stripes; first = r.first; renewal = r.renewal + 1; start = renewing v } (opening laid [] (renewing v))
+renews_on {S} fits lawful r v words laid version last h all f top one e =
+    subst (λ ws. Holds {S = S} fits lawful record { image = drop (first_cell r.stripes) ws; last = last; stripes = r.stripes; first = r.first; renewal = r.renewal + 1; start = renewing v } (opening ws [] (renewing v))) (sym e)
+    (subst (λ ys. Holds {S = S} fits lawful record { image = ys; last = last; stripes = r.stripes; first = r.first; renewal = r.renewal + 1; start = renewing v } (opening (replicate (first_cell r.stripes) 0 ++ words) [] (renewing v))) (sym (image_behind words r.stripes)) (reopens fits lawful r v words version last h all f top one))

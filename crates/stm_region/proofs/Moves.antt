@@ -1,5 +1,5 @@
 -- Each step keeps the rule, and tells what it says.
-use Rattle.std.proofs.Common.{◌≡◌, ◌≢◌, ℕ, zero, suc, ◌+◌, ◌-◌, ◌*◌, ◌/◌, ◌%◌, ◌^◌, ◌≤◌, ◌<◌, min, cond, eq-eqb, ne_eqb, Bool, true, false, List, [], ◌∷◌, length, set, slice_index, refl, sym, ap, ◌∙◌, subst, arith}
+use Rattle.std.proofs.Common.{◌≡◌, ◌≢◌, inl, inr, ℕ, zero, suc, ◌+◌, ◌-◌, ◌*◌, ◌/◌, ◌%◌, ◌^◌, ◌≤◌, ◌<◌, min, cond, eq-eqb, ne_eqb, Bool, true, false, List, [], ◌∷◌, length, set, slice_index, refl, sym, ap, ◌∙◌, subst, arith}
 use mathlib.Core.Option.{none, some, some-injective, some-ne-none}
 use mathlib.Core.Logic.{dite}
 use native.Mathlib.Decide.{ℕ_discrete}
@@ -9,12 +9,13 @@ use Rattle.atomic_table.specs.Table.{State, Me, step, keeps, Allows, Splits, Joi
 use Rattle.atomic_table.proofs.Lists.{set_else}
 use Rattle.atomic_table.specs.Seated.{TableId}
 use Rattle.stm_words.specs.Image.{In, Agrees, laid}
-use Rattle.stm_core.specs.Client.{Client, old_version}
+use Rattle.stm_core.specs.Client.{Client, Record, old_version}
 use Rattle.stm_core.specs.Core.{Core, bounds_of, found, left, written, stepped, divided, gathered, IsFreeHanded}
 use Rattle.stm_core.specs.Event.{Action, begin, probe, fetch, check, lock, tick, validate, put, release, give_back, finish, Holds as Holding, MayAct, May, after, giving, fresh, taking, gone}
 use Rattle.stm_core.specs.History.{Serial, SomeFits, all_records}
 use Rattle.stm_core.specs.Invariant.{now, Rule}
 use Rattle.stm_core.specs.Client.{shed}
+use Rattle.stm_core.proofs.Eras.{in_append, of_is}
 use Rattle.stm_core.proofs.Lones.{at_map, goes_on}
 use Rattle.stm_core.proofs.Renewals.{step_rules}
 use Rattle.stm_core.proofs.Renewing.{split_rules, gather_rules}
@@ -22,7 +23,7 @@ use Rattle.stm_core.proofs.Whole.{whole_shared, opening_fits}
 use Rattle.stm_core.proofs.Facts.{some_fits, grants_of_two}
 use Rattle.stm_region.specs.Shown.{Opened, RegionShown, joined, opened_with, bounds, unplaced, stripe_of}
 use Rattle.stm_region.specs.Layout.{place, first_cell, InRange, IsLaid, IsStore}
-use Rattle.stm_region.specs.Told.{IsLockWord, IsVersion, StandsOn, Decides, Told, acting}
+use Rattle.stm_region.specs.Told.{IsLockWord, IsVersion, StandsOn, Decides, Told, acting, IsEarlier, AreEarlier}
 use Rattle.stm_region.specs.Rule.{Holds}
 use Rattle.stm_region.proofs.Places.{Stays, stays, found_there, left_there, in_table}
 
@@ -49,7 +50,7 @@ pub record Runs (words : ℕ) (key : Opened) (r : RegionShown) : Type 0 where
   pub some : 0 < r.stripes
   pub top : r.last < 2 ^ 62
 
-pub runs : (words slots : ℕ) (key : Opened) (size last stripes cells : ℕ) → IsLaid words slots key size last stripes cells → (t : TableId) (r : RegionShown) → record { table = t; size = size; last = last; stripes = stripes; opening = key.image; first = key.first; renewal = key.renewal; start = key.start } ≡ r → Runs words key r
+pub runs : {renewals : ℕ} (words slots : ℕ) (key : Opened) (size last stripes cells : ℕ) → IsLaid words slots key size last stripes cells renewals → (t : TableId) (r : RegionShown) → record { table = t; size = size; last = last; stripes = stripes; opening = key.image; first = key.first; renewal = key.renewal; start = key.start } ≡ r → Runs words key r
 runs words slots key size last stripes cells h t r e = subst (λ x. Runs words key x) e record {
   key_is = (let l = h.last in let s = h.same in λ i. record { image = key.image; last = l i; stripes = s i; first = key.first; renewal = key.renewal; start = key.start });
   size = h.image;
@@ -75,6 +76,26 @@ pub joined_all : (lawful : List ℕ → List (ℕ × ℕ) → List (ℕ × ℕ) 
 joined_all lawful l c inv i j v w ne at to un un' =
     let n = grants_of_two lawful l (now c) inv.inv i j (shed c.renewal v) (shed c.renewal w) ne (at_map (shed c.renewal) c.clients i v at) (at_map (shed c.renewal) c.clients j w to) un un' in
     let e : min (v.grants + w.grants + 1) 63 ≡ v.grants + w.grants + 1 = omega arith in λ k. record (taking v w) { grants = e k }
+
+in_kept : (b : Bool) (l : List Record) (x : Record) → In x (cond b l []) → In x l
+in_kept true l x m = m
+in_kept false l x m = absurd (not_in x m)
+
+-- a client's records are of earlier renewals, or of versions that the clock has reached
+earlier : (lawful : List ℕ → List (ℕ × ℕ) → List (ℕ × ℕ) → Type 0) (l : ℕ → ℕ) (c : Core) → Rule lawful l c → (i : ℕ) (v : Client) → get_elem? c.clients i ≡ some v → AreEarlier c.renewal c.clock v.records
+earlier lawful l c h i v at x m = elim (in_append _ _ x (subst (In x) (h.past.kept i v at) m)) [
+  | inl p ↦ old (h.past.earlier x (in_kept _ c.past x p))
+  | inr p ↦ record {
+    present = present (of_is c.renewal v.records x p).1;
+    version = λ _. (h.inv.version.sound i (shed c.renewal v) (at_map (shed c.renewal) c.clients i v at)).recorded x p;
+  }
+]
+  where
+    old : x.renewal < c.renewal → IsEarlier c.renewal c.clock x
+    old q = record { present = omega arith; version = λ e. absurd (omega arith) }
+
+    present : x.renewal ≡ c.renewal → x.renewal ≤ c.renewal
+    present q = omega arith
 
 module _ (fits : List ℕ → Type 0) (lawful : List ℕ → List (ℕ × ℕ) → List (ℕ × ℕ) → Type 0) (law : Keeping fits lawful) (r : RegionShown) where
   abbrev lk : ℕ → ℕ
@@ -126,7 +147,7 @@ module _ (fits : List ℕ → Type 0) (lawful : List ℕ → List (ℕ × ℕ) �
   -- what a step tells, of the core before it and of the one after it
   told_of : (c d : Core) → Matches o c → Matches o d → length r.opening ≡ r.size → r.last < 2 ^ 62 → fits r.first → Rule lawful lk c → Rule lawful lk d → (i : ℕ) (v : Client) (e : Action) → get_elem? c.clients i ≡ some v
       → get_elem? d.clients i ≡ some (after (unplaced r.renewal) lk e (found lk c e) v) → MayAct lawful lk (bounds_of c) e v → Told fits lawful r e (found lk c e) v (after (unplaced r.renewal) lk e (found lk c e) v)
-  told_of c d m m' z top f h h' i v begin was at may = (clock c m top h, (h.inv.version.sound i (shed c.renewal v) (at_map (shed c.renewal) c.clients i v was)).floor, opening_stands c m z f h)
+  told_of c d m m' z top f h h' i v begin was at may = (clock c m top h, (h.inv.version.sound i (shed c.renewal v) (at_map (shed c.renewal) c.clients i v was)).floor, opening_stands c m z f h, subst (λ n. AreEarlier n c.clock v.records) m.renewal (earlier lawful lk c h i v was))
   told_of c d m m' z top f h h' i v (probe k) was at may = (lock_word c m top h k, λ y. (goes_on lawful lk c h.inv h.lone i v was y.0 y.1).probes k)
   told_of c d m m' z top f h h' i v (fetch a) was at may = tt
   told_of c d m m' z top f h h' i v (check a) was at may = (lock_word c m top h (lk a), stands_of d m' z f h' i (after (unplaced r.renewal) lk (check a) (found lk c (check a)) v) at, λ y. (goes_on lawful lk c h.inv h.lone i v was y.0 y.1).checks a may)

@@ -4,3 +4,4 @@ pub mod Told
 pub mod Rule
 pub mod Refused
 pub mod Closed
+pub mod Renewed

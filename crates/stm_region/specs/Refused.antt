@@ -1,7 +1,7 @@
 -- When a region refuses what it was asked.
 use Rattle.std.specs.Prelude.{◌≡◌, ℕ, ◌-◌, ◌^◌, ◌<◌, ◌≤◌}
 use Rattle.stm_region.specs.declared.fault.RegionFault.{RegionFault}
-use Rattle.stm_region.specs.declared.fault.RegionFault.TheVariants.{Size, Last, Memory, Clients, StillOut, Stripes}
+use Rattle.stm_region.specs.declared.fault.RegionFault.TheVariants.{Size, Last, Memory, Clients, StillOut, Stripes, Renewals}
 
 -- a region may have so many data words
 abbrev pub IsSize : ℕ → Type 0
@@ -23,6 +23,7 @@ OpensNot size last stripes Memory = IsSize size × IsLast last × IsStripes stri
 OpensNot size last stripes Clients = ⊥
 OpensNot size last stripes (StillOut out) = ⊥
 OpensNot size last stripes Stripes = IsSize size × IsLast last × ¬ IsStripes stripes
+OpensNot size last stripes Renewals = ⊥
 
 -- when an ending is refused: others are out, as many as the client's grants say, or no memory
 abbrev pub ClosesNot : ℕ → RegionFault → Type 0
@@ -32,3 +33,22 @@ ClosesNot grants Memory = grants ≡ 63
 ClosesNot grants Clients = ⊥
 ClosesNot grants (StillOut out) = (grants < 63) × (out ≡ 63 - grants)
 ClosesNot grants Stripes = ⊥
+ClosesNot grants Renewals = ⊥
+
+-- so many renewals a region may have
+abbrev pub most_renewals : ℕ
+most_renewals = 65535
+
+-- a region may be renewed: the new last version is in range, there is a renewal left, and no other client is out
+abbrev pub MayRenew : ℕ → ℕ → ℕ → Type 0
+MayRenew renewals last grants = IsLast last × (renewals < most_renewals) × (grants ≡ 63)
+
+-- when a renewal is refused before any word was moved: for the first of its reasons, or no memory
+abbrev pub RenewsNot : ℕ → ℕ → ℕ → RegionFault → Type 0
+RenewsNot renewals last grants Size = ⊥
+RenewsNot renewals last grants Last = ¬ IsLast last
+RenewsNot renewals last grants Memory = MayRenew renewals last grants
+RenewsNot renewals last grants Clients = ⊥
+RenewsNot renewals last grants (StillOut out) = IsLast last × (renewals < most_renewals) × (grants < 63) × (out ≡ 63 - grants)
+RenewsNot renewals last grants Stripes = ⊥
+RenewsNot renewals last grants Renewals = IsLast last × (most_renewals ≤ renewals)

@@ -71,6 +71,11 @@ KeepsProbe word (ticked f m) = Unit {0}
 KeepsProbe word (looked k n) = Unit {0}
 KeepsProbe word (ended n) = Unit {0}
 
+-- the words of the first opening: those of the opening before any renewal, or this one's
+abbrev pub first_words : List ℕ → Option (List ℕ) → List ℕ
+first_words image None = image
+first_words image (Some words) = words
+
 -- the client that a region begins with: the one that closed the region before, without its attempt, or the first of all
 abbrev pub started : Option Client → Client
 started None = opener

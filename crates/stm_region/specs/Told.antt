@@ -21,6 +21,15 @@ pub record IsLockWord (last word : ℕ) : Type 0 where
   pub version : word / 2 ≤ last
   pub small : word < 2 ^ 63
 
+-- a record is of an earlier renewal, or of this one with a version that the clock has reached
+pub record IsEarlier (renewal clock : ℕ) (r : Record) : Type 0 where
+  pub present : r.renewal ≤ renewal
+  pub version : r.renewal ≡ renewal → r.version ≤ clock
+
+-- so is each of these records
+abbrev pub AreEarlier : ℕ → ℕ → List Record → Type 0
+AreEarlier renewal clock records = (r : Record) → In r records → IsEarlier renewal clock r
+
 -- some fitting image of the size agrees with the reads
 pub record StandsOn (fits : List ℕ → Type 0) (size : ℕ) (reads : List (ℕ × ℕ)) : Type 0 where
   pub image : List ℕ
@@ -63,7 +72,7 @@ LoneTold (finish tag) n v w = Unit {0}
 module _ (fits : List ℕ → Type 0) (lawful : List ℕ → List (ℕ × ℕ) → List (ℕ × ℕ) → Type 0) (r : RegionShown) where
   -- what is told of the word found, and of the client's values before and after the step
   abbrev pub Told : Action → ℕ → Client → Client → Type 0
-  Told begin n v w = IsVersion r.last n × (v.floor ≤ n) × StandsOn fits r.size []
+  Told begin n v w = IsVersion r.last n × (v.floor ≤ n) × StandsOn fits r.size [] × AreEarlier r.renewal n v.records
   Told (probe k) n v w = IsLockWord r.last n × (IsLoneOpen v → LoneTold (probe k) n v w)
   Told (fetch a) n v w = Unit {0}
   Told (check a) n v w = IsLockWord r.last n × StandsOn fits r.size w.reads × (IsLoneOpen v → LoneTold (check a) n v w)

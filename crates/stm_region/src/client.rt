@@ -1,4 +1,5 @@
 ghost use Rattle.std.specs.Prelude.{◌≡◌, ◌≤◌, []};
+ghost use Rattle.stm_core.specs.Client.{nothing};
 ghost use Rattle.stm_core.specs.Invariant.{Sorted};
 
 use crate::view::View;
@@ -31,6 +32,22 @@ impl<L: Law> Model for Client<L> {
 }
 
 impl<L: Law> Client<L> {
+    // A client that has made no step, with so many grants.
+    pub(crate) fn of_seat(seat: Seat<(), View>, grants: u64) -> Client<L>
+        requires none { (seat.me.1 ≡ []) × (seat.me.0.wv ≡ 0) × (seat.me.0.last ≡ nothing) }
+        requires grants { (grants ≡ seat.me.0.grants) × (grants ≤ 63) }
+        requires sorted { Sorted seat.me.0.records }
+        ensures { result ≡ record { table = seat.table_id; value = seat.me.0 } }
+    {
+        Client {
+            seat,
+            grants,
+            probed: 0,
+            version: 0,
+            law: PhantomData,
+        }
+    }
+
     // The seat, and the number of grants.
     pub(crate) fn into_parts(self) -> (Seat<(), View>, u64)
         ensures seat { (result.0.table_id ≡ self.table) × (result.0.me ≡ (self.value, [])) }

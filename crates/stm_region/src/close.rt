@@ -66,16 +66,33 @@ impl<L: Law, A: Allocator> Region<L, A> {
         let Ok(mut words) = Vec::with_capacity(alloc, self.size) else {
             return Err((self, client, RegionFault::Memory));
         };
+        let version = self.take_out(client, &mut words);
+        Ok((words, version))
+    }
+
+    // The words go into a vector that has room for them.
+    pub(crate) fn take_out<B: Allocator>(
+        self,
+        client: Client<L>,
+        words: &mut Vec<u64, B>,
+    ) -> Version
+        requires own { client.table ≡ self.table }
+        requires free_handed { IsFreeHanded client.value }
+        requires all { client.value.grants ≡ 63 }
+        requires room { (words.old.items ≡ []) × (self.size ≤ vec_capacity words.old) }
+        ensures ends { Ends L.lawful self client.value words.new.items result }
+        ensures fits { L.fits self.first }
+    {
         let size = self.size;
         let cells = self.cells;
         let table = self.into_table();
         let (seat, _) = client.into_parts();
         let closed = table.close_with(seat);
-        let clock = unload(&closed, cells, size, &mut words);
+        let clock = unload(&closed, cells, size, words);
         closed.free();
         let Some(version) = Version::new(clock) else {
             unreachable!()
         };
-        Ok((words, version))
+        version
     }
 }

@@ -4,7 +4,7 @@ ghost use Rattle.stm_region.specs.declared.fault.RegionFault.TheVariants.{Memory
 use std::alloc::{AllocError, AllocFailed};
 use thiserror::Error;
 
-/// Why a region could not be opened, split or closed.
+/// Why a region could not be opened, split, closed or renewed.
 #[derive(Clone, Copy, Debug, PartialEq, Eq, Error, Drop)]
 pub enum RegionFault {
     /// A region has 1 to 4,194,304 data words.
@@ -25,6 +25,9 @@ pub enum RegionFault {
     /// A region has 1 to 1,048,576 lock words.
     #[error("the number of lock words is not 1 to 1048576")]
     Stripes,
+    /// A region is renewed at most 65,535 times.
+    #[error("the region was renewed 65535 times")]
+    Renewals,
 }
 
 impl From<AllocError> for RegionFault {

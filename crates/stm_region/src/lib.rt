@@ -14,6 +14,7 @@ mod lay;
 mod opening;
 mod plays;
 mod region;
+mod renew;
 mod rule;
 mod steps;
 mod view;
@@ -21,6 +22,7 @@ mod view;
 pub use client::Client;
 pub use fault::RegionFault;
 pub use region::Region;
+pub use renew::RenewFault;
 pub use rule::{gathering_keeps_all_grants, reads_are_of_one_version, records_are_serial};
 
 #[cfg(test)]

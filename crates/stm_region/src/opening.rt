@@ -2,19 +2,21 @@ ghost use Rattle.stm_region.specs.Rule.{Holds};
 
 use crate::view::View;
 use atomic_table::{Seat, TableRule};
+use boxcar::tag::Tag;
 use std::alloc::{Allocator, Global};
 use std::marker::{Model, PhantomData};
 use std::snapshot::Snapshot;
 use stm_words::Law;
 
 /// What the rule of a region's table is told once: the words at the opening, the last version and
-/// how many lock words there are.
+/// how many lock words there are; and, where it was renewed, the words of the first opening, how
+/// many renewals there were, and the seat that was the last one of the table before.
 #[derive(Drop)]
 pub struct Opening<A: Allocator = Global> {
     pub(crate) words: Snapshot<Vec<u64, A>>,
     pub(crate) last: u64,
     pub(crate) stripes: u32,
-    pub(crate) first: Snapshot<Vec<u64, A>>,
+    pub(crate) first: Option<Tag>,
     pub(crate) renewal: u32,
     pub(crate) start: Option<Snapshot<Seat<(), View>>>,
 }
@@ -24,11 +26,11 @@ impl<A: Allocator> Model for Opening<A> {
     ghost use Rattle.stm_region.specs.Shown.{Opened};
     ghost use Rattle.stm_region.specs.Layout.{first_cell};
     ghost use Rattle.std.specs.Prelude.{option_map};
-    ghost use Rattle.stm_region.specs.Shown.{started};
+    ghost use Rattle.stm_region.specs.Shown.{started, first_words};
 
     ghost Value = { Opened };
 
-    ghost view = { λ o. record { image = drop (first_cell o.stripes) o.words.value.items; last = o.last; stripes = o.stripes; first = drop (first_cell o.stripes) o.first.value.items; renewal = o.renewal; start = started (option_map (λ s. s.value.me.0) o.start) } };
+    ghost view = { λ o. record { image = drop (first_cell o.stripes) o.words.value.items; last = o.last; stripes = o.stripes; first = first_words (drop (first_cell o.stripes) o.words.value.items) (option_map (λ t. t.numbers) o.first); renewal = o.renewal; start = started (option_map (λ s. s.value.me.0) o.start) } };
 }
 
 /// The table's words and the clients' values are a core state that meets the version invariant.

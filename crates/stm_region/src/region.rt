@@ -19,7 +19,7 @@ use crate::plays::{Gives, Takes};
 use crate::view::View;
 use atomic_table::Table;
 use std::alloc::{Allocator, Global};
-use std::marker::{Model, PhantomData};
+use std::marker::Model;
 use std::snapshot::Snapshot;
 use stm_words::{Addr, Law};
 
@@ -35,6 +35,8 @@ pub struct Region<L: Law, A: Allocator = Global> {
     pub(crate) stripes: u32,
     // The place of the first data word.
     pub(crate) cells: usize,
+    // How many renewals there were.
+    pub(crate) renewal: u32,
 }
 
 impl<L: Law, A: Allocator> Model for Region<L, A> {
@@ -45,7 +47,7 @@ impl<L: Law, A: Allocator> Model for Region<L, A> {
 
     ghost view = { λ r. record { table = r.table.shared.table_id; size = r.size; last = r.last; stripes = r.stripes; opening = r.table.shared.key.image; first = r.table.shared.key.first; renewal = r.table.shared.key.renewal; start = r.table.shared.key.start } };
 
-    ghost invariant = { λ r. IsLaid r.table.shared.table_id.words r.table.shared.table_id.slots r.table.shared.key r.size r.last r.stripes r.cells };
+    ghost invariant = { λ r. IsLaid r.table.shared.table_id.words r.table.shared.table_id.slots r.table.shared.key r.size r.last r.stripes r.cells r.renewal };
 }
 
 impl<L: Law, A: Allocator> Region<L, A> {
@@ -60,6 +62,7 @@ impl<L: Law, A: Allocator> Region<L, A> {
             last: _,
             stripes: _,
             cells: _,
+            renewal: _,
         } = self;
         table
     }
@@ -73,6 +76,7 @@ impl<L: Law, A: Allocator> Drop for Region<L, A> {
             last: _,
             stripes: _,
             cells: _,
+            renewal: _,
         } = self;
         drop(table);
     }
@@ -106,7 +110,7 @@ impl<L: Law, A: Allocator + Copy> Region<L, A> {
             words: Snapshot::of(&words),
             last,
             stripes,
-            first: Snapshot::of(&words),
+            first: None,
             renewal: 0,
             start: None,
         };
@@ -117,14 +121,9 @@ impl<L: Law, A: Allocator + Copy> Region<L, A> {
             last,
             stripes,
             cells: FIRST_LOCK + stripes as usize + padding(stripes),
+            renewal: 0,
         };
-        let client = Client {
-            seat,
-            grants: 63,
-            probed: 0,
-            version: 0,
-            law: PhantomData,
-        };
+        let client = Client::of_seat(seat, 63);
         Ok((region, client))
     }
 }
@@ -174,13 +173,7 @@ impl<L: Law, A: Allocator> Region<L, A> {
         }
         let seat = self.table.shared.split_seat::<Gives>(&mut client.seat);
         client.grants -= 1;
-        Ok(Client {
-            seat,
-            grants: 0,
-            probed: 0,
-            version: 0,
-            law: PhantomData,
-        })
+        Ok(Client::of_seat(seat, 0))
     }
 
     /// Takes in another client: its records, its grants and one grant more.

@@ -4,7 +4,7 @@ ghost use Rattle.stm_core.specs.Client.{word_before, decided};
 ghost use Rattle.stm_core.specs.Event.{begin as begins, probe as probes, fetch as fetches, check as checks, lock as locks, tick as ticks, validate as validates, put as puts, release as releases, give_back as gives_back, finish as finishes};
 ghost use Rattle.stm_logs.specs.Log.{log_pairs};
 ghost use Rattle.stm_region.specs.Shown.{IsAllowed, acted};
-ghost use Rattle.stm_region.specs.Told.{IsLockWord, IsLoneOpen, StandsOn, Decides};
+ghost use Rattle.stm_region.specs.Told.{IsLockWord, IsLoneOpen, StandsOn, AreEarlier, Decides};
 ghost use Rattle.std.specs.Prelude.{◌⊎◌};
 ghost use Rattle.stm_core.specs.Client.{version_of, IsFree};
 ghost use Rattle.stm_core.specs.Event.{Holds};
@@ -26,6 +26,7 @@ impl<L: Law, A: Allocator> Region<L, A> {
         ensures version { result ≤ self.now.last }
         ensures floor { client.old.value.floor ≤ result }
         ensures stands { StandsOn L.fits self.now.size [] }
+        ensures earlier { AreEarlier self.now.renewal result client.old.value.records }
     {
         let found = self.load_as::<Brand>(&mut client.seat, 0, 0);
         client.version = 0;

@@ -1,6 +1,8 @@
 ghost use Rattle.std.specs.Prelude.{◌≡◌, ℕ, ◌<◌, IfOk, false, []};
 ghost use Rattle.stm_core.specs.Core.{IsFreeHanded};
 
+mod renewals;
+
 use super::{
     Client, Region, RegionFault, gathering_keeps_all_grants, reads_are_of_one_version,
     records_are_serial,

@@ -8,13 +8,14 @@ use Rattle.stm_core.specs.Event.{begin, finish, giving, fresh}
 use Rattle.stm_core.proofs.Lists.{by_bool}
 use Rattle.stm_logs.specs.Log.{LogValue}
 use Rattle.stm_region.specs.Shown.{RegionShown, ClientShown, acted, joined}
+use Rattle.stm_region.specs.Told.{IsEarlier, AreEarlier}
 use Rattle.stm_attempt.specs.Running.{still}
 use Rattle.stm_attempt.specs.Committing.{HasCommitted, HasStopped, IsCommitVersion, commit_record, apart}
 use Rattle.stm_attempt.specs.declared.conflict.Stop.{Stop}
 use Rattle.vac_model.specs.declared.tasks.Task.{Task}
 use Rattle.vac_model.specs.declared.replies.Reply.{Reply}
 use Rattle.vac_model.specs.Code.{code}
-use Rattle.vac_manager.specs.Called.{IsKnown, KnowsAll, Adds, Tried}
+use Rattle.vac_manager.specs.Called.{IsUnplaced, Adds, Tried}
 
 record_tag : (region : RegionShown) (tag : List ℕ) (v : Client) (pairs : List (ℕ × ℕ)) (version : ℕ) → (commit_record region tag v pairs version).tag ≡ tag
 record_tag region tag v [] version = refl
@@ -63,32 +64,31 @@ rank_small : (x : Record) → rank x ≤ 2 * x.version + 1
 rank_small x = let h = half x.writer in omega arith
 
 -- the record of a commit stands before none that its client had
-pub stands_last : (region : RegionShown) (tag : List ℕ) (v : Client) (pairs : List (ℕ × ℕ)) (version floor : ℕ) → region.renewal ≡ 0 → v.began_at ≡ 0 →
-    IsCommitVersion v pairs version → floor ≤ v.rv → (x : Record) → IsKnown 0 floor x → before (commit_record region tag v pairs version) x ≡ false
-stands_last region tag v [] version floor r p h l x k =
-    not_earlier region.renewal (2 * v.rv + 1) v.began_at x.renewal (rank x) x.point (let q = k.present in omega (arith, r))
-    (λ e. (let q = k.version (e ∙ r) in let s = rank_small x in omega (arith, l), let q = k.unplaced in omega (arith, p)))
-stands_last region tag v (w ∷ ws) version floor r p h l x k =
-    not_earlier region.renewal (2 * version + 0) 0 x.renewal (rank x) x.point (let q = k.present in omega (arith, r))
-    (λ e. (let q = k.version (e ∙ r) in let s = rank_small x in omega (arith, l, h), let q = k.unplaced in omega arith))
+pub stands_last : (region : RegionShown) (tag : List ℕ) (v : Client) (pairs : List (ℕ × ℕ)) (version : ℕ) → v.began_at ≡ 0 →
+    IsCommitVersion v pairs version → (x : Record) → IsEarlier region.renewal v.rv x → x.point ≡ 0 → before (commit_record region tag v pairs version) x ≡ false
+stands_last region tag v [] version p h x k u =
+    not_earlier region.renewal (2 * v.rv + 1) v.began_at x.renewal (rank x) x.point k.present
+    (λ e. (let q = k.version e in let s = rank_small x in omega arith, omega (arith, p, u)))
+stands_last region tag v (w ∷ ws) version p h x k u =
+    not_earlier region.renewal (2 * version + 0) 0 x.renewal (rank x) x.point k.present
+    (λ e. (let q = k.version e in let s = rank_small x in omega (arith, h), omega (arith, u)))
 
-record_known : (region : RegionShown) (tag : List ℕ) (v : Client) (pairs : List (ℕ × ℕ)) (version : ℕ) → region.renewal ≡ 0 → v.began_at ≡ 0 →
-    IsCommitVersion v pairs version → IsKnown 0 version (commit_record region tag v pairs version)
-record_known region tag v [] version r p h = record { present = omega (arith, r); version = λ _. omega (arith, h); unplaced = p }
-record_known region tag v (w ∷ ws) version r p h = record { present = omega (arith, r); version = λ _. omega arith; unplaced = refl }
+record_small : (region : RegionShown) (tag : List ℕ) (v : Client) (pairs : List (ℕ × ℕ)) (version : ℕ) → IsCommitVersion v pairs version → (commit_record region tag v pairs version).version ≤ version
+record_small region tag v [] version h = omega (arith, h)
+record_small region tag v (w ∷ ws) version h = omega arith
 
--- a greater floor knows as much
-pub known_more : (floor floor' : ℕ) (r : Record) → floor ≤ floor' → IsKnown 0 floor r → IsKnown 0 floor' r
-known_more floor floor' r l k = record { present = k.present; version = λ e. (let q = k.version e in omega (arith, l)); unplaced = k.unplaced }
+record_unplaced : (region : RegionShown) (tag : List ℕ) (v : Client) (pairs : List (ℕ × ℕ)) (version : ℕ) → v.began_at ≡ 0 → (commit_record region tag v pairs version).point ≡ 0
+record_unplaced region tag v [] version p = p
+record_unplaced region tag v (w ∷ ws) version p = refl
 
 -- what a client is after an attempt that was decided
 pub record Decided (t : Task) (r : Reply) (v v' : Client) : Type 0 where
   pub tried : Tried {E = Stop} t v v' (Ok r)
-  pub known : KnowsAll 0 v'
+  pub unplaced : IsUnplaced v'
 
-pub committed : (region region' : RegionShown) (t : Task) (r : Reply) (pairs : List (ℕ × ℕ)) (rv version : ℕ) (c c0 : ClientShown) (v1 v2 v' : Client) → region'.renewal ≡ 0 → KnowsAll 0 c.value →
+pub committed : (region region' : RegionShown) (t : Task) (r : Reply) (pairs : List (ℕ × ℕ)) (rv version : ℕ) (c c0 : ClientShown) (v1 v2 v' : Client) → region'.renewal ≡ region.renewal → AreEarlier region.renewal rv c.value.records → IsUnplaced c.value →
     c0 ≡ acted region begin rv c → still v1 ≡ still c0.value → c.value.floor ≤ rv → HasCommitted region' (code t r) pairs v1 v2 version → v' ≡ v2 → Decided t r c.value v'
-committed region region' t r pairs rv version c c0 v1 v2 v' none knows begun same low done end =
+committed region region' t r pairs rv version c c0 v1 v2 v' renewed earlier unplaced begun same low done end =
     let attempt0 : c0.value.attempt ≡ c.value.attempt + 1 = ap (λ (x : ClientShown). x.value.attempt) begun in
     let grants0 : c0.value.grants ≡ c.value.grants = ap (λ (x : ClientShown). x.value.grants) begun in
     let rv0 : c0.value.rv ≡ rv = ap (λ (x : ClientShown). x.value.rv) begun in
@@ -103,18 +103,19 @@ committed region region' t r pairs rv version c c0 v1 v2 v' none knows begun sam
     let grants2 : v2.grants ≡ v1.grants = ap (λ (x : Client). x.grants) done.same in
     let early : c.value.floor ≤ v1.rv = omega (arith, low, rv0, rv1) in
     let later = version_later v1 pairs version c.value.floor done.versioned early in
+    let known : (x : Record) → In x c.value.records → IsEarlier region'.renewal v1.rv x = λ x i.
+    subst (λ (n : ℕ). IsEarlier n v1.rv x) (sym renewed) (subst (λ (n : ℕ). IsEarlier region.renewal n x) (sym (rv1 ∙ rv0)) (earlier x i)) in
     let added = commit_record region' (code t r) v1 pairs version in
-    let known : IsKnown 0 version added = record_known region' (code t r) v1 pairs version none place1 done.versioned in
-    let of_added : IsKnown 0 v2.floor added = subst (λ (n : ℕ). IsKnown 0 n added) (sym done.known) known in
     let records : v2.records ≡ c.value.records ++ (added ∷ []) =
     done.records ∙ (ap (λ (rs : List Record). inserted added rs) (records1 ∙ records0)
-    ∙ inserted_last added c.value.records (λ x i. stands_last region' (code t r) v1 pairs version c.value.floor none place1 done.versioned early x (knows.each x i))) in
+    ∙ inserted_last added c.value.records (λ x i. stands_last region' (code t r) v1 pairs version place1 done.versioned x (known x i) (unplaced.each x i))) in
+    let small = record_small region' (code t r) v1 pairs version done.versioned in
     let adds : Adds (code t r) c.value v2 = record {
       added = added;
       tag_is = record_tag region' (code t r) v1 pairs version;
       attempt_is = record_attempt region' (code t r) v1 pairs version ∙ sym attempt2;
       later = record_later region' (code t r) v1 pairs version c.value.floor done.versioned early;
-      known = of_added.version (let q = of_added.present in omega arith);
+      known = omega (arith, small, done.known);
       records = records;
     } in
     let tried : Tried {E = Stop} t c.value v2 (Ok r) = record {
@@ -123,18 +124,18 @@ committed region region' t r pairs rv version c c0 v1 v2 v' none knows begun sam
       floor = omega (arith, later, done.known);
       records = adds;
     } in
-    let every : KnowsAll 0 v2 = record {
+    let every : IsUnplaced v2 = record {
       each = λ x i. elim (in_snoc c.value.records added x (subst (λ (rs : List Record). In x rs) records i)) [
-        | inl j ↦ known_more c.value.floor v2.floor x (omega (arith, later, done.known)) (knows.each x j)
-        | inr e ↦ subst (λ (y : Record). IsKnown 0 v2.floor y) e of_added
+        | inl j ↦ unplaced.each x j
+        | inr e ↦ subst (λ (y : Record). y.point ≡ 0) e (record_unplaced region' (code t r) v1 pairs version place1)
       ];
     } in
-    subst (λ (x : Client). Decided t r c.value x) (sym end) (record { tried = tried; known = every })
+    subst (λ (x : Client). Decided t r c.value x) (sym end) (record { tried = tried; unplaced = every })
 
 -- the same of a task that only read
-pub finished : (region region' : RegionShown) (t : Task) (r : Reply) (rv n : ℕ) (c c0 : ClientShown) (c1 c2 : ClientShown) (v' : Client) → region'.renewal ≡ 0 → KnowsAll 0 c.value →
+pub finished : (region region' : RegionShown) (t : Task) (r : Reply) (rv n : ℕ) (c c0 : ClientShown) (c1 c2 : ClientShown) (v' : Client) → region'.renewal ≡ region.renewal → AreEarlier region.renewal rv c.value.records → IsUnplaced c.value →
     c0 ≡ acted region begin rv c → still c1.value ≡ still c0.value → c.value.floor ≤ rv → c2 ≡ acted region' (finish (code t r)) n c1 → c2.value.held ≡ [] → v' ≡ c2.value → Decided t r c.value v'
-finished region region' t r rv n c c0 c1 c2 v' none knows begun same low ended free end =
+finished region region' t r rv n c c0 c1 c2 v' renewed earlier unplaced begun same low ended free end =
     let floor1 : c1.value.floor ≡ c1.value.rv = ap (λ (x : Client). x.floor) same ∙ (ap (λ (x : ClientShown). x.value.floor) begun ∙ (sym (ap (λ (x : ClientShown). x.value.rv) begun) ∙ sym (ap (λ (x : Client). x.rv) same))) in
     let done : HasCommitted region' (code t r) [] c1.value c2.value c1.value.rv = record {
       records = ap (λ (x : ClientShown). x.value.records) ended;
@@ -143,37 +144,25 @@ finished region region' t r rv n c c0 c1 c2 v' none knows begun same low ended f
       free = free;
       same = ap (λ (x : ClientShown). apart x.value) ended;
     } in
-    committed region region' t r [] rv c1.value.rv c c0 c1.value c2.value v' none knows begun same low done end
+    committed region region' t r [] rv c1.value.rv c c0 c1.value c2.value v' renewed earlier unplaced begun same low done end
 
 -- what an attempt that made no record keeps
-pub known_still : (v v' : Client) → KnowsAll 0 v → v.floor ≤ v'.floor → v'.records ≡ v.records → KnowsAll 0 v'
-known_still v v' knows l e = record { each = λ x i. known_more v.floor v'.floor x l (knows.each x (subst (λ (rs : List Record). In x rs) e i)) }
+pub unplaced_still : (v v' : Client) → IsUnplaced v → v'.records ≡ v.records → IsUnplaced v'
+unplaced_still v v' unplaced e = record { each = λ x i. unplaced.each x (subst (λ (rs : List Record). In x rs) e i) }
 
-pub known_begun : (region : RegionShown) (rv : ℕ) (c c0 : ClientShown) (v v' : Client) → KnowsAll 0 c.value → c0 ≡ acted region begin rv c → still v ≡ still c0.value → c.value.floor ≤ rv → v' ≡ v → KnowsAll 0 v'
-known_begun region rv c c0 v v' knows begun same low end =
-    let floor : v.floor ≡ rv = ap (λ (x : Client). x.floor) same ∙ ap (λ (x : ClientShown). x.value.floor) begun in
-    let records : v.records ≡ c.value.records = ap (λ (x : Client). x.records) same ∙ ap (λ (x : ClientShown). x.value.records) begun in
-    subst (λ (x : Client). KnowsAll 0 x) (sym end) (known_still c.value v knows (omega (arith, low, floor)) records)
+pub unplaced_begun : (region : RegionShown) (rv : ℕ) (c c0 : ClientShown) (v v' : Client) → IsUnplaced c.value → c0 ≡ acted region begin rv c → still v ≡ still c0.value → v' ≡ v → IsUnplaced v'
+unplaced_begun region rv c c0 v v' unplaced begun same end =
+    unplaced_still c.value v' unplaced (ap (λ (x : Client). x.records) end ∙ (ap (λ (x : Client). x.records) same ∙ ap (λ (x : ClientShown). x.value.records) begun))
 
-pub known_stopped : (region region' : RegionShown) (rv : ℕ) (log : LogValue) (s : Stop) (c c0 : ClientShown) (v v2 v' : Client) → KnowsAll 0 c.value → c0 ≡ acted region begin rv c → still v ≡ still c0.value → c.value.floor ≤ rv →
-    HasStopped region' log s v v2 → v' ≡ v2 → KnowsAll 0 v'
-known_stopped region region' rv log s c c0 v v2 v' knows begun same low stopped end =
-    let before = known_begun region rv c c0 v v knows begun same low refl in
-    subst (λ (x : Client). KnowsAll 0 x) (sym end) (known_still v v2 before stopped.floor (ap (λ (x : Client). x.records) stopped.same))
+pub unplaced_stopped : (region region' : RegionShown) (rv : ℕ) (log : LogValue) (s : Stop) (c c0 : ClientShown) (v v2 v' : Client) → IsUnplaced c.value → c0 ≡ acted region begin rv c → still v ≡ still c0.value →
+    HasStopped region' log s v v2 → v' ≡ v2 → IsUnplaced v'
+unplaced_stopped region region' rv log s c c0 v v2 v' unplaced begun same stopped end =
+    let before = unplaced_begun region rv c c0 v v unplaced begun same refl in
+    subst (λ (x : Client). IsUnplaced x) (sym end) (unplaced_still v v2 before (ap (λ (x : Client). x.records) stopped.same))
 
--- clients that split and gather know the records that they have
-pub known_fresh : (v : Client) → KnowsAll 0 (fresh v)
-known_fresh v = record { each = λ x i. absurd (some-ne-none x (sym i.1)) }
+-- what clients that split, gather and go on with a new clock keep
+pub unplaced_fresh : (v : Client) → IsUnplaced (fresh v)
+unplaced_fresh v = record { each = λ x i. absurd (some-ne-none x (sym i.1)) }
 
-pub known_giving : (v v' : Client) → KnowsAll 0 v → v' ≡ giving v → KnowsAll 0 v'
-known_giving v v' knows e = known_still v v' knows (let q = ap (λ (x : Client). x.floor) e in omega arith) (ap (λ (x : Client). x.records) e)
-
-pub known_joined : (v w v' : Client) → KnowsAll 0 v → KnowsAll 0 w → v' ≡ joined v w → ((r : Record) → In r v'.records → In r v.records ⊎ In r w.records) → KnowsAll 0 v'
-known_joined v w v' knows knows' e only =
-    let floor : v'.floor ≡ max v.floor w.floor = ap (λ (x : Client). x.floor) e in
-    record {
-      each = λ x i. elim (only x i) [
-        | inl j ↦ known_more v.floor v'.floor x (omega (arith, floor)) (knows.each x j)
-        | inr j ↦ known_more w.floor v'.floor x (omega (arith, floor)) (knows'.each x j)
-      ];
-    }
+pub unplaced_joined : (v w v' : Client) → IsUnplaced v → IsUnplaced w → ((r : Record) → In r v'.records → In r v.records ⊎ In r w.records) → IsUnplaced v'
+unplaced_joined v w v' unplaced unplaced' only = record { each = λ x i. elim (only x i) [ inl j ↦ unplaced.each x j | inr j ↦ unplaced'.each x j ] }

@@ -1,5 +1,5 @@
 -- How a manager begins and ends.
-use Rattle.std.proofs.Common.{◌≡◌, ◌⊎◌, ℕ, ◌+◌, ◌*◌, ◌≤◌, List, length, slice_index, sym, ap, subst, ◌∙◌, arith}
+use Rattle.std.proofs.Common.{◌≡◌, ◌⊎◌, ℕ, ◌+◌, ◌*◌, ◌-◌, ◌/◌, ◌≤◌, List, length, slice_index, sym, ap, subst, ◌∙◌, arith}
 use Rattle.stm_words.specs.Image.{In}
 use Rattle.stm_core.specs.Client.{Client, Record}
 use Rattle.stm_core.specs.Event.{opener}
@@ -37,15 +37,14 @@ fresh_size xs ys n size e h same = same ∙ (ap (λ (zs : List ℕ). length zs) 
 capacity_is : (region : RegionShown) (n : ℕ) → region.size ≡ 16 + 8 * n → capacity_of region ≡ n
 capacity_is region n e = omega (arith, e)
 
-pub opened_on : (region : RegionShown) (xs ys : List ℕ) (n : ℕ) → ys ≡ xs → IsFresh xs n → region.size ≡ length ys → region.first ≡ ys → length ys ≤ 4194304 → region.renewal ≡ 0 → IsOpened region
-opened_on region xs ys n e h size first few none =
+pub opened_on : (region : RegionShown) (xs ys : List ℕ) (n : ℕ) → ys ≡ xs → IsFresh xs n → region.size ≡ length ys → region.first ≡ ys → length ys ≤ 4194304 → IsOpened region
+opened_on region xs ys n e h size first few =
     let all = fresh_size xs ys n region.size e h size in
     let capacity = capacity_is region n all in
     record {
       size = omega (arith, all, capacity);
       small = omega (arith, size, few);
       shown = subst (λ (k : ℕ). Shows region.first (empty_state k)) (sym capacity) (subst (λ (zs : List ℕ). Shows zs (empty_state n)) (sym first) (fresh_shows xs ys n e h));
-      unrenewed = none;
     }
 
 pub opens : (region : RegionShown) (client : ClientShown) (xs ys : List ℕ) (n last stripes : ℕ) → ys ≡ xs → IsFresh xs n → region ≡ record { table = region.table; size = length ys; last = last; stripes = stripes; opening = ys; first = ys; renewal = 0; start = opener } →
@@ -77,3 +76,11 @@ pub only_of : (rs xs xs' ys ys' : List Record) → ((r : Record) → In r rs →
 only_of rs xs xs' ys ys' h e f =
     subst (λ (zs : List Record). (r : Record) → In r rs → In r zs ⊎ In r ys') (sym e)
     (subst (λ (zs : List Record). (r : Record) → In r rs → In r xs ⊎ In r zs) (sym f) h)
+
+-- a renewed region was first opened on the same words
+pub opened_again : (region region' : RegionShown) → region'.size ≡ region.size → region'.first ≡ region.first → IsOpened region → IsOpened region'
+opened_again region region' size first h = record {
+  size = subst (λ (n : ℕ). n ≡ 16 + 8 * ((n - 16) / 8)) (sym size) h.size;
+  small = omega (arith, size, h.small);
+  shown = subst (λ (n : ℕ). Shows region'.first (empty_state ((n - 16) / 8))) (sym size) (subst (λ (ws : List ℕ). Shows ws (empty_state (capacity_of region))) (sym first) h.shown);
+}

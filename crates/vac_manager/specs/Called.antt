@@ -22,6 +22,7 @@ use Rattle.vac_model.specs.Code.{code}
 use Rattle.vac_manager.specs.declared.fault.Fault.{Fault}
 use Rattle.vac_manager.specs.declared.fault.Fault.TheVariants as fault
 use Rattle.vac_tasks.specs.Reading.{only_reads}
+use Rattle.vac_manager.specs.declared.manager.TheConstants.{MOST_TRIES}
 use Rattle.vac_manager.specs.Law.{Shows}
 use Rattle.vac_manager.specs.Legal.{capacity_of, IsHistory}
 
@@ -38,22 +39,14 @@ pub record IsOpened (region : RegionShown) : Type 0 where
   pub size : region.size ≡ 16 + 8 * capacity_of region
   pub small : region.size ≤ 4194304
   pub shown : Shows region.first (empty_state (capacity_of region))
-  pub unrenewed : region.renewal ≡ 0
 
--- a record is of at most this renewal of the clock: of an earlier one, or with a version of at
--- most this floor
-pub record IsKnown (renewal floor : ℕ) (r : Record) : Type 0 where
-  pub present : r.renewal ≤ renewal
-  pub version : r.renewal ≡ renewal → r.version ≤ floor
-  pub unplaced : r.point ≡ 0
-
--- the client knows the version of each of its records of this renewal
-pub record KnowsAll (renewal : ℕ) (v : Client) : Type 0 where
-  pub each : (r : Record) → In r v.records → IsKnown renewal v.floor r
+-- the client's records keep no place in a list of events
+pub record IsUnplaced (v : Client) : Type 0 where
+  pub each : (r : Record) → In r v.records → r.point ≡ 0
 
 -- so many tries may be asked for
 abbrev pub is_try_count : ℕ → Bool
-is_try_count tries = nat_le 1 tries && nat_le tries 1048576
+is_try_count tries = nat_le 1 tries && nat_le tries MOST_TRIES
 
 -- the task can be asked for, with so many tries
 abbrev pub is_call : Task → ℕ → Bool

@@ -1,4 +1,5 @@
--- The law of the manager's records: which images it may stand on, and which records may be made on them.
+-- The law of the manager's records: which images it may stand on, and which records may be made on
+-- them.
 use Rattle.std.specs.Prelude.{◌≡◌, ℕ, List, length, slice_index, IsTrue}
 use Rattle.stm_words.specs.Image.{Agrees, laid}
 use Rattle.vac_model.specs.declared.tasks.Task.{Task}
@@ -23,8 +24,9 @@ pub record IsFitting (image : List ℕ) : Type 0 where
   pub state : State
   pub shown : Shows image state
 
--- a record is lawful where its tag is that of a task that can be asked for and of a reply, and under every image of a balanced state that
--- agrees with the reads, the task gives this reply and the writes make the state after it
+-- a record is lawful where its tag is that of a task that can be asked for and of a reply, and
+-- under every image of a balanced state that agrees with the reads, the task gives this reply and
+-- the writes make the state after it
 pub record IsLawful (tag : List ℕ) (reads writes : List (ℕ × ℕ)) : Type 0 where
   pub task : Task
   pub reply : Reply
@@ -34,5 +36,7 @@ pub record IsLawful (tag : List ℕ) (reads writes : List (ℕ × ℕ)) : Type 0
       IsOutcome (words_of (laid image writes)) (length (laid image writes)) (run s task) reply
 
 -- a lawful record on a fitting image that agrees with its reads gives a fitting image
-pub keeps_fitting : (tag image : List ℕ) (reads writes : List (ℕ × ℕ)) → IsFitting image → Agrees image reads → IsLawful tag reads writes → IsFitting (laid image writes)
-keeps_fitting tag image reads writes f agrees l = record { state = _; shown = (l.runs image f.state f.shown agrees).state }
+pub keeps_fitting : (tag image : List ℕ) (reads writes : List (ℕ × ℕ)) → IsFitting image →
+    Agrees image reads → IsLawful tag reads writes → IsFitting (laid image writes)
+keeps_fitting tag image reads writes f agrees l =
+    record { state = _; shown = (l.runs image f.state f.shown agrees).state }

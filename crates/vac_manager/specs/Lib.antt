@@ -3,3 +3,4 @@ pub mod Legal
 pub mod Called
 pub mod Faults
 pub mod Opening
+pub mod Renewed

@@ -4,14 +4,16 @@ use Rattle.stm_core.specs.Client.{Client}
 use Rattle.stm_core.specs.Event.{opener}
 use Rattle.stm_region.specs.Shown.{RegionShown}
 use Rattle.stm_region.specs.Closed.{Ends}
+use Rattle.vac_model.specs.declared.limits.TheConstants.{MOST_BLOCKS}
 use Rattle.vac_model.specs.State.{State, empty_state}
+use Rattle.vac_manager.specs.declared.manager.TheConstants.{MOST_STRIPES}
 use Rattle.vac_manager.specs.Law.{Shows, IsLawful}
 use Rattle.vac_manager.specs.Legal.{IsLegal, capacity_of}
 use Rattle.vac_manager.specs.Called.{CallerShown}
 
 -- a heap has 1 to 262,144 blocks
 abbrev pub is_block_count : ℕ → Bool
-is_block_count n = nat_le 1 n && nat_le n 262144
+is_block_count n = nat_le 1 n && nat_le n MOST_BLOCKS
 
 -- the clock may end at this version
 abbrev pub is_last : ℕ → Bool
@@ -19,7 +21,7 @@ is_last last = nat_le 1 last && nat_lt last (2 ^ 62)
 
 -- there may be so many lock words
 abbrev pub is_stripe_count : ℕ → Bool
-is_stripe_count stripes = nat_le 1 stripes && nat_le stripes 1048576
+is_stripe_count stripes = nat_le 1 stripes && nat_le stripes MOST_STRIPES
 
 -- a manager may be opened with these numbers
 abbrev pub is_opening : ℕ → ℕ → ℕ → Bool

@@ -5,7 +5,7 @@ ghost use Rattle.stm_core.specs.Core.{IsFreeHanded};
 ghost use Rattle.vac_model.specs.Ranges.{is_task};
 ghost use Rattle.vac_tasks.specs.Reading as reading;
 ghost use Rattle.vac_manager.specs.Legal.{WasLegal};
-ghost use Rattle.vac_manager.specs.Called.{IsOpened, KnowsAll, Tried, Repeated};
+ghost use Rattle.vac_manager.specs.Called.{IsOpened, IsUnplaced, Tried, Repeated};
 ghost use Rattle.vac_manager.specs.Called.{IsStop, IsNoConflict};
 
 use crate::law::ManagerLaw;
@@ -26,12 +26,12 @@ fn try_reading<G: Gate>(
     requires own { client.old.table ≡ region.now.table }
     requires free_handed { IsFreeHanded client.old.value }
     requires opened { IsOpened region.now }
-    requires known { KnowsAll 0 client.old.value }
+    requires unplaced { IsUnplaced client.old.value }
     requires range { IsTrue (is_task task.now) }
     requires reads { IsTrue (reading.only_reads task.now) }
     ensures own { client.new.table ≡ client.old.table }
     ensures free_handed { IsFreeHanded client.new.value }
-    ensures known { KnowsAll 0 client.new.value }
+    ensures unplaced { IsUnplaced client.new.value }
     ensures tried { Tried task.now client.old.value client.new.value result }
     ensures legal { IfOk result (λ _. WasLegal region.now client.new.value) }
     ensures stopped { IfErr result (λ stop. IsStop region.now task.now stop client.new.value) }
@@ -69,13 +69,13 @@ fn try_writing<G: Gate>(
     requires own { client.old.table ≡ region.now.table }
     requires free_handed { IsFreeHanded client.old.value }
     requires opened { IsOpened region.now }
-    requires known { KnowsAll 0 client.old.value }
+    requires unplaced { IsUnplaced client.old.value }
     requires range { IsTrue (is_task task.now) }
     requires writes { reading.only_reads task.now ≡ false }
     requires start { start < 8 }
     ensures own { client.new.table ≡ client.old.table }
     ensures free_handed { IsFreeHanded client.new.value }
-    ensures known { KnowsAll 0 client.new.value }
+    ensures unplaced { IsUnplaced client.new.value }
     ensures tried { Tried task.now client.old.value client.new.value result }
     ensures legal { IfOk result (λ _. WasLegal region.now client.new.value) }
     ensures stopped { IfErr result (λ stop. IsStop region.now task.now stop client.new.value) }
@@ -113,12 +113,12 @@ fn try_once<G: Gate>(
     requires own { client.old.table ≡ region.now.table }
     requires free_handed { IsFreeHanded client.old.value }
     requires opened { IsOpened region.now }
-    requires known { KnowsAll 0 client.old.value }
+    requires unplaced { IsUnplaced client.old.value }
     requires range { IsTrue (is_task task.now) }
     requires start { start < 8 }
     ensures own { client.new.table ≡ client.old.table }
     ensures free_handed { IsFreeHanded client.new.value }
-    ensures known { KnowsAll 0 client.new.value }
+    ensures unplaced { IsUnplaced client.new.value }
     ensures tried { Tried task.now client.old.value client.new.value result }
     ensures legal { IfOk result (λ _. WasLegal region.now client.new.value) }
     ensures stopped { IfErr result (λ stop. IsStop region.now task.now stop client.new.value) }
@@ -145,13 +145,13 @@ pub(crate) fn run_in_attempts<G: Gate>(
     requires own { client.old.table ≡ region.now.table }
     requires free_handed { IsFreeHanded client.old.value }
     requires opened { IsOpened region.now }
-    requires known { KnowsAll 0 client.old.value }
+    requires unplaced { IsUnplaced client.old.value }
     requires range { IsTrue (is_task task.now) }
     requires start { start < 8 }
     requires tries { 1 ≤ tries }
     ensures own { client.new.table ≡ client.old.table }
     ensures free_handed { IsFreeHanded client.new.value }
-    ensures known { KnowsAll 0 client.new.value }
+    ensures unplaced { IsUnplaced client.new.value }
     ensures repeated { Repeated region.now task.now tries
         client.old.value client.new.value result }
     ensures legal { IfOk result (λ _. WasLegal region.now client.new.value) }

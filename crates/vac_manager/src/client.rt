@@ -20,7 +20,7 @@ pub struct Client {
 impl Model for Client {
     ghost use Rattle.std.specs.Prelude.{◌<◌};
     ghost use Rattle.stm_core.specs.Core.{IsFreeHanded};
-    ghost use Rattle.vac_manager.specs.Called.{CallerShown, KnowsAll};
+    ghost use Rattle.vac_manager.specs.Called.{CallerShown, IsUnplaced};
 
     ghost Value = { CallerShown };
 
@@ -32,5 +32,5 @@ impl Model for Client {
     } };
 
     ghost invariant = { λ c. IsFreeHanded c.client.value × (c.start < 8) × (c.next < 8)
-        × KnowsAll 0 c.client.value };
+        × IsUnplaced c.client.value };
 }

@@ -10,12 +10,14 @@ mod client;
 mod fault;
 mod law;
 mod manager;
+mod renew;
 mod told;
 
 pub use client::Client;
 pub use fault::Fault;
 pub use law::{ManagerLaw, serial_records_are_legal};
-pub use manager::Manager;
+pub use manager::{MOST_STRIPES, MOST_TRIES, Manager};
+pub use renew::RenewFault;
 pub use told::Told;
 pub use vac_model::{
     Asks, Changes, Command, Item, Joined, Kind, Pick, Reply, Report, Task, TripReply, UpdateReply,

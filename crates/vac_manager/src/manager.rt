@@ -1,6 +1,6 @@
 //! The manager over a region, which many clients call at once.
 
-ghost use Rattle.std.specs.Prelude.{◌≡◌, ◌↔◌, ◌+◌, ◌*◌, ◌⊎◌, min, false, IfOk, IfErr, IsErrOf};
+ghost use Rattle.std.specs.Prelude.{◌≡◌, ◌↔◌, ◌≤◌, ◌+◌, ◌*◌, ◌⊎◌, min, false, IfOk, IfErr, IsErrOf};
 ghost use Rattle.stm_core.specs.Core.{IsFreeHanded};
 ghost use Rattle.stm_core.specs.History.{Sub};
 ghost use Rattle.stm_region.specs.Shown.{joined};
@@ -20,19 +20,17 @@ use stm_attempt::{Gate, Logs, NoGate};
 use stm_region::{Region, RegionFault};
 use stm_words::Version;
 use tx_alloc::fresh_words;
+use vac_model::limits::MOST_BLOCKS;
 use vac_model::{Reply, Task};
-
-/// The most blocks that a heap has.
-const BLOCK_LIMIT: u32 = 262_144;
 
 /// The first version that is none.
 const VERSION_LIMIT: u64 = 1 << 62;
 
 /// The most lock words that a region has.
-const STRIPE_LIMIT: u32 = 1_048_576;
+pub const MOST_STRIPES: u32 = 1_048_576;
 
 /// The most tries that a call may be given.
-const TRY_LIMIT: u32 = 1_048_576;
+pub const MOST_TRIES: u32 = 1_048_576;
 
 /// How many lists of free blocks there are.
 const LISTS: u32 = 8;
@@ -43,8 +41,8 @@ type Kept = (Manager, Client, RegionFault);
 /// A manager of reservations, which many clients call at once. Contracts see its region.
 #[derive(Drop)]
 pub struct Manager {
-    alloc: Global,
-    region: Region<ManagerLaw>,
+    pub(crate) alloc: Global,
+    pub(crate) region: Region<ManagerLaw>,
 }
 
 impl Model for Manager {
@@ -63,16 +61,17 @@ impl Manager {
     /// version clock ends at `last`, 1 to 2^62 - 1. Each word has a lock word, as far as the limit
     /// of 1,048,576 goes.
     pub fn new(alloc: Global, blocks: u32, last: u64) -> Result<(Manager, Client), Fault>
-        ensures ok { IfOk result (λ r. Opens blocks last (min (16 + 8 * blocks) 1048576) r.0 r.1) }
+        ensures ok { IfOk result (λ r. Opens blocks last
+            (min (16 + 8 * blocks) MOST_STRIPES) r.0 r.1) }
         ensures arguments { IsErrOf result Fault.Arguments ↔ (is_opening blocks last 1 ≡ false) }
         ensures memory { IfErr result
             (λ fault. (fault ≡ Fault.Arguments) ⊎ (fault ≡ Fault.Memory)) }
     {
-        if blocks == 0 || blocks > BLOCK_LIMIT {
+        if blocks == 0 || blocks > MOST_BLOCKS {
             return Err(Fault::Arguments);
         }
         let words = 16 + 8 * blocks;
-        Self::with_stripes(alloc, blocks, last, words.min(STRIPE_LIMIT))
+        Self::with_stripes(alloc, blocks, last, words.min(MOST_STRIPES))
     }
 
     /// The same with this many lock words, 1 to 1,048,576.
@@ -88,9 +87,9 @@ impl Manager {
         ensures memory { IfErr result
             (λ fault. (fault ≡ Fault.Arguments) ⊎ (fault ≡ Fault.Memory)) }
     {
-        let blocks_fit = 1 <= blocks && blocks <= BLOCK_LIMIT;
+        let blocks_fit = 1 <= blocks && blocks <= MOST_BLOCKS;
         let last_fits = 1 <= last && last < VERSION_LIMIT;
-        let stripes_fit = 1 <= stripes && stripes <= STRIPE_LIMIT;
+        let stripes_fit = 1 <= stripes && stripes <= MOST_STRIPES;
         if !(blocks_fit && last_fits && stripes_fit) {
             return Err(Fault::Arguments);
         }
@@ -116,6 +115,7 @@ impl Manager {
         requires own { client.old.table ≡ self.now.table }
         ensures client { client.new ≡ record client.old { value = client.new.value } }
         ensures grants { client.new.value.grants ≡ client.old.value.grants }
+        ensures floor { client.old.value.floor ≤ client.new.value.floor }
         ensures free_handed { IsFreeHanded client.new.value }
         ensures arguments { IsErrOf result Fault.Arguments ↔ (is_call task.now tries ≡ false) }
         ensures records { Records task.now result client.old.value client.new.value }
@@ -145,6 +145,7 @@ impl Manager {
         requires own { client.old.table ≡ self.now.table }
         ensures client { client.new ≡ record client.old { value = client.new.value } }
         ensures grants { client.new.value.grants ≡ client.old.value.grants }
+        ensures floor { client.old.value.floor ≤ client.new.value.floor }
         ensures free_handed { IsFreeHanded client.new.value }
         ensures arguments { IsErrOf result Fault.Arguments ↔ (is_call task.now tries ≡ false) }
         ensures records { Records task.now result client.old.value client.new.value }
@@ -160,7 +161,7 @@ impl Manager {
         ensures alone { client.old.value.grants ≡ 63 → IfErr result (λ fault. IsNotBusy fault) }
     {
         let start = client.start;
-        let tries_fit = 1 <= tries && tries <= TRY_LIMIT;
+        let tries_fit = 1 <= tries && tries <= MOST_TRIES;
         if !(task.is_in_range() && tries_fit) {
             return Err(Fault::Arguments);
         }

@@ -1,6 +1,6 @@
 use Rattle.std.proofs.Common.{◌≡◌, ◌≤◌}
 use Rattle.stm_core.specs.Core.{IsFreeHanded}
-use Rattle.vac_manager.specs.Called.{KnowsAll}
+use Rattle.vac_manager.specs.Called.{IsUnplaced}
 use Rattle.vac_manager.proofs.Trying.{Trying}
 use Rattle.vac_manager.proofs.attempts.run_in_attempts.Given as goal
 
@@ -8,7 +8,7 @@ abbrev pub invariant-tries : goal.invariant-tries
 invariant-tries g l = record {
   own : l.client.table ≡ l.region.table;
   free : IsFreeHanded l.client.value;
-  known : KnowsAll 0 l.client.value;
+  unplaced : IsUnplaced l.client.value;
   some : 1 ≤ l.left;
   few : l.left ≤ l.tries;
   trying : Trying l.initial.client.value l.client.value l.left l.tries;

@@ -2,7 +2,7 @@ use Rattle.std.proofs.Common.{rules, refl, ap, ◌∙◌}
 use Rattle.stm_region.specs.Shown.{RegionShown, ClientShown}
 use Rattle.stm_attempt.specs.Seen.{Origin}
 use Rattle.stm_attempt.specs.Running.{is_unfinished}
-use Rattle.vac_manager.proofs.Adding.{finished, known_begun}
+use Rattle.vac_manager.proofs.Adding.{finished, unplaced_begun}
 use Rattle.vac_manager.proofs.Lawful.{holds_begun, lawful_read}
 use Rattle.vac_manager.proofs.Legality.{finished_legal}
 use Rattle.vac_manager.proofs.Trying.{shown_by_read}
@@ -23,21 +23,21 @@ returns-clause-legal g c =
 
 pub returns-clause-tried : goal.returns-clause-tried
 returns-clause-tried g c =
-    (finished c.args.region.now c.read_task-answer.new.memory.region.now _ _ _ _ _ _ c.read_task-answer.new.memory.client.now _ _ (ap (λ (o : Origin). o.region.renewal) c.in-Ok.ensures.origin ∙ (ap (λ (r : RegionShown). r.renewal) c.begin-attempt.ensures.region ∙ c.requires.opened.unrenewed)) c.requires.known c.begin-attempt.ensures.value
+    (finished c.args.region.now c.read_task-answer.new.memory.region.now _ _ _ _ _ _ c.read_task-answer.new.memory.client.now _ _ (ap (λ (o : Origin). o.region.renewal) c.in-Ok.ensures.origin ∙ ap (λ (r : RegionShown). r.renewal) c.begin-attempt.ensures.region) c.begin-attempt.ensures.earlier c.requires.unplaced c.begin-attempt.ensures.value
     (ap (λ (o : Origin). o.client.value) c.in-Ok.ensures.origin) c.begin-attempt.ensures.version c.finish.ensures.client.1 c.finish.ensures.free_handed.1 (search rules)).tried
 
-pub returns-clause-known : goal.returns-clause-known
-returns-clause-known g c =
-    (finished c.args.region.now c.read_task-answer.new.memory.region.now c.args.task.now c.in-Ok.reply _ _ _ _ c.read_task-answer.new.memory.client.now _ _ (ap (λ (o : Origin). o.region.renewal) c.in-Ok.ensures.origin ∙ (ap (λ (r : RegionShown). r.renewal) c.begin-attempt.ensures.region ∙ c.requires.opened.unrenewed)) c.requires.known c.begin-attempt.ensures.value
-    (ap (λ (o : Origin). o.client.value) c.in-Ok.ensures.origin) c.begin-attempt.ensures.version c.finish.ensures.client.1 c.finish.ensures.free_handed.1 (search rules)).known
+pub returns-clause-unplaced : goal.returns-clause-unplaced
+returns-clause-unplaced g c =
+    (finished c.args.region.now c.read_task-answer.new.memory.region.now c.args.task.now c.in-Ok.reply _ _ _ _ c.read_task-answer.new.memory.client.now _ _ (ap (λ (o : Origin). o.region.renewal) c.in-Ok.ensures.origin ∙ ap (λ (r : RegionShown). r.renewal) c.begin-attempt.ensures.region) c.begin-attempt.ensures.earlier c.requires.unplaced c.begin-attempt.ensures.value
+    (ap (λ (o : Origin). o.client.value) c.in-Ok.ensures.origin) c.begin-attempt.ensures.version c.finish.ensures.client.1 c.finish.ensures.free_handed.1 (search rules)).unplaced
 
-pub returns-in-Some-clause-known : goal.returns-in-Some-clause-known
-returns-in-Some-clause-known g c =
-    known_begun c.args.region.now _ _ _ c.read_task-answer.new.memory.client.now.value _ c.requires.known c.begin-attempt.ensures.value (ap (λ (o : Origin). o.client.value) c.read_task-answer.ensures.origin) c.begin-attempt.ensures.version (search rules)
+pub returns-in-Some-clause-unplaced : goal.returns-in-Some-clause-unplaced
+returns-in-Some-clause-unplaced g c =
+    unplaced_begun c.args.region.now _ _ _ c.read_task-answer.new.memory.client.now.value _ c.requires.unplaced c.begin-attempt.ensures.value (ap (λ (o : Origin). o.client.value) c.read_task-answer.ensures.origin) (search rules)
 
-pub returns-in_default-answer-clause-known : goal.returns-in_default-answer-clause-known
-returns-in_default-answer-clause-known g c =
-    known_begun c.args.region.now _ _ _ c.read_task-answer.new.memory.client.now.value _ c.requires.known c.begin-attempt.ensures.value (ap (λ (o : Origin). o.client.value) c.read_task-answer.ensures.origin) c.begin-attempt.ensures.version (search rules)
+pub returns-in_default-answer-clause-unplaced : goal.returns-in_default-answer-clause-unplaced
+returns-in_default-answer-clause-unplaced g c =
+    unplaced_begun c.args.region.now _ _ _ c.read_task-answer.new.memory.client.now.value _ c.requires.unplaced c.begin-attempt.ensures.value (ap (λ (o : Origin). o.client.value) c.read_task-answer.ensures.origin) (search rules)
 
 pub returns-in-Some-clause-stopped : goal.returns-in-Some-clause-stopped
 returns-in-Some-clause-stopped g c =

@@ -1,7 +1,7 @@
 use Rattle.std.proofs.Common.{rules, ap, ◌∙◌}
 use Rattle.stm_region.specs.Shown.{RegionShown}
 use Rattle.stm_attempt.specs.Seen.{Origin}
-use Rattle.vac_manager.proofs.Adding.{committed, known_begun, known_stopped}
+use Rattle.vac_manager.proofs.Adding.{committed, unplaced_begun, unplaced_stopped}
 use Rattle.vac_manager.proofs.Lawful.{holds_begun, lawful}
 use Rattle.vac_manager.proofs.Legality.{committed_legal}
 use Rattle.vac_manager.proofs.Trying.{shown_by_read, commit_stop}
@@ -31,23 +31,23 @@ returns-in-Err-clause-stopped g c =
 
 pub returns-in-Ok-commit-clause-tried : goal.returns-in-Ok-commit-clause-tried
 returns-in-Ok-commit-clause-tried g c =
-    (committed c.args.region.now c.run_task-answer.new.memory.region.now _ _ _ _ _ _ _ c.run_task-answer.new.memory.client.now.value _ _ (ap (λ (o : Origin). o.region.renewal) c.run_task-answer.ensures.origin ∙ (ap (λ (r : RegionShown). r.renewal) c.begin-attempt.ensures.region ∙ c.requires.opened.unrenewed)) c.requires.known c.begin-attempt.ensures.value
+    (committed c.args.region.now c.run_task-answer.new.memory.region.now _ _ _ _ _ _ _ c.run_task-answer.new.memory.client.now.value _ _ (ap (λ (o : Origin). o.region.renewal) c.run_task-answer.ensures.origin ∙ ap (λ (r : RegionShown). r.renewal) c.begin-attempt.ensures.region) c.begin-attempt.ensures.earlier c.requires.unplaced c.begin-attempt.ensures.value
     (ap (λ (o : Origin). o.client.value) c.run_task-answer.ensures.origin) c.begin-attempt.ensures.version c.in-Ok-commit.ensures.ok (search rules)).tried
 
-pub returns-in-Ok-commit-clause-known : goal.returns-in-Ok-commit-clause-known
-returns-in-Ok-commit-clause-known g c =
-    (committed c.args.region.now c.run_task-answer.new.memory.region.now c.args.task.now c.in-Ok.reply _ _ _ _ _ c.run_task-answer.new.memory.client.now.value _ _ (ap (λ (o : Origin). o.region.renewal) c.run_task-answer.ensures.origin ∙ (ap (λ (r : RegionShown). r.renewal) c.begin-attempt.ensures.region ∙ c.requires.opened.unrenewed)) c.requires.known c.begin-attempt.ensures.value
-    (ap (λ (o : Origin). o.client.value) c.run_task-answer.ensures.origin) c.begin-attempt.ensures.version c.in-Ok-commit.ensures.ok (search rules)).known
+pub returns-in-Ok-commit-clause-unplaced : goal.returns-in-Ok-commit-clause-unplaced
+returns-in-Ok-commit-clause-unplaced g c =
+    (committed c.args.region.now c.run_task-answer.new.memory.region.now c.args.task.now c.in-Ok.reply _ _ _ _ _ c.run_task-answer.new.memory.client.now.value _ _ (ap (λ (o : Origin). o.region.renewal) c.run_task-answer.ensures.origin ∙ ap (λ (r : RegionShown). r.renewal) c.begin-attempt.ensures.region) c.begin-attempt.ensures.earlier c.requires.unplaced c.begin-attempt.ensures.value
+    (ap (λ (o : Origin). o.client.value) c.run_task-answer.ensures.origin) c.begin-attempt.ensures.version c.in-Ok-commit.ensures.ok (search rules)).unplaced
 
-pub returns-in-Err-clause-known : goal.returns-in-Err-clause-known
-returns-in-Err-clause-known g c =
-    known_stopped c.args.region.now _ _ _ _ _ _ _ _ _ c.requires.known c.begin-attempt.ensures.value (ap (λ (o : Origin). o.client.value) c.run_task-answer.ensures.origin) c.begin-attempt.ensures.version
+pub returns-in-Err-clause-unplaced : goal.returns-in-Err-clause-unplaced
+returns-in-Err-clause-unplaced g c =
+    unplaced_stopped c.args.region.now _ _ _ _ _ _ _ _ _ c.requires.unplaced c.begin-attempt.ensures.value (ap (λ (o : Origin). o.client.value) c.run_task-answer.ensures.origin)
     (c.in-Err.ensures.refused (search rules)) (search rules)
 
-pub returns-in-Some-clause-known : goal.returns-in-Some-clause-known
-returns-in-Some-clause-known g c =
-    known_begun c.args.region.now _ _ _ c.run_task-answer.new.memory.client.now.value _ c.requires.known c.begin-attempt.ensures.value (ap (λ (o : Origin). o.client.value) c.run_task-answer.ensures.origin) c.begin-attempt.ensures.version (search rules)
+pub returns-in-Some-clause-unplaced : goal.returns-in-Some-clause-unplaced
+returns-in-Some-clause-unplaced g c =
+    unplaced_begun c.args.region.now _ _ _ c.run_task-answer.new.memory.client.now.value _ c.requires.unplaced c.begin-attempt.ensures.value (ap (λ (o : Origin). o.client.value) c.run_task-answer.ensures.origin) (search rules)
 
-pub returns-in_default-answer-clause-known : goal.returns-in_default-answer-clause-known
-returns-in_default-answer-clause-known g c =
-    known_begun c.args.region.now _ _ _ c.run_task-answer.new.memory.client.now.value _ c.requires.known c.begin-attempt.ensures.value (ap (λ (o : Origin). o.client.value) c.run_task-answer.ensures.origin) c.begin-attempt.ensures.version (search rules)
+pub returns-in_default-answer-clause-unplaced : goal.returns-in_default-answer-clause-unplaced
+returns-in_default-answer-clause-unplaced g c =
+    unplaced_begun c.args.region.now _ _ _ c.run_task-answer.new.memory.client.now.value _ c.requires.unplaced c.begin-attempt.ensures.value (ap (λ (o : Origin). o.client.value) c.run_task-answer.ensures.origin) (search rules)

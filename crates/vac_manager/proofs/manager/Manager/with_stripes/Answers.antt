@@ -9,7 +9,7 @@ new-requires c = fresh_fits _ _ _ c.as_slice.ensures.value (record { empty = c.i
 pub invariant_of-result : goal.invariant_of-result
 invariant_of-result c =
     opened_on _ _ _ _ c.as_slice.ensures.value (record { empty = c.in-Ok.ensures.words; pool = c.in-Ok.ensures.pool; few = search (rules, arith) }) (ap (λ (r : RegionShown). r.size) c.in-Ok-new.ensures.region)
-    (ap (λ (r : RegionShown). r.first) c.in-Ok-new.ensures.region) c.in-Ok-new.ensures.ranges.0.1 (ap (λ (r : RegionShown). r.renewal) c.in-Ok-new.ensures.region)
+    (ap (λ (r : RegionShown). r.first) c.in-Ok-new.ensures.region) c.in-Ok-new.ensures.ranges.0.1
 
 pub returns-clause-ok : goal.returns-clause-ok
 returns-clause-ok c =

@@ -1,0 +1,112 @@
+//! The renewal of a region's clock.
+ghost use Rattle.std.specs.Prelude.{◌≡◌, ◌+◌, ◌<◌, IfOk, IfErr, IfSome, None};
+ghost use Rattle.stm_core.specs.Core.{IsFreeHanded};
+ghost use Rattle.stm_core.specs.Event.{renewing};
+ghost use Rattle.stm_region.specs.Refused.{MayRenew, RenewsNot};
+ghost use Rattle.stm_region.specs.Renewed.{EndsSomewhere, NotRenewed};
+
+use crate::client::Client;
+use crate::fault::RegionFault;
+use crate::lay::{lay, padding};
+use crate::opening::Opening;
+use crate::region::{FIRST_LOCK, Region};
+use atomic_table::Table;
+use boxcar::tag::{Names, Tag};
+use std::alloc::{Allocator, Global};
+use std::snapshot::Snapshot;
+use stm_words::{Law, Version};
+
+/// So many renewals a region may have.
+const MOST_RENEWALS: u32 = 65_535;
+
+/// Why a region was not renewed.
+#[derive(Drop)]
+pub enum RenewFault<L: Law, A: Allocator = Global> {
+    /// The region and its client are as they were.
+    Kept(Region<L, A>, Client<L>, RegionFault),
+    /// There was no memory for the new words once the old ones were out: the region is closed, and
+    /// these are its data words and its clock.
+    Closed(Vec<u64, A>, Version),
+}
+
+// The words of a region's first opening, for the proof alone.
+pub struct FirstWords;
+
+impl<L: Law, A: Allocator> Names<Region<L, A>> for FirstWords {
+    ghost numbers = { λ r. r.first };
+}
+
+impl<L: Law, A: Allocator> Region<L, A> {
+    // The first reason against a renewal, beside memory.
+    fn renewal_fault(&self, client: &Client<L>, last: u64) -> Option<RegionFault>
+        ensures none { result ≡ None → MayRenew self.now.renewal last client.now.value.grants }
+        ensures some { IfSome result (λ fault. RenewsNot self.now.renewal last client.now.value.grants fault) }
+    {
+        if last == 0 || last >= 1 << 62 {
+            return Some(RegionFault::Last);
+        }
+        if self.renewal >= MOST_RENEWALS {
+            return Some(RegionFault::Renewals);
+        }
+        if client.grants != 63 {
+            let out = 63 - client.grants;
+            return Some(RegionFault::StillOut { out });
+        }
+        None
+    }
+}
+
+impl<L: Law, A: Allocator + Copy> Region<L, A> {
+    /// Goes on with the data words on a new clock, which may reach this last version: takes the
+    /// words out and opens a region on them, with as many lock words, once every other client was
+    /// gathered. The client keeps its records and its grants.
+    pub fn renew(
+        self,
+        alloc: A,
+        client: Client<L>,
+        last: u64,
+    ) -> Result<(Region<L, A>, Client<L>), RenewFault<L, A>>
+        requires own { client.table ≡ self.table }
+        requires free_handed { IsFreeHanded client.value }
+        ensures region { IfOk result (λ r. r.0 ≡ record self { table = r.0.table; last = last; opening = r.0.opening; renewal = self.renewal + 1; start = renewing client.value }) }
+        ensures client { IfOk result (λ r. r.1 ≡ record { table = r.0.table; value = renewing client.value }) }
+        ensures words { IfOk result (λ r. EndsSomewhere L.lawful self client.value r.0.opening) }
+        ensures refused { IfErr result (λ fault. NotRenewed L.lawful self client last fault) }
+        ensures ranges { IfOk result (λ _. MayRenew self.renewal last client.value.grants) }
+    {
+        if let Some(fault) = self.renewal_fault(&client, last) {
+            return Err(RenewFault::Kept(self, client, fault));
+        }
+        let Ok(mut words) = Vec::with_capacity(alloc, self.size) else {
+            return Err(RenewFault::Kept(self, client, RegionFault::Memory));
+        };
+        let first = Tag::of::<Region<L, A>, FirstWords>(&self);
+        let start = Snapshot::of(&client.seat);
+        let stripes = self.stripes;
+        let renewal = self.renewal + 1;
+        let version = self.take_out(client, &mut words);
+        let Ok(laid) = lay(alloc, words.as_slice(), stripes) else {
+            return Err(RenewFault::Closed(words, version));
+        };
+        let opening = Opening {
+            words: Snapshot::of(&laid),
+            last,
+            stripes,
+            first: Some(first),
+            renewal,
+            start: Some(start),
+        };
+        let Ok((table, seat)) = Table::of_words(alloc, laid.as_slice(), &opening) else {
+            return Err(RenewFault::Closed(words, version));
+        };
+        let region = Region {
+            table,
+            size: words.len(),
+            last,
+            stripes,
+            cells: FIRST_LOCK + stripes as usize + padding(stripes),
+            renewal,
+        };
+        Ok((region, Client::of_seat(seat, 63)))
+    }
+}

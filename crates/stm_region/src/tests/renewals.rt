@@ -1,0 +1,160 @@
+//! Regions whose clock is renewed.
+ghost use Rattle.std.specs.Prelude.{◌≡◌, IfOk};
+ghost use Rattle.stm_core.specs.Core.{IsFreeHanded};
+
+use super::{read_at, write_at};
+use crate::{Client, Region, RegionFault, RenewFault};
+use linked_list_allocator::LocalHeap;
+use std::alloc::{Allocator, Global};
+use std::test::Fail;
+use stm_words::{Addr, FreeLaw};
+
+type Renewed = (Region<FreeLaw>, Client<FreeLaw>);
+
+// Renews so many times, or as often as it can.
+fn renew_times(
+    alloc: Global,
+    mut region: Region<FreeLaw>,
+    mut client: Client<FreeLaw>,
+    times: u32,
+) -> Result<Renewed, RenewFault<FreeLaw>>
+    requires own { client.table ≡ region.table }
+    requires free { IsFreeHanded client.value }
+    ensures { IfOk result (λ r. (r.1.table ≡ r.0.table) × IsFreeHanded r.1.value) }
+{
+    for _ in 0..times {
+        (region, client) = region.renew(alloc, client, 1)?;
+    }
+    Ok((region, client))
+}
+
+#[test]
+fn a_region_is_renewed_65535_times(rt: HostRuntime) -> Result<(), Fail> {
+    let (region, client) = Region::<FreeLaw>::new(rt.alloc(), &[7], 1, 1)?;
+    let Ok((region, client)) = renew_times(rt.alloc(), region, client, 65_535) else {
+        panic!(rt; "a renewal was refused")
+    };
+    let Err(RenewFault::Kept(region, client, fault)) = region.renew(rt.alloc(), client, 1) else {
+        panic!(rt; "it was renewed once more")
+    };
+    assert_eq!(rt; fault, RegionFault::Renewals);
+    let Ok((words, version)) = region.close(rt.alloc(), client) else {
+        panic!(rt; "it stayed open")
+    };
+    assert_eq!(rt; words.as_slice(), [7u64].as_slice());
+    assert_eq!(rt; version.get(), 0);
+    Ok(())
+}
+
+#[test]
+fn a_spent_clock_goes_on(rt: HostRuntime) -> Result<(), Fail> {
+    let alloc = rt.alloc();
+    let (region, mut client) = Region::<FreeLaw>::new(alloc, &[0; 32], 1, 32)?;
+    let first = write_at(alloc, &region, &mut client, Addr(9), 5)?;
+    let spent = write_at(alloc, &region, &mut client, Addr(9), 6)?;
+    let Ok((region, mut client)) = region.renew(alloc, client, 2) else {
+        panic!(rt; "it was not renewed")
+    };
+    assert_eq!(rt; region.last(), 2);
+    let read = read_at(&region, &mut client, Addr(9));
+    let second = write_at(alloc, &region, &mut client, Addr(9), 7)?;
+    let third = write_at(alloc, &region, &mut client, Addr(31), 8)?;
+    let spent_again = write_at(alloc, &region, &mut client, Addr(9), 9)?;
+    let Ok((words, version)) = region.close(alloc, client) else {
+        panic!(rt; "it stayed open")
+    };
+    assert_eq!(rt; (first, spent), (true, false));
+    assert_eq!(rt; read, Some(5));
+    assert_eq!(rt; (second, third, spent_again), (true, true, false));
+    assert_eq!(rt; (words.as_slice()[9], words.as_slice()[31]), (7, 8));
+    assert_eq!(rt; version.get(), 2);
+    Ok(())
+}
+
+// Each refusal keeps the region, so that the next one meets it as it was.
+#[test]
+fn refuses_a_renewal_in_order(rt: HostRuntime) -> Result<(), Fail> {
+    let none = LocalHeap::new(rt.alloc(), 1_000)?;
+    let heap = LocalHeap::new(rt.alloc(), 100_000)?;
+    {
+        let (region, mut client) = Region::<FreeLaw, _>::new(&heap, &[3; 512], 100, 32)?;
+        let other = region.split(&mut client)?;
+        let Err(RenewFault::Kept(region, client, zero)) = region.renew(&none, client, 0) else {
+            panic!(rt; "it was renewed with last 0")
+        };
+        let Err(RenewFault::Kept(region, client, high)) = region.renew(&none, client, 1 << 62)
+        else {
+            panic!(rt; "it was renewed past the last version")
+        };
+        let Err(RenewFault::Kept(region, mut client, out)) = region.renew(&none, client, 1) else {
+            panic!(rt; "it was renewed with a client out")
+        };
+        region.gather(&mut client, other);
+        let Err(RenewFault::Kept(region, client, memory)) = region.renew(&none, client, 1) else {
+            panic!(rt; "it was renewed without memory")
+        };
+        assert_eq!(rt; region.last(), 100);
+        let Ok((region, client)) = region.renew(&heap, client, (1 << 62) - 1) else {
+            panic!(rt; "it was not renewed")
+        };
+        assert_eq!(rt; region.last(), (1 << 62) - 1);
+        let Ok((words, version)) = region.close(&heap, client) else {
+            panic!(rt; "it stayed open")
+        };
+        assert_eq!(rt; (zero, high), (RegionFault::Last, RegionFault::Last));
+        assert_eq!(rt;
+            (out, memory),
+            (RegionFault::StillOut { out: 1 }, RegionFault::Memory)
+        );
+        assert_eq!(rt; words.as_slice(), [3u64; 512].as_slice());
+        assert_eq!(rt; version.get(), 0);
+    }
+    assert_eq!(rt; heap.used(), 0);
+    Ok(())
+}
+
+// How a renewal came out.
+#[derive(Clone, Copy, Debug, PartialEq, Eq, Drop)]
+enum Outcome {
+    Renewed,
+    Kept,
+    Closed,
+}
+
+// Opens a region in a heap, renews it in another one, and ends it. Answers how the renewal came
+// out, and whether the words are those of the opening.
+fn renew_in<A: Allocator + Copy>(heap: A, small: A) -> Result<(Outcome, bool), RegionFault> {
+    let (region, client) = Region::<FreeLaw, A>::new(heap, &[3; 512], 100, 32)?;
+    let (outcome, closed) = match region.renew(small, client, 1) {
+        Ok((region, client)) => (Outcome::Renewed, region.close(heap, client)),
+        Err(RenewFault::Kept(region, client, RegionFault::Memory)) => {
+            (Outcome::Kept, region.close(heap, client))
+        }
+        Err(RenewFault::Kept(_, _, fault)) => return Err(fault),
+        Err(RenewFault::Closed(words, version)) => (Outcome::Closed, Ok((words, version))),
+    };
+    match closed {
+        Ok((words, _)) => Ok((outcome, words.as_slice() == [3u64; 512].as_slice())),
+        Err((_, _, fault)) => Err(fault),
+    }
+}
+
+// The first growth is made before any word moves; after it the region can only be closed.
+#[test]
+fn each_growth_of_a_renewal_is_refused(rt: HostRuntime) -> Result<(), Fail> {
+    let heap = LocalHeap::new(rt.alloc(), 100_000)?;
+    let (mut kept, mut closed, mut renewed) = (false, false, false);
+    for k in 0..200 {
+        let small = LocalHeap::new(rt.alloc(), 1_000 + 100 * k)?;
+        let (outcome, same) = renew_in(&heap, &small)?;
+        assert!(rt; same);
+        assert_eq!(rt; (heap.used(), small.used()), (0, 0));
+        match outcome {
+            Outcome::Kept => kept = true,
+            Outcome::Closed => closed = true,
+            Outcome::Renewed => renewed = true,
+        }
+    }
+    assert!(rt; kept && closed && renewed);
+    Ok(())
+}

@@ -1,0 +1,23 @@
+use Rattle.std.proofs.Common.{rules, ℕ, List, ◌<◌}
+use Rattle.stm_core.specs.Core.{IsFreeHanded}
+use Rattle.stm_region.specs.Closed.{Ends}
+use Rattle.vac_manager.specs.Law.{IsLawful}
+use Rattle.vac_manager.proofs.Adding.{unplaced_still}
+use Rattle.vac_manager.proofs.Openings.{closes}
+use Rattle.vac_manager.proofs.manager.Manager.renew.Goals as goal
+
+pub returns-in-Ok-clause-words : goal.returns-in-Ok-clause-words
+returns-in-Ok-clause-words c =
+    (c.in-Ok.ensures.words.0, closes _ _ _ _ _ _ c.self.invariant c.in-Ok.ensures.words.1 (search rules) (search rules))
+
+pub invariant_of-client : goal.invariant_of-client
+invariant_of-client c =
+    let free : IsFreeHanded c.in-Ok.client.value = search rules in
+    let starts : (c.client.inside.start < 8) × (c.client.inside.next < 8) = search rules in
+    let unplaced = unplaced_still c.client.inside.client.value c.in-Ok.client.value (search rules) (search rules) in
+    (free, starts.0, starts.1, unplaced)
+
+pub returns-in-Err-Closed-clause-refused : goal.returns-in-Err-Closed-clause-refused
+returns-in-Err-Closed-clause-refused c =
+    let ends : Ends (λ (tag : List ℕ) reads writes. IsLawful tag reads writes) c.self.inside.region c.client.inside.client.value c.in-Err-Closed.words.items c.in-Err-Closed.version = search rules in
+    (closes _ _ _ _ _ _ c.self.invariant ends (search rules) (search rules), search rules)
