@@ -1,0 +1,239 @@
+//! Tables: red-black trees by key.
+
+ghost use Rattle.std.specs.Prelude.{◌≡◌, ◌+◌, ◌<◌, ◌≤◌, IfOk, OnOk, length, slice_index};
+ghost use Rattle.vac_check.specs.Marks.{IsMarked, unmarked};
+ghost use Rattle.vac_check.specs.TreeRan.{ItemLooked, ColourLooked, LookRan, TableRan};
+ghost use Rattle.vac_check.specs.TreeRan.{Ready, HasRoom, Pushed};
+
+use crate::Flaw;
+use crate::bookings::{KIND, walk_bookings};
+use crate::notes::Notes;
+use crate::pointers::follow;
+use std::alloc::{AllocError, Global};
+use vac_model::limits::{MOST_AMOUNT, MOST_TOTAL};
+use vac_records::place;
+
+const LEFT: usize = tx_tree::place::LEFT as usize;
+
+const RIGHT: usize = tx_tree::place::RIGHT as usize;
+
+const COLOUR: usize = tx_tree::place::COLOUR as usize;
+
+pub const USED: usize = place::USED as usize;
+
+const FREE: usize = place::FREE as usize;
+
+const TOTAL: usize = place::TOTAL as usize;
+
+const PRICE: usize = place::PRICE as usize;
+
+/// The word of a customer that leads to its bookings.
+const BOOKINGS: usize = place::BOOKINGS as usize;
+
+/// The greatest key.
+const LAST_KEY: u64 = 4_294_967_295;
+
+/// Why a walk ended.
+#[derive(Clone, Copy, Debug, PartialEq, Eq)]
+pub enum Fault {
+    Memory,
+    Found(Flaw),
+}
+
+/// What a table has: items of one kind, or customers.
+#[derive(Clone, Copy)]
+pub enum Table {
+    Items { kind: u64 },
+    Customers,
+}
+
+/// What is known of a tree that was walked: the black nodes on each path, and its root's colour.
+#[derive(Clone, Copy)]
+pub struct Side {
+    pub blacks: u32,
+    pub red: bool,
+}
+
+/// A node on the path from the root, and where the walk of it stands: in its left tree, or, its
+/// left tree and itself done, in its right one.
+#[derive(Clone, Copy)]
+pub enum Step {
+    Left { node: usize },
+    Right { node: usize, left: Side },
+}
+
+/// Where the walk goes next: down a pointer, or back up from a tree that is done.
+#[derive(Clone, Copy)]
+pub enum Turn {
+    Down { at: usize },
+    Up { done: Side },
+}
+
+/// Looks at the counts of an item.
+fn look_at_item(words: &[u64], node: usize) -> Result<(), Flaw>
+    requires inside { node + 8 ≤ length words.now }
+    requires few { length words.now ≤ 2097168 }
+    ensures looked { ItemLooked words.now node result }
+{
+    let used = words[node + USED];
+    let free = words[node + FREE];
+    let total = words[node + TOTAL];
+    if total == 0
+        || total > MOST_TOTAL
+        || used > total
+        || free != total - used
+        || words[node + PRICE] > MOST_AMOUNT as u64
+    {
+        return Err(Flaw::Counts((node + USED) as u32));
+    }
+    Ok(())
+}
+
+/// Looks at a node beside its key, and writes down what it has.
+fn look_at_node(
+    words: &[u64],
+    reached: &mut Vec<bool>,
+    notes: &mut Notes,
+    table: Table,
+    node: usize,
+) -> Result<(), Fault>
+    requires marked { IsMarked words.now reached.old.items }
+    requires inside { node + 8 ≤ length words.now }
+    requires key { slice_index words.now node < 4294967296 }
+    requires ready { Ready table notes.old (unmarked reached.old.items) }
+    requires room { HasRoom table notes.old 1 }
+    ensures size { length reached.new.items ≡ length reached.old.items }
+    ensures fewer { OnOk result (unmarked reached.new.items ≤ unmarked reached.old.items) }
+    ensures ready { OnOk result (Ready table notes.new (unmarked reached.new.items)) }
+    ensures pushed { OnOk result (Pushed table notes.old notes.new) }
+    ensures ran { LookRan words.now reached.old.items reached.new.items notes.old notes.new
+        table node result }
+{
+    match table {
+        Table::Items { kind } => {
+            match look_at_item(words, node) {
+                Err(flaw) => return Err(Fault::Found(flaw)),
+                Ok(()) => {}
+            }
+            notes.tally.used += words[node + USED];
+            notes.tally.free += words[node + FREE];
+            notes.tally.total += words[node + TOTAL];
+            match notes.places.push(kind * KIND + words[node]) {
+                Err(_) => return Err(Fault::Memory),
+                Ok(()) => {}
+            }
+            match notes.blocks.push(node) {
+                Err(_) => Err(Fault::Memory),
+                Ok(()) => Ok(()),
+            }
+        }
+        Table::Customers => match walk_bookings(words, reached, notes, node + BOOKINGS) {
+            Err(flaw) => Err(Fault::Found(flaw)),
+            Ok(()) => Ok(()),
+        },
+    }
+}
+
+/// The colour of a node between two trees.
+fn look_at_colour(words: &[u64], node: usize, left: Side, right: Side) -> Result<Side, Flaw>
+    requires inside { node + 8 ≤ length words.now }
+    requires few { length words.now ≤ 2097168 }
+    requires low { right.blacks < 262145 }
+    ensures low { IfOk result (λ side. side.blacks ≤ right.blacks + 1) }
+    ensures looked { ColourLooked words.now node left right result }
+{
+    let colour = words[node + COLOUR];
+    let red = colour == 1;
+    if colour > 1 {
+        return Err(Flaw::Colour((node + COLOUR) as u32));
+    }
+    if red && (left.red || right.red) {
+        return Err(Flaw::Colour((node + COLOUR) as u32));
+    }
+    if left.blacks != right.blacks {
+        return Err(Flaw::Colour((node + COLOUR) as u32));
+    }
+    let blacks = if red { right.blacks } else { right.blacks + 1 };
+    Ok(Side { blacks, red })
+}
+
+/// Walks a table, and answers how many nodes it has.
+pub fn walk_table(
+    alloc: Global,
+    words: &[u64],
+    reached: &mut Vec<bool>,
+    notes: &mut Notes,
+    table: Table,
+    root: usize,
+) -> Result<u64, Fault>
+    requires marked { IsMarked words.now reached.old.items }
+    requires inside { root < 16 }
+    requires ready { Ready table notes.old (unmarked reached.old.items) }
+    requires room { HasRoom table notes.old (unmarked reached.old.items) }
+    ensures size { length reached.new.items ≡ length reached.old.items }
+    ensures ready { OnOk result (Ready table notes.new (unmarked reached.new.items)) }
+    ensures room { OnOk result (HasRoom table notes.new (unmarked reached.new.items)) }
+    ensures ran { TableRan words.now reached.old.items reached.new.items notes.old notes.new
+        table root result }
+{
+    let mut path: Vec<Step> = Vec::new(alloc);
+    let mut turn = Turn::Down { at: root };
+    let mut above: u64 = 1;
+    let mut nodes: u64 = 0;
+    'walk: loop {
+        match turn {
+            Turn::Down { at } => {
+                if path.len() > reached.len() {
+                    return Err(Fault::Found(Flaw::Shared(at as u32)));
+                }
+                match follow(words, reached, at) {
+                    Err(flaw) => return Err(Fault::Found(flaw)),
+                    Ok(None) => {
+                        let done = Side {
+                            blacks: 0,
+                            red: false,
+                        };
+                        turn = Turn::Up { done };
+                    }
+                    Ok(Some(node)) => {
+                        match path.push(Step::Left { node }) {
+                            Err(_) => return Err(Fault::Memory),
+                            Ok(()) => {}
+                        }
+                        turn = Turn::Down { at: node + LEFT };
+                    }
+                }
+            }
+            Turn::Up { done } => match path.pop() {
+                None => {
+                    if done.red {
+                        let top = (words[root] % 4_294_967_296) as u32;
+                        return Err(Fault::Found(Flaw::Colour(top.wrapping_add(3))));
+                    }
+                    return Ok(nodes);
+                }
+                Some(Step::Left { node }) => {
+                    let key = words[node];
+                    if key < above || key > LAST_KEY {
+                        return Err(Fault::Found(Flaw::Order(node as u32)));
+                    }
+                    match look_at_node(words, reached, notes, table, node) {
+                        Err(fault) => return Err(fault),
+                        Ok(()) => {}
+                    }
+                    above = key + 1;
+                    nodes += 1;
+                    match path.push(Step::Right { node, left: done }) {
+                        Err(_) => return Err(Fault::Memory),
+                        Ok(()) => {}
+                    }
+                    turn = Turn::Down { at: node + RIGHT };
+                }
+                Some(Step::Right { node, left }) => match look_at_colour(words, node, left, done) {
+                    Err(flaw) => return Err(Fault::Found(flaw)),
+                    Ok(side) => turn = Turn::Up { done: side },
+                },
+            },
+        }
+    }
+}
