@@ -1,0 +1,9 @@
+mod Answering
+mod Drawing
+mod Opened
+mod Turning
+mod Pairs
+mod Words
+mod Gatherings
+mod Shares
+mod Loads

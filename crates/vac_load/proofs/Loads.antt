@@ -1,0 +1,108 @@
+-- A load as a whole: the opening, the clients, and the report.
+use Rattle.std.proofs.Common.{◌≡◌, ◌∙◌, ℕ, suc, ◌+◌, ◌*◌, List, [], ◌∷◌, ◌++◌, length, map, refl, sym, ap, subst, arith}
+use Rattle.stm_core.specs.Client.{Client, Record}
+use Rattle.stm_region.specs.Shown.{RegionShown}
+use Rattle.vac_model.specs.declared.replies.Report.{Report}
+use Rattle.vac_model.specs.State.{State, empty_state, report}
+use Rattle.vac_manager.specs.Law.{Shows}
+use Rattle.vac_manager.specs.Legal.{IsLegal, capacity_of}
+use Rattle.vac_manager.specs.Called.{CallerShown}
+use Rattle.vac_manager.specs.Opening.{Opens, Closes}
+use Rattle.vac_load.specs.declared.settings.Settings.{Settings}
+use Rattle.vac_load.specs.declared.tally.Tally.{Tally}
+use Rattle.vac_load.specs.Tasks.{opening}
+use Rattle.vac_load.specs.Opening.{Ran}
+use Rattle.vac_load.specs.Looping.{total}
+use Rattle.vac_load.specs.Sums.{sum_of, added_up}
+use Rattle.std.specs.Prelude.{Result, Ok, Err, IfOk}
+use Rattle.rand_pcg.specs.Lcg.{Lcg}
+use Rattle.vac_load.specs.declared.load.LoadReport.{LoadReport}
+use Rattle.vac_load.specs.declared.load.LoadFault.{LoadFault}
+use Rattle.vac_load.specs.Streams.{stream_of, streams_of, gives, LoadedBySeed}
+use Rattle.vac_load.specs.Load.{Paired, none, both, Share, HasShare, AmongAll, RanAll, Loaded}
+
+-- tallies of so many tasks each
+total_of : {D P : Type 0} (leads : D → ℕ → D → Type 0) (s : Settings) (floor : ℕ) (draws_of : P → D) (pairs : List P) (shares : List Share) →
+    Paired (λ p x. HasShare leads s floor (draws_of p) x) pairs shares → total (added_up (λ x. x.tally) shares) ≡ length pairs * s.tasks
+total_of leads s floor draws_of [] [] none = omega arith
+total_of leads s floor draws_of (p ∷ pairs) (x ∷ shares) (both h hs) = counts (total_of leads s floor draws_of pairs shares hs) h.all
+  where
+    counts : total (added_up (λ y. y.tally) shares) ≡ length pairs * s.tasks → total x.tally ≡ s.tasks → total (added_up (λ y. y.tally) (x ∷ shares)) ≡ suc (length pairs) * s.tasks
+    counts e f = omega (arith, e, f)
+total_of leads s floor draws_of [] (x ∷ shares) hs = elim hs [ ]
+total_of leads s floor draws_of (p ∷ pairs) [] hs = elim hs [ ]
+
+pub loaded : {D P : Type 0} (leads : D → ℕ → D → Type 0) (s : Settings) (draws_of : P → D) (state last : D) (pairs : List P) (stripes : ℕ) (region : RegionShown) (opener : CallerShown) (ready after : Client) (t : Tally) (words : List ℕ) (version : ℕ) (r : Report) →
+    length pairs ≡ s.clients →
+    Opens s.blocks s.last stripes region opener →
+    Ran leads (opening s) opener.value ready state last →
+    RanAll leads s draws_of ready pairs after t →
+    Closes region after words version →
+    ((x : State) → Shows words x → report x ≡ r) →
+    Loaded leads s draws_of state pairs t r
+loaded leads s draws_of state last pairs stripes region opener ready after t words version r n opens ran all closes shows =
+    let added = ran.answered.added in
+    let records : ready.records ≡ added = ran.answered.records ∙ ap (λ (c : CallerShown). c.value.records ++ added) opens.client_is in
+    record {
+      history = after.records;
+      last = closes.last;
+      legal = subst (λ (k : ℕ). IsLegal (empty_state k) after.records closes.last) opens.capacity closes.legal;
+      shown = shows closes.last closes.shown;
+      commands = ran.commands;
+      drawn = last;
+      opening_is = ran.drawn;
+      opened = added;
+      opened_are = ran.answered.are_of;
+      floor = ready.floor;
+      shares = all.shares;
+      each = all.each;
+      among = subst (λ (l : List Record). AmongAll l all.shares after.records) records all.among;
+      number = all.number ∙ ap (λ (l : List Record). length l + sum_of (λ x. length x.records) all.shares) records;
+      tallies = all.tallies;
+      all = ap (λ (u : Tally). total u) all.tallies ∙ (total_of leads s ready.floor draws_of pairs all.shares all.each ∙ ap (λ (k : ℕ). k * s.tasks) n);
+    }
+
+-- what holds between images and elements holds between the list of images and the elements
+paired_map : {A B X : Type 0} (f : A → B) (related : B → X → Type 0) (ks : List A) (xs : List X) → Paired (λ a x. related (f a) x) ks xs → Paired related (map f ks) xs
+paired_map f related [] [] none = none
+paired_map f related (a ∷ ks) (x ∷ xs) (both h hs) = both h (paired_map f related ks xs hs)
+paired_map f related [] (x ∷ xs) hs = elim hs [ ]
+paired_map f related (a ∷ ks) [] hs = elim hs [ ]
+
+-- a load is one of the states that its clients' draws begin with
+pub loaded_by : {D P : Type 0} (leads : D → ℕ → D → Type 0) (s : Settings) (draws_of : P → D) (state : D) (pairs : List P) (states : List D) (t : Tally) (r : Report) →
+    map draws_of pairs ≡ states → Loaded leads s draws_of state pairs t r → Loaded leads s (λ d. d) state states t r
+loaded_by leads s draws_of state pairs states t r e h = record {
+  history = h.history;
+  last = h.last;
+  legal = h.legal;
+  shown = h.shown;
+  commands = h.commands;
+  drawn = h.drawn;
+  opening_is = h.opening_is;
+  opened = h.opened;
+  opened_are = h.opened_are;
+  floor = h.floor;
+  shares = h.shares;
+  each = subst (λ ds. Paired (λ d x. HasShare leads s h.floor d x) ds h.shares) e (paired_map draws_of (λ d x. HasShare leads s h.floor d x) pairs h.shares h.each);
+  among = h.among;
+  number = h.number;
+  tallies = h.tallies;
+  all = h.all;
+}
+
+-- the same of a load by the streams of a seed
+pub by_seed : {P : Type 0} (draws_of : P → Lcg) (s : Settings) (result : Result LoadReport LoadFault) (state : Lcg) (pairs : List P) →
+    state ≡ stream_of s.seed 0 → map draws_of pairs ≡ streams_of s.seed s.clients →
+    IfOk result (λ r. Loaded gives s draws_of state pairs r.tally r.report) → IfOk result (λ r. LoadedBySeed s r.tally r.report)
+by_seed draws_of s (Ok r) state pairs begins are h =
+    subst (λ (d : Lcg). Loaded gives s (λ x. x) d (streams_of s.seed s.clients) r.tally r.report) begins
+    (loaded_by gives s draws_of state pairs (streams_of s.seed s.clients) r.tally r.report are h)
+by_seed draws_of s (Err fault) state pairs begins are h = tt
+
+-- one stream more
+pub next_stream : (seed n k : ℕ) → k ≡ n → streams_of seed n ++ (stream_of seed (k + 1) ∷ []) ≡ streams_of seed (n + 1)
+next_stream seed n k e =
+    let more : k + 1 ≡ suc n = omega (arith, e) in
+    let same : suc n ≡ n + 1 = omega arith in
+    ap (λ (j : ℕ). streams_of seed n ++ (stream_of seed j ∷ [])) more ∙ ap (streams_of seed) same

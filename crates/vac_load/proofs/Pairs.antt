@@ -1,0 +1,63 @@
+-- Lists whose elements are related place by place.
+use Rattle.std.proofs.Common.{◌≡◌, ◌∙◌, ◌++◌, ℕ, suc, List, [], ◌∷◌, length, append-nil, append_assoc, All, refl, sym, ap, subst, arith}
+use Rattle.vac_manager.specs.Called.{CallerShown}
+use Rattle.vac_load.specs.declared.settings.Settings.{Settings}
+use Rattle.vac_load.specs.declared.tally.Tally.{Tally}
+use Rattle.vac_load.specs.declared.workers.WorkOf.{WorkOf}
+use Rattle.vac_load.specs.Load.{Paired, none, both, IsPromise, HasWorked}
+
+-- one place more
+pub paired_more : {A B : Type 0} (related : A → B → Type 0) (xs : List A) (ys : List B) (x : A) (y : B) → Paired related xs ys → related x y → Paired related (xs ++ (x ∷ [])) (ys ++ (y ∷ []))
+paired_more related [] [] x y none r = both r none
+paired_more related (a ∷ xs) (b ∷ ys) x y (both q p) r = both q (paired_more related xs ys x y p r)
+paired_more related [] (b ∷ ys) x y p r = elim p [ ]
+paired_more related (a ∷ xs) [] x y p r = elim p [ ]
+
+-- relations in a row
+pub paired_through : {A B C : Type 0} (f : A → B → Type 0) (g : B → C → Type 0) (h : A → C → Type 0) → ((a : A) (b : B) (c : C) → f a b → g b c → h a c) →
+    (xs : List A) (ys : List B) (zs : List C) → Paired f xs ys → Paired g ys zs → Paired h xs zs
+paired_through f g h through [] [] [] none none = none
+paired_through f g h through (a ∷ xs) (b ∷ ys) (c ∷ zs) (both p ps) (both q qs) = both (through a b c p q) (paired_through f g h through xs ys zs ps qs)
+paired_through f g h through [] [] (c ∷ zs) ps qs = elim qs [ ]
+paired_through f g h through [] (b ∷ ys) zs ps qs = elim ps [ ]
+paired_through f g h through (a ∷ xs) [] zs ps qs = elim ps [ ]
+paired_through f g h through (a ∷ xs) (b ∷ ys) [] ps qs = elim qs [ ]
+
+-- nothing yet
+pub paired_none : {A B : Type 0} (related : A → B → Type 0) (ys : List B) → ys ≡ [] → Paired related [] ys
+paired_none related ys e = subst (λ (l : List _). Paired related [] l) (sym e) none
+
+-- the same behind lists that are known by an equation
+pub paired_step : {A B : Type 0} (related : A → B → Type 0) (xs : List A) (ys ys' : List B) (x : A) (y : B) → ys' ≡ ys ++ (y ∷ []) → Paired related xs ys → related x y → Paired related (xs ++ (x ∷ [])) ys'
+paired_step related xs ys ys' x y e p r = subst (λ (l : List _). Paired related (xs ++ (x ∷ [])) l) (sym e) (paired_more related xs ys x y p r)
+
+no_more : {A : Type 0} (xs : List A) → length xs ≡ 0 → xs ≡ []
+no_more [] e = refl
+no_more (x ∷ xs) e = absurd (omega arith)
+
+-- nothing is left
+pub paired_all : {A B : Type 0} (related : A → B → Type 0) (all xs rest : List A) (ys : List B) → all ≡ xs ++ rest → length rest ≡ 0 → Paired related xs ys → Paired related all ys
+paired_all related all xs rest ys e n p = subst (λ (l : List _). Paired related l ys) (sym (e ∙ (ap (λ (r : List _). xs ++ r) (no_more rest n) ∙ append-nil xs))) p
+
+-- the first of what is left goes over
+pub one_on : {A : Type 0} (all xs rest rest' : List A) (x : A) → all ≡ xs ++ rest → rest ≡ x ∷ rest' → all ≡ (xs ++ (x ∷ [])) ++ rest'
+one_on all xs rest rest' x e f = e ∙ (ap (λ (l : List _). xs ++ l) f ∙ sym (append_assoc xs (x ∷ []) rest'))
+
+pub all_same : {A : Type 0} (P : A → Type 0) (xs ys : List A) → ys ≡ xs → All P xs → All P ys
+all_same P xs ys e h = subst (λ (l : List _). All P l) (sym e) h
+
+pub all_but_first : {A : Type 0} (P : A → Type 0) (xs ys : List A) (x : A) → xs ≡ x ∷ ys → All P xs → All P ys
+all_but_first P xs ys x e h = let g : All P (x ∷ ys) = subst (λ (l : List _). All P l) e h in λ k d less. g (suc k) d (omega (arith, less))
+
+-- promises of work that were kept
+pub worked_through : {D W H R : Type 0} (leads : D → ℕ → D → Type 0) (s : Settings) (client : W → CallerShown) (draws : W → D) (promise : H → WorkOf D) (after : R → CallerShown) (last : R → D) (tally : R → Tally) (ws : List W) (hs : List H) (rs : List R) →
+    Paired (λ w h. IsPromise s (client w) (draws w) (promise h)) ws hs →
+    Paired (λ h r. HasWorked leads (promise h).settings (promise h).client.value (after r) (promise h).draws.value (last r) (tally r)) hs rs →
+    Paired (λ w r. HasWorked leads s (client w) (after r) (draws w) (last r) (tally r)) ws rs
+worked_through leads s client draws promise after last tally ws hs rs = paired_through _ _ _ (λ w h r p k.
+    subst (λ (x : Settings). HasWorked leads x (client w) (after r) (draws w) (last r) (tally r)) p.settings_is
+    (subst (λ (x : CallerShown). HasWorked leads (promise h).settings x (after r) (draws w) (last r) (tally r)) p.client_is
+    (subst (λ (x : _). HasWorked leads (promise h).settings (promise h).client.value (after r) x (last r) (tally r)) p.draws_is k))) ws hs rs
+
+pub all_first : {A : Type 0} (P : A → Type 0) (xs ys : List A) (x : A) → xs ≡ x ∷ ys → All P xs → P x
+all_first P xs ys x e h = let g : All P (x ∷ ys) = subst (λ (l : List _). All P l) e h in g 0 x (omega arith)

@@ -1,0 +1,15 @@
+use Rattle.std.proofs.Common.{◌≡◌, ◌≤◌, ◌+◌, ◌*◌, ◌++◌, ◌∷◌, All, length}
+use Rattle.std.specs.Vec.Iter.{into_iter_items, into_iter_len}
+use Rattle.vac_load.specs.Looping.{total}
+use Rattle.vac_load.specs.Load.{Gathered}
+use Rattle.vac_load.proofs.gathering.gather_all.Given as goal
+
+abbrev pub invariant-loop-worked : goal.invariant-loop-worked
+invariant-loop-worked g l = record {
+  all : l.fn.crew.others.items ≡ l.yielded ++ into_iter_items l.worked-iterator;
+  own : l.client.table ≡ l.manager.table;
+  others : All (λ w. w.worker.client.table ≡ l.manager.table) (into_iter_items l.worked-iterator);
+  tasks : All (λ w. total w.tally ≤ 1000000) (into_iter_items l.worked-iterator);
+  gathered : Gathered (λ w. w.worker.client.value.records) (λ w. w.tally) (l.fn.crew.first ∷ l.yielded) l.client.value.records l.tally;
+  bound : total l.tally + into_iter_len l.worked-iterator * 1000000 ≤ 65000000;
+}

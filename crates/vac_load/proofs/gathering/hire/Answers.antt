@@ -1,0 +1,51 @@
+use Rattle.std.proofs.Common.{rules, ◌≡◌, ◌∙◌, ◌≤◌, ◌+◌, ◌*◌, ◌++◌, [], ◌∷◌, All, length, refl, arith}
+use Rattle.std.specs.Vec.Iter.{into_iter_items, into_iter_len}
+use Rattle.vac_load.proofs.Pairs.{paired_none, paired_step, paired_all, one_on}
+use Rattle.vac_load.proofs.Shares.{split_hired, split_keeps, paired_each}
+use Rattle.vac_load.proofs.gathering.hire.Goals as goal
+
+pub loop-draws-init : goal.loop-draws-init
+loop-draws-init g c = record {
+  all = search rules;
+  own = refl;
+  records = refl;
+  floor = refl;
+  grants = grind rules;
+  count = grind rules;
+  room = grind rules;
+  hired = paired_none _ _ (search rules);
+}
+
+pub loop-draws-preserved : goal.loop-draws-preserved
+loop-draws-preserved g c =
+    let s = c.in-Ok-split.ensures.ok in
+    let i = c.loop-draws.invariant in
+    let keeps = split_keeps c.loop-draws.client c.split.new.client c.in-Ok-split.other s in
+    let grown : length c.push.new.self.items ≡ length c.loop-draws.others.items + 1 = grind rules in
+    record {
+      all = one_on _ _ _ _ _ i.all (search rules);
+      own = keeps.table ∙ i.own;
+      records = keeps.records ∙ i.records;
+      floor = keeps.floor ∙ i.floor;
+      grants = grind (rules, keeps.grants, i.grants);
+      count = grind rules;
+      room = grind rules;
+      hired = paired_step _ _ c.loop-draws.others.items c.push.new.self.items (c.in-Some-2.draws, c.in-Some-2.gate) (record { client = c.in-Ok-split.other; draws = c.in-Some-2.draws; gate = c.in-Some-2.gate }) (search rules) i.hired
+          (split_hired c.args.client c.loop-draws.client c.split.new.client c.in-Ok-split.other c.in-Some-2.draws s i.own i.floor);
+    }
+
+pub returns-clause-hired : goal.returns-clause-hired
+returns-clause-hired g c =
+    let i = c.loop-draws.invariant in
+    record {
+      pair = (c.in-Some.draws, c.in-Some.gate);
+      rest = into_iter_items c.into_iter-draws-iterator.result;
+      pairs_are = search rules;
+      opening = record { own = i.own; records_are = i.records; knows = omega (arith, i.floor); draws_are = refl };
+      others_are = paired_all _ _ _ _ _ i.all (search rules) i.hired;
+    }
+
+pub returns-clause-own : goal.returns-clause-own
+returns-clause-own g c =
+    let i = c.loop-draws.invariant in
+    paired_each _ (λ w. w.client.table ≡ c.args.manager.now.table) (λ p w h. h.own ∙ c.requires.own) _ _ i.hired

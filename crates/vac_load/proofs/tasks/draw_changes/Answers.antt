@@ -1,0 +1,11 @@
+use Rattle.std.proofs.Common.{rules, refl}
+use Rattle.vac_load.specs.Tasks.{change}
+use Rattle.vac_load.proofs.Drawing.{drawn_times}
+use Rattle.vac_load.proofs.tasks.draw_changes.Goals as goal
+
+pub changes-preserved : goal.changes-preserved
+changes-preserved g c = record {
+  settings = refl;
+  count = search rules;
+  drawn = rw c.push.ensures.items (drawn_times g.D.Draws.leads c.changes.counter (change c.args.settings.now) _ _ _ _ _ c.changes.invariant.drawn c.draw_change.ensures);
+}

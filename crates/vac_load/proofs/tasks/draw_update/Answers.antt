@@ -1,0 +1,19 @@
+use Rattle.std.proofs.Common.{rules}
+use Rattle.vac_model.specs.declared.tasks.Task.TheVariants.{Update}
+use Rattle.vac_load.specs.Draws.{always, after, times}
+use Rattle.vac_load.specs.Tasks.{up_to, change}
+use Rattle.vac_load.proofs.Drawing.{drawn_after, drawn_then_always}
+use Rattle.vac_load.proofs.tasks.draw_update.Goals as goal
+
+pub returns : goal.returns
+returns g c =
+    let leads = g.D.Draws.leads in
+    let s = c.args.settings.now in
+    let count = c.draw_up_to-count.result in
+    record {
+      task = Update c.draw_changes-changes.result.items;
+      drawn =
+          drawn_after leads (up_to s.asks) (λ count. after (times count (change s)) (λ changes. always (Update changes))) _ _ _ _ _ c.draw_up_to-count.ensures.drawn
+          (drawn_then_always leads (times count (change s)) (λ changes. Update changes) _ _ _ c.draw_changes-changes.ensures);
+      built = search rules;
+    }

@@ -1,0 +1,8 @@
+pub mod Draws
+pub mod Setting
+pub mod Tasks
+pub mod Looping
+pub mod Opening
+pub mod Sums
+pub mod Load
+pub mod Streams

@@ -1,0 +1,81 @@
+-- What a client's loop over its tasks does.
+use Rattle.std.specs.Prelude.{◌≡◌, ℕ, ◌+◌, ◌*◌, ◌≤◌}
+use Rattle.std.specs.Prelude.{List, [], ◌∷◌, ◌++◌, length, Result, Ok, Err}
+use Rattle.stm_words.specs.Image.{In}
+use Rattle.stm_core.specs.Client.{Client, Record}
+use Rattle.stm_core.specs.History.{Sub}
+use Rattle.vac_model.specs.declared.tasks.Task.{Task}
+use Rattle.vac_model.specs.declared.replies.Reply.{Reply}
+use Rattle.vac_model.specs.Code.{code}
+use Rattle.vac_manager.specs.declared.fault.Fault.{Fault}
+use Rattle.vac_manager.specs.declared.fault.Fault.TheVariants as fault
+use Rattle.vac_load.specs.declared.settings.Settings.{Settings}
+use Rattle.vac_load.specs.declared.tally.Tally.{Tally}
+use Rattle.vac_load.specs.Draws.{Drawn, times}
+use Rattle.vac_load.specs.Tasks.{task_of}
+
+-- each record is of the task at its place and of some reply, and there are no others
+abbrev pub AreOf : List Task → List Record → Type 0
+AreOf [] [] = Unit {0}
+AreOf [] (r ∷ rs) = ⊥
+AreOf (t ∷ ts) [] = ⊥
+AreOf (t ∷ ts) (r ∷ rs) = ((reply : Reply) × (r.tag ≡ code t reply)) × AreOf ts rs
+
+-- exactly one record for each of these tasks was added behind the others, in their order, each of
+-- no version below the floor
+pub record Answered (tasks : List Task) (v v' : Client) : Type 0 where
+  pub added : List Record
+  pub records : v'.records ≡ v.records ++ added
+  pub are_of : AreOf tasks added
+  pub later : (r : Record) → In r added → v.floor ≤ r.version
+  pub floor : v.floor ≤ v'.floor
+  pub grants : v'.grants ≡ v.grants
+
+-- how many tasks were counted
+abbrev pub total : Tally → ℕ
+total t = t.answered + t.busy + t.memory + t.spent
+
+-- the tally of no task
+abbrev pub nothing : Tally
+nothing = record { answered = 0; busy = 0; memory = 0; spent = 0 }
+
+-- the tally with one task more, by how it ended
+abbrev pub counted : {R : Type 0} → Result R Fault → Tally → Tally
+counted (Ok reply) t = record t { answered = t.answered + 1 }
+counted (Err fault.Arguments) t = record t { memory = t.memory + 1 }
+counted (Err fault.Memory) t = record t { memory = t.memory + 1 }
+counted (Err (fault.Busy conflict)) t = record t { busy = t.busy + 1 }
+counted (Err (fault.Spent version)) t = record t { spent = t.spent + 1 }
+
+-- how many attempts were made at least, with so many tries for each task
+abbrev pub least_attempts : ℕ → Tally → ℕ
+least_attempts tries t = t.answered + t.spent + t.busy * tries
+
+-- a client asked for the first n of its tasks: those that were answered are a part of the tasks
+-- drawn, in their order, and each of them added its record
+pub record Looped {D : Type 0} (leads : D → ℕ → D → Type 0) (s : Settings) (n : ℕ)
+    (v v' : Client) (state last : D) (t : Tally) : Type 0 where
+  pub tasks : List Task
+  pub drawn : Drawn leads (times n (task_of s)) state tasks last
+  pub done : List Task
+  pub among : Sub done tasks
+  pub number : length done ≡ t.answered
+  pub answered : Answered done v v'
+  pub all : total t ≡ n
+  pub attempts : v.attempt + least_attempts s.tries t ≤ v'.attempt
+
+-- how many attempts a task made at least that ended so, with so many tries
+abbrev pub attempts_of : {R : Type 0} → ℕ → Result R Fault → ℕ
+attempts_of tries end = least_attempts tries (counted end nothing)
+
+-- the task that an end answered, if it did
+abbrev pub answered_by : {R : Type 0} → Task → Result R Fault → List Task
+answered_by t (Ok reply) = t ∷ []
+answered_by t (Err e) = []
+
+-- a task that was built was asked for, and ended so; one that was not built ended for want of
+-- memory
+abbrev pub RanOne : {R E : Type 0} → Result Task E → ℕ → Result R Fault → Client → Client → Type 0
+RanOne (Ok t) tries end v v' = Answered (answered_by t end) v v'
+    × (v.attempt + attempts_of tries end ≤ v'.attempt)
+RanOne (Err e) tries end v v' = (end ≡ Err fault.Memory) × (v' ≡ v)

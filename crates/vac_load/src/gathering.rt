@@ -1,0 +1,118 @@
+//! Clients that are split off for a load, and gathered after it.
+
+ghost use Rattle.std.specs.Prelude.{◌≡◌, ◌≤◌, ◌<◌, ◌+◌, ◌⊎◌, ◌∷◌, [], true, All, vec_len, IfOk, IfErr};
+ghost use Rattle.vac_load.specs.Looping.{total};
+ghost use Rattle.vac_load.specs.Setting.{is_settings};
+ghost use Rattle.vac_load.specs.declared.settings.TheConstants.{MOST_TASKS, MOST_CLIENTS};
+ghost use Rattle.vac_load.specs.Load.{Gathered, Hired, RanAll};
+
+use crate::draws::Draws;
+use crate::load::LoadFault;
+use crate::settings::Settings;
+use crate::tally::Tally;
+use crate::workers::{Crew, Worked, Worker, run_all};
+use std::alloc::Global;
+use std::sync::Wait;
+use std::thread::Threads;
+use stm_attempt::Gate;
+use vac_manager::{Client, Manager};
+
+/// Gathers the clients into the first one, in their order, and adds up how their tasks ended.
+pub(crate) fn gather_all<D: Drop, G: Drop>(
+    manager: &Manager,
+    crew: Crew<Worked<D, G>>,
+) -> (Client, Tally)
+    requires own { crew.first.worker.client.table ≡ manager.now.table }
+    requires others_own { All (λ w. w.worker.client.table ≡ manager.now.table) crew.others.items }
+    requires few { vec_len crew.others ≤ MOST_CLIENTS }
+    requires tasks { total crew.first.tally ≤ MOST_TASKS }
+    requires others_tasks { All (λ w. total w.tally ≤ MOST_TASKS) crew.others.items }
+    ensures own { result.0.table ≡ manager.now.table }
+    ensures gathered { Gathered (λ w. w.worker.client.value.records) (λ w. w.tally)
+        (crew.first ∷ crew.others.items) result.0.value.records result.1 }
+{
+    let Crew { first, others } = crew;
+    let Worked { worker, mut tally } = first;
+    let mut client = worker.client;
+    for worked in others {
+        let Worked {
+            worker,
+            tally: more,
+        } = worked;
+        manager.gather(&mut client, worker.client);
+        tally = tally.plus(more);
+    }
+    (client, tally)
+}
+
+/// Splits off a client for each but the first pair of draws and gate, which the opening client
+/// gets.
+fn hire<D: Drop, G: Drop>(
+    alloc: Global,
+    manager: &Manager,
+    mut client: Client,
+    pairs: Vec<(D, G)>,
+) -> Result<Crew<Worker<D, G>>, LoadFault>
+    requires own { client.table ≡ manager.now.table }
+    requires alone { client.value.grants ≡ 63 }
+    requires some { 0 < vec_len pairs }
+    requires few { vec_len pairs ≤ MOST_CLIENTS }
+    ensures hired { IfOk result (λ crew. Hired (λ p. p.0) client pairs.items
+        (λ w. w.client) (λ w. w.draws) crew.first crew.others.items) }
+    ensures own { IfOk result (λ crew.
+        All (λ w. w.client.table ≡ manager.now.table) crew.others.items) }
+    ensures number { IfOk result (λ crew. vec_len crew.others ≤ MOST_CLIENTS) }
+    ensures refused { IfErr result (λ fault. fault ≡ LoadFault.Memory) }
+{
+    let Ok(mut others) = Vec::with_capacity(alloc, pairs.len()) else {
+        return Err(LoadFault::Memory);
+    };
+    let mut pairs = pairs.into_iter();
+    let Some((draws, gate)) = pairs.next() else {
+        unreachable!()
+    };
+    for (draws, gate) in pairs {
+        let Ok(other) = manager.split(&mut client) else {
+            unreachable!()
+        };
+        let worker = Worker {
+            client: other,
+            draws,
+            gate,
+        };
+        let Ok(()) = others.push(worker) else {
+            unreachable!()
+        };
+    }
+    let first = Worker {
+        client,
+        draws,
+        gate,
+    };
+    Ok(Crew { first, others })
+}
+
+/// Splits off a client for each pair of draws and gate, lets them all run their tasks in threads
+/// of their own, and gathers them into the first.
+pub(crate) fn run_clients<R: Threads + Wait, D: Draws + Send + Drop, G: Gate + Send + Drop>(
+    rt: &R,
+    alloc: Global,
+    manager: &Manager,
+    settings: &Settings,
+    client: Client,
+    pairs: Vec<(D, G)>,
+) -> Result<(Client, Tally), LoadFault>
+    requires own { client.table ≡ manager.now.table }
+    requires alone { client.value.grants ≡ 63 }
+    requires settings { is_settings settings.now ≡ true }
+    requires number { vec_len pairs ≡ settings.now.clients }
+    ensures own { IfOk result (λ r. r.0.table ≡ manager.now.table) }
+    ensures ran { IfOk result (λ r. RanAll D.leads settings.now (λ p. p.0) client.value
+        pairs.items r.0.value r.1) }
+    ensures refused { IfErr result (λ fault.
+        (fault ≡ LoadFault.Memory) ⊎ (fault ≡ LoadFault.Spawn)) }
+{
+    let crew = hire(alloc, manager, client, pairs)?;
+    let crew = run_all(rt, alloc, manager, *settings, crew)?;
+    Ok(gather_all(manager, crew))
+}

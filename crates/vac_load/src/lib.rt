@@ -1,0 +1,29 @@
+//! The load generator: clients that call one manager with tasks drawn at random.
+//!
+//! The tasks are like those of the client of the program Vacation of the STAMP benchmarks (Cao
+//! Minh, Chung, Kozyrakis, Olukotun, IISWC 2008).
+#![tactic(auto)]
+
+mod draws;
+mod gathering;
+mod load;
+mod looping;
+mod opening;
+mod report;
+mod settings;
+mod tally;
+mod tasks;
+mod workers;
+
+pub use draws::{Draws, FixedDraws, PcgDraws};
+pub use load::{LoadFault, LoadReport, run_load, run_load_with};
+pub use looping::client_loop;
+pub use opening::open;
+pub use settings::{MOST_CLIENTS, MOST_ITEMS, MOST_TASKS, PERCENT, Settings};
+pub use tally::Tally;
+pub use tasks::{Tasks, tasks_of, turns_make_tasks};
+
+#[cfg(test)]
+mod load_tests;
+#[cfg(test)]
+mod tests;

@@ -1,0 +1,131 @@
+//! A load.
+
+ghost use Rattle.std.specs.Prelude.{◌≡◌, ◌↔◌, true, false, map, vec_len, IfOk, IfErr, IsErrOf};
+ghost use Rattle.vac_load.specs.Setting.{is_settings};
+ghost use Rattle.vac_load.specs.Load.{Loaded, is_load, IsLoadFault, IsStopOfLoad};
+ghost use Rattle.vac_load.specs.Streams.{streams_of, LoadedBySeed};
+
+use crate::draws::{Draws, PcgDraws};
+use crate::gathering::run_clients;
+use crate::opening::open;
+use crate::report::report_of;
+use crate::settings::Settings;
+use crate::tally::Tally;
+use std::alloc::{AllocError, Global};
+use std::sync::Wait;
+use std::thread::Threads;
+use stm_attempt::{Gate, NoGate};
+use thiserror::Error;
+use vac_manager::{Fault, Manager, Report};
+
+/// What a load leaves: how its tasks ended, and the report of the words after all clients were
+/// gathered.
+#[derive(Clone, Copy, Debug, PartialEq, Eq)]
+pub struct LoadReport {
+    pub tally: Tally,
+    pub report: Report,
+}
+
+/// Why a load was not run to its end.
+#[derive(Clone, Copy, Debug, PartialEq, Eq, Error)]
+pub enum LoadFault {
+    /// A setting is out of its range, or there are not as many clients as the settings say.
+    #[error("a setting is out of its range")]
+    Arguments,
+    /// Memory was refused.
+    #[error("out of memory")]
+    Memory,
+    /// A thread could not be started. Those that were started were joined first.
+    #[error("a thread could not be started")]
+    Spawn,
+    /// A command of the opening was refused.
+    #[error("the opening stopped: {0}")]
+    Opening(Fault),
+}
+
+/// Runs a load whose arguments are in their ranges.
+fn run_in_range<R: Threads + Wait, D: Draws + Send + Drop, G: Gate + Send + Drop>(
+    rt: &R,
+    alloc: Global,
+    settings: &Settings,
+    mut opening: D,
+    clients: Vec<(D, G)>,
+) -> Result<LoadReport, LoadFault>
+    requires settings { is_settings settings.now ≡ true }
+    requires number { vec_len clients ≡ settings.now.clients }
+    ensures loaded { IfOk result (λ r. Loaded D.leads settings.now (λ p. p.0)
+        opening clients.items r.tally r.report) }
+    ensures refused { IfErr result (λ fault. IsStopOfLoad fault) }
+{
+    let Ok((manager, mut client)) = Manager::new(alloc, settings.blocks, settings.last) else {
+        return Err(LoadFault::Memory);
+    };
+    if let Err(fault) = open(&manager, &mut client, &mut opening, settings) {
+        return Err(LoadFault::Opening(fault));
+    }
+    let (client, tally) = run_clients(rt, alloc, &manager, settings, client, clients)?;
+    let Ok((words, _)) = manager.close(client) else {
+        return Err(LoadFault::Memory);
+    };
+    let report = report_of(words);
+    Ok(LoadReport { tally, report })
+}
+
+/// Runs a load: the opening by the first client, with the words that are drawn for it; then all
+/// clients at once, each in a thread of its own with its draws and its gate. They are gathered
+/// into the first, and the manager is closed.
+pub fn run_load_with<
+    R: Threads + Wait + AllocGlobal,
+    D: Draws + Send + Drop,
+    G: Gate + Send + Drop,
+>(rt: &R, settings: &Settings, opening: D, clients: Vec<(D, G)>) -> Result<LoadReport, LoadFault>
+    ensures arguments { IsErrOf result LoadFault.Arguments
+        ↔ (is_load settings.now (vec_len clients) ≡ false) }
+    ensures loaded { IfOk result (λ r. Loaded D.leads settings.now (λ p. p.0)
+        opening clients.items r.tally r.report) }
+    ensures refused { IfErr result (λ fault. IsLoadFault fault) }
+{
+    if !(settings.is_in_range() && clients.len() == settings.clients as usize) {
+        return Err(LoadFault::Arguments);
+    }
+    run_in_range(rt, rt.alloc(), settings, opening, clients)
+}
+
+/// The draws of each client, from a stream of its own, and no gate.
+fn streams(alloc: Global, seed: u64, clients: u32) -> Result<Vec<(PcgDraws, NoGate)>, AllocError>
+    ensures number { IfOk result (λ v. vec_len v ≡ clients) }
+    ensures streams { IfOk result (λ v.
+        map (λ pair. pair.0) v.items ≡ streams_of seed clients) }
+{
+    let mut pairs = Vec::with_capacity(alloc, clients as usize)?;
+    for number in 0..clients {
+        pairs.push((PcgDraws::new(seed, u64::from(number) + 1), NoGate))?;
+    }
+    Ok(pairs)
+}
+
+/// Runs a load with the words of a generator: the opening with those of stream 0, the k-th client
+/// with those of stream k.
+pub fn run_load<R: Threads + Wait + AllocGlobal>(
+    rt: &R,
+    settings: &Settings,
+) -> Result<LoadReport, LoadFault>
+    ensures arguments { IsErrOf result LoadFault.Arguments
+        ↔ (is_settings settings.now ≡ false) }
+    ensures loaded { IfOk result (λ r. LoadedBySeed settings.now r.tally r.report) }
+    ensures refused { IfErr result (λ fault. IsLoadFault fault) }
+{
+    if !settings.is_in_range() {
+        return Err(LoadFault::Arguments);
+    }
+    let Ok(clients) = streams(rt.alloc(), settings.seed, settings.clients) else {
+        return Err(LoadFault::Memory);
+    };
+    run_in_range(
+        rt,
+        rt.alloc(),
+        settings,
+        PcgDraws::new(settings.seed, 0),
+        clients,
+    )
+}

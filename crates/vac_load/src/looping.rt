@@ -1,0 +1,64 @@
+//! The loop of one client over its tasks.
+
+ghost use Rattle.std.specs.Prelude.{◌≡◌, true};
+ghost use Rattle.vac_load.specs.Setting.{is_settings};
+ghost use Rattle.vac_load.specs.Looping.{Looped, RanOne};
+
+use crate::draws::Draws;
+use crate::settings::Settings;
+use crate::tally::Tally;
+use crate::tasks::draw_task;
+use std::alloc::{AllocError, Global};
+use stm_attempt::{Gate, Point};
+use vac_manager::{Client, Fault, Manager};
+use vac_model::{Reply, Task};
+
+/// Asks for a task that was drawn, and tells the gate when it is answered.
+fn ask_for<G: Gate>(
+    manager: &Manager,
+    client: &mut Client,
+    task: &Result<Task, AllocError>,
+    tries: u32,
+    gate: &mut G,
+) -> Result<Reply, Fault>
+    requires own { client.old.table ≡ manager.now.table }
+    ensures client { client.new ≡ record client.old { value = client.new.value } }
+    ensures one { RanOne task.now tries result client.old.value client.new.value }
+{
+    match task {
+        Ok(task) => {
+            let end = manager.call_gated(client, task, tries, gate);
+            if end.is_ok() {
+                gate.at(Point::Answered);
+            }
+            end
+        }
+        Err(_) => Err(Fault::Memory),
+    }
+}
+
+/// Asks for as many tasks as the settings say, one after the other, each as it is drawn, and
+/// counts how they ended. A task that was not built counts under memory. The gate is told
+/// `Answered` after each call that was answered.
+pub fn client_loop<D: Draws, G: Gate>(
+    alloc: Global,
+    manager: &Manager,
+    client: &mut Client,
+    draws: &mut D,
+    settings: &Settings,
+    gate: &mut G,
+) -> Tally
+    requires own { client.old.table ≡ manager.now.table }
+    requires settings { is_settings settings.now ≡ true }
+    ensures client { client.new ≡ record client.old { value = client.new.value } }
+    ensures looped { Looped D.leads settings.now settings.now.tasks
+        client.old.value client.new.value draws.old draws.new result }
+{
+    let mut tally = Tally::new();
+    'tasks: for _ in 0..settings.tasks {
+        let task = draw_task(alloc, draws, settings);
+        let end = ask_for(manager, client, &task, settings.tries, gate);
+        tally.count(&end);
+    }
+    tally
+}

@@ -1,0 +1,131 @@
+//! The opening of a load: its items and customers.
+
+ghost use Rattle.std.specs.Prelude.{◌≡◌, ◌<◌, ◌≤◌, ◌^◌, true, IfOk, IfErr, [], ◌∷◌};
+ghost use Rattle.vac_model.specs.Ranges.{is_command};
+ghost use Rattle.vac_load.specs.Draws.{for_each};
+ghost use Rattle.vac_load.specs.Setting.{is_settings};
+ghost use Rattle.vac_load.specs.Looping.{Answered};
+ghost use Rattle.vac_load.specs.Tasks.{stock, stocks, opening};
+ghost use Rattle.vac_load.specs.Opening.{Ran, IsOpeningFault};
+
+use crate::draws::Draws;
+use crate::settings::{LEVELS, Settings, UNITS};
+use crate::tasks::{draw_below, draw_price};
+use vac_manager::{Client, Fault, Manager};
+use vac_model::{Command, Kind, Task};
+
+/// How many tries a command of the opening gets.
+const TRIES: u32 = 1;
+
+/// Asks for a command.
+fn ask_for(manager: &Manager, client: &mut Client, command: Command) -> Result<(), Fault>
+    requires own { client.old.table ≡ manager.now.table }
+    requires alone { client.old.value.grants ≡ 63 }
+    requires range { is_command command ≡ true }
+    ensures client { client.new ≡ record client.old { value = client.new.value } }
+    ensures grants { client.new.value.grants ≡ 63 }
+    ensures answered { IfOk result (λ _. Answered (Task.One command ∷ [])
+        client.old.value client.new.value) }
+    ensures refused { IfErr result (λ fault. IsOpeningFault fault) }
+{
+    match manager.call(client, &Task::One(command), TRIES) {
+        Ok(_) => Ok(()),
+        Err(fault) => Err(fault),
+    }
+}
+
+/// Adds an item of this kind.
+fn add_item<D: Draws>(
+    manager: &Manager,
+    client: &mut Client,
+    draws: &mut D,
+    id: u32,
+    kind: Kind,
+) -> Result<(), Fault>
+    requires own { client.old.table ≡ manager.now.table }
+    requires alone { client.old.value.grants ≡ 63 }
+    requires id { 1 ≤ id }
+    ensures client { client.new ≡ record client.old { value = client.new.value } }
+    ensures grants { client.new.value.grants ≡ 63 }
+    ensures ran { IfOk result (λ _. Ran D.leads (stock id kind)
+        client.old.value client.new.value draws.old draws.new) }
+    ensures refused { IfErr result (λ fault. IsOpeningFault fault) }
+{
+    let num = (draw_below(draws, LEVELS) + 1) * UNITS;
+    let price = draw_price(draws);
+    let command = Command::Add {
+        kind,
+        id,
+        num,
+        price: Some(price),
+    };
+    ask_for(manager, client, command)
+}
+
+/// Adds an item of each kind.
+fn add_items<D: Draws>(
+    manager: &Manager,
+    client: &mut Client,
+    draws: &mut D,
+    id: u32,
+) -> Result<(), Fault>
+    requires own { client.old.table ≡ manager.now.table }
+    requires alone { client.old.value.grants ≡ 63 }
+    requires id { 1 ≤ id }
+    ensures client { client.new ≡ record client.old { value = client.new.value } }
+    ensures grants { client.new.value.grants ≡ 63 }
+    ensures ran { IfOk result (λ _. Ran D.leads (stocks id)
+        client.old.value client.new.value draws.old draws.new) }
+    ensures refused { IfErr result (λ fault. IsOpeningFault fault) }
+{
+    add_item(manager, client, draws, id, Kind::Car)?;
+    add_item(manager, client, draws, id, Kind::Flight)?;
+    add_item(manager, client, draws, id, Kind::Room)
+}
+
+/// Adds the items of each id from 1 on.
+fn add_all<D: Draws>(
+    manager: &Manager,
+    client: &mut Client,
+    draws: &mut D,
+    items: u32,
+) -> Result<(), Fault>
+    requires own { client.old.table ≡ manager.now.table }
+    requires alone { client.old.value.grants ≡ 63 }
+    requires fits { items < 2 ^ 31 }
+    ensures client { client.new ≡ record client.old { value = client.new.value } }
+    ensures grants { client.new.value.grants ≡ 63 }
+    ensures ran { IfOk result (λ _. Ran D.leads (for_each items stocks)
+        client.old.value client.new.value draws.old draws.new) }
+    ensures refused { IfErr result (λ fault. IsOpeningFault fault) }
+{
+    'items: for place in 0..items {
+        add_items(manager, client, draws, place + 1)?;
+    }
+    Ok(())
+}
+
+/// Makes the items and the customers of a load, one command after the other, each by one try. The
+/// client is alone: it has all grants. The first fault ends it, want of memory or a spent clock;
+/// what was answered before it stays.
+pub fn open<D: Draws>(
+    manager: &Manager,
+    client: &mut Client,
+    draws: &mut D,
+    settings: &Settings,
+) -> Result<(), Fault>
+    requires own { client.old.table ≡ manager.now.table }
+    requires alone { client.old.value.grants ≡ 63 }
+    requires settings { is_settings settings.now ≡ true }
+    ensures client { client.new ≡ record client.old { value = client.new.value } }
+    ensures grants { client.new.value.grants ≡ 63 }
+    ensures ran { IfOk result (λ _. Ran D.leads (opening settings.now)
+        client.old.value client.new.value draws.old draws.new) }
+    ensures refused { IfErr result (λ fault. IsOpeningFault fault) }
+{
+    add_all(manager, client, draws, settings.items)?;
+    'customers: for place in 0..settings.items {
+        ask_for(manager, client, Command::NewCustomer { id: place + 1 })?;
+    }
+    Ok(())
+}

@@ -1,0 +1,61 @@
+//! How the tasks of a load ended.
+
+ghost use Rattle.std.specs.Prelude.{◌≡◌, ◌<◌, ◌^◌, ◌+◌};
+ghost use Rattle.vac_load.specs.Looping.{nothing, counted, total};
+ghost use Rattle.vac_load.specs.Sums.{plus};
+
+use vac_manager::Fault;
+use vac_model::Reply;
+
+/// How many tasks were answered, and how many were not, by why.
+#[derive(Clone, Copy, Debug, PartialEq, Eq, Default)]
+pub struct Tally {
+    /// How many were answered.
+    pub answered: u64,
+    /// How many met a conflict in each of their tries.
+    pub busy: u64,
+    /// How many wanted memory that was refused, before the call or in it.
+    pub memory: u64,
+    /// How many found the clock at its end.
+    pub spent: u64,
+}
+
+impl Tally {
+    /// The tally of no task.
+    pub(crate) fn new() -> Tally
+        ensures { result ≡ nothing }
+    {
+        Tally {
+            answered: 0,
+            busy: 0,
+            memory: 0,
+            spent: 0,
+        }
+    }
+
+    /// Counts a task by how it ended.
+    pub(crate) fn count(&mut self, end: &Result<Reply, Fault>)
+        requires { total self.old < 2 ^ 32 }
+        ensures { self.new ≡ counted end.now self.old }
+    {
+        match end {
+            Ok(_) => self.answered += 1,
+            Err(Fault::Arguments | Fault::Memory) => self.memory += 1,
+            Err(Fault::Busy(_)) => self.busy += 1,
+            Err(Fault::Spent { .. }) => self.spent += 1,
+        }
+    }
+
+    /// Both tallies added up.
+    pub(crate) fn plus(self, other: Tally) -> Tally
+        requires fits { total self + total other < 2 ^ 32 }
+        ensures { result ≡ plus self other }
+    {
+        Tally {
+            answered: self.answered + other.answered,
+            busy: self.busy + other.busy,
+            memory: self.memory + other.memory,
+            spent: self.spent + other.spent,
+        }
+    }
+}
