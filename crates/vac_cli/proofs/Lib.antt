@@ -1,3 +1,7 @@
 pub mod Cutting
 pub mod Progress
 pub mod Running
+pub mod Closing
+pub mod Dumping
+pub mod WordLines
+pub mod Checking

@@ -4,7 +4,9 @@ use Rattle.std.specs.Io.KnownBytes.{Appends, Consumes, IsAtEnd, Keeps}
 use Rattle.std.proofs.KnownBytes.{Consumes-nil, Consumes-trans, Consumes-kept, Appends-nil, Appends-trans}
 use Rattle.vac_model.specs.State.{State, empty_state}
 use Rattle.vac_lines.specs.Text.{Extends}
-use Rattle.vac_cli.specs.Script.{script_out, pending, WroteAll, WrotePrefix}
+use Rattle.vac_lines.specs.Script.{script_state}
+use Rattle.vac_cli.specs.Script.{script_out, pending, leaves, LeavesSame, WrotePrefix}
+use Rattle.vac_cli.specs.System.{SystemShown, StandsAt, RanAll}
 use Rattle.vac_lines.proofs.Extends.{extends_more}
 
 -- some bytes were read and some text was written; whatever follows, the rest of the output is what is pending
@@ -14,6 +16,7 @@ pub record Progress (n : ℕ) (unread left held holds : Option (List ℕ)) (s : 
   pub text : List ℕ
   pub written : Appends held holds text
   pub same : (x : List ℕ) → script_out n (bytes ++ x) ≡ text ++ pending s line x
+  pub same_state : (x : List ℕ) → script_state n (bytes ++ x) ≡ leaves s line x
 
 -- what a call wrote of the output of a chunk
 abbrev pub Ran : Option (List ℕ) → Option (List ℕ) → State → List ℕ → List ℕ → State → List ℕ → Type 0
@@ -63,17 +66,19 @@ started n unread held = record {
   text = [];
   written = Appends-nil held;
   same = λ x. refl;
+  same_state = λ x. refl;
 }
 
 -- a chunk was run
 pub chunk_run : (n : ℕ) (unread left now held holds grown : Option (List ℕ)) (s t : State) (line after chunk : List ℕ) → Progress n unread left held holds s line
-    → Consumes left now chunk → Ran holds grown s line chunk t after → Progress n unread now held grown t after
-chunk_run n unread left now held holds grown s t line after chunk p c r = record {
+    → Consumes left now chunk → Ran holds grown s line chunk t after → LeavesSame s line chunk t after → Progress n unread now held grown t after
+chunk_run n unread left now held holds grown s t line after chunk p c r l = record {
   bytes = p.bytes ++ chunk;
   consumed = Consumes-trans unread left now p.bytes chunk p.consumed c;
   text = p.text ++ r.0;
   written = Appends-trans held holds grown p.text r.0 p.written r.1;
   same = λ x. ap (script_out n) (append_assoc p.bytes chunk x) ∙ p.same (chunk ++ x) ∙ ap (λ t. p.text ++ t) (r.2 x) ∙ sym (append_assoc p.text r.0 (pending t after x));
+  same_state = λ x. ap (script_state n) (append_assoc p.bytes chunk x) ∙ p.same_state (chunk ++ x) ∙ l x;
 }
 
 -- a chunk was run in part
@@ -94,6 +99,7 @@ read_kept n unread left now held holds s line p k = record {
   text = p.text;
   written = p.written;
   same = p.same;
+  same_state = p.same_state;
 }
 
 -- the run ends here
@@ -102,13 +108,14 @@ run_ended n unread left held holds s line p =
     prefix_of n unread left held holds p.bytes p.text p.consumed p.written (λ x. extends_more p.text (script_out n (p.bytes ++ x)) (pending s line x) (p.same x))
 
 -- the end of the input was run
-pub end_run : (n : ℕ) (unread left now held holds grown : Option (List ℕ)) (s : State) (line : List ℕ) → Progress n unread left held holds s line
-    → Consumes left now [] → IsAtEnd now → Appends holds grown (pending s line []) → WroteAll n unread now held grown
-end_run n unread left now held holds grown s line p c e w = record {
+pub end_run : (n : ℕ) (unread left now held holds grown : Option (List ℕ)) (s : State) (y : SystemShown) (line : List ℕ) → Progress n unread left held holds s line
+    → Consumes left now [] → IsAtEnd now → Appends holds grown (pending s line []) → StandsAt y (leaves s line []) → RanAll n y unread now held grown
+end_run n unread left now held holds grown s y line p c e w st = record {
   bytes = p.bytes;
   consumed = subst (Consumes unread now) (append-nil p.bytes) (Consumes-trans unread left now p.bytes [] p.consumed c);
   ended = e;
   written = subst (Appends held grown) (sym (p.same []) ∙ ap (script_out n) (append-nil p.bytes)) (Appends-trans held holds grown p.text (pending s line []) p.written w);
+  stands = subst (StandsAt y) (sym (p.same_state []) ∙ ap (script_state n) (append-nil p.bytes)) st;
 }
 
 -- the end of the input was run in part

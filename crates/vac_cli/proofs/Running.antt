@@ -1,23 +1,22 @@
 -- A script over a manager: how far it has come, whatever the state at which its manager stands.
-use Rattle.std.proofs.Common.{◌≡◌, ◌<◌, ℕ, List, [], ◌∷◌, ◌++◌, length, Result, Ok, Err, OnOk, OnErr, Option, take, refl, sym, ap, ◌∙◌, subst, append-nil}
+use Rattle.std.proofs.Common.{◌≡◌, ◌<◌, ℕ, List, [], ◌∷◌, ◌++◌, length, Result, Ok, Err, OnOk, OnErr, Option, take, refl, sym, ap, ◌∙◌, subst}
 use Rattle.std.specs.Io.KnownBytes.{Appends, Consumes, IsAtEnd, Keeps}
-use Rattle.std.proofs.KnownBytes.{Appends-trans}
 use Rattle.vac_model.specs.State.{State, empty_state}
 use Rattle.vac_model.specs.declared.tasks.Task.{Task}
 use Rattle.vac_lines.specs.declared.fault.LineFault.{LineFault}
 use Rattle.vac_lines.specs.Script.{answer}
 use Rattle.vac_lines.specs.Text.{Extends}
-use Rattle.vac_lines.proofs.Extends.{extends_more, extends_through, extends_taken}
 use Rattle.vac_lines.specs.LineTable.{line_task}
-use Rattle.vac_cli.specs.Script.{HasBegun, HasNoEnd, pending, AppendsPrefix, WroteAll, WrotePrefix}
-use Rattle.vac_cli.specs.System.{SystemShown, StandsAt, Answered, AnsweredInPart, Ran, RanInPart, Wrote, WroteInPart, WroteEnd, WroteEndInPart}
-use Rattle.vac_cli.proofs.Cutting.{line_run, line_stopped, line_kept, last_answer}
+use Rattle.vac_cli.specs.Script.{HasNoEnd, pending, leaves, WroteAll, WrotePrefix}
+use Rattle.vac_cli.specs.System.{SystemShown, StandsAt, Answered, AnsweredInPart, Ran, RanInPart, Wrote, WroteInPart, WroteEnd, WroteEndInPart, RanAll}
+use Rattle.vac_cli.proofs.Cutting.{line_run, line_stopped, line_kept, line_leaves, kept_leaves, last_leaves, last_answer}
 use Rattle.vac_cli.proofs.Progress.{Progress, started_at, chunk_run, chunk_stopped, read_kept, run_ended, end_run, end_stopped}
 
 -- of a chunk this rest is still to be run
 pub record RanTo (y y' : SystemShown) (line line' out out' chunk rest : List ℕ) : Type 0 where
   pub on : (s : State) → StandsAt y s → (t : State) × StandsAt y' t
       × ((x : List ℕ) → out ++ pending s line (chunk ++ x) ≡ out' ++ pending t line' (rest ++ x))
+      × ((x : List ℕ) → leaves s line (chunk ++ x) ≡ leaves t line' (rest ++ x))
 
 -- a script runs, at some state
 pub record Running (n : ℕ) (unread left held holds : Option (List ℕ)) (y : SystemShown) (line : List ℕ) : Type 0 where
@@ -42,6 +41,7 @@ ran_line y y1 y2 first start after out0 out new chunk rest line behind h f g e a
         (answer q.0 (line_task (start ++ line))).0,
         a.state q.0 q.1,
         λ x. q.2 x ∙ line_run q.0 ((answer q.0 (line_task (start ++ line))).0) out new start line behind rest after x f g e (a.text q.0 q.1) refl z,
+        λ x. q.3 x ∙ line_leaves q.0 ((answer q.0 (line_task (start ++ line))).0) start line behind rest after x f g e refl z,
       );
 }
 
@@ -62,6 +62,7 @@ ran_kept y y1 y2 first start after out0 out new chunk rest h f g e same k = reco
         q.0,
         subst (λ z. StandsAt z q.0) (sym same) q.1,
         λ x. q.2 x ∙ line_kept q.0 q.0 out new start rest after x f g e refl k,
+        λ x. q.3 x ∙ kept_leaves q.0 start rest after x f g k,
       );
 }
 
@@ -70,6 +71,11 @@ pub last_ran : {T E : Type 0} (r : Result T E) (y y' : SystemShown) (out new sta
     → OnOk r (Answered y y' out new (line_task (start ++ []))) → OnOk r ((s : State) → StandsAt y s → new ≡ out ++ pending s start [])
 last_ran (Ok t) y y' out new start h n a = λ s st. a.text s st ∙ ap (λ t. out ++ t) (last_answer s start h n)
 last_ran (Err f) y y' out new start h n a = tt
+
+pub last_stands : {T E : Type 0} (r : Result T E) (y y' : SystemShown) (out new start : List ℕ) → HasNoEnd start → 0 < length start
+    → OnOk r (Answered y y' out new (line_task (start ++ []))) → OnOk r ((s : State) → StandsAt y s → StandsAt y' (leaves s start []))
+last_stands (Ok t) y y' out new start h n a = λ s st. subst (StandsAt y') (last_leaves s start h n) (a.state s st)
+last_stands (Err f) y y' out new start h n a = tt
 
 pub last_halted : {T E : Type 0} (r : Result T E) (y : SystemShown) (out new start : List ℕ) → HasNoEnd start → 0 < length start
     → OnErr r (AnsweredInPart y out new (line_task (start ++ []))) → OnErr r ((s : State) → StandsAt y s → Extends new (out ++ pending s start []))
@@ -86,6 +92,7 @@ wrote (Ok t) y y' y2 line after after2 out new chunk held holds empty e f w h = 
     q.0,
     subst (λ z. StandsAt z q.0) (sym e) q.1,
     λ x. sym (ap (λ o. o ++ pending s line (chunk ++ x)) empty) ∙ (q.2 x ∙ ap (λ l. new ++ pending q.0 l x) (sym f)),
+    λ x. q.3 x ∙ ap (λ l. leaves q.0 l x) (sym f),
   ));
 }
 wrote (Err g) y y' y2 line after after2 out new chunk held holds empty e f w h = tt
@@ -98,7 +105,7 @@ pub running_on : (n : ℕ) (unread left now held holds grown : Option (List ℕ)
     → Consumes left now chunk → Wrote y y' line after chunk holds grown → Running n unread now held grown y' after
 running_on n unread left now held holds grown y y' line after chunk p c w =
     let q = w.on p.state p.stands in
-    record { state = q.0; stands = q.1; progress = chunk_run n unread left now held holds grown p.state q.0 line after chunk p.progress c (w.text, w.written, q.2) }
+    record { state = q.0; stands = q.1; progress = chunk_run n unread left now held holds grown p.state q.0 line after chunk p.progress c (w.text, w.written, q.2) q.3 }
 
 pub running_halted : (n : ℕ) (unread left now held holds grown : Option (List ℕ)) (y : SystemShown) (line chunk : List ℕ) → Running n unread left held holds y line
     → Consumes left now chunk → WroteInPart y line chunk holds grown → WrotePrefix n unread now held grown
@@ -111,12 +118,17 @@ running_kept n unread left now held holds y line p k = record { state = p.state;
 pub running_ended : (n : ℕ) (unread left held holds : Option (List ℕ)) (y : SystemShown) (line : List ℕ) → Running n unread left held holds y line → WrotePrefix n unread left held holds
 running_ended n unread left held holds y line p = run_ended n unread left held holds p.state line p.progress
 
-pub end_ran : (n : ℕ) (unread left now held holds grown : Option (List ℕ)) (y : SystemShown) (line : List ℕ) → Running n unread left held holds y line
-    → Consumes left now [] → IsAtEnd now → WroteEnd y line holds grown → WroteAll n unread now held grown
-end_ran n unread left now held holds grown y line p c e w =
-    end_run n unread left now held holds grown p.state line p.progress c e (subst (Appends holds grown) (w.on p.state p.stands) w.written)
+pub end_ran : (n : ℕ) (unread left now held holds grown : Option (List ℕ)) (y y' : SystemShown) (line : List ℕ) → Running n unread left held holds y line
+    → Consumes left now [] → IsAtEnd now → WroteEnd y y' line holds grown → RanAll n y' unread now held grown
+end_ran n unread left now held holds grown y y' line p c e w =
+    let q = w.on p.state p.stands in
+    end_run n unread left now held holds grown p.state y' line p.progress c e (subst (Appends holds grown) q.0 w.written) q.1
 
 pub end_halted : (n : ℕ) (unread left now held holds grown : Option (List ℕ)) (y : SystemShown) (line : List ℕ) → Running n unread left held holds y line
     → Consumes left now [] → IsAtEnd now → WroteEndInPart y line holds grown → WrotePrefix n unread now held grown
 end_halted n unread left now held holds grown y line p c e w =
     end_stopped n unread left now held holds grown p.state line w.text p.progress c e w.written (w.on p.state p.stands)
+
+-- a script that was run to its end wrote all its output
+pub wrote_all : (n : ℕ) (y : SystemShown) (unread left held holds : Option (List ℕ)) → RanAll n y unread left held holds → WroteAll n unread left held holds
+wrote_all n y unread left held holds r = record { bytes = r.bytes; consumed = r.consumed; ended = r.ended; written = r.written }

@@ -1,5 +1,5 @@
 -- What a script writes, as a function of all its bytes.
-use Rattle.std.specs.Prelude.{ℕ, ◌+◌, Option, IfSome, Result, List, ◌++◌, map, take, length, ◌≤◌}
+use Rattle.std.specs.Prelude.{◌≡◌, ℕ, ◌+◌, Option, IfSome, Result, List, ◌++◌, map, take, length, ◌≤◌}
 use Rattle.std.specs.Io.KnownBytes.{Appends, Consumes, IsAtEnd}
 use Rattle.vac_model.specs.State.{State, empty_state}
 use Rattle.vac_model.specs.declared.tasks.Task.{Task}
@@ -43,6 +43,15 @@ HasNoEnd text = HasNo 10 text
 -- follows it
 abbrev pub pending : State → List ℕ → List ℕ → List ℕ
 pending s start rest = answers s (map line_task (lines_of (start ++ rest)))
+
+-- the state that is left in the end, where the same is still to be run
+abbrev pub leaves : State → List ℕ → List ℕ → State
+leaves s start rest = (script s (map line_task (lines_of (start ++ rest)))).0
+
+-- whatever follows the chunk, the same state is left in the end from the state t on
+abbrev pub LeavesSame : State → List ℕ → List ℕ → State → List ℕ → Type 0
+LeavesSame s line chunk t line' =
+    (x : List ℕ) → leaves s line (chunk ++ x) ≡ leaves t line' x
 
 -- a prefix of the text was appended
 abbrev pub AppendsPrefix : Option (List ℕ) → Option (List ℕ) → List ℕ → Type 0

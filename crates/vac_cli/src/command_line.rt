@@ -3,34 +3,48 @@
 ghost use Rattle.std.specs.Prelude.{◌≡◌, ◌≤◌, IfOk, IfSome, true};
 ghost use Rattle.vac_manager.specs.Opening.{is_block_count};
 ghost use Rattle.vac_cli.specs.Script.{WroteAll};
+ghost use Rattle.vac_cli.specs.Dump.{Dumped};
+ghost use Rattle.vac_cli.specs.CommandLine.{IsInRange};
 
+use crate::check::check;
+use crate::dump::dump_script;
+use crate::load::load;
 use crate::script::{RunFault, run_script};
+use crate::status::{DONE, FAULT, REFUSED, end_by};
+use crate::system::LAST_VERSION;
 use clap::error::ErrorKind;
-use clap::{Arg, Command, Error, value_parser};
+use clap::{Arg, ArgMatches, Command, Error, value_parser};
 use std::alloc::{AllocError, Global};
 use std::io::{Read, Write};
-use vac_model::limits::MOST_BLOCKS;
-
-/// The status of a program that did its work or showed its help.
-const DONE: u8 = 0;
-
-/// The status of a program that met a fault.
-const FAULT: u8 = 1;
-
-/// The status of a program whose command line was refused.
-const REFUSED: u8 = 2;
+use std::sync::Wait;
+use std::thread::Threads;
+use vac_load::{MOST_CLIENTS, MOST_ITEMS, MOST_TASKS, PERCENT, Settings};
+use vac_manager::MOST_TRIES;
+use vac_model::limits::{MOST_BLOCKS, MOST_PARTS};
 
 /// How many blocks a system has where the command line does not say.
 const DEFAULT_BLOCKS: &str = "1024";
 
+/// What a command line asks for.
+enum Asked {
+    /// To run a script for a system of so many blocks.
+    Run(u32),
+    /// To dump the memory that the script leaves.
+    Dump(u32),
+    /// To audit the words of a memory.
+    Check,
+    /// To run a load.
+    Load(Settings),
+}
+
 /// Runs the program on a command line, of which the first word is the program's name, and answers
-/// its status: 0 where it did its work or showed its help, 1 after a fault, 2 where the command
-/// line was refused.
+/// its status: 0 where it did its work or showed its help, 1 after a fault and where `check` found
+/// no balanced state, 2 where the command line was refused.
 ///
 /// Help goes to `output`, the text of a refused command line to `errors`. A fault is the last line
 /// of `output`, unless `output` is what failed.
-pub fn run_words<R: Read, W: Write, E: Write>(
-    alloc: Global,
+pub fn run_words<T: Threads + Wait + AllocGlobal, R: Read, W: Write, E: Write>(
+    rt: &T,
     words: &[String],
     input: &mut R,
     output: &mut W,
@@ -38,8 +52,12 @@ pub fn run_words<R: Read, W: Write, E: Write>(
 ) -> u8
     ensures { result ≤ 2 }
 {
-    match read_blocks(alloc, words) {
-        Ok(Some(blocks)) => run(alloc, blocks, input, output),
+    let alloc = rt.alloc();
+    match read_asked(alloc, words) {
+        Ok(Some(Asked::Run(blocks))) => run(alloc, blocks, input, output),
+        Ok(Some(Asked::Dump(blocks))) => dump(alloc, blocks, input, output),
+        Ok(Some(Asked::Check)) => check(alloc, input, output),
+        Ok(Some(Asked::Load(settings))) => load(rt, &settings, output),
         Ok(None) => REFUSED,
         Err(error) => show(&error, output, errors),
     }
@@ -59,31 +77,130 @@ pub fn refuse_words<E: Write>(errors: &mut E) -> u8
 
 /// The command line that the program takes.
 fn command_line<'a>(alloc: Global) -> Result<Command<'a>, AllocError> {
-    let blocks = Arg::new(alloc, "blocks")
+    let run = Command::new(alloc, "run")
+        .about("Runs the commands on standard input")
+        .arg(blocks_option(alloc))?;
+    let dump = Command::new(alloc, "dump")
+        .about("Runs the commands on standard input and writes the memory that they leave")
+        .arg(blocks_option(alloc))?;
+    let check = Command::new(alloc, "check").about(
+        "Audits the words of a memory on standard input, as dump writes them",
+    );
+    Command::new(alloc, "vacation")
+        .about("A reservation system")
+        .subcommand_required(true)
+        .subcommand(run)?
+        .subcommand(dump)?
+        .subcommand(check)?
+        .subcommand(load_command(alloc)?)
+}
+
+/// The subcommand that runs a load.
+fn load_command<'a>(alloc: Global) -> Result<Command<'a>, AllocError> {
+    let clients = number_option(alloc, "clients", 1, MOST_CLIENTS, "4").help(
+        "How many clients call the system, each in a thread of its own",
+    );
+    let tasks = number_option(alloc, "tasks", 1, MOST_TASKS, "100").help(
+        "How many tasks each client asks for",
+    );
+    let items = number_option(alloc, "items", 1, MOST_ITEMS, "16").help(
+        "How many items of each kind, and customers, there are; the blocks must be four times as many",
+    );
+    let asks = number_option(alloc, "asks", 1, MOST_PARTS as u32, "4").help(
+        "The most items that a task names",
+    );
+    let user = number_option(alloc, "user", 0, PERCENT, "80").help(
+        "How many of a hundred tasks are trips",
+    );
+    let seed = Arg::new(alloc, "seed")
+        .long("seed")
+        .value_name("N")
+        .help("What the tasks are drawn from")
+        .value_parser(value_parser!(u64))
+        .default_value("1");
+    let tries = number_option(alloc, "tries", 1, MOST_TRIES, "64").help(
+        "How many attempts a task may take",
+    );
+    Command::new(alloc, "load")
+        .about(
+            "Lets clients call the system with tasks drawn at random, and reports what they left",
+        )
+        .arg(clients)?
+        .arg(tasks)?
+        .arg(items)?
+        .arg(asks)?
+        .arg(user)?
+        .arg(seed)?
+        .arg(blocks_option(alloc))?
+        .arg(tries)
+}
+
+/// An option that takes a number in a range.
+fn number_option<'a>(
+    alloc: Global,
+    name: &'a str,
+    least: u32,
+    most: u32,
+    default: &'a str,
+) -> Arg<'a> {
+    Arg::new(alloc, name)
+        .long(name)
+        .value_name("N")
+        .value_parser(value_parser!(u32).range(i64::from(least)..=i64::from(most)))
+        .default_value(default)
+}
+
+/// The option that says how many blocks a system has.
+fn blocks_option<'a>(alloc: Global) -> Arg<'a> {
+    Arg::new(alloc, "blocks")
         .long("blocks")
         .value_name("N")
         .help("How many items, customers and bookings there is room for")
         .value_parser(value_parser!(u32).range(1..=i64::from(MOST_BLOCKS)))
-        .default_value(DEFAULT_BLOCKS);
-    let run = Command::new(alloc, "run")
-        .about("Runs the commands on standard input")
-        .arg(blocks)?;
-    Command::new(alloc, "vacation")
-        .about("A reservation system")
-        .subcommand_required(true)
-        .subcommand(run)
+        .default_value(DEFAULT_BLOCKS)
 }
 
-/// The number of blocks with which a command line asks to run a script.
-fn read_blocks(alloc: Global, words: &[String]) -> Result<Option<u32>, Error>
-    ensures { IfOk result (λ asked. IfSome asked (λ blocks. is_block_count blocks ≡ true)) }
+/// What a command line asks for.
+fn read_asked(alloc: Global, words: &[String]) -> Result<Option<Asked>, Error>
+    ensures { IfOk result (λ asked. IfSome asked IsInRange) }
 {
     let matches = command_line(alloc)?.try_get_matches_from(words)?;
-    let Some(run) = matches.subcommand_matches("run") else {
+    if let Some(run) = matches.subcommand_matches("run") {
+        return Ok(blocks_of(run).map(Asked::Run));
+    }
+    if matches.subcommand_matches("check").is_some() {
+        return Ok(Some(Asked::Check));
+    }
+    if let Some(dump) = matches.subcommand_matches("dump") {
+        return Ok(blocks_of(dump).map(Asked::Dump));
+    }
+    let Some(load) = matches.subcommand_matches("load") else {
         return Ok(None);
     };
-    let blocks = run.get_one::<u32>("blocks");
-    Ok(blocks.filter(|blocks| 1 <= *blocks && *blocks <= MOST_BLOCKS))
+    Ok(settings_of(load).map(Asked::Load))
+}
+
+/// The settings that the subcommand of a load names, or the defaults.
+fn settings_of(matches: &ArgMatches) -> Option<Settings> {
+    Some(Settings {
+        clients: matches.get_one::<u32>("clients")?,
+        tasks: matches.get_one::<u32>("tasks")?,
+        items: matches.get_one::<u32>("items")?,
+        asks: matches.get_one::<u32>("asks")?,
+        user: matches.get_one::<u32>("user")?,
+        seed: matches.get_one::<u64>("seed")?,
+        blocks: blocks_of(matches)?,
+        tries: matches.get_one::<u32>("tries")?,
+        last: LAST_VERSION,
+    })
+}
+
+/// The number of blocks that a subcommand names, or the default.
+fn blocks_of(matches: &ArgMatches) -> Option<u32>
+    ensures { IfSome result (λ blocks. is_block_count blocks ≡ true) }
+{
+    let blocks = matches.get_one::<u32>("blocks");
+    blocks.filter(|blocks| 1 <= *blocks && *blocks <= MOST_BLOCKS)
 }
 
 /// Runs a script and answers the status.
@@ -99,23 +216,17 @@ fn run<R: Read, W: Write>(alloc: Global, blocks: u32, input: &mut R, output: &mu
     }
 }
 
-/// Writes the last line of a program that met a fault, and answers its status. A failed write of
-/// that line changes nothing.
-fn end_by<W: Write>(fault: RunFault, output: &mut W) -> u8
-    ensures { result ≡ 1 }
+/// Dumps the memory that a script leaves, and answers the status.
+fn dump<R: Read, W: Write>(alloc: Global, blocks: u32, input: &mut R, output: &mut W) -> u8
+    requires { is_block_count blocks ≡ true }
+    ensures status { result ≤ 1 }
+    ensures done { result ≡ 0 → Dumped blocks (R.remaining input.old) (R.remaining input.new)
+        (W.contents output.old) (W.contents output.new) }
 {
-    let line = match fault {
-        RunFault::Read => b"fault read\n".as_slice(),
-        RunFault::Write => return FAULT,
-        RunFault::Memory => b"fault memory\n",
-        RunFault::Spent => b"fault spent\n",
-        RunFault::Busy => b"fault busy\n",
-        RunFault::Bound => b"fault bound\n",
-    };
-    if output.write_all(line).is_ok() {
-        let _ = output.flush();
+    match dump_script(alloc, blocks, input, output) {
+        Ok(()) => DONE,
+        Err(fault) => end_by(fault, output),
     }
-    FAULT
 }
 
 /// Shows the help that was asked for, or why the command line was refused, and answers the status.

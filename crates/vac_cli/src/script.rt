@@ -10,8 +10,9 @@ ghost use Rattle.vac_lines.specs.Text.{Extends};
 ghost use Rattle.vac_lines.specs.LineTable.{line_task};
 ghost use Rattle.vac_cli.specs.declared.script.RunFault.TheVariants.{Busy};
 ghost use Rattle.vac_cli.specs.System.{StandsAt, Answered, AnsweredInPart, Ran, RanInPart};
-ghost use Rattle.vac_cli.specs.System.{Wrote, WroteInPart, WroteEnd, WroteEndInPart};
-ghost use Rattle.vac_cli.specs.Script.{pending, HasBegun, AppendsPrefix, WroteAll, WrotePrefix};
+ghost use Rattle.vac_cli.specs.System.{Wrote, WroteInPart, WroteEnd, WroteEndInPart, RanAll};
+ghost use Rattle.vac_cli.specs.Script.{pending, leaves, HasBegun, AppendsPrefix};
+ghost use Rattle.vac_cli.specs.Script.{WroteAll, WrotePrefix};
 
 use crate::system::System;
 use std::alloc::{AllocError, Global};
@@ -21,10 +22,10 @@ use vac_lines::{LINE_BYTES, LineFault, cut_at, print_fault, print_reply, read_li
 use vac_model::Task;
 
 /// The most reads of a script, but for one: the read after these is the last.
-const MOST_READS: u64 = 4_294_967_296;
+pub(crate) const MOST_READS: u64 = 4_294_967_296;
 
-/// The bytes that are asked for by one read.
-const CHUNK_BYTES: usize = 65_536;
+/// The bytes that are asked for by one read, and about as many are written at once.
+pub(crate) const CHUNK_BYTES: usize = 65_536;
 
 /// How much is kept of a line that has not ended: enough to see that it is too long.
 const KEPT_BYTES: usize = LINE_BYTES + 1;
@@ -115,7 +116,7 @@ fn run_line(
 }
 
 /// Writes the text. A write that fails, and one that takes nothing, ends it.
-fn write_all<W: Write>(output: &mut W, text: &[u8]) -> Result<(), RunFault>
+pub(crate) fn write_all<W: Write>(output: &mut W, text: &[u8]) -> Result<(), RunFault>
     ensures ok { OnOk result (Appends (W.contents output.old) (W.contents output.new) text.now) }
     ensures err { OnErr result
         (AppendsPrefix (W.contents output.old) (W.contents output.new) text.now) }
@@ -139,6 +140,18 @@ fn write_all<W: Write>(output: &mut W, text: &[u8]) -> Result<(), RunFault>
     Err(RunFault::Write)
 }
 
+/// Keeps what follows of a line that has begun, as far as there is need.
+#[tactic(auto, using(crate::proofs::Cutting::kept_prefix))]
+pub(crate) fn keep_start(line: &mut Vec<u8>, more: &[u8]) -> Result<(), AllocError>
+    requires { length line.old.items ≤ LINE_BYTES + 1 }
+    ensures line { OnOk result
+        (line.new.items ≡ take (LINE_BYTES + 1) (line.old.items ++ more.now)) }
+{
+    let room = KEPT_BYTES - line.len();
+    let kept = room.min(more.len());
+    line.extend_from_slice(&more[..kept])
+}
+
 impl Script {
     /// A script of which nothing was read.
     fn new(alloc: Global, blocks: u32) -> Result<Script, RunFault>
@@ -155,16 +168,13 @@ impl Script {
     }
 
     /// Keeps what follows of the line that has begun, as far as there is need.
-    #[tactic(auto, using(crate::proofs::Cutting::kept_prefix))]
     fn keep(&mut self, more: &[u8]) -> Result<(), AllocError>
         requires { length self.old.line.items ≤ LINE_BYTES + 1 }
         ensures line { OnOk result
             (self.new.line.items ≡ take (LINE_BYTES + 1) (self.old.line.items ++ more.now)) }
         ensures others { self.new ≡ record self.old { line = self.new.line } }
     {
-        let room = KEPT_BYTES - self.line.len();
-        let kept = room.min(more.len());
-        self.line.extend_from_slice(&more[..kept])
+        keep_start(&mut self.line, more)
     }
 
     /// Runs the line that has begun, of which this is the rest.
@@ -211,6 +221,8 @@ impl Script {
         requires { HasBegun self.old.line.items }
         ensures ok { OnOk result ((s : State) → StandsAt self.old.system s
             → self.new.out.items ≡ self.old.out.items ++ pending s self.old.line.items []) }
+        ensures state { OnOk result ((s : State) → StandsAt self.old.system s
+            → StandsAt self.new.system (leaves s self.old.line.items [])) }
         ensures err { OnErr result ((s : State) → StandsAt self.old.system s
             → Extends self.new.out.items
             (self.old.out.items ++ pending s self.old.line.items [])) }
@@ -265,7 +277,7 @@ impl Script {
     fn run_end<W: Write>(&mut self, alloc: Global, output: &mut W) -> Result<(), RunFault>
         requires begun { HasBegun self.old.line.items }
         requires empty { self.old.out.items ≡ [] }
-        ensures ok { OnOk result (WroteEnd self.old.system self.old.line.items
+        ensures ok { OnOk result (WroteEnd self.old.system self.new.system self.old.line.items
             (W.contents output.old) (W.contents output.new)) }
         ensures err { OnErr result (WroteEndInPart self.old.system self.old.line.items
             (W.contents output.old) (W.contents output.new)) }
@@ -278,10 +290,47 @@ impl Script {
     }
 }
 
+/// Runs a script for a system of so many blocks, and answers the system that it leaves: reads the
+/// lines to the end of the input and writes an output line for each.
+pub(crate) fn run_input<R: Read, W: Write>(
+    alloc: Global,
+    blocks: u32,
+    input: &mut R,
+    output: &mut W,
+) -> Result<System, RunFault>
+    requires { is_block_count blocks ≡ true }
+    ensures ok { IfOk result (λ system. RanAll blocks system
+        (R.remaining input.old) (R.remaining input.new)
+        (W.contents output.old) (W.contents output.new)) }
+    ensures err { OnErr result (WrotePrefix blocks (R.remaining input.old) (R.remaining input.new)
+        (W.contents output.old) (W.contents output.new)) }
+    ensures not_busy { IfErr result (λ fault. fault ≢ Busy) }
+{
+    let mut script = Script::new(alloc, blocks)?;
+    let mut buffer = vec![in alloc; 0; CHUNK_BYTES]?;
+    let chunk = buffer.as_mut_slice();
+    'reads: for _ in 0..=MOST_READS {
+        match input.read(chunk) {
+            Ok(0) => {
+                script.run_end(alloc, output)?;
+                return Ok(script.system);
+            }
+            Ok(count) => script.run_chunk(alloc, &chunk[..count], output)?,
+            Err(error) => {
+                if error.kind() != ErrorKind::Interrupted {
+                    return Err(RunFault::Read);
+                }
+            }
+        }
+    }
+    Err(RunFault::Bound)
+}
+
 /// Runs a script for a system of so many blocks: reads its lines to the end of the input and
 /// writes an output line for each.
 ///
 /// After a fault, what was written is a prefix of the whole output.
+#[tactic(auto, using(crate::proofs::Running::wrote_all))]
 pub fn run_script<R: Read, W: Write>(
     alloc: Global,
     blocks: u32,
@@ -295,19 +344,6 @@ pub fn run_script<R: Read, W: Write>(
         (W.contents output.old) (W.contents output.new)) }
     ensures not_busy { IfErr result (λ fault. fault ≢ Busy) }
 {
-    let mut script = Script::new(alloc, blocks)?;
-    let mut buffer = vec![in alloc; 0; CHUNK_BYTES]?;
-    let chunk = buffer.as_mut_slice();
-    'reads: for _ in 0..=MOST_READS {
-        match input.read(chunk) {
-            Ok(0) => return script.run_end(alloc, output),
-            Ok(count) => script.run_chunk(alloc, &chunk[..count], output)?,
-            Err(error) => {
-                if error.kind() != ErrorKind::Interrupted {
-                    return Err(RunFault::Read);
-                }
-            }
-        }
-    }
-    Err(RunFault::Bound)
+    run_input(alloc, blocks, input, output)?;
+    Ok(())
 }

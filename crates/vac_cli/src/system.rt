@@ -4,6 +4,7 @@ ghost use Rattle.std.specs.Prelude.{◌≡◌, ◌≢◌, true, IfOk, IfErr};
 ghost use Rattle.vac_model.specs.State.{State, empty_state};
 ghost use Rattle.vac_model.specs.Run.{run};
 ghost use Rattle.vac_model.specs.Ranges.{is_task};
+ghost use Rattle.vac_manager.specs.Law.{Shows};
 ghost use Rattle.vac_manager.specs.Opening.{is_block_count};
 ghost use Rattle.vac_cli.specs.declared.script.RunFault.TheVariants.{Busy};
 ghost use Rattle.vac_cli.specs.System.{StandsAt};
@@ -15,7 +16,7 @@ use vac_manager::{Client, Fault, Manager};
 use vac_model::{Reply, Task};
 
 /// The version that the clock ends at: the last one that there is.
-const LAST_VERSION: u64 = (1 << 62) - 1;
+pub(crate) const LAST_VERSION: u64 = (1 << 62) - 1;
 
 /// A manager and its one client, which runs each task as a transaction and commits it. Contracts
 /// see both.
@@ -63,6 +64,19 @@ impl System {
             Err(Fault::Memory) => Err(RunFault::Memory),
             Err(Fault::Spent { .. }) => Err(RunFault::Spent),
             Err(Fault::Arguments | Fault::Busy(_)) => unreachable!(),
+        }
+    }
+
+    /// Ends the system and answers the words of its memory.
+    pub(crate) fn close(self) -> Result<Vec<u64>, RunFault>
+        ensures words { IfOk result (λ words. (s : State) → StandsAt self s
+            → Shows words.items s) }
+        ensures not_busy { IfErr result (λ fault. fault ≢ Busy) }
+    {
+        let System { manager, client } = self;
+        match manager.close(client) {
+            Ok((words, _version)) => Ok(words),
+            Err(_) => Err(RunFault::Memory),
         }
     }
 }

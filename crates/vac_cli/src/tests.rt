@@ -11,6 +11,10 @@ const SCRIPT: &[u8] = b"add car 7 100 50\nfree car 7\nfly\nprice car 7";
 
 const ANSWERS: &[u8] = b"true\n100\nfault bad-command\n50\n";
 
+/// The words that the script leaves in the memory of a system of one block.
+const DUMP: &[u8] =
+    b"0\n16\n0\n0\n0\n0\n0\n0\n0\n0\n0\n0\n0\n0\n0\n0\n7\n0\n0\n0\n0\n100\n100\n50\n";
+
 /// A reader that gives at most so many bytes at a call and fails at one.
 #[derive(Drop)]
 struct Pieces<'a> {
@@ -128,6 +132,55 @@ fn writers_that_fail(rt: HostRuntime) -> Result<(), Fail> {
     Ok(())
 }
 
+#[test]
+fn dumps_of_readers_that_fail(rt: HostRuntime) -> Result<(), Fail> {
+    for fails_at in 0..SCRIPT.len() + 3 {
+        let mut input = Pieces::of(SCRIPT, 1, fails_at);
+        let mut out = Vec::new(rt.alloc());
+        let ended = dump_script(rt.alloc(), 1, &mut input, &mut out);
+        let (wants, written) = if fails_at > SCRIPT.len() {
+            (None, DUMP)
+        } else {
+            (Some(RunFault::Read), b"".as_slice())
+        };
+        assert_eq!(rt; ended.err(), wants);
+        assert_eq!(rt; out.as_slice(), written);
+    }
+    Ok(())
+}
+
+#[test]
+fn dumps_of_writers_that_fail(rt: HostRuntime) -> Result<(), Fail> {
+    for stop in [None, Some(ErrorKind::Other), Some(ErrorKind::Interrupted)] {
+        for stops_at in 0..DUMP.len() + 2 {
+            let mut input = Pieces::of(SCRIPT, 5, NEVER);
+            let mut out = Sink::new(rt.alloc(), 1, stops_at, stop);
+            let ended = dump_script(rt.alloc(), 1, &mut input, &mut out);
+            let goes_on = stop == Some(ErrorKind::Interrupted) || stops_at >= DUMP.len();
+            let (wants, taken) = if goes_on {
+                (None, DUMP)
+            } else {
+                (Some(RunFault::Write), &DUMP[..stops_at.min(DUMP.len())])
+            };
+            assert_eq!(rt; ended.err(), wants);
+            assert_eq!(rt; out.taken.as_slice(), taken);
+        }
+    }
+    Ok(())
+}
+
+#[test]
+fn dump_of_many_chunks(rt: HostRuntime) -> Result<(), Fail> {
+    let mut input = SCRIPT;
+    let mut out = Vec::new(rt.alloc());
+    let ended = dump_script(rt.alloc(), 16_384, &mut input, &mut out);
+    let lines = out.iter().filter(|byte| **byte == b'\n').count();
+    assert_eq!(rt; ended.err(), None);
+    assert_eq!(rt; lines, 16 + 8 * 16_384);
+    assert!(rt; out.len() > 262_144);
+    Ok(())
+}
+
 /// The words of a command line.
 fn words_of(alloc: Global, words: &[&str]) -> Result<Vec<String>, AllocError> {
     let mut owned = Vec::new(alloc);
@@ -139,13 +192,16 @@ fn words_of(alloc: Global, words: &[&str]) -> Result<Vec<String>, AllocError> {
 
 #[test]
 fn command_lines(rt: HostRuntime) -> Result<(), Fail> {
-    let rows: [(&[&str], u8, &[u8]); 9] = [
+    let rows: [(&[&str], u8, &[u8]); 12] = [
         (&["vacation", "run"], 0, ANSWERS),
         (&["vacation", "run", "--blocks", "1"], 0, ANSWERS),
         (&["vacation", "run", "--blocks=262144"], 0, ANSWERS),
         (&["vacation", "run", "--blocks", "0"], 2, b""),
         (&["vacation", "run", "--blocks", "262145"], 2, b""),
         (&["vacation", "run", "--blocks", "x"], 2, b""),
+        (&["vacation", "dump", "--blocks", "1"], 0, DUMP),
+        (&["vacation", "dump", "--blocks", "0"], 2, b""),
+        (&["vacation", "dump", "--blocks", "262145"], 2, b""),
         (&["vacation", "fly"], 2, b""),
         (&["vacation"], 2, b""),
         (&["vacation", "run", "car"], 2, b""),
@@ -155,13 +211,7 @@ fn command_lines(rt: HostRuntime) -> Result<(), Fail> {
         let mut input = SCRIPT;
         let mut out = Vec::new(rt.alloc());
         let mut errors = Vec::new(rt.alloc());
-        let ended = run_words(
-            rt.alloc(),
-            words.as_slice(),
-            &mut input,
-            &mut out,
-            &mut errors,
-        );
+        let ended = run_words(&rt, words.as_slice(), &mut input, &mut out, &mut errors);
         assert_eq!(rt; ended, status);
         assert_eq!(rt; out.as_slice(), answers);
         assert_eq!(rt; errors.is_empty(), status == 0);
@@ -176,23 +226,11 @@ fn help(rt: HostRuntime) -> Result<(), Fail> {
         let mut out = Vec::new(rt.alloc());
         let mut errors = Vec::new(rt.alloc());
         let mut input: &[u8] = b"";
-        let ended = run_words(
-            rt.alloc(),
-            words.as_slice(),
-            &mut input,
-            &mut out,
-            &mut errors,
-        );
+        let ended = run_words(&rt, words.as_slice(), &mut input, &mut out, &mut errors);
         assert_eq!(rt; ended, 0);
         assert!(rt; !out.is_empty() && errors.is_empty());
         let mut broken = Sink::new(rt.alloc(), 1, 0, None);
-        let ended = run_words(
-            rt.alloc(),
-            words.as_slice(),
-            &mut input,
-            &mut broken,
-            &mut errors,
-        );
+        let ended = run_words(&rt, words.as_slice(), &mut input, &mut broken, &mut errors);
         assert_eq!(rt; ended, 1);
     }
     Ok(())
@@ -204,24 +242,12 @@ fn faults_of_runs(rt: HostRuntime) -> Result<(), Fail> {
     let mut input = Pieces::of(SCRIPT, 30, 1);
     let mut out = Vec::new(rt.alloc());
     let mut errors = Vec::new(rt.alloc());
-    let ended = run_words(
-        rt.alloc(),
-        words.as_slice(),
-        &mut input,
-        &mut out,
-        &mut errors,
-    );
+    let ended = run_words(&rt, words.as_slice(), &mut input, &mut out, &mut errors);
     assert_eq!(rt; ended, 1);
     assert_eq!(rt; out.as_slice(), b"true\n100\nfault read\n".as_slice());
     let mut input = SCRIPT;
     let mut sink = Sink::new(rt.alloc(), 7, 1, Some(ErrorKind::Other));
-    let ended = run_words(
-        rt.alloc(),
-        words.as_slice(),
-        &mut input,
-        &mut sink,
-        &mut errors,
-    );
+    let ended = run_words(&rt, words.as_slice(), &mut input, &mut sink, &mut errors);
     assert_eq!(rt; ended, 1);
     assert_eq!(rt; sink.taken.as_slice(), b"true\n10".as_slice());
     assert!(rt; errors.is_empty());

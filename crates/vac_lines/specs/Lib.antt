@@ -4,3 +4,4 @@ pub mod Words
 pub mod LineTable
 pub mod Text
 pub mod Script
+pub mod Memory

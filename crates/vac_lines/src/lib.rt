@@ -1,4 +1,5 @@
-//! The script language of the reservation system: lines of bytes as tasks, and replies as text.
+//! The script language of the reservation system: lines of bytes as tasks, and replies as text;
+//! and the words of a memory as text.
 //!
 //! What a whole script writes, and the state that it leaves, is a definition of `specs/`.
 #![tactic(auto)]
@@ -18,4 +19,4 @@ pub use cutting::cut_at;
 pub use fault::LineFault;
 pub use line::{LINE_BYTES, read_line};
 pub use numbers::read_memory_word;
-pub use reply::{print_fault, print_reply, refusal_name};
+pub use reply::{print_fault, print_reply, print_word, refusal_name};

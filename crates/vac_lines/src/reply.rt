@@ -1,8 +1,9 @@
-//! The texts of replies and of faults.
+//! The texts of replies, of faults and of the words of a memory.
 
 ghost use Rattle.std.specs.Prelude.{◌≡◌, ◌++◌, OnOk, OnErr, decimal, codes, take};
 ghost use Rattle.std.specs.List.{flat_map};
 ghost use Rattle.vac_lines.specs.Text.{Extends, why_name, done_text, number_text, report_text, field_text, entries_text, booked_text, sums_text, joined_text, pick_text, trip_text, update_text, change_text, reply_text, fault_name, fault_text};
+ghost use Rattle.vac_lines.specs.Memory.{word_line};
 
 use crate::fault::LineFault;
 use itoa::Buffer;
@@ -43,6 +44,17 @@ pub fn print_fault(fault: LineFault, out: &mut Vec<u8>) -> Result<(), AllocError
 {
     let start = out.len();
     let printed = append_pair(out, b"fault ", fault_name(fault));
+    keep_whole(out, start, printed)
+}
+
+/// Appends a word of a memory as a line: in decimal, and a line end. Where memory is refused,
+/// nothing is appended.
+pub fn print_word(word: u64, out: &mut Vec<u8>) -> Result<(), AllocError>
+    ensures ok { OnOk result (out.new.items ≡ out.old.items ++ word_line word) }
+    ensures err { OnErr result (out.new.items ≡ out.old.items) }
+{
+    let start = out.len();
+    let printed = append_word(out, word);
     keep_whole(out, start, printed)
 }
 
@@ -231,6 +243,15 @@ fn append_change(out: &mut Vec<u8>, refused: Option<Why>) -> Result<(), AllocErr
 {
     append(out, b" ")?;
     append_done(out, refused)
+}
+
+/// Appends a number in decimal and a line end.
+fn append_word(out: &mut Vec<u8>, word: u64) -> Result<(), AllocError>
+    ensures ok { OnOk result (out.new.items ≡ out.old.items ++ word_line word) }
+    ensures err { OnErr result (Extends out.old.items out.new.items) }
+{
+    append_number(out, word)?;
+    append(out, b"\n")
 }
 
 /// The name of a line's fault.

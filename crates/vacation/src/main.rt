@@ -1,5 +1,7 @@
-//! A reservation system after the program Vacation of the STAMP benchmarks: `vacation run` reads
-//! commands from standard input, one a line, and writes a line for each to standard output.
+//! A reservation system after the program Vacation of the STAMP benchmarks. `vacation run` reads
+//! commands from standard input, one a line, and writes a line for each to standard output;
+//! `vacation dump` writes the words of the memory that they leave, and `vacation load` lets clients
+//! in threads call it with tasks drawn at random.
 #![tactic(auto)]
 
 use std::io::ErrorKind;
@@ -25,7 +27,7 @@ fn main(rt: HostRuntime) -> ExitCode {
         }
     };
     let status = run_words(
-        rt.alloc(),
+        &rt,
         words.as_slice(),
         &mut rt.stdin(),
         &mut rt.stdout(),

@@ -1,5 +1,5 @@
 use Rattle.std.proofs.Common.{◌<◌, length, rules}
-use Rattle.vac_cli.proofs.Running.{last_ran, last_halted}
+use Rattle.vac_cli.proofs.Running.{last_ran, last_stands, last_halted}
 use Rattle.vac_cli.proofs.script.Script.finish.Goals as goal
 
 pub returns-clause-ok : goal.returns-clause-ok
@@ -13,3 +13,9 @@ returns-clause-err c =
     let some : 0 < length c.args.self.now.line.items = search rules in
     last_halted c.end_line.result c.args.self.now.system c.args.self.now.out.items c.end_line.new.self.out.items c.args.self.now.line.items
     c.requires.0 some c.end_line.ensures.err
+
+pub returns-clause-state : goal.returns-clause-state
+returns-clause-state c =
+    let some : 0 < length c.args.self.now.line.items = search rules in
+    last_stands c.end_line.result c.args.self.now.system c.end_line.new.self.system c.args.self.now.out.items c.end_line.new.self.out.items c.args.self.now.line.items
+    c.requires.0 some c.end_line.ensures.ok

@@ -1,7 +1,7 @@
 use Rattle.std.proofs.Common.{◌≡◌, ◌<◌, [], length}
 use Rattle.vac_cli.specs.Script.{HasBegun}
 use Rattle.vac_cli.proofs.Running.{Running}
-use Rattle.vac_cli.proofs.script.run_script.Given as goal
+use Rattle.vac_cli.proofs.script.run_input.Given as goal
 
 -- the chunks so far are run and their output lines are written
 abbrev pub invariant-reads : goal.invariant-reads

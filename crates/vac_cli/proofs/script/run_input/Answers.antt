@@ -1,11 +1,10 @@
 use Rattle.std.proofs.Common.{◌≡◌, ◌<◌, length, rules, arith, refl}
-use Rattle.std.proofs.lemmas.Result.{on_ok_weaker, on_err_weaker}
 use Rattle.vac_cli.proofs.Cutting.{nothing_begun}
 use Rattle.vac_lines.proofs.Extends.{on_err}
 use Rattle.vac_cli.proofs.Running.{running_first, running_on, running_halted, running_kept, running_ended, end_ran, end_halted}
 use Rattle.vac_cli.proofs.Progress.{started, run_ended}
-use Rattle.vac_cli.proofs.script.run_script.Goals as goal
-use Rattle.vac_cli.proofs.script.run_script.Goals.{in-Ok+in_ok-run_chunk-in-Ok, in-Err+else-ne}
+use Rattle.vac_cli.proofs.script.run_input.Goals as goal
+use Rattle.vac_cli.proofs.script.run_input.Goals.{in-Ok+in_ok-run_chunk-in-Ok, in-Err+else-ne}
 
 pub returns-in_err-script-clause-err : goal.returns-in_err-script-clause-err
 returns-in_err-script-clause-err g c = on_err c.from_residual.result (run_ended _ _ _ _ _ _ _ (started c.args.blocks _ _))
@@ -25,14 +24,14 @@ returns-in-Ok-eq0-clause-ok g c =
     let zero : c.in-Ok-eq0.field-0 ≡ 0 = search rules in
     let got = rw zero at c.in-Ok-eq0.ensures.bytes in
     let room : 0 < length c.read.new.buf = omega (arith, c.reads.invariant.room) in
-    on_ok_weaker c.run_end.result (λ w. end_ran _ _ _ _ _ _ _ _ _ c.reads.invariant.progress got.0 (got.1 refl room) w) c.run_end.ensures.ok
+    end_ran _ _ _ _ _ _ _ _ _ _ c.reads.invariant.progress got.0 (got.1 refl room) c.in_ok-run_end-in-Ok-eq0.ensures.ok
 
-pub returns-in-Ok-eq0-clause-err : goal.returns-in-Ok-eq0-clause-err
-returns-in-Ok-eq0-clause-err g c =
+pub returns-in_err-run_end-in-Ok-eq0-clause-err : goal.returns-in_err-run_end-in-Ok-eq0-clause-err
+returns-in_err-run_end-in-Ok-eq0-clause-err g c =
     let zero : c.in-Ok-eq0.field-0 ≡ 0 = search rules in
     let got = rw zero at c.in-Ok-eq0.ensures.bytes in
     let room : 0 < length c.read.new.buf = omega (arith, c.reads.invariant.room) in
-    on_err_weaker c.run_end.result (λ w. end_halted _ _ _ _ _ _ _ _ _ c.reads.invariant.progress got.0 (got.1 refl room) w) c.run_end.ensures.err
+    on_err c.from_residual-in_err-run_end-in-Ok-eq0.result (end_halted _ _ _ _ _ _ _ _ _ c.reads.invariant.progress got.0 (got.1 refl room) c.in_err-run_end-in-Ok-eq0.ensures.err)
 
 pub returns-in_err-run_chunk-in-Ok-clause-err : goal.returns-in_err-run_chunk-in-Ok-clause-err
 returns-in_err-run_chunk-in-Ok-clause-err g c =
