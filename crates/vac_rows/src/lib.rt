@@ -1,8 +1,21 @@
-//! Tests of the reservation tower, as scripts whose replies were worked out by hand from the rules
-//! (`docs/RULES.md`). The plain manager is proved to do what its definition says: these scripts
-//! say that the definition is the one that was meant.
+//! Tests of the reservation tower: scripts whose replies were worked out by hand from the rules
+//! (`docs/RULES.md`), clients over a region that meet, come and go and call from threads, and
+//! random tasks beside the plain manager. The plain manager is proved to do what its definition
+//! says: these tests say that the definition is the one that was meant.
 #![tactic(auto)]
 
+#[cfg(test)]
+mod caller;
+#[cfg(test)]
+mod clients;
+#[cfg(test)]
+mod meetings;
+#[cfg(test)]
+mod openings;
+#[cfg(test)]
+mod outcome;
+#[cfg(test)]
+mod random;
 #[cfg(test)]
 mod ranges;
 #[cfg(test)]
@@ -10,4 +23,8 @@ mod rules;
 #[cfg(test)]
 mod scripts;
 #[cfg(test)]
+mod spent;
+#[cfg(test)]
 mod tasks;
+#[cfg(test)]
+mod threads;

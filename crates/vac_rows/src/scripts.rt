@@ -19,7 +19,7 @@ pub(crate) enum Line<'a> {
     Update(&'a [Command]),
 }
 
-fn task_of(alloc: Global, line: &Line<'_>) -> Result<Task, AllocError> {
+pub(crate) fn task_of(alloc: Global, line: &Line<'_>) -> Result<Task, AllocError> {
     match line {
         Line::One(command) | Line::Times(_, command) => Ok(Task::One(*command)),
         Line::Trip(customer, asks) => Task::trip(alloc, *customer, asks),

@@ -1,0 +1,6 @@
+mod Begun
+mod Pools
+mod Stocked
+mod Tabled
+mod Recorded
+mod Owned

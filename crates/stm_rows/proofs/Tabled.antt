@@ -1,0 +1,66 @@
+-- Tables in heaps of ten blocks.
+use Rattle.std.proofs.Common.{◌≡◌, ℕ, ◌+◌, ◌-◌, ◌*◌, ◌<◌, List, [], Option, Some, None, MatchOption, length, slice_index, refl, sym, subst, ◌∙◌, arith}
+use Rattle.stm_words.specs.View.{View, Loaded}
+use Rattle.stm_words.specs.Plain.{flat_view}
+use Rattle.tx_alloc.specs.declared.pool.Block.{Block}
+use Rattle.tx_tree.specs.Table.{IsTable, HasTable, Found, FoundAt, NextFound, IsFresh, Inserted, Removed}
+use Rattle.tx_tree.proofs.Counting.{has_table, after_reads, after_put, after_cut, fresh_read, none_yet}
+use Rattle.tx_tree.proofs.TableFrame.{table_empty}
+use Rattle.stm_rows.specs.Laws.{Fits, Holds, IsTableOfTen, HoldsTable, IsTableless}
+
+pub table_has : (s : View) (count : ℕ) → HoldsTable s count → HasTable s 3
+table_has s count h = has_table s 3 10 count h.entries
+
+-- a key that was not found
+pub not_found : (s s' : View) (key : ℕ) (found : Option Block) → found ≡ None → MatchOption found (Found s s' 3 key 0) (λ b. FoundAt s s' 3 key b.0.0) → Found s s' 3 key 0
+not_found s s' key found e h = let f = subst (λ (o : Option Block). MatchOption o (Found s s' 3 key 0) (λ b. FoundAt s s' 3 key b.0.0)) e h in f
+
+-- only reads were made
+pub table_loaded : (s s' : View) (count a v : ℕ) → HoldsTable s count → Loaded s s' a v → HoldsTable s' count
+table_loaded s s' count a v h l = record { entries = after_reads s s' 3 10 count h.entries l.kept l.writes; long = λ image i. h.long image (l.kept.seen image i) }
+
+pub table_sought : (s s' : View) (count key : ℕ) (found : Option Block) → HoldsTable s count → MatchOption found (Found s s' 3 key 0) (λ b. FoundAt s s' 3 key b.0.0) → HoldsTable s' count
+table_sought s s' count key None h f = record { entries = after_reads s s' 3 10 count h.entries f.kept f.writes; long = λ image i. h.long image (f.kept.seen image i) }
+table_sought s s' count key (Some b) h f = record { entries = after_reads s s' 3 10 count h.entries f.found.kept f.found.writes; long = λ image i. h.long image (f.found.kept.seen image i) }
+
+pub table_next : (s s' : View) (count key : ℕ) (next : Option (ℕ × ℕ)) → HoldsTable s count → NextFound s s' 3 key next → HoldsTable s' count
+table_next s s' count key next h f = record { entries = after_reads s s' 3 10 count h.entries f.kept f.writes; long = λ image i. h.long image (f.kept.seen image i) }
+
+pub table_fresh : (s s1 s2 : View) (count key number b : ℕ) → HoldsTable s count → number < 10 → b ≡ 16 + 8 * number → Loaded s s1 b key → Found s1 s2 3 key 0 → IsFresh s2 3 key b
+table_fresh s s1 s2 count key number b h inside e l f =
+    fresh_read s s1 s2 3 10 count key number b h.entries inside e
+    (λ image i. let n = h.long image (l.kept.seen image (f.kept.seen image i)) in omega (arith, n, f.kept.size, l.kept.size, h.entries.size))
+    l f
+
+pub table_put : (s s' : View) (count key b : ℕ) → HoldsTable s count → count < 262144 → Inserted s s' 3 key b → HoldsTable s' (count + 1)
+table_put s s' count key b h room p = record { entries = after_put s s' 3 10 count key b h.entries room p; long = λ image i. h.long image (p.kept.seen image i) }
+
+pub table_cut : (s s' : View) (count key : ℕ) (removed : Option Block) (b : Block) → HoldsTable s count → removed ≡ Some b → MatchOption removed (Found s s' 3 key 0) (λ b. Removed s s' 3 key b.0.0) → HoldsTable s' (count - 1)
+table_cut s s' count key removed b h e r =
+    let p = subst (λ (o : Option Block). MatchOption o (Found s s' 3 key 0) (λ b. Removed s s' 3 key b.0.0)) e r in
+    record { entries = after_cut s s' 3 10 count key b.0.0 h.entries p; long = λ image i. h.long image (p.kept.seen image i) }
+
+pub table_fits : (xs ys : List ℕ) → ys ≡ xs → IsTableless xs → Fits (λ m n. IsTableOfTen 0 m n) ys
+table_fits xs ys e h = rw e (record {
+  size = h.0;
+  entries = record { entries = []; table = subst (λ (p : ℕ). IsTable (λ (a : ℕ). slice_index xs a) (length xs) p []) (sym h.1) (table_empty (λ (a : ℕ). slice_index xs a) (length xs)); is = refl };
+})
+
+pub table_flat : (xs ys : List ℕ) → ys ≡ xs → IsTableless xs → HoldsTable (flat_view ys) 0
+table_flat xs ys e h = rw e (record {
+  entries = none_yet xs 3 10 (h.0 ∙ omega arith) (omega arith) (omega arith) h.1;
+  long = λ image i. i.fits ∙ h.0;
+})
+
+-- an attempt that begins
+pub table_held : (s : View) → Holds (λ m n. IsTableOfTen 0 m n) 96 s → HoldsTable s 0
+table_held s h = record {
+  entries = record {
+    size = h.size_is ∙ omega arith;
+    small = omega arith;
+    low = omega arith;
+    few = omega arith;
+    under = λ image i. (h.under image i).entries;
+  };
+  long = λ image i. (h.under image i).size;
+}

@@ -1,0 +1,35 @@
+-- Which words the regions of the tests may have.
+use Rattle.std.specs.Prelude.{◌≡◌, ℕ, List, length, slice_index}
+use Rattle.stm_words.specs.View.{View, Sees}
+use Rattle.stm_attempt.specs.Leading.{Property, words_of}
+use Rattle.tx_alloc.specs.Steps.{mem}
+use Rattle.tx_alloc.specs.Pool.{SomePool}
+use Rattle.tx_tree.specs.Counted.{HasEntries, SomeEntries}
+
+-- it holds of the words of an image
+abbrev pub Fits : Property → List ℕ → Type 0
+Fits P image = P (words_of image) (length image)
+
+-- a memory of so many words of which it holds under each image that there may be
+pub record Holds (P : Property) (size : ℕ) (s : View) : Type 0 where
+  pub size_is : s.size ≡ size
+  pub under : (image : List ℕ) → Sees s image → P (mem s image) (length image)
+
+-- a heap of ten blocks, each free or taken
+pub record IsHeapOfTen (m : ℕ → ℕ) (n : ℕ) : Type 0 where
+  pub size : n ≡ 96
+  pub pool : SomePool m n
+
+-- a heap of ten blocks with a table of this many entries, to which word 3 leads
+pub record IsTableOfTen (count : ℕ) (m : ℕ → ℕ) (n : ℕ) : Type 0 where
+  pub size : n ≡ 96
+  pub entries : SomeEntries m n 3 count
+
+-- under each image that there may be
+pub record HoldsTable (s : View) (count : ℕ) : Type 0 where
+  pub entries : HasEntries s 3 10 count
+  pub long : (image : List ℕ) → Sees s image → length image ≡ 96
+
+-- the words of a heap without a table
+abbrev pub IsTableless : List ℕ → Type 0
+IsTableless xs = (length xs ≡ 96) × (slice_index xs 3 ≡ 0)

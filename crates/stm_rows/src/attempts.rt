@@ -1,0 +1,55 @@
+//! Attempts of one step, for the other tests.
+ghost use Rattle.std.specs.Prelude.{◌≡◌, ◌<◌};
+ghost use Rattle.stm_core.specs.Core.{IsFreeHanded};
+
+use std::test::Fail;
+use stm_attempt::{Attempt, Logs, NoGate, Stop};
+use stm_region::{Client, Region};
+use stm_words::{Addr, FreeLaw, TxMem, TxRead, Version};
+
+pub(crate) fn version(number: u64) -> Result<Version, Fail> {
+    Ok(Version::new(number).ok_or("it is no version")?)
+}
+
+// One attempt that writes a word.
+pub(crate) fn write_one(
+    region: &Region<FreeLaw>,
+    client: &mut Client<FreeLaw>,
+    logs: &mut Logs,
+    addr: Addr,
+    value: u64,
+) -> Result<Version, Stop>
+    requires own { client.old.table ≡ region.now.table }
+    requires free { IsFreeHanded client.old.value }
+    requires range { addr.0 < region.now.size }
+    ensures own { client.new.table ≡ client.old.table }
+    ensures free { IsFreeHanded client.new.value }
+{
+    let mut attempt = Attempt::begin(region, client, logs);
+    match attempt.write(addr, value) {
+        Ok(()) => attempt.commit(&1u64, &mut NoGate),
+        Err(stop) => {
+            attempt.drop_it();
+            Err(stop)
+        }
+    }
+}
+
+// One attempt that reads a word.
+pub(crate) fn read_one(
+    region: &Region<FreeLaw>,
+    client: &mut Client<FreeLaw>,
+    logs: &mut Logs,
+    addr: Addr,
+) -> Result<u64, Stop>
+    requires own { client.old.table ≡ region.now.table }
+    requires free { IsFreeHanded client.old.value }
+    requires range { addr.0 < region.now.size }
+    ensures own { client.new.table ≡ client.old.table }
+    ensures free { IsFreeHanded client.new.value }
+{
+    let mut attempt = Attempt::begin(region, client, logs);
+    let value = attempt.read(addr);
+    attempt.drop_it();
+    value
+}

@@ -1,0 +1,379 @@
+//! What the gate of a commit is told where the commit stops, and what other clients meet there.
+ghost use Rattle.std.specs.Prelude.{◌≡◌, ◌<◌, true};
+ghost use Rattle.stm_core.specs.Core.{IsFreeHanded};
+
+use crate::attempts::{read_one, version, write_one};
+use std::alloc::Global;
+use std::test::Fail;
+use stm_attempt::{Attempt, Conflict, Gate, Logs, NoGate, Point, Stop};
+use stm_region::{Client, Region, RegionFault};
+use stm_words::{Addr, FreeLaw, TxMem, TxRead, Version};
+
+type Answer = Result<Version, Stop>;
+
+// Keeps the points that it is told.
+#[derive(Drop)]
+struct Told {
+    points: [Option<Point>; 6],
+    told: usize,
+}
+
+impl Told {
+    fn new() -> Told {
+        Told {
+            points: [None; 6],
+            told: 0,
+        }
+    }
+}
+
+impl Gate for Told {
+    fn at(&mut self, point: Point) {
+        if self.told < 6 {
+            self.points[self.told] = Some(point);
+            self.told += 1;
+        }
+    }
+}
+
+// Reads word 9, writes word 10 and commits under the gate, while the other client writes to word 9
+// after the read.
+fn commit_after_a_newer_write<G: Gate>(
+    region: &Region<FreeLaw>,
+    client: &mut Client<FreeLaw>,
+    other: &mut Client<FreeLaw>,
+    logs: &mut Logs,
+    others: &mut Logs,
+    gate: &mut G,
+) -> [Answer; 2]
+    requires own { (client.old.table ≡ region.now.table) × (other.old.table ≡ region.now.table) }
+    requires free { IsFreeHanded client.old.value × IsFreeHanded other.old.value }
+    requires range { 10 < region.now.size }
+    ensures own { (client.new.table ≡ client.old.table) × (other.new.table ≡ other.old.table) }
+    ensures free { IsFreeHanded client.new.value × IsFreeHanded other.new.value }
+{
+    let mut attempt = Attempt::begin(region, client, logs);
+    let written = attempt.write(Addr(10), 7).is_ok();
+    let read = attempt.read(Addr(9)).is_ok();
+    let between = write_one(region, other, others, Addr(9), 1);
+    let committed = attempt.commit(&2u64, gate);
+    if written && read {
+        [between, committed]
+    } else {
+        [between, Err(Stop::Memory)]
+    }
+}
+
+// Reads word 9 and commits under the gate, where the other client has written to word 9 since the
+// attempt began.
+fn commit_after_a_stopped_read<G: Gate>(
+    region: &Region<FreeLaw>,
+    client: &mut Client<FreeLaw>,
+    other: &mut Client<FreeLaw>,
+    logs: &mut Logs,
+    others: &mut Logs,
+    gate: &mut G,
+) -> [Answer; 2]
+    requires own { (client.old.table ≡ region.now.table) × (other.old.table ≡ region.now.table) }
+    requires free { IsFreeHanded client.old.value × IsFreeHanded other.old.value }
+    requires range { 10 < region.now.size }
+    ensures own { (client.new.table ≡ client.old.table) × (other.new.table ≡ other.old.table) }
+    ensures free { IsFreeHanded client.new.value × IsFreeHanded other.new.value }
+{
+    let mut attempt = Attempt::begin(region, client, logs);
+    let written = attempt.write(Addr(10), 7).is_ok();
+    let between = write_one(region, other, others, Addr(9), 1);
+    let read = attempt.read(Addr(9)).is_err();
+    let committed = attempt.commit(&2u64, gate);
+    if written && read {
+        [between, committed]
+    } else {
+        [between, Err(Stop::Memory)]
+    }
+}
+
+// The word that was read is newer than the read version.
+fn newer() -> Result<Stop, Fail> {
+    Ok(Stop::Conflict(Conflict::Newer {
+        lock: 9,
+        version: version(1)?,
+        rv: version(0)?,
+    }))
+}
+
+#[test]
+fn no_decision_is_told_after_a_refused_look(rt: HostRuntime) -> Result<(), Fail> {
+    let alloc = rt.alloc();
+    let mut told = Told::new();
+    let (answers, ten) = {
+        let (region, mut a) = Region::<FreeLaw>::new(alloc, &[0; 32], 100, 32)?;
+        let mut b = region.split(&mut a)?;
+        let mut logs_a = Logs::new(alloc);
+        let mut logs_b = Logs::new(alloc);
+        (
+            commit_after_a_newer_write(
+                &region,
+                &mut a,
+                &mut b,
+                &mut logs_a,
+                &mut logs_b,
+                &mut told,
+            ),
+            read_one(&region, &mut a, &mut logs_a, Addr(10)),
+        )
+    };
+    assert_eq!(rt; answers, [Ok(version(1)?), Err(newer()?)]);
+    assert_eq!(rt; ten, Ok(0));
+    let points = [
+        Some(Point::ReadsDone),
+        Some(Point::Locked),
+        Some(Point::Ticked),
+        None,
+        None,
+        None,
+    ];
+    assert!(rt; told.points == points);
+    Ok(())
+}
+
+#[test]
+fn nothing_is_told_where_a_read_was_stopped(rt: HostRuntime) -> Result<(), Fail> {
+    let alloc = rt.alloc();
+    let mut told = Told::new();
+    let (answers, ten) = {
+        let (region, mut a) = Region::<FreeLaw>::new(alloc, &[0; 32], 100, 32)?;
+        let mut b = region.split(&mut a)?;
+        let mut logs_a = Logs::new(alloc);
+        let mut logs_b = Logs::new(alloc);
+        (
+            commit_after_a_stopped_read(
+                &region,
+                &mut a,
+                &mut b,
+                &mut logs_a,
+                &mut logs_b,
+                &mut told,
+            ),
+            read_one(&region, &mut a, &mut logs_a, Addr(10)),
+        )
+    };
+    assert_eq!(rt; answers, [Ok(version(1)?), Err(newer()?)]);
+    assert_eq!(rt; ten, Ok(0));
+    assert!(rt; told.points == [None; 6]);
+    Ok(())
+}
+
+// The other client has made the last version.
+#[test]
+fn no_tick_is_told_where_the_clock_is_spent(rt: HostRuntime) -> Result<(), Fail> {
+    let alloc = rt.alloc();
+    let mut told = Told::new();
+    let answers = {
+        let (region, mut a) = Region::<FreeLaw>::new(alloc, &[0; 32], 1, 32)?;
+        let mut b = region.split(&mut a)?;
+        let mut logs_a = Logs::new(alloc);
+        let mut logs_b = Logs::new(alloc);
+        commit_after_a_newer_write(&region, &mut a, &mut b, &mut logs_a, &mut logs_b, &mut told)
+    };
+    let spent = Stop::Spent {
+        version: version(1)?,
+    };
+    assert_eq!(rt; answers, [Ok(version(1)?), Err(spent)]);
+    let points = [
+        Some(Point::ReadsDone),
+        Some(Point::Locked),
+        None,
+        None,
+        None,
+        None,
+    ];
+    assert!(rt; told.points == points);
+    Ok(())
+}
+
+// Another client's attempt, which has not ended.
+struct Running<'b> {
+    attempt: Attempt<'b, FreeLaw>,
+    ghost runs: { attempt.logs.now.in_use ≡ true },
+    ghost range: { 9 < attempt.region.now.size },
+}
+
+// Reads word 9 by another client's attempt at one point, and ends that one.
+struct ReadsAt<'a, 'b> {
+    other: Option<Running<'b>>,
+    when: Point,
+    answer: &'a mut Option<Result<u64, Stop>>,
+}
+
+impl<'a, 'b> Gate for ReadsAt<'a, 'b> {
+    fn at(&mut self, point: Point) {
+        if point == self.when
+            && let Some(Running { attempt }) = self.other.take()
+        {
+            let mut attempt = attempt;
+            *self.answer = Some(attempt.read(Addr(9)));
+            attempt.drop_it();
+        }
+    }
+}
+
+// Writes 1 to word 9 under the gate.
+fn write_under<G: Gate>(
+    region: &Region<FreeLaw>,
+    client: &mut Client<FreeLaw>,
+    logs: &mut Logs,
+    gate: &mut G,
+) -> Answer
+    requires own { client.old.table ≡ region.now.table }
+    requires free { IsFreeHanded client.old.value }
+    requires range { 9 < region.now.size }
+    ensures own { client.new.table ≡ client.old.table }
+    ensures free { IsFreeHanded client.new.value }
+{
+    let mut attempt = Attempt::begin(region, client, logs);
+    match attempt.write(Addr(9), 1) {
+        Ok(()) => attempt.commit(&1u64, gate),
+        Err(stop) => {
+            attempt.drop_it();
+            Err(stop)
+        }
+    }
+}
+
+// What another client's attempt, which began before the commit, reads in word 9 at a point.
+fn read_at(
+    region: &Region<FreeLaw>,
+    client: &mut Client<FreeLaw>,
+    other: &mut Client<FreeLaw>,
+    logs: &mut Logs,
+    others: &mut Logs,
+    when: Point,
+) -> (Option<Result<u64, Stop>>, Answer)
+    requires own { (client.old.table ≡ region.now.table) × (other.old.table ≡ region.now.table) }
+    requires free { IsFreeHanded client.old.value × IsFreeHanded other.old.value }
+    requires range { 9 < region.now.size }
+{
+    let mut answer = None;
+    let attempt = Attempt::begin(region, other, others);
+    let mut gate = ReadsAt {
+        other: Some(Running { attempt }),
+        when,
+        answer: &mut answer,
+    };
+    let committed = write_under(region, client, logs, &mut gate);
+    let ReadsAt {
+        other,
+        when: _,
+        answer: _,
+    } = gate;
+    if let Some(Running { attempt }) = other {
+        attempt.drop_it();
+    }
+    (answer, committed)
+}
+
+type Read = (Option<Result<u64, Stop>>, Answer);
+
+fn read_in_new_region(alloc: Global, when: Point) -> Result<Read, RegionFault> {
+    let (region, mut a) = Region::<FreeLaw>::new(alloc, &[0; 32], 100, 32)?;
+    let mut b = region.split(&mut a)?;
+    let mut logs_a = Logs::new(alloc);
+    let mut logs_b = Logs::new(alloc);
+    Ok(read_at(&region, &mut a, &mut b, &mut logs_a, &mut logs_b, when))
+}
+
+// The locks are held until all values are stored, and are free when nothing is written yet.
+#[test]
+fn locks_are_held_from_locked_to_written(rt: HostRuntime) -> Result<(), Fail> {
+    let held = Stop::Conflict(Conflict::Held { lock: 9, word: 1 });
+    let before = read_in_new_region(rt.alloc(), Point::ReadsDone)?;
+    let locked = read_in_new_region(rt.alloc(), Point::Locked)?;
+    let ticked = read_in_new_region(rt.alloc(), Point::Ticked)?;
+    let decided = read_in_new_region(rt.alloc(), Point::Decided)?;
+    let written = read_in_new_region(rt.alloc(), Point::Written)?;
+    let committed = Ok(version(1)?);
+    let expected = (Some(Err(held)), committed);
+    assert_eq!(rt; before, (Some(Ok(0)), committed));
+    assert_eq!(rt; [locked, ticked, decided, written], [expected; 4]);
+    Ok(())
+}
+
+// Commits another client's attempt at one point.
+struct CommitsAt<'a, 'b> {
+    other: Option<Running<'b>>,
+    when: Point,
+    answer: &'a mut Option<Answer>,
+}
+
+impl<'a, 'b> Gate for CommitsAt<'a, 'b> {
+    fn at(&mut self, point: Point) {
+        if point == self.when
+            && let Some(Running { attempt }) = self.other.take()
+        {
+            *self.answer = Some(attempt.commit(&3u64, &mut NoGate));
+        }
+    }
+}
+
+// The answers of another client's attempt, which writes word 10 and commits at a point, and of the
+// commit that comes by that point.
+fn commit_at(
+    region: &Region<FreeLaw>,
+    client: &mut Client<FreeLaw>,
+    other: &mut Client<FreeLaw>,
+    logs: &mut Logs,
+    others: &mut Logs,
+    when: Point,
+) -> (Option<Answer>, Answer)
+    requires own { (client.old.table ≡ region.now.table) × (other.old.table ≡ region.now.table) }
+    requires free { IsFreeHanded client.old.value × IsFreeHanded other.old.value }
+    requires range { 10 < region.now.size }
+{
+    let mut answer = None;
+    let mut attempt = Attempt::begin(region, other, others);
+    let written = attempt.write(Addr(10), 2).is_ok();
+    let mut gate = CommitsAt {
+        other: Some(Running { attempt }),
+        when,
+        answer: &mut answer,
+    };
+    let committed = write_under(region, client, logs, &mut gate);
+    let CommitsAt {
+        other,
+        when: _,
+        answer: _,
+    } = gate;
+    if let Some(Running { attempt }) = other {
+        attempt.drop_it();
+    }
+    if written {
+        (answer, committed)
+    } else {
+        (None, committed)
+    }
+}
+
+fn commit_in_new_region(
+    alloc: Global,
+    when: Point,
+) -> Result<(Option<Answer>, Answer), RegionFault> {
+    let (region, mut a) = Region::<FreeLaw>::new(alloc, &[0; 32], 100, 32)?;
+    let mut b = region.split(&mut a)?;
+    let mut logs_a = Logs::new(alloc);
+    let mut logs_b = Logs::new(alloc);
+    Ok(commit_at(&region, &mut a, &mut b, &mut logs_a, &mut logs_b, when))
+}
+
+// The clock is ticked after the locks are taken and before the next point: what commits before the
+// tick has the lower version.
+#[test]
+fn the_clock_is_ticked_between_locked_and_ticked(rt: HostRuntime) -> Result<(), Fail> {
+    let locked = commit_in_new_region(rt.alloc(), Point::Locked)?;
+    let ticked = commit_in_new_region(rt.alloc(), Point::Ticked)?;
+    let written = commit_in_new_region(rt.alloc(), Point::Written)?;
+    let one = Ok(version(1)?);
+    let two = Ok(version(2)?);
+    assert_eq!(rt; locked, (Some(one), two));
+    assert_eq!(rt; [ticked, written], [(Some(two), one); 2]);
+    Ok(())
+}

@@ -1,0 +1,22 @@
+//! Tests of the transactional tower: what clients in turn meet at each other's attempts, what logs
+//! keep, and the structures in words over plain memory and over a region alike.
+#![tactic(auto)]
+
+#[cfg(test)]
+mod attempts;
+#[cfg(test)]
+mod customers;
+#[cfg(test)]
+mod gates;
+#[cfg(test)]
+mod heaps;
+#[cfg(test)]
+mod lists;
+#[cfg(test)]
+mod logs;
+#[cfg(test)]
+mod records;
+#[cfg(test)]
+mod tables;
+#[cfg(test)]
+mod words;

@@ -1,0 +1,212 @@
+//! What logs keep of their memory, and what an attempt finds in logs that were used before.
+ghost use Rattle.std.specs.Prelude.{◌≡◌, ◌<◌};
+ghost use Rattle.stm_core.specs.Core.{IsFreeHanded};
+ghost use Rattle.stm_logs.specs.Log.{IsStriped};
+
+use crate::attempts::{version, write_one};
+use linked_list_allocator::LocalHeap;
+use std::alloc::Allocator;
+use std::test::Fail;
+use stm_attempt::{Attempt, Logs, NoGate, Stop};
+use stm_logs::{ReadLog, WriteLog};
+use stm_region::{Client, Region};
+use stm_words::{Addr, FreeLaw, TxMem, TxRead, Version};
+
+// Pushes addresses until memory is refused. Gives the length of the log.
+fn fill<A: Allocator + Copy>(log: &mut ReadLog<A>) -> usize {
+    for addr in 0..100_000 {
+        if log.push(Addr(addr)).is_err() {
+            break;
+        }
+    }
+    log.len()
+}
+
+// Room for two chunks: one log has the first, and the other the second.
+#[test]
+fn a_cleared_read_log_keeps_its_chunks(rt: HostRuntime) -> Result<(), Fail> {
+    let heap = LocalHeap::new(rt.alloc(), 10_000)?;
+    let (kept, before, after, again) = {
+        let mut log = ReadLog::new(&heap);
+        let mut rest = ReadLog::new(&heap);
+        let kept = log.push(Addr(1)).is_ok();
+        let before = fill(&mut rest);
+        log.clear();
+        let after = fill(&mut rest);
+        let again = fill(&mut log);
+        (kept, before, after, again)
+    };
+    assert!(rt; kept);
+    assert_eq!(rt; [before, after, again], [1_024; 3]);
+    assert_eq!(rt; heap.used(), 0);
+    Ok(())
+}
+
+fn new_log<A: Allocator + Copy>(alloc: A) -> WriteLog<A>
+    ensures { IsStriped result 1000 }
+{
+    WriteLog::new(alloc)
+}
+
+fn clear<A: Allocator + Copy>(log: &mut WriteLog<A>)
+    ensures { IsStriped log.new 1000 }
+{
+    log.clear();
+}
+
+fn put<A: Allocator + Copy>(log: &mut WriteLog<A>, addr: u32) -> bool
+    requires { IsStriped log.old 1000 }
+    ensures { IsStriped log.new 1000 }
+{
+    log.put(Addr(addr), addr % 1_000, 7).is_ok()
+}
+
+// Puts so many addresses into the emptied log. Gives how many it took.
+fn put_again<A: Allocator + Copy>(log: &mut WriteLog<A>, count: u32) -> u32
+    ensures { IsStriped log.new 1000 }
+{
+    clear(log);
+    for addr in 0..count {
+        if !put(log, addr) {
+            return addr;
+        }
+    }
+    count
+}
+
+// Other logs take what is left of the heap, and nothing more once the log is cleared.
+#[test]
+fn a_cleared_write_log_keeps_its_memory(rt: HostRuntime) -> Result<(), Fail> {
+    let heap = LocalHeap::new(rt.alloc(), 20_000)?;
+    let (first, before, second, after) = {
+        let mut log = new_log(&heap);
+        let mut rest = ReadLog::new(&heap);
+        let first = put_again(&mut log, 15);
+        let before = fill(&mut rest);
+        let second = put_again(&mut log, 15);
+        let after = fill(&mut rest);
+        (first, before, second, after)
+    };
+    assert_eq!(rt; [first, second], [15; 2]);
+    assert_eq!(rt; before, after);
+    assert_eq!(rt; heap.used(), 0);
+    Ok(())
+}
+
+// One attempt that writes word 9 and reads so many words.
+fn write_and_read<A: Allocator + Copy>(
+    region: &Region<FreeLaw>,
+    client: &mut Client<FreeLaw>,
+    logs: &mut Logs<A>,
+    count: u32,
+) -> u32
+    requires own { client.old.table ≡ region.now.table }
+    requires free { IsFreeHanded client.old.value }
+    requires range { (9 < region.now.size) × (count < region.now.size) }
+    ensures own { client.new.table ≡ client.old.table }
+    ensures free { IsFreeHanded client.new.value }
+{
+    let mut attempt = Attempt::begin(region, client, logs);
+    let mut done = 0;
+    if attempt.write(Addr(9), 5).is_ok() {
+        for addr in 0..count {
+            if attempt.read(Addr(addr)).is_err() {
+                break;
+            }
+            done = addr + 1;
+        }
+    }
+    attempt.drop_it();
+    done
+}
+
+#[test]
+fn logs_keep_their_memory_from_attempt_to_attempt(rt: HostRuntime) -> Result<(), Fail> {
+    let heap = LocalHeap::new(rt.alloc(), 20_000)?;
+    let (first, before, second, after) = {
+        let (region, mut client) = Region::<FreeLaw>::new(rt.alloc(), &[0; 512], 100, 64)?;
+        let mut logs = Logs::new(&heap);
+        let mut rest = ReadLog::new(&heap);
+        let first = write_and_read(&region, &mut client, &mut logs, 500);
+        let before = fill(&mut rest);
+        let second = write_and_read(&region, &mut client, &mut logs, 500);
+        let after = fill(&mut rest);
+        (first, before, second, after)
+    };
+    assert_eq!(rt; [first, second], [500; 2]);
+    assert_eq!(rt; before, after);
+    Ok(())
+}
+
+// An attempt in logs in which an attempt before has read word 3 and written word 9: it reads
+// word 9 and commits.
+fn read_in_used_logs(
+    region: &Region<FreeLaw>,
+    client: &mut Client<FreeLaw>,
+    logs: &mut Logs,
+) -> (Result<u64, Stop>, Result<Version, Stop>)
+    requires own { client.old.table ≡ region.now.table }
+    requires free { IsFreeHanded client.old.value }
+    requires range { 9 < region.now.size }
+    ensures own { client.new.table ≡ client.old.table }
+    ensures free { IsFreeHanded client.new.value }
+{
+    let _ = write_and_read(region, client, logs, 4);
+    let mut attempt = Attempt::begin(region, client, logs);
+    let read = attempt.read(Addr(9));
+    let committed = attempt.commit(&2u64, &mut NoGate);
+    (read, committed)
+}
+
+// It writes word 5 and commits, while another client writes word 3: it has read nothing itself.
+fn write_in_used_logs(
+    region: &Region<FreeLaw>,
+    client: &mut Client<FreeLaw>,
+    other: &mut Client<FreeLaw>,
+    logs: &mut Logs,
+    others: &mut Logs,
+) -> [Result<Version, Stop>; 2]
+    requires own { (client.old.table ≡ region.now.table) × (other.old.table ≡ region.now.table) }
+    requires free { IsFreeHanded client.old.value × IsFreeHanded other.old.value }
+    requires range { 9 < region.now.size }
+    ensures own { (client.new.table ≡ client.old.table) × (other.new.table ≡ other.old.table) }
+    ensures free { IsFreeHanded client.new.value × IsFreeHanded other.new.value }
+{
+    let _ = write_and_read(region, client, logs, 4);
+    let mut attempt = Attempt::begin(region, client, logs);
+    let written = attempt.write(Addr(5), 8).is_ok();
+    let between = write_one(region, other, others, Addr(3), 1);
+    let committed = attempt.commit(&2u64, &mut NoGate);
+    if written {
+        [between, committed]
+    } else {
+        [between, Err(Stop::Memory)]
+    }
+}
+
+#[test]
+fn an_attempt_begins_with_its_logs_emptied(rt: HostRuntime) -> Result<(), Fail> {
+    let alloc = rt.alloc();
+    let ((read, committed), answers, words, last) = {
+        let (region, mut a) = Region::<FreeLaw>::new(alloc, &[0; 32], 100, 32)?;
+        let mut b = region.split(&mut a)?;
+        let mut logs_a = Logs::new(alloc);
+        let mut logs_b = Logs::new(alloc);
+        let read = read_in_used_logs(&region, &mut a, &mut logs_a);
+        let answers = write_in_used_logs(&region, &mut a, &mut b, &mut logs_a, &mut logs_b);
+        region.gather(&mut a, b);
+        let Ok((words, last)) = region.close(alloc, a) else {
+            panic!(rt; "it stayed open")
+        };
+        (read, answers, words, last)
+    };
+    assert_eq!(rt; read, Ok(0));
+    assert_eq!(rt; committed, Ok(version(0)?));
+    assert_eq!(rt; answers, [Ok(version(1)?), Ok(version(2)?)]);
+    let mut expected = [0u64; 32];
+    expected[3] = 1;
+    expected[5] = 8;
+    assert_eq!(rt; words.as_slice(), expected.as_slice());
+    assert_eq!(rt; last, version(2)?);
+    Ok(())
+}

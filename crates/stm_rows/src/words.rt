@@ -1,0 +1,21 @@
+//! Words as a transaction reads them.
+ghost use Rattle.std.specs.Prelude.{◌≡◌, ◌≤◌};
+
+use stm_words::{Addr, TxRead};
+
+// Whether the first words are these.
+pub(crate) fn has_words<M: TxRead>(
+    memory: &mut M,
+    size: u32,
+    words: &[u64],
+) -> Result<bool, M::Stop>
+    requires { size ≤ (M.view memory.old).size }
+    ensures { M.origin memory.new ≡ M.origin memory.old }
+{
+    let mut same = words.len() == size as usize;
+    for addr in 0..size {
+        let word = memory.read(Addr(addr))?;
+        same = same && words.get(addr as usize) == Some(&word);
+    }
+    Ok(same)
+}

@@ -1,0 +1,134 @@
+//! Clients of a manager over a region that come and go.
+ghost use Rattle.std.specs.Prelude.{◌≡◌, ◌*◌, All};
+
+use crate::caller::{Caller, LAST};
+use crate::scripts::{audit, drop_customer, new_customer, report};
+use std::alloc::Global;
+use std::process::Abort;
+use stm_region::RegionFault;
+use vac_manager::{Client, Manager};
+use vac_model::Reply::{Done, No};
+use vac_model::Why::Full;
+
+/// Splits off as many clients as there can be, and each enters a customer of its own.
+fn crowd(rt: &impl Abort, alloc: Global, manager: &Manager, client: &mut Client) -> Vec<Client>
+    requires { client.old.table ≡ manager.now.table }
+    ensures mine { client.new.table ≡ manager.now.table }
+    ensures others { All (λ other. other.table ≡ manager.now.table) result.items }
+{
+    let mut others = Vec::new(alloc);
+    for id in 2..=64 {
+        let client = manager.split(client).expect(rt, "there are grants");
+        let mut other = Caller { manager, client };
+        other.expect(rt, alloc, 1, &[(new_customer(id), Ok(Done))]);
+        others.push(other.client).expect(rt, "there is memory");
+    }
+    others
+}
+
+/// Takes in the other clients.
+fn gather_all(manager: &Manager, client: &mut Client, others: Vec<Client>)
+    requires mine { client.old.table ≡ manager.now.table }
+    requires others { All (λ other. other.table ≡ manager.now.table) others.items }
+    ensures { client.new.table ≡ manager.now.table }
+{
+    for other in others {
+        manager.gather(client, other);
+    }
+}
+
+#[test]
+fn sixty_four_clients(rt: HostRuntime) {
+    let alloc = rt.alloc();
+    let (manager, mut client) = Manager::new(alloc, 64, LAST).expect(&rt, "it opens");
+    let others = crowd(&rt, alloc, &manager, &mut client);
+    assert_eq!(rt;
+        manager.split(&mut client).err(),
+        Some(RegionFault::Clients)
+    );
+    let mut caller = Caller {
+        manager: &manager,
+        client,
+    };
+    let script = [
+        (new_customer(1), Ok(Done)),
+        (new_customer(65), Ok(No(Full))),
+    ];
+    caller.expect(&rt, alloc, 1, &script);
+    let mut client = caller.client;
+    gather_all(&manager, &mut client, others);
+    let mut caller = Caller {
+        manager: &manager,
+        client,
+    };
+    let counts = report([0, 0, 0, 64], 0, 0, 0);
+    caller.expect(&rt, alloc, 1, &[(audit(), Ok(counts))]);
+    let client = caller.client;
+    assert!(rt; manager.close(client).is_ok());
+}
+
+/// Closes a manager while a client is out, and again once that client was taken in. Answers the
+/// words and the version.
+fn close_late(rt: &impl Abort, manager: Manager, client: Client, other: Client) -> (Vec<u64>, u64)
+    requires { (client.table ≡ manager.table) × (other.table ≡ manager.table) }
+{
+    let Err((manager, mut client, fault)) = manager.close(client) else {
+        panic!(rt; "it closed while a client was out")
+    };
+    assert_eq!(rt; fault, RegionFault::StillOut { out: 1 });
+    manager.gather(&mut client, other);
+    let Ok((words, version)) = manager.close(client) else {
+        panic!(rt; "it stayed open")
+    };
+    (words, version.get())
+}
+
+// The one block is in the list of the first client, and serves both.
+#[test]
+fn one_block_and_two_clients(rt: HostRuntime) {
+    let alloc = rt.alloc();
+    let (manager, client) = Manager::new(alloc, 1, LAST).expect(&rt, "it opens");
+    let mut a = Caller {
+        manager: &manager,
+        client,
+    };
+    let mut b = a.split().expect(&rt, "there are grants");
+    let script = [
+        (new_customer(3), Ok(Done)),
+        (new_customer(4), Ok(No(Full))),
+        (drop_customer(3), Ok(Done)),
+    ];
+    b.expect(&rt, alloc, 1, &script);
+    a.expect(&rt, alloc, 1, &[(new_customer(4), Ok(Done))]);
+    let first = a.client;
+    let second = b.client;
+    let (words, version) = close_late(&rt, manager, first, second);
+    assert_eq!(rt; words.len(), 24);
+    assert_eq!(rt; words.get(4), Some(&16));
+    assert_eq!(rt; words.get(16), Some(&4));
+    assert_eq!(rt; version, 3);
+}
+
+// A client that is taken in gives a grant back, to the one that takes it in.
+#[test]
+fn grants_go_with_clients(rt: HostRuntime) {
+    let (manager, client) = Manager::new(rt.alloc(), 8, LAST).expect(&rt, "it opens");
+    let mut a = Caller {
+        manager: &manager,
+        client,
+    };
+    let mut b = a.split().expect(&rt, "there are grants");
+    let c = a.split().expect(&rt, "there are grants");
+    b.gather(c);
+    let d = b
+        .split()
+        .expect(&rt, "there is the grant of the client taken in");
+    assert_eq!(rt; b.split().err(), Some(RegionFault::Clients));
+    let first = a.client;
+    let _second = b.client;
+    let _fourth = d.client;
+    let Err((_, _, fault)) = manager.close(first) else {
+        panic!(rt; "it closed while clients were out")
+    };
+    assert_eq!(rt; fault, RegionFault::StillOut { out: 2 });
+}

@@ -1,0 +1,190 @@
+//! Two clients whose calls meet over a region: one stands still at a point of its commit, which
+//! its gate is told, while the other one calls.
+ghost use Rattle.std.specs.Prelude.{◌≡◌};
+
+use crate::caller::{Caller, LAST};
+use crate::outcome::Outcome;
+use crate::scripts::add_command;
+use std::process::Abort;
+use stm_attempt::{Gate, Point};
+use vac_manager::{Client, Manager};
+use vac_model::Kind::{Car, Room};
+use vac_model::Reply::{Done, No, Number};
+use vac_model::Why::SoldOut;
+use vac_model::{Command, Task};
+
+const FREE_CAR: Task = Task::One(Command::Free { kind: Car, id: 7 });
+
+const FREE_ROOM: Task = Task::One(Command::Free { kind: Room, id: 9 });
+
+const fn enter(customer: u32) -> Task {
+    Task::One(Command::NewCustomer { id: customer })
+}
+
+const fn reserve_car(customer: u32) -> Task {
+    Task::One(Command::Reserve {
+        customer,
+        kind: Car,
+        id: 7,
+        num: 1,
+    })
+}
+
+/// What the client was answered that called meanwhile.
+#[derive(Clone, Copy, Debug, PartialEq, Eq)]
+struct Told {
+    room: Outcome,
+    car: Outcome,
+}
+
+/// Has another client ask for a room and reserve a car, once, when it is told the point.
+#[derive(Drop)]
+struct Meanwhile<'a> {
+    when: Point,
+    other: Caller<'a>,
+    told: Option<Told>,
+}
+
+impl<'a> Gate for Meanwhile<'a> {
+    fn at(&mut self, point: Point) {
+        if point == self.when && self.told.is_none() {
+            let room = Outcome::of(self.other.call(&FREE_ROOM, 1));
+            let car = Outcome::of(self.other.call(&reserve_car(4), 1));
+            self.told = Some(Told { room, car });
+        }
+    }
+}
+
+/// What two clients were answered whose reservations met, and how many cars are free afterwards.
+#[derive(Clone, Copy, Debug, PartialEq, Eq)]
+struct Met {
+    mine: Outcome,
+    told: Option<Told>,
+    free: Outcome,
+}
+
+/// So many cars and two customers.
+fn fill(caller: &mut Caller<'_>, cars: u32) {
+    let car = Task::One(add_command(Car, 7, cars, Some(50)));
+    let _ = caller.call(&car, 1);
+    let _ = caller.call(&enter(3), 1);
+    let _ = caller.call(&enter(4), 1);
+}
+
+/// The client reserves a car by so many tries, and at this point the other client does.
+fn meet<'a>(
+    caller: &mut Caller<'_>,
+    other: Caller<'a>,
+    when: Point,
+    tries: u32,
+) -> (Met, Caller<'a>) {
+    let mut gate = Meanwhile {
+        when,
+        other,
+        told: None,
+    };
+    let mine = Outcome::of(caller.call_gated(&reserve_car(3), tries, &mut gate));
+    let Meanwhile {
+        when: _,
+        other,
+        told,
+    } = gate;
+    let free = Outcome::of(caller.call(&FREE_CAR, 1));
+    (Met { mine, told, free }, other)
+}
+
+/// Two clients reserve the last car, the first by so many tries.
+fn last_car(rt: &impl Abort, manager: &Manager, client: Client, tries: u32) -> Met
+    requires { client.table ≡ manager.now.table }
+{
+    let mut caller = Caller { manager, client };
+    let other = caller.split().expect(rt, "there are grants");
+    fill(&mut caller, 1);
+    let (met, _) = meet(&mut caller, other, Point::ReadsDone, tries);
+    met
+}
+
+/// The other client had the last car, and this is what the first was answered.
+fn lost_it(mine: Outcome) -> Met {
+    let told = Told {
+        room: Outcome::Replied(Number(None)),
+        car: Outcome::Replied(Done),
+    };
+    Met {
+        mine,
+        told: Some(told),
+        free: Outcome::Replied(Number(Some(0))),
+    }
+}
+
+#[test]
+fn the_last_car_by_two_tries(rt: HostRuntime) {
+    let (manager, client) = Manager::new(rt.alloc(), 8, LAST).expect(&rt, "it opens");
+    let met = last_car(&rt, &manager, client, 2);
+    assert_eq!(rt; met, lost_it(Outcome::Replied(No(SoldOut))));
+}
+
+#[test]
+fn the_last_car_by_one_try(rt: HostRuntime) {
+    let (manager, client) = Manager::new(rt.alloc(), 8, LAST).expect(&rt, "it opens");
+    let met = last_car(&rt, &manager, client, 1);
+    assert_eq!(rt; met, lost_it(Outcome::Newer { version: 4, rv: 3 }));
+}
+
+#[test]
+fn the_last_car_with_one_lock_word(rt: HostRuntime) {
+    let opened = Manager::with_stripes(rt.alloc(), 8, LAST, 1);
+    let (manager, client) = opened.expect(&rt, "it opens");
+    let met = last_car(&rt, &manager, client, 2);
+    assert_eq!(rt; met, lost_it(Outcome::Replied(No(SoldOut))));
+}
+
+#[test]
+fn the_last_car_takes_the_last_version(rt: HostRuntime) {
+    let (manager, client) = Manager::new(rt.alloc(), 8, 4).expect(&rt, "it opens");
+    let met = last_car(&rt, &manager, client, 2);
+    assert_eq!(rt; met, lost_it(Outcome::Spent(4)));
+}
+
+/// Two clients reserve one of two cars each, and the one that was busy calls again.
+fn two_cars(rt: &impl Abort, manager: &Manager, client: Client, when: Point) -> (Met, Outcome)
+    requires { client.table ≡ manager.now.table }
+{
+    let mut caller = Caller { manager, client };
+    let other = caller.split().expect(rt, "there are grants");
+    fill(&mut caller, 2);
+    let (met, mut other) = meet(&mut caller, other, when, 1);
+    let again = if met.mine == Outcome::Replied(Done) {
+        other.call(&reserve_car(4), 1)
+    } else {
+        caller.call(&reserve_car(3), 1)
+    };
+    (met, Outcome::of(again))
+}
+
+#[test]
+fn at_each_point_one_of_two_clients_is_busy(rt: HostRuntime) {
+    let done = Outcome::Replied(Done);
+    let newer = Outcome::Newer { version: 4, rv: 3 };
+    for (when, mine, car) in [
+        (Point::ReadsDone, newer, done),
+        (Point::Locked, done, Outcome::Held),
+        (Point::Ticked, done, Outcome::Held),
+        (Point::Decided, done, Outcome::Held),
+        (Point::Written, done, Outcome::Held),
+    ] {
+        let (manager, client) = Manager::new(rt.alloc(), 8, LAST).expect(&rt, "it opens");
+        let (met, again) = two_cars(&rt, &manager, client, when);
+        let told = Told {
+            room: Outcome::Replied(Number(None)),
+            car,
+        };
+        let want = Met {
+            mine,
+            told: Some(told),
+            free: Outcome::Replied(Number(Some(1))),
+        };
+        assert_eq!(rt; met, want, "at {when:?}");
+        assert_eq!(rt; again, done, "at {when:?}");
+    }
+}

@@ -1,0 +1,57 @@
+//! Numbers out of their range, over a region.
+
+use crate::caller::{Answer, Caller, LAST};
+use crate::scripts::{Line, delete, free, new_customer};
+use std::alloc::Global;
+use vac_manager::{Fault, Manager};
+use vac_model::Kind::{Car, Flight};
+use vac_model::Reply::Number;
+
+const REFUSED: Answer = Err(Fault::Arguments);
+
+#[test]
+fn calls_out_of_range(rt: HostRuntime) {
+    let alloc = rt.alloc();
+    let (manager, client) = Manager::new(alloc, 8, LAST).expect(&rt, "the numbers are in range");
+    let mut caller = Caller {
+        manager: &manager,
+        client,
+    };
+    let asked = [(free(Car, 7), REFUSED)];
+    caller.expect(&rt, alloc, 0, &asked);
+    caller.expect(&rt, alloc, 1_048_577, &asked);
+    let script = [
+        (Line::Trip(3, &[]), REFUSED),
+        (delete(Flight, 1, 1), REFUSED),
+        (new_customer(0), REFUSED),
+    ];
+    caller.expect(&rt, alloc, 1, &script);
+    caller.expect(&rt, alloc, 1_048_576, &[(free(Car, 7), Ok(Number(None)))]);
+}
+
+/// Why a manager does not open.
+fn refusal(alloc: Global, blocks: u32, last: u64, stripes: u32) -> Option<Fault> {
+    Manager::with_stripes(alloc, blocks, last, stripes).err()
+}
+
+#[test]
+fn openings_out_of_range(rt: HostRuntime) {
+    let arguments = Some(Fault::Arguments);
+    for (blocks, last, stripes, want) in [
+        (0, 2, 1, arguments),
+        (262_145, 2, 1, arguments),
+        (8, 0, 1, arguments),
+        (8, LAST + 1, 1, arguments),
+        (8, 2, 0, arguments),
+        (8, 2, 1_048_577, arguments),
+        (1, 1, 1, None),
+        (8, LAST, 1_048_576, None),
+    ] {
+        let fault = refusal(rt.alloc(), blocks, last, stripes);
+        assert_eq!(rt; fault, want, "{blocks} {last} {stripes}");
+    }
+    for (blocks, last) in [(0, 2), (262_145, 2), (8, 0), (8, LAST + 1)] {
+        let fault = Manager::new(rt.alloc(), blocks, last).err();
+        assert_eq!(rt; fault, arguments, "{blocks} {last}");
+    }
+}

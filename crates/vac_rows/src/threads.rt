@@ -1,0 +1,161 @@
+//! Clients in threads.
+ghost use Rattle.std.specs.Prelude.{◌≡◌};
+
+use crate::caller::{Caller, LAST};
+use std::process::Abort;
+use std::thread;
+use std::thread::Threads;
+use vac_manager::{Client, Manager};
+use vac_model::{Command, Kind, Reply, Task};
+
+/// How many calls each client makes.
+const CALLS: u32 = 2_000;
+
+/// How many cars the clients share.
+const CARS: u32 = 4;
+
+/// By how many tries each call is made.
+const TRIES: u32 = 1_000;
+
+/// A client when its calls are made, and how many units it added.
+type Added = (Client, u64);
+
+/// How many units the call of this number adds.
+fn units_of(call: u32) -> u32 {
+    1 + call % 3
+}
+
+/// Units of a shared car, or, at each fourth call, the question how many there are.
+fn task_of(call: u32, seed: u32) -> Task {
+    let kind = Kind::Car;
+    let id = 1 + call.wrapping_mul(7).wrapping_add(seed) % CARS;
+    if call % 4 == 3 {
+        return Task::One(Command::Free { kind, id });
+    }
+    Task::One(Command::Add {
+        kind,
+        id,
+        num: units_of(call),
+        price: Some(50),
+    })
+}
+
+/// Makes one call. Answers how many units were added.
+fn add(caller: &mut Caller<'_>, call: u32, seed: u32) -> u64
+    ensures { caller.new.client.table ≡ caller.old.client.table }
+{
+    match caller.call(&task_of(call, seed), TRIES) {
+        Ok(Reply::Done) => u64::from(units_of(call)),
+        _ => 0,
+    }
+}
+
+/// Makes all calls of a client.
+fn add_units(manager: &Manager, client: Client, seed: u32) -> Added
+    requires { client.table ≡ manager.now.table }
+    ensures { result.0.table ≡ manager.now.table }
+{
+    let mut caller = Caller { manager, client };
+    let mut added = 0u64;
+    for call in 0..CALLS {
+        added = added.wrapping_add(add(&mut caller, call, seed));
+    }
+    (caller.client, added)
+}
+
+fn two_clients<R: Threads + Sync>(
+    rt: &R,
+    manager: &Manager,
+    first: Client,
+    second: Client,
+    seed: u32,
+) -> (Added, Added)
+    requires { (first.table ≡ manager.now.table) × (second.table ≡ manager.now.table) }
+    ensures { (result.0.0.table ≡ manager.now.table) × (result.1.0.table ≡ manager.now.table) }
+{
+    let next = seed.wrapping_add(1);
+    thread::join(
+        rt,
+        move || -> Added
+            requires { first.table ≡ manager.now.table }
+            ensures { result.0.table ≡ manager.entry.now.table }
+        { add_units(manager, first, seed) },
+        move || -> Added
+            requires { second.table ≡ manager.now.table }
+            ensures { result.0.table ≡ manager.entry.now.table }
+        { add_units(manager, second, next) },
+    )
+}
+
+/// Four clients, two and two. Answers the first one, which took in the others, and how many units
+/// all of them added.
+fn four_clients<R: Threads + Sync + Abort>(rt: &R, manager: &Manager, a: Client) -> Added
+    requires { a.table ≡ manager.now.table }
+    ensures { result.0.table ≡ manager.now.table }
+{
+    let mut a = a;
+    let b = manager.split(&mut a).expect(rt, "there are grants");
+    let c = manager.split(&mut a).expect(rt, "there are grants");
+    let d = manager.split(&mut a).expect(rt, "there are grants");
+    let ((first, second), (third, fourth)) = thread::join(
+        rt,
+        move || -> (Added, Added)
+            requires { (a.table ≡ manager.now.table) × (b.table ≡ manager.now.table) }
+            ensures { (result.0.0.table ≡ manager.entry.now.table)
+                × (result.1.0.table ≡ manager.entry.now.table) }
+        { two_clients(rt, manager, a, b, 0) },
+        move || -> (Added, Added)
+            requires { (c.table ≡ manager.now.table) × (d.table ≡ manager.now.table) }
+            ensures { (result.0.0.table ≡ manager.entry.now.table)
+                × (result.1.0.table ≡ manager.entry.now.table) }
+        { two_clients(rt, manager, c, d, 2) },
+    );
+    gather(
+        manager,
+        gather(manager, gather(manager, first, second), third),
+        fourth,
+    )
+}
+
+/// Takes in the second client, and adds up.
+fn gather(manager: &Manager, first: Added, second: Added) -> Added
+    requires { (first.0.table ≡ manager.now.table) × (second.0.table ≡ manager.now.table) }
+    ensures { result.0.table ≡ manager.now.table }
+{
+    let (mut client, added) = first;
+    let (other, more) = second;
+    manager.gather(&mut client, other);
+    (client, added.wrapping_add(more))
+}
+
+/// How many units the cars have.
+fn units(caller: &mut Caller<'_>) -> u64
+    ensures { caller.new.client.table ≡ caller.old.client.table }
+{
+    let mut units = 0u64;
+    for id in 1..=CARS {
+        let free = Task::One(Command::Free {
+            kind: Kind::Car,
+            id,
+        });
+        if let Ok(Reply::Number(Some(n))) = caller.call(&free, 1) {
+            units = units.wrapping_add(n);
+        }
+    }
+    units
+}
+
+#[test]
+fn four_clients_add_units(rt: HostRuntime) {
+    let (manager, client) = Manager::new(rt.alloc(), 16, LAST).expect(&rt, "it opens");
+    let (client, added) = four_clients(&rt, &manager, client);
+    let mut caller = Caller {
+        manager: &manager,
+        client,
+    };
+    let units = units(&mut caller);
+    assert!(rt; added > 0);
+    assert_eq!(rt; units, added);
+    let client = caller.client;
+    assert!(rt; manager.close(client).is_ok());
+}
