@@ -46,7 +46,8 @@ InRange stripes size (give_back k) = k < stripes
 InRange stripes size (finish tag) = Unit {0}
 
 -- the numbers of a running region fit its table and what it was opened with
-pub record IsLaid (words slots : ℕ) (o : Opened) (length_of_image last_version stripes cells renewals : ℕ) : Type 0 where
+pub record IsLaid (words slots : ℕ) (o : Opened)
+    (length_of_image last_version stripes cells renewals : ℕ) : Type 0 where
   pub total : words ≡ cells + length_of_image
   pub none : slots ≡ 0
   pub behind : cells ≡ first_cell stripes

@@ -39,7 +39,8 @@ ClosesNot grants Renewals = ⊥
 abbrev pub most_renewals : ℕ
 most_renewals = 65535
 
--- a region may be renewed: the new last version is in range, there is a renewal left, and no other client is out
+-- a region may be renewed: the new last version is in range, there is a renewal left, and no other
+-- client is out
 abbrev pub MayRenew : ℕ → ℕ → ℕ → Type 0
 MayRenew renewals last grants = IsLast last × (renewals < most_renewals) × (grants ≡ 63)
 
@@ -49,6 +50,7 @@ RenewsNot renewals last grants Size = ⊥
 RenewsNot renewals last grants Last = ¬ IsLast last
 RenewsNot renewals last grants Memory = MayRenew renewals last grants
 RenewsNot renewals last grants Clients = ⊥
-RenewsNot renewals last grants (StillOut out) = IsLast last × (renewals < most_renewals) × (grants < 63) × (out ≡ 63 - grants)
+RenewsNot renewals last grants (StillOut out) =
+    IsLast last × (renewals < most_renewals) × (grants < 63) × (out ≡ 63 - grants)
 RenewsNot renewals last grants Stripes = ⊥
 RenewsNot renewals last grants Renewals = IsLast last × (most_renewals ≤ renewals)

@@ -72,7 +72,8 @@ LoneTold (finish tag) n v w = Unit {0}
 module _ (fits : List ℕ → Type 0) (lawful : List ℕ → List (ℕ × ℕ) → List (ℕ × ℕ) → Type 0) (r : RegionShown) where
   -- what is told of the word found, and of the client's values before and after the step
   abbrev pub Told : Action → ℕ → Client → Client → Type 0
-  Told begin n v w = IsVersion r.last n × (v.floor ≤ n) × StandsOn fits r.size [] × AreEarlier r.renewal n v.records
+  Told begin n v w =
+      IsVersion r.last n × (v.floor ≤ n) × StandsOn fits r.size [] × AreEarlier r.renewal n v.records
   Told (probe k) n v w = IsLockWord r.last n × (IsLoneOpen v → LoneTold (probe k) n v w)
   Told (fetch a) n v w = Unit {0}
   Told (check a) n v w = IsLockWord r.last n × StandsOn fits r.size w.reads × (IsLoneOpen v → LoneTold (check a) n v w)

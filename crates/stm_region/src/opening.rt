@@ -30,7 +30,15 @@ impl<A: Allocator> Model for Opening<A> {
 
     ghost Value = { Opened };
 
-    ghost view = { λ o. record { image = drop (first_cell o.stripes) o.words.value.items; last = o.last; stripes = o.stripes; first = first_words (drop (first_cell o.stripes) o.words.value.items) (option_map (λ t. t.numbers) o.first); renewal = o.renewal; start = started (option_map (λ s. s.value.me.0) o.start) } };
+    ghost view = { λ o. record {
+      image = drop (first_cell o.stripes) o.words.value.items;
+      last = o.last;
+      stripes = o.stripes;
+      first = first_words (drop (first_cell o.stripes) o.words.value.items)
+          (option_map (λ t. t.numbers) o.first);
+      renewal = o.renewal;
+      start = started (option_map (λ s. s.value.me.0) o.start);
+    } };
 }
 
 /// The table's words and the clients' values are a core state that meets the version invariant.

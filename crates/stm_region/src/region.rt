@@ -47,7 +47,9 @@ impl<L: Law, A: Allocator> Model for Region<L, A> {
 
     ghost view = { λ r. record { table = r.table.shared.table_id; size = r.size; last = r.last; stripes = r.stripes; opening = r.table.shared.key.image; first = r.table.shared.key.first; renewal = r.table.shared.key.renewal; start = r.table.shared.key.start } };
 
-    ghost invariant = { λ r. IsLaid r.table.shared.table_id.words r.table.shared.table_id.slots r.table.shared.key r.size r.last r.stripes r.cells r.renewal };
+    ghost invariant = { λ r.
+        IsLaid r.table.shared.table_id.words r.table.shared.table_id.slots r.table.shared.key
+        r.size r.last r.stripes r.cells r.renewal };
 }
 
 impl<L: Law, A: Allocator> Region<L, A> {

@@ -40,7 +40,8 @@ impl<L: Law, A: Allocator> Region<L, A> {
     // The first reason against a renewal, beside memory.
     fn renewal_fault(&self, client: &Client<L>, last: u64) -> Option<RegionFault>
         ensures none { result ≡ None → MayRenew self.now.renewal last client.now.value.grants }
-        ensures some { IfSome result (λ fault. RenewsNot self.now.renewal last client.now.value.grants fault) }
+        ensures some { IfSome result (λ fault.
+            RenewsNot self.now.renewal last client.now.value.grants fault) }
     {
         if last == 0 || last >= 1 << 62 {
             return Some(RegionFault::Last);
@@ -68,8 +69,15 @@ impl<L: Law, A: Allocator + Copy> Region<L, A> {
     ) -> Result<(Region<L, A>, Client<L>), RenewFault<L, A>>
         requires own { client.table ≡ self.table }
         requires free_handed { IsFreeHanded client.value }
-        ensures region { IfOk result (λ r. r.0 ≡ record self { table = r.0.table; last = last; opening = r.0.opening; renewal = self.renewal + 1; start = renewing client.value }) }
-        ensures client { IfOk result (λ r. r.1 ≡ record { table = r.0.table; value = renewing client.value }) }
+        ensures region { IfOk result (λ r. r.0 ≡ record self {
+          table = r.0.table;
+          last = last;
+          opening = r.0.opening;
+          renewal = self.renewal + 1;
+          start = renewing client.value;
+        }) }
+        ensures client { IfOk result (λ r. r.1
+            ≡ record { table = r.0.table; value = renewing client.value }) }
         ensures words { IfOk result (λ r. EndsSomewhere L.lawful self client.value r.0.opening) }
         ensures refused { IfErr result (λ fault. NotRenewed L.lawful self client last fault) }
         ensures ranges { IfOk result (λ _. MayRenew self.renewal last client.value.grants) }

@@ -80,7 +80,8 @@ fn walk_customers(
     requires rising { Rising notes.old.places.items }
     requires uncounted { Uncounted notes.old }
     ensures size { length reached.new.items ≡ length reached.old.items }
-    ensures ran { CustomersRan words.now reached.old.items reached.new.items notes.old notes.new result }
+    ensures ran { CustomersRan words.now reached.old.items reached.new.items
+        notes.old notes.new result }
 {
     notes.booked = match Vec::from_elem(alloc, 0u64, notes.places.len()) {
         Err(_) => return Err(Fault::Memory),

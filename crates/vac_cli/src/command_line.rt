@@ -104,7 +104,7 @@ fn load_command<'a>(alloc: Global) -> Result<Command<'a>, AllocError> {
         "How many tasks each client asks for",
     );
     let items = number_option(alloc, "items", 1, MOST_ITEMS, "16").help(
-        "How many items of each kind, and customers, there are; the blocks must be four times as many",
+        "How many items of each kind there are; the blocks must be four times as many",
     );
     let asks = number_option(alloc, "asks", 1, MOST_PARTS as u32, "4").help(
         "The most items that a task names",

@@ -26,7 +26,8 @@ use Rattle.vac_load.specs.Sums.{sum_of, added_up}
 -- the lists are equally long, and the relation holds between the elements at each place
 pub data Paired {A B : Type 0} (related : A → B → Type 0) : List A → List B → Type 0 where
   none : Paired related [] []
-  both : {x : A} {y : B} {xs : List A} {ys : List B} → related x y → Paired related xs ys → Paired related (x ∷ xs) (y ∷ ys)
+  both : {x : A} {y : B} {xs : List A} {ys : List B} → related x y → Paired related xs ys →
+      Paired related (x ∷ xs) (y ∷ ys)
 
 -- a client of some manager ran its tasks: it is the client that it was, and its value has what its
 -- loop made of it
@@ -95,7 +96,8 @@ pub record HasShare {D : Type 0} (leads : D → ℕ → D → Type 0) (s : Setti
   pub later : (r : Record) → In r x.records → floor ≤ r.version
   pub all : total x.tally ≡ s.tasks
 
--- the first client's records stand among all behind those from before, the other clients' as they are
+-- the first client's records stand among all behind those from before, the other clients' as they
+-- are
 abbrev pub AmongAll : List Record → List Share → List Record → Type 0
 AmongAll before [] all = Unit {0}
 AmongAll before (x ∷ xs) all = Sub (before ++ x.records) all × SubEach (λ y. y.records) xs all
