@@ -2,6 +2,7 @@
 use Rattle.std.proofs.Common.{◌≡◌, ◌≢◌, ℕ, ◌+◌, ◌<◌, ◌≤◌, ◌^◌, List, [], length, Some, None, refl, ap, ◌∙◌, subst, arith}
 use Rattle.std.specs.FinMap.{entries, len-entries}
 use Rattle.stm_words.specs.View.{View, Sees, Stands}
+use Rattle.vac_model.proofs.Ids.{id_low}
 use Rattle.vac_model.specs.State.{State, units_booked, bill_of}
 use Rattle.vac_model.proofs.Bounds.{small_sums}
 use Rattle.tx_alloc.specs.Rows.{Rows, times, block_at, IsFrom}
@@ -48,7 +49,7 @@ start_rows m n state h =
     let rows = rows_of m n state h 3 in
     let table = h.represents.heap.tables 3 (omega arith) in
     above_start rows (λ x o z. absurd (omega (arith, z, (table_block m n (m 4) x rows table o).1.1)))
-    (λ id ne. (let f = customer_found m n [] state h.represents id (block_at rows id) refl ne in (h.small.balanced.customers id f.bookings f.there).low))
+    (λ id ne. (let f = customer_found m n [] state h.represents id (block_at rows id) refl ne in id_low id (h.small.balanced.customers id f.bookings f.there)))
 
 pub customer_start : (s : View) → CustomerWalk s s 0 0 (record { count = 0; units = 0; billed = 0 })
 customer_start s = record {

@@ -4,6 +4,7 @@ use Rattle.stm_words.specs.View.{View, Sees, Stands}
 use Rattle.vac_model.specs.declared.items.Kind.{Kind}
 use Rattle.vac_model.specs.State.{State, kind_number, table_of}
 use Rattle.vac_model.proofs.Bounds.{small_sums}
+use Rattle.vac_model.proofs.Ids.{id_low}
 use Rattle.tx_alloc.specs.Rows.{Rows, block_at, IsFrom}
 use Rattle.tx_tree.specs.Table.{NextFound, row_above}
 use Rattle.tx_tree.proofs.TableFrame.{table_block, table_rises}
@@ -37,7 +38,7 @@ start_rows m n state h kind =
     let rows = rows_of m n state h (kind_number kind) in
     let table = h.represents.heap.tables (kind_number kind) (kind_low kind) in
     above_start rows (λ x o z. absurd (omega (arith, z, (table_block m n (m (1 + kind_number kind)) x rows table o).1.1)))
-    (λ id ne. (h.small.balanced.items kind id (item_in m (block_at rows id)) (item_found m n [] state h.represents kind id (block_at rows id) (record { at = refl; some = ne }))).id_range.low)
+    (λ id ne. id_low id (h.small.balanced.items kind id (item_in m (block_at rows id)) (item_found m n [] state h.represents kind id (block_at rows id) (record { at = refl; some = ne }))).id_range)
 
 pub item_start : (s : View) (kind : Kind) → ItemWalk s s kind 0 0 (record { count = 0; used = 0; free = 0; total = 0 })
 item_start s kind = record {

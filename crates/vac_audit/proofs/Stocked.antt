@@ -11,12 +11,14 @@ use Rattle.std.specs.FinMap.{IsAntisymmetric, nat_cmp-IsAntisymmetric, from_sort
 use Rattle.stm_words.specs.Seen.{same_or}
 use Rattle.stm_words.specs.Plain.{flat_view}
 use Rattle.stm_words.specs.PlainSeen.{get_at}
+use Rattle.vac_model.specs.Amounts.{is_id}
 use Rattle.vac_model.specs.declared.items.Kind.{Kind}
 use Rattle.vac_model.specs.declared.items.Kind.TheVariants.{Car, Flight, Room}
 use Rattle.vac_model.specs.declared.items.Item.{Item}
 use Rattle.vac_model.specs.declared.items.Booking.{Booking}
 use Rattle.vac_model.specs.State.{State, Bookings, Place, place_cmp, kind_number, table_of, units_of, units_held, item_of, bookings_of, size, empty_state}
-use Rattle.vac_model.specs.Balanced.{IsItem, IsBooking, IsId}
+use Rattle.vac_model.specs.Balanced.{IsItem, IsBooking}
+use Rattle.vac_model.proofs.Ids.{id_between}
 use Rattle.vac_model.specs.Fits.{IsSmall}
 use Rattle.vac_model.proofs.Balance.{some_same}
 use Rattle.vac_model.proofs.Empty.{empty-small}
@@ -295,24 +297,21 @@ room_held =
     let b : units_of no_bookings (Room, 9) ≡ 0 = units_is [] tt (Room, 9) in
     omega (arith, held_is (Room, 9), a, b)
 
-id_is : (n : ℕ) → 1 ≤ n → n < 2 ^ 32 → IsId n
-id_is n l h = record { low = l; high = h }
-
 item_is : (kind : Kind) (id : ℕ) (item : Item) → item_of stock kind id ≡ Some item → IsItem stock kind id item
 unfolding IsIn
 item_is Car id item e = elim (found_in nat_cmp_total nat_cmp-IsAntisymmetric cars id item (sym (get-from_sorted nat_cmp cars id tt) ∙ e)) [
   | inl h ↦ subst (λ (p : ℕ × Item). IsItem stock Car p.0 p.1) (λ j. (sym h.0 j, sym h.1 j))
-      (record { id_range = id_is 1 (omega arith) (omega arith); some_units = omega arith; few_units = omega arith; price_range = omega arith; counts = refl; held = sym car_held })
+      (record { id_range = id_between 1 (omega arith) (omega arith); some_units = omega arith; few_units = omega arith; price_range = omega arith; counts = refl; held = sym car_held })
   | inr r ↦ elim r [
     | inl h ↦ subst (λ (p : ℕ × Item). IsItem stock Car p.0 p.1) (λ j. (sym h.0 j, sym h.1 j))
-        (record { id_range = id_is 2 (omega arith) (omega arith); some_units = omega arith; few_units = omega arith; price_range = omega arith; counts = refl; held = sym other_held })
+        (record { id_range = id_between 2 (omega arith) (omega arith); some_units = omega arith; few_units = omega arith; price_range = omega arith; counts = refl; held = sym other_held })
     | inr z ↦ absurd z
   ]
 ]
 item_is Flight id item e = absurd (found_in nat_cmp_total nat_cmp-IsAntisymmetric [] id item (sym (get-from_sorted nat_cmp [] id tt) ∙ e))
 item_is Room id item e = elim (found_in nat_cmp_total nat_cmp-IsAntisymmetric rooms id item (sym (get-from_sorted nat_cmp rooms id tt) ∙ e)) [
   | inl h ↦ subst (λ (p : ℕ × Item). IsItem stock Room p.0 p.1) (λ j. (sym h.0 j, sym h.1 j))
-      (record { id_range = id_is 9 (omega arith) (omega arith); some_units = omega arith; few_units = omega arith; price_range = omega arith; counts = refl; held = sym room_held })
+      (record { id_range = id_between 9 (omega arith) (omega arith); some_units = omega arith; few_units = omega arith; price_range = omega arith; counts = refl; held = sym room_held })
   | inr z ↦ absurd z
 ]
 
@@ -359,8 +358,8 @@ stock_small = record {
     room = size_is;
     items = item_is;
     customers = λ id b e. elim (user_is id b e) [
-      | inl h ↦ subst IsId (sym h.0) (id_is 7 (omega arith) (omega arith))
-      | inr r ↦ elim r [ inl h ↦ subst IsId (sym h.0) (id_is 8 (omega arith) (omega arith)) | inr z ↦ absurd z ]
+      | inl h ↦ subst (λ n. is_id n ≡ true) (sym h.0) (id_between 7 (omega arith) (omega arith))
+      | inr r ↦ elim r [ inl h ↦ subst (λ n. is_id n ≡ true) (sym h.0) (id_between 8 (omega arith) (omega arith)) | inr z ↦ absurd z ]
     ];
     bookings = λ customer b kind id x e f. elim (user_is customer b e) [
       | inl h ↦ booking_is kind id x (ap (λ (z : Bookings). get z (kind, id)) (sym h.1) ∙ f)

@@ -10,7 +10,9 @@ use Rattle.vac_model.specs.declared.items.Kind.TheVariants.{Car, Flight, Room}
 use Rattle.vac_model.specs.declared.items.Item.{Item}
 use Rattle.vac_model.specs.declared.items.Booking.{Booking}
 use Rattle.vac_model.specs.State.{Bookings, Place, kind_number, place_cmp, table_of, item_of, bookings_of, units_of, units_held}
-use Rattle.vac_model.specs.Balanced.{IsId, IsItem, IsBooking, IsBalanced}
+use Rattle.vac_model.specs.Balanced.{IsItem, IsBooking, IsBalanced}
+use Rattle.vac_model.specs.Amounts.{is_id}
+use Rattle.vac_model.proofs.Ids.{id_between}
 use Rattle.vac_model.proofs.Balance.{some_same}
 use Rattle.vac_model.proofs.Places.{place_cmp-IsAntisymmetric}
 use Rattle.tx_alloc.specs.Rows.{Rows, IsFrom, block_at}
@@ -140,7 +142,7 @@ module _ (m : ℕ → ℕ) (blocks : ℕ) (p : Parts) (h : IsSound m (16 + 8 * b
       of_row : (kind : Kind) (id : ℕ) (item : Item) (r : ℕ × ℕ) → r.0 ≡ id → item_in m r.1 ≡ item → ItemRow m p (kind_number kind) r → IsItem (state_of m blocks p) kind id item
       of_row kind id item r e f g =
           subst (λ (i : ℕ). IsItem (state_of m blocks p) kind i item) e (subst (λ (x : Item). IsItem (state_of m blocks p) kind r.0 x) f (record {
-            id_range = record { low = g.low; high = g.high };
+            id_range = id_between r.0 g.low g.high;
             some_units = g.item.some;
             few_units = g.item.few;
             price_range = g.item.price;
@@ -187,6 +189,6 @@ module _ (m : ℕ → ℕ) (blocks : ℕ) (p : Parts) (h : IsSound m (16 + 8 * b
     items = item_balanced;
     customers = λ id bookings e. (
         let c = found_customer id bookings e in
-        subst IsId c.id_is (record { low = c.fact.low; high = c.fact.high }));
+        subst (λ n. is_id n ≡ true) c.id_is (id_between c.row.0 c.fact.low c.fact.high));
     bookings = booking_balanced;
   }

@@ -9,7 +9,9 @@ use Rattle.std.specs.FinMap.{entries, get-entries, find}
 use Rattle.vac_model.specs.declared.items.Booking.{Booking}
 use Rattle.vac_model.specs.declared.replies.Report.{Report}
 use Rattle.vac_model.specs.State.{State, Bookings, Place, kind_number, place_cmp, item_of, units_of, units_held, report}
-use Rattle.vac_model.specs.Balanced.{IsId, IsItem}
+use Rattle.vac_model.specs.Balanced.{IsItem}
+use Rattle.vac_model.specs.Amounts.{is_id}
+use Rattle.vac_model.proofs.Ids.{id_low, id_high}
 use Rattle.tx_alloc.specs.Rows.{Rows, IsFrom, block_at}
 use Rattle.tx_list.specs.Bookings.{Linked, IsList}
 use Rattle.tx_tree.specs.Table.{IsTable}
@@ -124,7 +126,7 @@ module _ (m : ℕ → ℕ) (blocks : ℕ) (s : State) (h : IsState m (16 + 8 * b
   bookings_at : (k c : ℕ) → HasRow k c (p.tables 3) → HasBookings m (p.lists c) s k
   bookings_at k c r = customer_found m words [] s rep k c (row_found 3 (omega arith) k c r) (row_some 3 (omega arith) k c r)
 
-  id_at : (i : ℕ) → i < 4 → (k a : ℕ) → HasRow k a (p.tables i) → IsId k
+  id_at : (i : ℕ) → i < 4 → (k a : ℕ) → HasRow k a (p.tables i) → is_id k ≡ true
   id_at i l k a r = elim (cases_lt i 3) [
     | inl below ↦ (item_at i below k a r).id_range
     | inr here ↦ (
@@ -156,7 +158,7 @@ module _ (m : ℕ → ℕ) (blocks : ℕ) (s : State) (h : IsState m (16 + 8 * b
       let item = item_some b listed.kind good.item in
       let row = row_at (m (b + 1)) (block_at (p.tables (m b)) (m (b + 1))) (p.tables (m b)) refl item in
       record {
-        id = (item_at (m b) listed.kind (m (b + 1)) (block_at (p.tables (m b)) (m (b + 1))) row).id_range.low;
+        id = id_low (m (b + 1)) (item_at (m b) listed.kind (m (b + 1)) (block_at (p.tables (m b)) (m (b + 1))) row).id_range;
         some = good.some_units;
         few = good.few_units;
         sum = good.sum_range;
@@ -170,7 +172,7 @@ module _ (m : ℕ → ℕ) (blocks : ℕ) (s : State) (h : IsState m (16 + 8 * b
         tree = t.tree;
         is = t.is;
         hangs = t.hangs;
-        rises = from_one (p.tables i) t.ascending (each_rows (λ r. 1 ≤ r.0) (p.tables i) (λ k a r. (id_at i l k a r).low));
+        rises = from_one (p.tables i) t.ascending (each_rows (λ r. 1 ≤ r.0) (p.tables i) (λ k a r. id_low k (id_at i l k a r)));
         even = t.even;
         apart = t.apart;
         black = t.black;
@@ -185,7 +187,7 @@ module _ (m : ℕ → ℕ) (blocks : ℕ) (s : State) (h : IsState m (16 + 8 * b
   pub sound : IsSound m words p
   sound = record {
     tables = tree_at;
-    keys = λ i l. each_rows (λ r. r.0 < 2 ^ 32) (p.tables i) (λ k a r. (id_at i l k a r).high);
+    keys = λ i l. each_rows (λ r. r.0 < 2 ^ 32) (p.tables i) (λ k a r. id_high k (id_at i l k a r));
     items = λ i l. each_rows (λ r. IsItemAt m r.1) (p.tables i) (λ k a r.
         let good = item_at i l k a r in
         record { some = good.some_units; few = good.few_units; sum = good.counts; price = good.price_range });
@@ -193,7 +195,7 @@ module _ (m : ℕ → ℕ) (blocks : ℕ) (s : State) (h : IsState m (16 + 8 * b
         (λ k c r. (list_at k c r, each_rows (IsBookingRow m p.tables) (p.lists c) (booking_at k c r)));
     used = λ i l. each_rows (λ r. m (r.1 + 4) ≡ over (units_in m (i * 2 ^ 32 + r.0)) (p.tables 3) p.lists) (p.tables i) (λ k a r.
         let good = item_at i l k a r in
-        good.held ∙ held_at i k l good.id_range.high);
+        good.held ∙ held_at i k l (id_high k good.id_range));
     pool = rep.heap.pool;
     none_out = rep.held;
   }

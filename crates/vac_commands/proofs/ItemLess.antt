@@ -11,7 +11,6 @@ use Rattle.vac_model.specs.declared.replies.Reply.TheVariants as reply
 use Rattle.vac_model.specs.declared.commands.Why.TheVariants.{NoItem, NotFree, InUse}
 use Rattle.vac_model.specs.Amounts.{is_id}
 use Rattle.vac_model.specs.Ranges.{is_command}
-use Rattle.vac_model.specs.Balanced.{IsId}
 use Rattle.vac_model.specs.State.{State, item_of, with_item, without_item}
 use Rattle.vac_model.specs.Step.{step, deleted}
 use Rattle.vac_records.specs.Items.{mem, item_in, HasFree, ItemChanged}
@@ -145,13 +144,6 @@ delete_last s s1 s2 s3 s4 kind id b num v t range reads at l k free all some w =
           (last_step state kind id num (item_in m b) (item_is s3 kind id b at3 image state i3 h) (omega (arith, is5)) (omega (arith, is6))) (w.gone image state i h);
     })
 
--- the id of an item can be asked for
-id_asked : (n : ℕ) → IsId n → is_id n ≡ true
-id_asked n h =
-    let low : nat_le 1 n ≡ true = grind (arith, nat_tests, h.low) in
-    let high : nat_lt n (2 ^ 32) ≡ true = grind (arith, nat_tests, h.high) in
-    rw (low, high) refl
-
 pub drop_done : (s s1 s2 s3 : View) (id b v : ℕ) → OnlyRead s s1 → HasItemAt s1 Flight id b → Loaded s1 s2 (b + 4) v → v ≤ 0 → ItemGone s2 s3 Flight id → Ran s s3 (command.DropFlight id) reply.Done
 drop_done s s1 s2 s3 id b v reads at l none w =
     let at2 = item_at_on s1 s2 Flight id b (read_by s1 s2 (b + 4) v l) at in
@@ -163,6 +155,6 @@ drop_done s s1 s2 s3 id b v reads at l none w =
           let m = mem s2 image in
           let i2 = w.kept.seen image i in
           let is : m (b + 4) ≡ v = loaded_on s1 s2 s2 (b + 4) v l (read_none s2) image i2 in
-          outcome_of m (mem s3 image) (length image) state (without_item state Flight id) (command.DropFlight id) reply.Done h (id_asked id (item_sound s2 Flight id b at2 image state i2 h).id_range)
+          outcome_of m (mem s3 image) (length image) state (without_item state Flight id) (command.DropFlight id) reply.Done h (item_sound s2 Flight id b at2 image state i2 h).id_range
           (drop_step state id (item_in m b) (item_is s2 Flight id b at2 image state i2 h) (omega (arith, is))) (w.gone image state i h);
     })

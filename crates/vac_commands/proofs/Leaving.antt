@@ -10,7 +10,8 @@ use Rattle.vac_model.specs.declared.items.Booking.{Booking}
 use Rattle.vac_model.specs.declared.commands.Command.TheVariants as command
 use Rattle.vac_model.specs.declared.replies.Reply.{Reply}
 use Rattle.vac_model.specs.Amounts.{is_id}
-use Rattle.vac_model.specs.Balanced.{IsBalanced, IsId}
+use Rattle.vac_model.specs.Balanced.{IsBalanced}
+use Rattle.vac_model.proofs.Ids.{id_low, id_high, id_between}
 use Rattle.vac_model.specs.Ranges.{is_command}
 use Rattle.vac_model.specs.State.{State, Bookings, Place, item_of, bookings_of}
 use Rattle.vac_model.specs.Step.{Outcome}
@@ -103,21 +104,15 @@ module _ (s s1 s2 : View) (id b : ℕ) (place : Place) (held : HoldsState s) (fi
       HasItemAt s2 place.0 place.1 item → ∥ ((image : List ℕ) × Stands s2 image) ∥₁ →
       is_command (command.Cancel id place.0 place.1) ≡ true
   cancel_range item range at ws =
-      let ids : (image : List ℕ) → Stands s2 image → IsId place.1 = λ image w.
+      let ids : (image : List ℕ) → Stands s2 image → is_id place.1 ≡ true = λ image w.
       let t = held.under image (read.kept.seen image (r.kept.seen image w.sees)) in
       let h2 = state_on s s2 image t.0 (r.writes ∙ read.writes) t.1 in
       let there = item_is s2 place.0 place.1 item at image t.0 w.sees h2 in
       (t.1.small.balanced.items place.0 place.1 (item_in (mem s2 image) item) there).id_range in
-      let low : 1 ≤ place.1 = some_le 1 place.1 ws (λ w. (ids w.0 w.1).low) in
-      let high : place.1 < 2 ^ 32 = some_lt place.1 (2 ^ 32) ws (λ w. (ids w.0 w.1).high) in
-      let is : is_id place.1 ≡ true = id_is place.1 low high in
+      let low : 1 ≤ place.1 = some_le 1 place.1 ws (λ w. id_low place.1 (ids w.0 w.1)) in
+      let high : place.1 < 2 ^ 32 = some_lt place.1 (2 ^ 32) ws (λ w. id_high place.1 (ids w.0 w.1)) in
+      let is : is_id place.1 ≡ true = id_between place.1 low high in
       rw (range, is) refl
-    where
-      id_is : (n : ℕ) → 1 ≤ n → n < 2 ^ 32 → is_id n ≡ true
-      id_is n low high =
-          let a : nat_le 1 n ≡ true = grind (arith, nat_tests) in
-          let b : nat_lt n (2 ^ 32) ≡ true = grind (arith, nat_tests) in
-          rw (a, b) refl
 
   module _ (s3 : View) (item : ℕ) (reply : Reply) (at : HasItemAt s2 place.0 place.1 item)
       (ran : Ran s2 s3 (command.Cancel id place.0 place.1) reply) where

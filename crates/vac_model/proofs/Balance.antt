@@ -1,5 +1,5 @@
 -- Each change that a command makes keeps a state balanced.
-use Rattle.std.proofs.Common.{◌≡◌, ◌≢◌, ◌⊎◌, ℕ, ◌+◌, ◌*◌, ◌≤◌, refl, ap, sym, subst, ◌∙◌, arith, inl, inr}
+use Rattle.std.proofs.Common.{◌≡◌, ◌≢◌, ◌⊎◌, ℕ, ◌+◌, ◌*◌, ◌≤◌, true, refl, ap, sym, subst, ◌∙◌, arith, inl, inr}
 use Rattle.std.specs.Prelude.{Some, None, IsSome, is_some, sum_by, unwrap_or}
 use Rattle.std.specs.Option.{option_map_or}
 use Rattle.std.specs.Cmp.{nat_cmp_total}
@@ -9,7 +9,8 @@ use Rattle.vac_model.specs.declared.items.Kind.{Kind}
 use Rattle.vac_model.specs.declared.items.Item.{Item}
 use Rattle.vac_model.specs.State.{State, Booking, Bookings, Place, Table, table_of, item_of, with_item, bookings_of, with_bookings, without_customer, units_of, units_held, size, place_cmp}
 use Rattle.vac_model.specs.Step.{total_limit, unit_limit}
-use Rattle.vac_model.specs.Balanced.{IsBalanced, IsItem, IsBooking, IsId}
+use Rattle.vac_model.specs.Amounts.{is_id}
+use Rattle.vac_model.specs.Balanced.{IsBalanced, IsItem, IsBooking}
 use Rattle.vac_model.proofs.Views.{not_some}
 use Rattle.vac_model.proofs.Sums.{get_here, get_elsewhere, either_key, sum-insert, sum-remove, sum_le, len_pushed, len_inserted, len_removed}
 use Rattle.vac_model.proofs.Places.{place_cmp_total, place_cmp-IsAntisymmetric}
@@ -231,7 +232,7 @@ module _ (s : State) (c : ℕ) (kind : Kind) (id : ℕ) (b b' : Bookings) (item 
           | inr other ↦ kept_item k i x other.0 (sym (item_middle k i) ∙ other.1)
         ];
         customers = λ q x e. elim (bookings_after s c b' q x (sym (bookings-with_item (with_bookings s c b') kind id item' q) ∙ e)) [
-          | inl here ↦ subst IsId (sym here.0) (balanced.customers c b h)
+          | inl here ↦ subst (λ n. is_id n ≡ true) (sym here.0) (balanced.customers c b h)
           | inr other ↦ balanced.customers q x other.1
         ];
         bookings = λ q x k i y e f. elim (bookings_after s c b' q x (sym (bookings-with_item (with_bookings s c b') kind id item' q) ∙ e)) [
@@ -255,7 +256,7 @@ held_missing s kind id balanced none =
     ] refl
 
 -- an item that is new
-pub balanced-new_item : (s : State) (kind : Kind) (id num price : ℕ) → IsBalanced s → IsId id → 1 ≤ num → num ≤ total_limit → price ≤ 1000000
+pub balanced-new_item : (s : State) (kind : Kind) (id num price : ℕ) → IsBalanced s → is_id id ≡ true → 1 ≤ num → num ≤ total_limit → price ≤ 1000000
     → item_of s kind id ≡ None → size s + 1 ≤ s.capacity → IsBalanced (with_item s kind id (record { used = 0; free = num; total = num; price = price }))
 balanced-new_item s kind id num price balanced ids some few cheap none room =
     balanced-with_item s kind id _ balanced
@@ -272,7 +273,7 @@ balanced-replaced s kind id item old balanced there used some few cheap counts =
     (omega (arith, size_replaced s kind id item old there, balanced.room))
 
 -- a customer without bookings comes
-pub balanced-new_customer : (s : State) (c : ℕ) → IsBalanced s → IsId c → bookings_of s c ≡ None → size s + 1 ≤ s.capacity → IsBalanced (with_bookings s c empty)
+pub balanced-new_customer : (s : State) (c : ℕ) → IsBalanced s → is_id c ≡ true → bookings_of s c ≡ None → size s + 1 ≤ s.capacity → IsBalanced (with_bookings s c empty)
 balanced-new_customer s c balanced ids none room = record {
   room = omega (arith, size-new_customer s c none, room);
   items = λ k i x e.
@@ -285,7 +286,7 @@ balanced-new_customer s c balanced ids none room = record {
         counts = f.counts;
         held = f.held ∙ sym (held-new_customer s c (k, i) none);
       };
-  customers = λ q x e. elim (bookings_after s c empty q x e) [ inl here ↦ subst IsId (sym here.0) ids | inr other ↦ balanced.customers q x other.1 ];
+  customers = λ q x e. elim (bookings_after s c empty q x e) [ inl here ↦ subst (λ n. is_id n ≡ true) (sym here.0) ids | inr other ↦ balanced.customers q x other.1 ];
   bookings = λ q x k i y e f. elim (bookings_after s c empty q x e) [
     | inl here ↦
         let gone : None ≡ Some y = sym (map.get-empty place_cmp (k, i)) ∙ ap (λ (z : Bookings). get z (k, i)) (sym here.1) ∙ f in

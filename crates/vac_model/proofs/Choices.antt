@@ -7,7 +7,7 @@ use Rattle.vac_model.specs.Amounts.{is_id}
 use Rattle.vac_model.specs.State.{State, Place, kind_number}
 use Rattle.vac_model.specs.Step.{price_of}
 use Rattle.vac_model.specs.Run.{Choice, dearer, choice_of}
-use Rattle.vac_model.proofs.Kept.{both_true}
+use Rattle.vac_model.proofs.Ids.{both_true}
 
 -- a choice with an id
 abbrev pub HasId : Option Choice → Type 0

@@ -16,7 +16,8 @@ use Rattle.vac_model.specs.Amounts.{is_id, is_amount, is_optional_amount, is_uni
 use Rattle.vac_model.specs.Ranges.{is_command}
 use Rattle.vac_model.specs.Fits.{IsSmall}
 use Rattle.vac_model.specs.declared.replies.Reply.{Reply}
-use Rattle.vac_model.specs.Balanced.{IsBalanced, IsId}
+use Rattle.vac_model.specs.Balanced.{IsBalanced}
+use Rattle.vac_model.proofs.Ids.{both_true}
 use Rattle.vac_model.proofs.Sums.{get_here, get_elsewhere, get_removed, removed_elsewhere, len_pushed, len_inserted, len_removed}
 use Rattle.vac_model.proofs.Places.{place_cmp_total, place_cmp-IsAntisymmetric}
 use Rattle.vac_model.proofs.States.{capacity-with_table}
@@ -40,13 +41,6 @@ if_both P true x y hit miss = hit refl
 if_both P false x y hit miss = miss refl
 
 -- what tests say
-pub both_true : (a b : Bool) → (a && b) ≡ true → (a ≡ true) × (b ≡ true)
-both_true true b e = (refl, e)
-both_true false b e = absurd (let never : false ≡ true = e in cc)
-
-pub id_range : (n : ℕ) → is_id n ≡ true → IsId n
-id_range n e = let both = both_true (nat_le 1 n) (nat_lt n (2 ^ 32)) e in record { low = grind (arith, nat_tests, both.0); high = grind (arith, nat_tests, both.1) }
-
 pub lt_true : (a b : ℕ) → nat_lt a b ≡ true → a < b
 lt_true a b e = grind (arith, nat_tests)
 
@@ -72,7 +66,7 @@ stays s o balanced e = record { balanced = subst IsBalanced (sym e) balanced; ca
 put_capacity : (s : State) (kind : Kind) (id : ℕ) (item : Item) → (with_item s kind id item).capacity ≡ s.capacity
 put_capacity s kind id item = capacity-with_table s kind (insert (table_of s kind) id item)
 
-add_new_follows : (s : State) (kind : Kind) (id num : ℕ) (price : Option ℕ) → IsBalanced s → IsId id → is_amount num ≡ true → is_optional_amount price ≡ true
+add_new_follows : (s : State) (kind : Kind) (id num : ℕ) (price : Option ℕ) → IsBalanced s → is_id id ≡ true → is_amount num ≡ true → is_optional_amount price ≡ true
     → item_of s kind id ≡ None → Follows s (add_new s kind id num price)
 add_new_follows s kind id num None balanced ids few cheap none = stays s _ balanced refl
 add_new_follows s kind id num (Some price) balanced ids few cheap none =
@@ -125,7 +119,7 @@ drop_flight_follows s id balanced =
       capacity = refl;
     }))
 
-new_customer_follows : (s : State) (id : ℕ) → IsBalanced s → IsId id → Follows s (new_customer s id)
+new_customer_follows : (s : State) (id : ℕ) → IsBalanced s → is_id id ≡ true → Follows s (new_customer s id)
 new_customer_follows s id balanced ids =
     found_both (Follows s) (bookings_of s id) _ _ (λ none.
     if_both (Follows s) (is_full s) _ _ (λ full. stays s _ balanced refl) (λ room. record {
@@ -232,11 +226,11 @@ step_follows s (command.Add kind id num price) balanced e =
     let outer = both_true (is_id id && is_amount num) (is_optional_amount price) e in
     let inner = both_true (is_id id) (is_amount num) outer.0 in
     found_both (Follows s) (item_of s kind id) _ _
-    (λ none. add_new_follows s kind id num price balanced (id_range id inner.0) inner.1 outer.1 none)
+    (λ none. add_new_follows s kind id num price balanced inner.0 inner.1 outer.1 none)
     (λ item there. add_more_follows s kind id num price item balanced outer.1 there)
 step_follows s (command.Delete kind id num) balanced e = delete_follows s kind id num balanced
 step_follows s (command.DropFlight id) balanced e = drop_flight_follows s id balanced
-step_follows s (command.NewCustomer id) balanced e = new_customer_follows s id balanced (id_range id e)
+step_follows s (command.NewCustomer id) balanced e = new_customer_follows s id balanced e
 step_follows s (command.DropCustomer id) balanced e = drop_customer_follows s id balanced
 step_follows s (command.Free kind id) balanced e = stays s _ balanced refl
 step_follows s (command.Price kind id) balanced e = stays s _ balanced refl

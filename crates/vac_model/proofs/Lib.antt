@@ -6,6 +6,7 @@ pub mod Holdings
 pub mod Balance
 pub mod Departure
 pub mod Bounds
+pub mod Ids
 pub mod Kept
 pub mod Noted
 pub mod Choices

@@ -14,7 +14,8 @@ use Rattle.vac_model.specs.Amounts.{is_id, is_list_length}
 use Rattle.vac_model.specs.Ranges.{is_command, is_change, is_task}
 use Rattle.vac_model.specs.Run.{Choice, choice_of, reserve_choice, book_choices, steps, run}
 use Rattle.vac_model.specs.Balanced.{IsBalanced}
-use Rattle.vac_model.proofs.Kept.{step_follows, found_both, both_true, Follows}
+use Rattle.vac_model.proofs.Ids.{both_true}
+use Rattle.vac_model.proofs.Kept.{step_follows, found_both, Follows}
 use Rattle.vac_model.proofs.Choices.{HasId, choice_id}
 
 -- a state that comes of another: balanced, with the same capacity

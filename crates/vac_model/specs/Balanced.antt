@@ -1,21 +1,17 @@
 -- When the parts of a state fit one another.
-use Rattle.std.specs.Prelude.{◌≡◌, ℕ, ◌+◌, ◌*◌, ◌^◌, ◌<◌, ◌≤◌, Some, IsSome}
+use Rattle.std.specs.Prelude.{◌≡◌, ℕ, ◌+◌, ◌*◌, ◌≤◌, true, Some, IsSome}
 use Rattle.std.specs.FinMap.{get}
 use Rattle.vac_model.specs.declared.limits.TheConstants.{MOST_AMOUNT}
+use Rattle.vac_model.specs.Amounts.{is_id}
 use Rattle.vac_model.specs.declared.items.Kind.{Kind}
 use Rattle.vac_model.specs.declared.items.Item.{Item}
 use Rattle.vac_model.specs.State.{State, Booking, Bookings, item_of, bookings_of, units_held, size}
 use Rattle.vac_model.specs.Step.{total_limit, unit_limit}
 
--- an id is 1 to 4,294,967,295
-pub record IsId (n : ℕ) : Type 0 where
-  pub low : 1 ≤ n
-  pub high : n < 2 ^ 32
-
 -- an item of a balanced state: its numbers are in their ranges, its units are booked or free, and
 -- as many are booked as customers hold
 pub record IsItem (s : State) (kind : Kind) (id : ℕ) (item : Item) : Type 0 where
-  pub id_range : IsId id
+  pub id_range : is_id id ≡ true
   pub some_units : 1 ≤ item.total
   pub few_units : item.total ≤ total_limit
   pub price_range : item.price ≤ MOST_AMOUNT
@@ -34,7 +30,8 @@ pub record IsBalanced (s : State) : Type 0 where
   pub room : size s ≤ s.capacity
   pub items : (kind : Kind) (id : ℕ) (item : Item) → item_of s kind id ≡ Some item →
       IsItem s kind id item
-  pub customers : (id : ℕ) (bookings : Bookings) → bookings_of s id ≡ Some bookings → IsId id
+  pub customers : (id : ℕ) (bookings : Bookings) → bookings_of s id ≡ Some bookings →
+      is_id id ≡ true
   pub bookings : (customer : ℕ) (bookings : Bookings) (kind : Kind) (id : ℕ) (b : Booking) →
       bookings_of s customer ≡ Some bookings → get bookings (kind, id) ≡ Some b →
       IsBooking s kind id b

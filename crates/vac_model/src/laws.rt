@@ -20,7 +20,7 @@ ghost use Rattle.vac_model.specs.Step.{step, given_back};
 ghost use Rattle.vac_model.specs.Run.{run};
 ghost use Rattle.vac_model.specs.Amounts.{is_id};
 ghost use Rattle.vac_model.specs.Ranges.{is_task};
-ghost use Rattle.vac_model.specs.Balanced.{IsId, IsBalanced};
+ghost use Rattle.vac_model.specs.Balanced.{IsBalanced};
 ghost use Rattle.vac_model.specs.Code.{code};
 ghost use Rattle.vac_model.specs.Laws.{NeedsEntry, IsOne, IsBilled};
 
@@ -79,12 +79,6 @@ pub fn used_units_are_booked()
 /// The code of a task and a reply determines both.
 pub fn codes_determine_tasks_and_replies()
     ensures { (t u : Task) (r q : Reply) → code t r ≡ code u q → (t ≡ u) × (r ≡ q) }
-{}
-
-/// The ids of a balanced state are exactly those that can be asked for.
-pub fn ids_can_be_asked_for()
-    ensures only { (n : ℕ) → IsId n → IsTrue (is_id n) }
-    ensures all { (n : ℕ) → IsTrue (is_id n) → IsId n }
 {}
 
 /// Codes of commands and their replies, worked out by hand.

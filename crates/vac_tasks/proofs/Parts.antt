@@ -16,7 +16,8 @@ use Rattle.vac_model.specs.Step.{Outcome, step, when_found, answered}
 use Rattle.vac_model.specs.Run.{leave, steps, refusal_of}
 use Rattle.vac_model.specs.Amounts.{is_list_length}
 use Rattle.vac_model.specs.Ranges.{is_change, is_command, is_task}
-use Rattle.vac_model.proofs.Kept.{both_true, le_true}
+use Rattle.vac_model.proofs.Ids.{both_true}
+use Rattle.vac_model.proofs.Kept.{le_true}
 use Rattle.vac_model.proofs.Noted.{noted, steps_more, length-steps}
 use Rattle.vac_records.specs.Items.{mem}
 use Rattle.vac_records.specs.Steps.{kept_none, kept_both}
