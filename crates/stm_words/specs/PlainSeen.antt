@@ -18,7 +18,8 @@ get_in [] i k l = absurd (omega arith)
 get_in (x ∷ xs) i zero l = rw add-zero (get_here (numbered (i + 1) xs) i x)
 get_in (x ∷ xs) i (suc k) l =
     let e : i + suc k ≡ i + 1 + k = omega arith in
-    rw e (get_other (numbered (i + 1) xs) i x (i + 1 + k) (omega arith) ∙ get_in xs (i + 1) k (omega arith))
+    rw e (get_other (numbered (i + 1) xs) i x (i + 1 + k) (omega arith)
+    ∙ get_in xs (i + 1) k (omega arith))
 
 pub get_before : (xs : List ℕ) (i q : ℕ) → q < i → get (numbered i xs) q ≡ None
 get_before [] i q l = none_at q
@@ -37,7 +38,13 @@ some_not_none : {A : Type 0} (o : Option A) (x : A) → o ≡ Some x → o ≡ N
 some_not_none o x p q = cc
 
 pub flat_seen : (xs : List ℕ) → (image : List ℕ) × Stands (flat_view xs) image
-flat_seen xs = (xs, record { size = refl; sees = record { fits = refl; agrees = λ a v e. absurd (some_not_none _ v e (none_at a)) } })
+flat_seen xs = (
+  xs,
+  record {
+    size = refl;
+    sees = record { fits = refl; agrees = λ a v e. absurd (some_not_none _ v e (none_at a)) };
+  },
+)
 
 pub flat_read : (xs : List ℕ) (a : ℕ) → a < length xs →
     HasRead (flat_view xs) (flat_view xs) a (get_or xs a 0)
@@ -56,8 +63,10 @@ flat_write xs a v l = same_map nat_cmp_total nat_cmp-IsAntisymmetric _ _ (λ q.
           elim (same_or q a) [
             | inl e ↦ (let s : get_or (set xs a v) q 0 ≡ v = rw e (get_or-set_same xs a v 0 l) in
                 g ∙ ap Some s ∙ sym (rw e (get_here (numbered 0 xs) a v)))
-            | inr ne ↦ (let s : get_or (set xs a v) q 0 ≡ get_or xs q 0 = get_or-set_other xs a q v 0 ne in
+            | inr ne ↦ (
+                let s : get_or (set xs a v) q 0 ≡ get_or xs q 0 = get_or-set_other xs a q v 0 ne in
                 g ∙ ap Some s ∙ sym (get_other (numbered 0 xs) a v q ne ∙ get_at xs q inside))
           ])
-      | inr behind ↦ get_behind (set xs a v) 0 q (omega arith) ∙ sym (get_other (numbered 0 xs) a v q (omega arith) ∙ get_behind xs 0 q (omega arith))
+      | inr behind ↦ get_behind (set xs a v) 0 q (omega arith)
+          ∙ sym (get_other (numbered 0 xs) a v q (omega arith) ∙ get_behind xs 0 q (omega arith))
     ])

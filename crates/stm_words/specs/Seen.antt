@@ -36,20 +36,27 @@ read_agrees s s' a v None e r image h b w is =
     elim (same_or b a) [
       | inl q ↦ (
           let v_is : v ≡ w = (r.entered e).1 w (ap (get s.reads) (sym q) ∙ is) in
-          h b w (ap (λ (x : Words). get x b) grown ∙ ap (get (insert s.reads a v)) q ∙ get_here s.reads a v ∙ ap Some v_is))
+          h b w (ap (λ (x : Words). get x b) grown ∙ ap (get (insert s.reads a v)) q
+          ∙ get_here s.reads a v ∙ ap Some v_is))
       | inr ne ↦ h b w (ap (λ (x : Words). get x b) grown ∙ get_other s.reads a v b ne ∙ is)
     ]
 
 pub read_kept : (s s' : View) (a v : ℕ) → SameFrame s s' → HasRead s s' a v → Kept s s'
 read_kept s s' a v f r = record {
   size = f.size;
-  seen = λ image h. record { fits = f.fits image h.fits; agrees = read_agrees s s' a v (get s.writes a) refl r image h.agrees };
+  seen = λ image h. record {
+    fits = f.fits image h.fits;
+    agrees = read_agrees s s' a v (get s.writes a) refl r image h.agrees;
+  };
 }
 
 pub same_kept : (s s' : View) → SameFrame s s' → s'.reads ≡ s.reads → Kept s s'
 same_kept s s' f e = record {
   size = f.size;
-  seen = λ image h. record { fits = f.fits image h.fits; agrees = λ b w is. h.agrees b w (ap (λ (x : Words). get x b) e ∙ is) };
+  seen = λ image h. record {
+    fits = f.fits image h.fits;
+    agrees = λ b w is. h.agrees b w (ap (λ (x : Words). get x b) e ∙ is);
+  };
 }
 
 go_answers : (s s' : View) (a v : ℕ) (o : Option ℕ) → get s.writes a ≡ o → HasRead s s' a v →
@@ -92,7 +99,10 @@ has_stored (Err x) s s' a v f e h = tt
 -- an order that follows from some value follows from there being one
 pub some_le : {W : Type 0} (a b : ℕ) → ∥ W ∥₁ → (W → a ≤ b) → a ≤ b
 some_le a b w f =
-    elim (cases_lt b a) [ inl less ↦ absurd (not_there w (λ x. absurd (omega (arith, f x)))) | inr le ↦ le ]
+    elim (cases_lt b a) [
+      | inl less ↦ absurd (not_there w (λ x. absurd (omega (arith, f x))))
+      | inr le ↦ le
+    ]
 
 pub seen_before : (s s' : View) → Kept s s' → ∥ ((image : List ℕ) × Stands s' image) ∥₁ →
     ∥ ((image : List ℕ) × Stands s image) ∥₁

@@ -19,6 +19,10 @@ pub record View : Type 1 where
 abbrev pub memory : List ℕ → Words → ℕ → ℕ
 memory image writes address = unwrap_or (get writes address) (slice_index image address)
 
+-- the words of a memory, should this be the image that it stands on
+abbrev pub mem : View → List ℕ → ℕ → ℕ
+mem s image = memory image s.writes
+
 -- the memory may stand on this image, whatever its length: it fits, and agrees with the reads
 pub record Sees (s : View) (image : List ℕ) : Type 0 where
   pub fits : s.fits image

@@ -21,7 +21,8 @@ pub trait Law {
 
     ghost lawful: { List ℕ → List (ℕ × ℕ) → List (ℕ × ℕ) → Type 0 };
 
-    ghost keeps: { (tag image : List ℕ) (reads writes : List (ℕ × ℕ)) → fits image → Agrees image reads → lawful tag reads writes → fits (laid image writes) };
+    ghost keeps: { (tag image : List ℕ) (reads writes : List (ℕ × ℕ)) → fits image
+        → Agrees image reads → lawful tag reads writes → fits (laid image writes) };
 }
 
 /// The law for tests: every image fits and every record is lawful.
@@ -37,5 +38,6 @@ impl Law for FreeLaw {
 
 /// The one law of every `Law`, as a contract.
 pub fn law_keeps_fitting<L: Law>()
-    ensures { (tag image : List ℕ) (reads writes : List (ℕ × ℕ)) → L.fits image → Agrees image reads → L.lawful tag reads writes → L.fits (laid image writes) }
+    ensures { (tag image : List ℕ) (reads writes : List (ℕ × ℕ)) → L.fits image
+        → Agrees image reads → L.lawful tag reads writes → L.fits (laid image writes) }
 {}

@@ -1,4 +1,4 @@
-ghost use Rattle.std.specs.Prelude.{◌≡◌, ℕ, ◌<◌, List, IfOk, MatchResult};
+ghost use Rattle.std.specs.Prelude.{◌≡◌, ℕ, ◌<◌, List, IfOk, IfErr, MatchResult};
 ghost use Rattle.std.specs.FinMap.{insert};
 ghost use Rattle.stm_words.specs.View.{View, Stands, SameFrame, HasRead, Loaded, Stored};
 
@@ -11,7 +11,9 @@ pub struct Addr(pub u32);
 /// Its meaning is a `View`: a size, the images that fit, and two finite maps, the reads and the
 /// writes. Some fitting image of that size agrees with the reads at every moment (`seen`). Its
 /// `origin` is what no read and no write changes, refused ones among them: of a running
-/// transaction, its region and its client as the attempt began.
+/// transaction, its region and its client as the attempt began. `stopped_for` a reason is what
+/// holds of it when it has refused a read for that reason: of a running transaction, that it keeps
+/// the conflict that it answered.
 pub trait TxRead {
     /// Why the transaction cannot go on.
     type Stop;
@@ -22,6 +24,8 @@ pub trait TxRead {
 
     ghost view: { Self → View };
 
+    ghost stopped_for: { Self → Self.Stop → Type 0 };
+
     /// The word at an address below the size: the transaction's own write of it, or a value that
     /// enters the reads. A refusal changes neither reads nor writes.
     fn read(&mut self, addr: Addr) -> Result<u64, Self::Stop>
@@ -29,7 +33,10 @@ pub trait TxRead {
         ensures origin { origin self.new ≡ origin self.old }
         ensures frame { SameFrame (view self.old) (view self.new) }
         ensures writes { (view self.new).writes ≡ (view self.old).writes }
-        ensures answer { MatchResult result (λ v. HasRead (view self.old) (view self.new) addr.0 v) (λ _. (view self.new).reads ≡ (view self.old).reads) };
+        ensures answer { MatchResult result
+            (λ v. HasRead (view self.old) (view self.new) addr.0 v)
+            (λ _. (view self.new).reads ≡ (view self.old).reads) }
+        ensures stopped { IfErr result (λ stop. stopped_for self.new stop) };
 
     ghost seen: { (s : Self) → ∥ ((image : List ℕ) × Stands (view s) image) ∥₁ };
 }
@@ -43,7 +50,9 @@ pub trait TxMem: TxRead {
         ensures origin { Self.origin self.new ≡ Self.origin self.old }
         ensures frame { SameFrame (Self.view self.old) (Self.view self.new) }
         ensures reads { (Self.view self.new).reads ≡ (Self.view self.old).reads }
-        ensures answer { MatchResult result (λ _. (Self.view self.new).writes ≡ insert (Self.view self.old).writes addr.0 value) (λ _. (Self.view self.new).writes ≡ (Self.view self.old).writes) };
+        ensures answer { MatchResult result
+            (λ _. (Self.view self.new).writes ≡ insert (Self.view self.old).writes addr.0 value)
+            (λ _. (Self.view self.new).writes ≡ (Self.view self.old).writes) };
 }
 
 /// A read, in terms of every image that the memory may stand on: under each that agrees with the
@@ -52,7 +61,9 @@ pub trait TxMem: TxRead {
 pub fn load<M: TxRead>(memory: &mut M, addr: Addr) -> Result<u64, M::Stop>
     requires { addr.0 < (M.view memory.old).size }
     ensures origin { M.origin memory.new ≡ M.origin memory.old }
-    ensures answer { IfOk result (λ v. Loaded (M.view memory.old) (M.view memory.new) addr.0 v) }
+    ensures answer { IfOk result (λ v.
+        Loaded (M.view memory.old) (M.view memory.new) addr.0 v) }
+    ensures stopped { IfErr result (λ stop. M.stopped_for memory.new stop) }
 {
     memory.read(addr)
 }
@@ -63,7 +74,8 @@ pub fn load<M: TxRead>(memory: &mut M, addr: Addr) -> Result<u64, M::Stop>
 pub fn store<M: TxMem>(memory: &mut M, addr: Addr, value: u64) -> Result<(), M::Stop>
     requires { addr.0 < (M.view memory.old).size }
     ensures origin { M.origin memory.new ≡ M.origin memory.old }
-    ensures answer { IfOk result (λ _. Stored (M.view memory.old) (M.view memory.new) addr.0 value) }
+    ensures answer { IfOk result (λ _.
+        Stored (M.view memory.old) (M.view memory.new) addr.0 value) }
 {
     memory.write(addr, value)
 }

@@ -48,6 +48,8 @@ impl TxRead for Flat {
 
     ghost view = { λ words. flat_view words };
 
+    ghost stopped_for = { λ _ _. ⊥ };
+
     #[inline]
     fn read(&mut self, addr: Addr) -> Result<u64, Infallible> {
         Ok(self.words[addr.0 as usize])
