@@ -1,10 +1,7 @@
 -- Steps of a memory, one after the other.
 use Rattle.std.proofs.Common.{◌≡◌, ℕ, List, refl, ◌∙◌}
-use Rattle.stm_words.specs.View.{View, Sees, Kept, Loaded, Stored, IsWrite, memory}
-
--- the words of a memory, should this be the image that it stands on
-abbrev pub mem : View → List ℕ → ℕ → ℕ
-mem s image = memory image s.writes
+use Rattle.stm_words.specs.View.{View, Sees, Kept, Loaded, Stored, IsWrite}
+pub use Rattle.stm_words.specs.View.{mem}
 
 pub kept_none : (s : View) → Kept s s
 kept_none s = record { size = refl; seen = λ image i. i }

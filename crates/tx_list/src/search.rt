@@ -1,6 +1,6 @@
 //! Finding bookings.
 
-ghost use Rattle.std.specs.Prelude.{◌≡◌, IfOk};
+ghost use Rattle.std.specs.Prelude.{◌≡◌, IfOk, IfErr};
 ghost use Rattle.tx_list.specs.Bookings.{IsKey, code_of};
 ghost use Rattle.tx_list.specs.Lists.{HasList, HasBooking, Found, First, Next};
 ghost use Rattle.tx_list.specs.Search.{Leads, Followed, Sought};
@@ -40,6 +40,7 @@ pub fn first<M: TxRead>(memory: &mut M, head: Addr) -> Result<Option<Block>, M::
     ensures origin { M.origin memory.new ≡ M.origin memory.old }
     ensures answer { IfOk result (λ found.
         First (M.view memory.old) (M.view memory.new) head.0 found) }
+    ensures stopped { IfErr result (λ stop. M.stopped_for memory.new stop) }
 {
     let found = follow(memory, head)?;
     Ok(found)
@@ -51,6 +52,7 @@ pub fn next<M: TxRead>(memory: &mut M, block: Block) -> Result<Option<Block>, M:
     ensures origin { M.origin memory.new ≡ M.origin memory.old }
     ensures answer { IfOk result (λ found.
         Next (M.view memory.old) (M.view memory.new) block.0.0 found) }
+    ensures stopped { IfErr result (λ stop. M.stopped_for memory.new stop) }
 {
     let Block(addr) = block;
     let found = follow(memory, Addr(addr.0 + NEXT))?;
@@ -63,6 +65,7 @@ fn follow<M: TxRead>(memory: &mut M, link: Addr) -> Result<Option<Block>, M::Sto
     ensures origin { M.origin memory.new ≡ M.origin memory.old }
     ensures answer { IfOk result (λ found.
         Followed (M.view memory.old) (M.view memory.new) link.0 found) }
+    ensures stopped { IfErr result (λ stop. M.stopped_for memory.new stop) }
 {
     let word = load(memory, link)?;
     if word == 0 {

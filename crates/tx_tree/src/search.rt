@@ -1,4 +1,4 @@
-ghost use Rattle.std.specs.Prelude.{◌≡◌, IfOk, MatchOption};
+ghost use Rattle.std.specs.Prelude.{◌≡◌, IfOk, IfErr, MatchOption};
 ghost use Rattle.tx_tree.specs.Table.{HasTable, Found, FoundAt, NextFound, row_of};
 ghost use Rattle.tx_tree.specs.Steps.{Sought};
 ghost use Rattle.tx_tree.specs.Lowest.{HasSpan, Lowest};
@@ -23,6 +23,7 @@ pub fn find<M: TxRead>(memory: &mut M, root: Addr, key: u64) -> Result<Option<Bl
     ensures answer { IfOk result (λ found. MatchOption found
         (Found (M.view memory.old) (M.view memory.new) root.0 key 0)
         (λ block. FoundAt (M.view memory.old) (M.view memory.new) root.0 key block.0.0)) }
+    ensures stopped { IfErr result (λ stop. M.stopped_for memory.new stop) }
 {
     let mut link = root.0;
     for _ in 0..LEVELS {
@@ -50,6 +51,7 @@ pub fn least_above<M: TxRead>(
     ensures origin { M.origin memory.new ≡ M.origin memory.old }
     ensures answer { IfOk result (λ next.
         NextFound (M.view memory.old) (M.view memory.new) root.0 key (row_of next)) }
+    ensures stopped { IfErr result (λ stop. M.stopped_for memory.new stop) }
 {
     let mut link = root.0;
     let mut least = None;
