@@ -1,6 +1,6 @@
 //! Customers and their bookings, added up.
 
-ghost use Rattle.std.specs.Prelude.{◌≡◌, IfOk};
+ghost use Rattle.std.specs.Prelude.{◌≡◌, IfOk, IfErr};
 ghost use Rattle.vac_records.specs.Holds.{HoldsState};
 ghost use Rattle.vac_audit.specs.Sums.{CustomersFit, customers_together, CanCount, CustomerCounted, CustomersSummed};
 
@@ -40,6 +40,7 @@ fn sums_of_customer<M: TxRead>(memory: &mut M, customer: Addr) -> Result<Custome
     ensures origin { M.origin memory.new ≡ M.origin memory.old }
     ensures answer { IfOk result (λ sums.
         CustomerCounted (M.view memory.old) (M.view memory.new) customer.0 sums) }
+    ensures stopped { IfErr result (λ stop. M.stopped_for memory.new stop) }
 {
     let mut next = tx_list::first(memory, Addr(customer.0 + BOOKINGS))?;
     let mut units = 0;
@@ -67,6 +68,7 @@ pub(crate) fn sum_customers<M: TxRead>(memory: &mut M) -> Result<CustomerSums, M
     ensures origin { M.origin memory.new ≡ M.origin memory.old }
     ensures answer { IfOk result (λ sums.
         CustomersSummed (M.view memory.old) (M.view memory.new) sums) }
+    ensures stopped { IfErr result (λ stop. M.stopped_for memory.new stop) }
 {
     let mut sums = CustomerSums {
         count: 0,

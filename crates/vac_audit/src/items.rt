@@ -1,6 +1,6 @@
 //! Items, added up.
 
-ghost use Rattle.std.specs.Prelude.{◌≡◌, ◌+◌, IfOk};
+ghost use Rattle.std.specs.Prelude.{◌≡◌, ◌+◌, IfOk, IfErr};
 ghost use Rattle.vac_model.specs.State.{kind_number};
 ghost use Rattle.vac_records.specs.Items.{IsNode};
 ghost use Rattle.vac_records.specs.Holds.{HoldsState};
@@ -52,6 +52,7 @@ fn sums_of_item<M: TxRead>(memory: &mut M, node: Addr) -> Result<ItemSums, M::St
     ensures origin { M.origin memory.new ≡ M.origin memory.old }
     ensures answer { IfOk result (λ sums.
         ItemCounted (M.view memory.old) (M.view memory.new) node.0 sums) }
+    ensures stopped { IfErr result (λ stop. M.stopped_for memory.new stop) }
 {
     let used = used_at(memory, node)?;
     let free = free_at(memory, node)?;
@@ -70,6 +71,7 @@ pub(crate) fn sum_items<M: TxRead>(memory: &mut M, kind: Kind) -> Result<ItemSum
     ensures origin { M.origin memory.new ≡ M.origin memory.old }
     ensures answer { IfOk result (λ sums.
         ItemsSummed (M.view memory.old) (M.view memory.new) kind sums) }
+    ensures stopped { IfErr result (λ stop. M.stopped_for memory.new stop) }
 {
     let root = root_of(kind);
     let mut sums = ItemSums {

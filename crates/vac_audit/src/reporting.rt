@@ -1,6 +1,6 @@
 //! The report over a transactional memory.
 
-ghost use Rattle.std.specs.Prelude.{◌≡◌, IfOk};
+ghost use Rattle.std.specs.Prelude.{◌≡◌, IfOk, IfErr};
 ghost use Rattle.vac_records.specs.Holds.{HoldsState};
 ghost use Rattle.vac_audit.specs.Reported.{Reported};
 
@@ -16,6 +16,7 @@ pub fn report<M: TxRead>(memory: &mut M) -> Result<Report, M::Stop>
     ensures origin { M.origin memory.new ≡ M.origin memory.old }
     ensures answer { IfOk result (λ report.
         Reported (M.view memory.old) (M.view memory.new) report) }
+    ensures stopped { IfErr result (λ stop. M.stopped_for memory.new stop) }
 {
     let cars = sum_items(memory, Kind::Car)?;
     let flights = sum_items(memory, Kind::Flight)?;

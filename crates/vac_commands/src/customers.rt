@@ -1,6 +1,6 @@
 //! Commands on customers.
 
-ghost use Rattle.std.specs.Prelude.{◌≡◌, ◌+◌, ◌<◌, ◌≤◌, IfOk, IsTrue, MatchOption, Some};
+ghost use Rattle.std.specs.Prelude.{◌≡◌, ◌+◌, ◌<◌, ◌≤◌, IfOk, IfErr, IsTrue, MatchOption, Some};
 ghost use Rattle.vac_model.specs.Ranges.{is_command};
 ghost use Rattle.tx_list.specs.Lists.{HasBooking};
 ghost use Rattle.vac_records.specs.Bookings.{kind_of};
@@ -66,6 +66,7 @@ pub fn bill<M: TxRead>(memory: &mut M, id: u32) -> Result<Option<u64>, M::Stop>
     ensures origin { M.origin memory.new ≡ M.origin memory.old }
     ensures answer { IfOk result (λ n. Asked (M.view memory.old) (M.view memory.new)
         (Command.Bill id) (Reply.Number n)) }
+    ensures stopped { IfErr result (λ stop. M.stopped_for memory.new stop) }
 {
     match find_customer(memory, id)? {
         None => Ok(None),
@@ -83,6 +84,7 @@ pub fn bill_at<M: TxRead>(memory: &mut M, id: u32, customer: Block) -> Result<u6
     ensures origin { M.origin memory.new ≡ M.origin memory.old }
     ensures answer { IfOk result (λ n. Asked (M.view memory.old) (M.view memory.new)
         (Command.Bill id) (Reply.Number (Some n))) }
+    ensures stopped { IfErr result (λ stop. M.stopped_for memory.new stop) }
 {
     let bill = vac_records::bill(memory, customer.0)?;
     Ok(bill)

@@ -1,6 +1,6 @@
 //! Finding entries in the tables.
 
-ghost use Rattle.std.specs.Prelude.{◌≡◌, ◌+◌, IfOk, MatchOption};
+ghost use Rattle.std.specs.Prelude.{◌≡◌, ◌+◌, IfOk, IfErr, MatchOption};
 ghost use Rattle.vac_model.specs.State.{kind_number};
 ghost use Rattle.vac_records.specs.Holds.{HoldsState, OnlyRead};
 ghost use Rattle.vac_commands.specs.Entries.{LacksItem, HasItemAt, LacksCustomer, HasCustomerAt};
@@ -32,6 +32,7 @@ pub fn find_item<M: TxRead>(memory: &mut M, kind: Kind, id: u32) -> Result<Optio
     ensures answer { IfOk result (λ found. MatchOption found
         (LacksItem (M.view memory.new) kind id)
         (λ b. HasItemAt (M.view memory.new) kind id b.0.0)) }
+    ensures stopped { IfErr result (λ stop. M.stopped_for memory.new stop) }
 {
     let found = tx_tree::find(memory, root_of(kind), id as u64)?;
     Ok(found)
@@ -45,6 +46,7 @@ pub fn find_customer<M: TxRead>(memory: &mut M, id: u32) -> Result<Option<Block>
     ensures answer { IfOk result (λ found. MatchOption found
         (LacksCustomer (M.view memory.new) id)
         (λ c. HasCustomerAt (M.view memory.new) id c.0.0)) }
+    ensures stopped { IfErr result (λ stop. M.stopped_for memory.new stop) }
 {
     let found = tx_tree::find(memory, CUSTOMERS, id as u64)?;
     Ok(found)

@@ -1,6 +1,6 @@
 //! Commands on items.
 
-ghost use Rattle.std.specs.Prelude.{◌≡◌, ◌<◌, IfOk, IsTrue, None};
+ghost use Rattle.std.specs.Prelude.{◌≡◌, ◌<◌, IfOk, IfErr, IsTrue, None};
 ghost use Rattle.vac_model.specs.Ranges.{is_command};
 ghost use Rattle.vac_model.specs.Step.{deleted};
 ghost use Rattle.vac_records.specs.Holds.{HoldsState};
@@ -24,6 +24,7 @@ pub fn free<M: TxRead>(memory: &mut M, kind: Kind, id: u32) -> Result<Option<u64
     ensures origin { M.origin memory.new ≡ M.origin memory.old }
     ensures answer { IfOk result (λ n. Asked (M.view memory.old) (M.view memory.new)
         (Command.Free kind id) (Reply.Number n)) }
+    ensures stopped { IfErr result (λ stop. M.stopped_for memory.new stop) }
 {
     match find_item(memory, kind, id)? {
         None => Ok(None),
@@ -40,6 +41,7 @@ pub fn price<M: TxRead>(memory: &mut M, kind: Kind, id: u32) -> Result<Option<u6
     ensures origin { M.origin memory.new ≡ M.origin memory.old }
     ensures answer { IfOk result (λ n. Asked (M.view memory.old) (M.view memory.new)
         (Command.Price kind id) (Reply.Number n)) }
+    ensures stopped { IfErr result (λ stop. M.stopped_for memory.new stop) }
 {
     match find_item(memory, kind, id)? {
         None => Ok(None),

@@ -1,6 +1,6 @@
 //! Reading and writing bookings.
 
-ghost use Rattle.std.specs.Prelude.{◌≡◌, ◌+◌, ◌*◌, ◌<◌, ◌^◌, IfOk};
+ghost use Rattle.std.specs.Prelude.{◌≡◌, ◌+◌, ◌*◌, ◌<◌, ◌^◌, IfOk, IfErr};
 ghost use Rattle.stm_words.specs.View.{Loaded};
 ghost use Rattle.vac_model.specs.State.{kind_number};
 ghost use Rattle.vac_model.specs.Step.{extended};
@@ -78,6 +78,7 @@ pub fn units_at<M: TxRead>(memory: &mut M, node: Addr) -> Result<u64, M::Stop>
     ensures origin { M.origin memory.new ≡ M.origin memory.old }
     ensures answer { IfOk result (λ v.
         Loaded (M.view memory.old) (M.view memory.new) (node.0 + 4) v) }
+    ensures stopped { IfErr result (λ stop. M.stopped_for memory.new stop) }
 {
     load(memory, word_of(node, place::UNITS))
 }
@@ -89,6 +90,7 @@ pub fn sum_at<M: TxRead>(memory: &mut M, node: Addr) -> Result<u64, M::Stop>
     ensures origin { M.origin memory.new ≡ M.origin memory.old }
     ensures answer { IfOk result (λ v.
         Loaded (M.view memory.old) (M.view memory.new) (node.0 + 2) v) }
+    ensures stopped { IfErr result (λ stop. M.stopped_for memory.new stop) }
 {
     load(memory, word_of(node, place::SUM))
 }

@@ -1,6 +1,6 @@
 //! Customers, their bookings and their bills.
 
-ghost use Rattle.std.specs.Prelude.{◌≡◌, ◌+◌, ◌*◌, ◌<◌, ◌^◌, IfOk};
+ghost use Rattle.std.specs.Prelude.{◌≡◌, ◌+◌, ◌*◌, ◌<◌, ◌^◌, IfOk, IfErr};
 ghost use Rattle.tx_list.specs.Lists.{HasList, Found};
 ghost use Rattle.vac_records.specs.Bookings.{place_key};
 ghost use Rattle.vac_records.specs.Items.{IsNode};
@@ -107,6 +107,7 @@ pub fn bill<M: TxRead>(memory: &mut M, customer: Addr) -> Result<u64, M::Stop>
     ensures origin { M.origin memory.new ≡ M.origin memory.old }
     ensures answer { IfOk result (λ total.
         Billed (M.view memory.old) (M.view memory.new) customer.0 total) }
+    ensures stopped { IfErr result (λ stop. M.stopped_for memory.new stop) }
 {
     let mut next = tx_list::first(memory, word_of(customer, place::BOOKINGS))?;
     let mut total = 0;

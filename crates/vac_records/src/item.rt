@@ -1,6 +1,6 @@
 //! Reading and writing the items of the tables.
 
-ghost use Rattle.std.specs.Prelude.{◌≡◌, ◌+◌, IfOk};
+ghost use Rattle.std.specs.Prelude.{◌≡◌, ◌+◌, IfOk, IfErr};
 ghost use Rattle.stm_words.specs.View.{Loaded, Stored};
 ghost use Rattle.vac_model.specs.Step.{deleted, taken, given_back};
 ghost use Rattle.vac_records.specs.Items.{IsNode, HasRoom, HasFree, CanMake, CanCancel, ItemMade, ItemRead, ItemChanged, UnitsAdded};
@@ -21,7 +21,8 @@ pub fn init_item<M: TxMem>(
 ) -> Result<(), M::Stop>
     requires { IsNode (M.view memory.old) node.0 }
     ensures origin { M.origin memory.new ≡ M.origin memory.old }
-    ensures answer { IfOk result (λ _. ItemMade (M.view memory.old) (M.view memory.new) node.0 key num price) }
+    ensures answer { IfOk result (λ _.
+        ItemMade (M.view memory.old) (M.view memory.new) node.0 key num price) }
 {
     store(memory, word_of(node, place::KEY), key as u64)?;
     store(memory, word_of(node, place::USED), 0)?;
@@ -35,7 +36,8 @@ pub fn init_item<M: TxMem>(
 pub fn item_at<M: TxRead>(memory: &mut M, node: Addr) -> Result<Item, M::Stop>
     requires { IsNode (M.view memory.old) node.0 }
     ensures origin { M.origin memory.new ≡ M.origin memory.old }
-    ensures answer { IfOk result (λ item. ItemRead (M.view memory.old) (M.view memory.new) node.0 item) }
+    ensures answer { IfOk result (λ item.
+        ItemRead (M.view memory.old) (M.view memory.new) node.0 item) }
 {
     let used = used_at(memory, node)?;
     let free = free_at(memory, node)?;
@@ -54,7 +56,9 @@ pub fn item_at<M: TxRead>(memory: &mut M, node: Addr) -> Result<Item, M::Stop>
 pub fn used_at<M: TxRead>(memory: &mut M, node: Addr) -> Result<u64, M::Stop>
     requires { IsNode (M.view memory.old) node.0 }
     ensures origin { M.origin memory.new ≡ M.origin memory.old }
-    ensures answer { IfOk result (λ v. Loaded (M.view memory.old) (M.view memory.new) (node.0 + 4) v) }
+    ensures answer { IfOk result (λ v.
+        Loaded (M.view memory.old) (M.view memory.new) (node.0 + 4) v) }
+    ensures stopped { IfErr result (λ stop. M.stopped_for memory.new stop) }
 {
     load(memory, word_of(node, place::USED))
 }
@@ -64,7 +68,9 @@ pub fn used_at<M: TxRead>(memory: &mut M, node: Addr) -> Result<u64, M::Stop>
 pub fn free_at<M: TxRead>(memory: &mut M, node: Addr) -> Result<u64, M::Stop>
     requires { IsNode (M.view memory.old) node.0 }
     ensures origin { M.origin memory.new ≡ M.origin memory.old }
-    ensures answer { IfOk result (λ v. Loaded (M.view memory.old) (M.view memory.new) (node.0 + 5) v) }
+    ensures answer { IfOk result (λ v.
+        Loaded (M.view memory.old) (M.view memory.new) (node.0 + 5) v) }
+    ensures stopped { IfErr result (λ stop. M.stopped_for memory.new stop) }
 {
     load(memory, word_of(node, place::FREE))
 }
@@ -74,7 +80,9 @@ pub fn free_at<M: TxRead>(memory: &mut M, node: Addr) -> Result<u64, M::Stop>
 pub fn total_at<M: TxRead>(memory: &mut M, node: Addr) -> Result<u64, M::Stop>
     requires { IsNode (M.view memory.old) node.0 }
     ensures origin { M.origin memory.new ≡ M.origin memory.old }
-    ensures answer { IfOk result (λ v. Loaded (M.view memory.old) (M.view memory.new) (node.0 + 6) v) }
+    ensures answer { IfOk result (λ v.
+        Loaded (M.view memory.old) (M.view memory.new) (node.0 + 6) v) }
+    ensures stopped { IfErr result (λ stop. M.stopped_for memory.new stop) }
 {
     load(memory, word_of(node, place::TOTAL))
 }
@@ -84,7 +92,9 @@ pub fn total_at<M: TxRead>(memory: &mut M, node: Addr) -> Result<u64, M::Stop>
 pub fn price_at<M: TxRead>(memory: &mut M, node: Addr) -> Result<u64, M::Stop>
     requires { IsNode (M.view memory.old) node.0 }
     ensures origin { M.origin memory.new ≡ M.origin memory.old }
-    ensures answer { IfOk result (λ v. Loaded (M.view memory.old) (M.view memory.new) (node.0 + 7) v) }
+    ensures answer { IfOk result (λ v.
+        Loaded (M.view memory.old) (M.view memory.new) (node.0 + 7) v) }
+    ensures stopped { IfErr result (λ stop. M.stopped_for memory.new stop) }
 {
     load(memory, word_of(node, place::PRICE))
 }
@@ -94,7 +104,8 @@ pub fn add_total<M: TxMem>(memory: &mut M, node: Addr, num: u32) -> Result<(), M
     requires node { IsNode (M.view memory.old) node.0 }
     requires room { HasRoom (M.view memory.old) node.0 num }
     ensures origin { M.origin memory.new ≡ M.origin memory.old }
-    ensures answer { IfOk result (λ _. UnitsAdded (M.view memory.old) (M.view memory.new) node.0 num) }
+    ensures answer { IfOk result (λ _.
+        UnitsAdded (M.view memory.old) (M.view memory.new) node.0 num) }
 {
     raise(memory, word_of(node, place::FREE), num as u64)?;
     raise(memory, word_of(node, place::TOTAL), num as u64)?;
@@ -120,7 +131,8 @@ pub fn sub_total<M: TxMem>(memory: &mut M, node: Addr, num: u32) -> Result<(), M
 pub fn set_price<M: TxMem>(memory: &mut M, node: Addr, price: u32) -> Result<(), M::Stop>
     requires { IsNode (M.view memory.old) node.0 }
     ensures origin { M.origin memory.new ≡ M.origin memory.old }
-    ensures answer { IfOk result (λ _. Stored (M.view memory.old) (M.view memory.new) (node.0 + 7) price) }
+    ensures answer { IfOk result (λ _.
+        Stored (M.view memory.old) (M.view memory.new) (node.0 + 7) price) }
 {
     let word = word_of(node, place::PRICE);
     store(memory, word, price as u64)

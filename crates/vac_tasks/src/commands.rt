@@ -1,6 +1,6 @@
 //! Each command by its body.
 
-ghost use Rattle.std.specs.Prelude.{◌≡◌, ◌<◌, IfOk, IsTrue};
+ghost use Rattle.std.specs.Prelude.{◌≡◌, ◌<◌, IfOk, IfErr, IsTrue};
 ghost use Rattle.vac_model.specs.Ranges.{is_command};
 ghost use Rattle.vac_model.specs.Run.{refusal_of};
 ghost use Rattle.vac_records.specs.Holds.{HoldsState};
@@ -41,6 +41,7 @@ pub(crate) fn read_command<M: TxRead>(memory: &mut M, command: Command) -> Resul
     ensures origin { M.origin memory.new ≡ M.origin memory.old }
     ensures answer { IfOk result (λ reply. Asked (M.view memory.old) (M.view memory.new)
         command reply) }
+    ensures stopped { IfErr result (λ stop. M.stopped_for memory.new stop) }
 {
     match command {
         Command::Free { kind, id } => {

@@ -1,6 +1,6 @@
 //! Tasks, each as the body of one transaction.
 
-ghost use Rattle.std.specs.Prelude.{◌≡◌, ◌<◌, IfOk, IsTrue};
+ghost use Rattle.std.specs.Prelude.{◌≡◌, ◌<◌, IfOk, IfErr, IsTrue};
 ghost use Rattle.vac_model.specs.Ranges.{is_task};
 ghost use Rattle.vac_records.specs.Holds.{HoldsState};
 ghost use Rattle.vac_tasks.specs.Reading as reading;
@@ -32,6 +32,7 @@ pub fn read_task<M: TxRead>(memory: &mut M, task: &Task) -> Result<Reply, M::Sto
         task.now reply) }
     ensures writes { IfOk result (λ _.
         (M.view memory.new).writes ≡ (M.view memory.old).writes) }
+    ensures stopped { IfErr result (λ stop. M.stopped_for memory.new stop) }
 {
     let Task::One(command) = task else {
         unreachable!();
