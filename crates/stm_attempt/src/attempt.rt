@@ -139,6 +139,9 @@ impl<'a, L: Law, R: Allocator, A: Allocator + Copy> TxRead for Attempt<'a, L, R,
 
     ghost origin = { λ s. origin_of s.logs.now.in_use s.region.now s.client.ghost_name s.logs.ghost_name s.client.now };
 
+    ghost stopped_for = { λ s stop. (conflict : Conflict) → stop ≡ conflicting conflict
+        → s.stopped ≡ Some conflict };
+
     /// The attempt's own write of this address, or a value that two equal looks at its lock
     /// enclose, and which enters the reads. The first look answers `Held` before `Newer`, the
     /// second `Moved` where it differs.
@@ -149,6 +152,8 @@ impl<'a, L: Law, R: Allocator, A: Allocator + Copy> TxRead for Attempt<'a, L, R,
         ensures frame { SameFrame (memory_of self.old.logs.now.in_use self.old.region.now L.fits self.old.client.now.value self.old.logs.now.writes) (memory_of self.new.logs.now.in_use self.new.region.now L.fits self.new.client.now.value self.new.logs.now.writes) }
         ensures writes { (memory_of self.new.logs.now.in_use self.new.region.now L.fits self.new.client.now.value self.new.logs.now.writes).writes ≡ (memory_of self.old.logs.now.in_use self.old.region.now L.fits self.old.client.now.value self.old.logs.now.writes).writes }
         ensures answer { MatchResult result (λ v. HasRead (memory_of self.old.logs.now.in_use self.old.region.now L.fits self.old.client.now.value self.old.logs.now.writes) (memory_of self.new.logs.now.in_use self.new.region.now L.fits self.new.client.now.value self.new.logs.now.writes) addr.0 v) (λ _. (memory_of self.new.logs.now.in_use self.new.region.now L.fits self.new.client.now.value self.new.logs.now.writes).reads ≡ (memory_of self.old.logs.now.in_use self.old.region.now L.fits self.old.client.now.value self.old.logs.now.writes).reads) }
+        ensures stopped { IfErr result (λ stop. (conflict : Conflict)
+            → stop ≡ conflicting conflict → self.new.stopped ≡ Some conflict) }
         ensures log { self.new.logs.now.writes ≡ self.old.logs.now.writes }
         ensures again { (conflict : Conflict) → self.old.stopped ≡ Some conflict → (result ≡ Err (conflicting conflict)) × (self.new.client.now ≡ self.old.client.now) × (self.new.stopped ≡ self.old.stopped) }
         ensures own { self.old.stopped ≡ None → (value : ℕ) → get self.old.logs.now.writes.words addr.0 ≡ Some value → (result ≡ Ok value) × (self.new.client.now ≡ self.old.client.now) × (self.new.stopped ≡ None) }

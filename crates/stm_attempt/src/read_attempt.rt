@@ -111,7 +111,7 @@ impl<'a, L: Law, R: Allocator> ReadAttempt<'a, L, R> {
 }
 
 impl<'a, L: Law, R: Allocator> TxRead for ReadAttempt<'a, L, R> {
-    ghost use Rattle.std.specs.Prelude.{◌≡◌, ◌<◌, ℕ, Some, None, Ok, Err, MatchResult, IsOk, true};
+    ghost use Rattle.std.specs.Prelude.{◌≡◌, ◌<◌, ℕ, Some, None, Ok, Err, MatchResult, IsOk, IfErr, true};
     ghost use Rattle.std.specs.FinMap.{empty};
     ghost use Rattle.stm_words.specs.View.{SameFrame, HasRead};
     ghost use Rattle.stm_logs.specs.Log.{empty_log};
@@ -129,6 +129,8 @@ impl<'a, L: Law, R: Allocator> TxRead for ReadAttempt<'a, L, R> {
 
     ghost origin = { λ s. origin_of (is_unfinished s.client.now.value.phase) s.region.now s.client.ghost_name 0 s.client.now };
 
+    ghost stopped_for = { λ s conflict. s.stopped ≡ Some conflict };
+
     /// A value that two equal looks at its lock enclose, and which enters the reads. The first
     /// look answers `Held` before `Newer`, the second `Moved` where it differs.
     #[inline]
@@ -138,6 +140,7 @@ impl<'a, L: Law, R: Allocator> TxRead for ReadAttempt<'a, L, R> {
         ensures frame { SameFrame (memory_of (is_unfinished self.old.client.now.value.phase) self.old.region.now L.fits self.old.client.now.value empty_log) (memory_of (is_unfinished self.new.client.now.value.phase) self.new.region.now L.fits self.new.client.now.value empty_log) }
         ensures writes { (memory_of (is_unfinished self.new.client.now.value.phase) self.new.region.now L.fits self.new.client.now.value empty_log).writes ≡ (memory_of (is_unfinished self.old.client.now.value.phase) self.old.region.now L.fits self.old.client.now.value empty_log).writes }
         ensures answer { MatchResult result (λ v. HasRead (memory_of (is_unfinished self.old.client.now.value.phase) self.old.region.now L.fits self.old.client.now.value empty_log) (memory_of (is_unfinished self.new.client.now.value.phase) self.new.region.now L.fits self.new.client.now.value empty_log) addr.0 v) (λ _. (memory_of (is_unfinished self.new.client.now.value.phase) self.new.region.now L.fits self.new.client.now.value empty_log).reads ≡ (memory_of (is_unfinished self.old.client.now.value.phase) self.old.region.now L.fits self.old.client.now.value empty_log).reads) }
+        ensures stopped { IfErr result (λ conflict. self.new.stopped ≡ Some conflict) }
         ensures again { (conflict : Conflict) → self.old.stopped ≡ Some conflict → (result ≡ Err conflict) × (self.new.client.now ≡ self.old.client.now) × (self.new.stopped ≡ self.old.stopped) }
         ensures lone { self.old.client.now.value.lone ≡ true → IsOk result }
         ensures region { self.old.stopped ≡ None → HasReadOnly (stripe_of self.old.region.now.stripes) addr.0 self.old.client.now.value self.new.client.now.value self.new.stopped result }
