@@ -1,5 +1,5 @@
 -- Attempts, one after the other, and why they stopped.
-use Rattle.std.proofs.Common.{◌≡◌, ◌⊎◌, inl, inr, ℕ, ◌+◌, ◌*◌, ◌≤◌, false, Option, Some, None, length, ap, subst, sym, ◌∙◌}
+use Rattle.std.proofs.Common.{◌≡◌, ◌⊎◌, inl, inr, ℕ, ◌+◌, ◌*◌, ◌≤◌, false, Option, Some, None, Ok, length, ap, subst, sym, ◌∙◌}
 use Rattle.stm_core.specs.Client.{Client}
 use Rattle.stm_logs.specs.Log.{LogValue}
 use Rattle.stm_region.specs.Shown.{RegionShown, stripe_of}
@@ -10,8 +10,9 @@ use Rattle.stm_attempt.specs.declared.conflict.Conflict.{Conflict}
 use Rattle.stm_attempt.specs.declared.conflict.Stop.{Stop}
 use Rattle.stm_attempt.specs.declared.conflict.Stop.TheVariants as stop
 use Rattle.vac_model.specs.declared.tasks.Task.{Task}
+use Rattle.vac_model.specs.declared.replies.Reply.{Reply}
 use Rattle.vac_tasks.specs.Reading.{only_reads}
-use Rattle.vac_manager.specs.Called.{WasShown, IsStop}
+use Rattle.vac_manager.specs.Called.{Tried, WasShown, IsStop}
 
 -- of so many tries this many are left, and all others met a conflict
 pub record Trying (v v' : Client) (left tries : ℕ) : Type 0 where
@@ -19,6 +20,10 @@ pub record Trying (v v' : Client) (left tries : ℕ) : Type 0 where
   pub grants : v'.grants ≡ v.grants
   pub floor : v.floor ≤ v'.floor
   pub records : v'.records ≡ v.records
+
+-- an attempt that was answered is the same whatever it might have stopped for
+pub tried_as : {E F : Type 0} (t : Task) (r : Reply) (v v' : Client) → Tried {E = E} t v v' (Ok r) → Tried {E = F} t v v' (Ok r)
+tried_as t r v v' h = record { attempt = h.attempt; grants = h.grants; floor = h.floor; records = h.records }
 
 -- a value that is none of the values there may be
 pub none_of : {A : Type 0} (o : Option A) → ((x : A) → o ≡ Some x → ⊥) → o ≡ None
@@ -33,7 +38,7 @@ shown_by_read region region' conflict v v' same h e =
 
 -- why a commit stopped
 stop_is : (region : RegionShown) (log : LogValue) (t : Task) (s : Stop) (v v' : Client) → only_reads t ≡ false → HasStopped region log s v v' → IsStop region t s v'
-stop_is region log t stop.Memory v v' writes h = tt
+stop_is region log t stop.Memory v v' writes h = writes
 stop_is region log t (stop.Conflict conflict) v v' writes h = inr (log, h.shown)
 stop_is region log t (stop.Spent version) v v' writes h = (writes, record { version_is = h.shown.0; from = h.shown.1 })
 

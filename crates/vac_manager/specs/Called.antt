@@ -105,9 +105,9 @@ pub record IsSpent (region : RegionShown) (version : ℕ) (v : Client) : Type 0 
   pub from : v.next_from ≡ region.last
 
 -- why an attempt of a task stopped: for a conflict that was shown, or, where the task may write,
--- for a spent clock
+-- for want of memory or a spent clock
 abbrev pub IsStop : RegionShown → Task → Stop → Client → Type 0
-IsStop region t stop.Memory v = Unit {0}
+IsStop region t stop.Memory v = only_reads t ≡ false
 IsStop region t (stop.Conflict conflict) v = WasShown region conflict v
 IsStop region t (stop.Spent version) v = (only_reads t ≡ false) × IsSpent region version v
 
@@ -143,10 +143,10 @@ Attempts tries before now (Err (fault.Busy conflict)) = now ≡ before + tries
 Attempts tries before now (Err (fault.Spent version)) = (before < now) × (now ≤ before + tries)
 
 -- why a call of a task was not made: its numbers, a conflict that the last attempt showed, or,
--- where the task may write, a spent clock
+-- where the task may write, want of memory or a spent clock
 abbrev pub IsFault : RegionShown → Task → ℕ → Fault → Client → Client → Type 0
 IsFault region t tries fault.Arguments v v' = (is_call t tries ≡ false) × (v' ≡ v)
-IsFault region t tries fault.Memory v v' = Unit {0}
+IsFault region t tries fault.Memory v v' = only_reads t ≡ false
 IsFault region t tries (fault.Busy conflict) v v' = WasShown region conflict v'
 IsFault region t tries (fault.Spent version) v v' =
     (only_reads t ≡ false) × IsSpent region version v'

@@ -1,28 +1,28 @@
 //! One task by as many attempts as it takes.
 
-ghost use Rattle.std.specs.Prelude.{◌≡◌, ◌<◌, ◌≤◌, IfOk, IfErr, IsTrue, false};
+ghost use Rattle.std.specs.Prelude.{◌≡◌, ◌<◌, ◌≤◌, IfOk, IfErr, IsOk, IsTrue, false};
 ghost use Rattle.stm_core.specs.Core.{IsFreeHanded};
 ghost use Rattle.vac_model.specs.Ranges.{is_task};
 ghost use Rattle.vac_tasks.specs.Reading as reading;
 ghost use Rattle.vac_manager.specs.Legal.{WasLegal};
 ghost use Rattle.vac_manager.specs.Called.{IsOpened, IsUnplaced, Tried, Repeated};
-ghost use Rattle.vac_manager.specs.Called.{IsStop, IsNoConflict};
+ghost use Rattle.vac_manager.specs.Called.{WasShown, IsStop, IsNoConflict};
 
 use crate::law::ManagerLaw;
 use crate::told::Told;
 use crossbeam_utils::Backoff;
-use stm_attempt::{Attempt, Gate, Logs, Point, ReadAttempt, Stop};
+use stm_attempt::{Attempt, Conflict, Gate, Logs, Point, ReadAttempt, Stop};
 use stm_region::{Client, Region};
 use vac_model::{Reply, Task};
 use vac_tasks::{only_reads, read_task, run_task};
 
-/// One attempt of a task that only reads. It keeps no log.
+/// One attempt of a task that only reads. It keeps no log, and stops for a conflict alone.
 fn try_reading<G: Gate>(
     region: &Region<ManagerLaw>,
     client: &mut Client<ManagerLaw>,
     task: &Task,
     gate: &mut G,
-) -> Result<Reply, Stop>
+) -> Result<Reply, Conflict>
     requires own { client.old.table ≡ region.now.table }
     requires free_handed { IsFreeHanded client.old.value }
     requires opened { IsOpened region.now }
@@ -34,19 +34,17 @@ fn try_reading<G: Gate>(
     ensures unplaced { IsUnplaced client.new.value }
     ensures tried { Tried task.now client.old.value client.new.value result }
     ensures legal { IfOk result (λ _. WasLegal region.now client.new.value) }
-    ensures stopped { IfErr result (λ stop. IsStop region.now task.now stop client.new.value) }
-    ensures lone { client.old.value.grants ≡ 63 → IfErr result (λ stop. IsNoConflict stop) }
+    ensures stopped { IfErr result (λ conflict. WasShown region.now conflict client.new.value) }
+    ensures lone { client.old.value.grants ≡ 63 → IsOk result }
 {
     let mut attempt = ReadAttempt::begin(region, client);
     let answer = read_task(&mut attempt, task);
     if let Some(conflict) = attempt.stopped() {
         attempt.drop_it();
-        return Err(Stop::Conflict(conflict));
+        return Err(conflict);
     }
-    // A body's contract does not say why it stops: this is for one that stops without a conflict.
     let Ok(reply) = answer else {
-        attempt.drop_it();
-        return Err(Stop::Memory);
+        unreachable!();
     };
     gate.at(Point::ReadsDone);
     let told = Told {
@@ -125,7 +123,10 @@ fn try_once<G: Gate>(
     ensures lone { client.old.value.grants ≡ 63 → IfErr result (λ stop. IsNoConflict stop) }
 {
     if only_reads(task) {
-        try_reading(region, client, task, gate)
+        match try_reading(region, client, task, gate) {
+            Ok(reply) => Ok(reply),
+            Err(conflict) => Err(Stop::Conflict(conflict)),
+        }
     } else {
         try_writing(region, client, logs, task, start, gate)
     }

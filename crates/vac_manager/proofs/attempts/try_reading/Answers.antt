@@ -5,7 +5,7 @@ use Rattle.stm_attempt.specs.Running.{is_unfinished}
 use Rattle.vac_manager.proofs.Adding.{finished, unplaced_begun}
 use Rattle.vac_manager.proofs.Lawful.{holds_begun, lawful_read}
 use Rattle.vac_manager.proofs.Legality.{finished_legal}
-use Rattle.vac_manager.proofs.Trying.{shown_by_read}
+use Rattle.vac_manager.proofs.Trying.{shown_by_read, tried_as}
 use Rattle.vac_manager.proofs.attempts.try_reading.Goals as goal
 
 pub read_task-answer-requires-clause-state : goal.read_task-answer-requires-clause-state
@@ -23,7 +23,7 @@ returns-clause-legal g c =
 
 pub returns-clause-tried : goal.returns-clause-tried
 returns-clause-tried g c =
-    (finished c.args.region.now c.read_task-answer.new.memory.region.now _ _ _ _ _ _ c.read_task-answer.new.memory.client.now _ _ (ap (λ (o : Origin). o.region.renewal) c.in-Ok.ensures.origin ∙ ap (λ (r : RegionShown). r.renewal) c.begin-attempt.ensures.region) c.begin-attempt.ensures.earlier c.requires.unplaced c.begin-attempt.ensures.value
+    tried_as _ _ _ _ (finished c.args.region.now c.read_task-answer.new.memory.region.now _ _ _ _ _ _ c.read_task-answer.new.memory.client.now _ _ (ap (λ (o : Origin). o.region.renewal) c.in-Ok.ensures.origin ∙ ap (λ (r : RegionShown). r.renewal) c.begin-attempt.ensures.region) c.begin-attempt.ensures.earlier c.requires.unplaced c.begin-attempt.ensures.value
     (ap (λ (o : Origin). o.client.value) c.in-Ok.ensures.origin) c.begin-attempt.ensures.version c.finish.ensures.client.1 c.finish.ensures.free_handed.1 (search rules)).tried
 
 pub returns-clause-unplaced : goal.returns-clause-unplaced
@@ -33,10 +33,6 @@ returns-clause-unplaced g c =
 
 pub returns-in-Some-clause-unplaced : goal.returns-in-Some-clause-unplaced
 returns-in-Some-clause-unplaced g c =
-    unplaced_begun c.args.region.now _ _ _ c.read_task-answer.new.memory.client.now.value _ c.requires.unplaced c.begin-attempt.ensures.value (ap (λ (o : Origin). o.client.value) c.read_task-answer.ensures.origin) (search rules)
-
-pub returns-in_default-answer-clause-unplaced : goal.returns-in_default-answer-clause-unplaced
-returns-in_default-answer-clause-unplaced g c =
     unplaced_begun c.args.region.now _ _ _ c.read_task-answer.new.memory.client.now.value _ c.requires.unplaced c.begin-attempt.ensures.value (ap (λ (o : Origin). o.client.value) c.read_task-answer.ensures.origin) (search rules)
 
 pub returns-in-Some-clause-stopped : goal.returns-in-Some-clause-stopped
