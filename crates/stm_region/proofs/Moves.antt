@@ -104,13 +104,17 @@ module _ (fits : List ℕ → Type 0) (lawful : List ℕ → List (ℕ × ℕ) �
   abbrev o : Opened
   o = opened_with r
 
-  decides_of : (c : Core) → Matches o c → fits r.first → Rule lawful lk c → (i : ℕ) (v : Client) → get_elem? c.clients i ≡ some v → Decides fits lawful r v
-  decides_of c m f h i v at =
+  decides_of : (c : Core) → Matches o c → length r.opening ≡ r.size → fits r.first → Rule lawful lk c → (i : ℕ) (v : Client) → get_elem? c.clients i ≡ some v → Decides fits lawful r v
+  decides_of c m z f h i v at =
       let all = whole_shared lawful lk c h i v at in record {
         core = c;
         rule = h;
         first = m.first;
         renewal = m.renewal;
+        opening = m.opening;
+        last = m.last;
+        locks = m.locks;
+        cells = h.inv.size ∙ (ap length m.opening ∙ z);
         number = i;
         member = at;
         fitting = f;
@@ -154,12 +158,12 @@ module _ (fits : List ℕ → Type 0) (lawful : List ℕ → List (ℕ × ℕ) �
   told_of c d m m' z top f h h' i v (lock k) was at may = (lock_word c m top h k, λ y. (goes_on lawful lk c h.inv h.lone i v was y.0 y.1).locks k may)
   told_of c d m m' z top f h h' i v (tick from tag writes) was at may =
       let w = after (unplaced r.renewal) lk (tick from tag writes) c.clock v in
-      (clock c m top h, later d h' i w at, (λ s. decides_of d m' f h' i w at), λ y. let g = (goes_on lawful lk c h.inv h.lone i v was y.0 y.1).ticks from tag writes may in (g.0, g.1 (unplaced r.renewal)))
-  told_of c d m m' z top f h h' i v (validate k) was at may = (lock_word c m top h k, λ s. decides_of d m' f h' i (after (unplaced r.renewal) lk (validate k) (found lk c (validate k)) v) at)
+      (clock c m top h, later d h' i w at, (λ s. decides_of d m' z f h' i w at), λ y. let g = (goes_on lawful lk c h.inv h.lone i v was y.0 y.1).ticks from tag writes may in (g.0, g.1 (unplaced r.renewal)))
+  told_of c d m m' z top f h h' i v (validate k) was at may = (lock_word c m top h k, λ s. decides_of d m' z f h' i (after (unplaced r.renewal) lk (validate k) (found lk c (validate k)) v) at)
   told_of c d m m' z top f h h' i v (put a x) was at may = tt
   told_of c d m m' z top f h h' i v (release k) was at may = tt
   told_of c d m m' z top f h h' i v (give_back k) was at may = tt
-  told_of c d m m' z top f h h' i v (finish tag) was at may = decides_of d m' f h' i (after (unplaced r.renewal) lk (finish tag) c.clock v) at
+  told_of c d m m' z top f h h' i v (finish tag) was at may = decides_of d m' z f h' i (after (unplaced r.renewal) lk (finish tag) c.clock v) at
 
   in_clients : (cs : List Client) (i : ℕ) (v w : Client) → get_elem? cs i ≡ some v → get_elem? (set cs i w) i ≡ some w
   in_clients [] i v w e = absurd (some-ne-none v (sym e))

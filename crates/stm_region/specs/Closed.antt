@@ -9,8 +9,11 @@ use Rattle.stm_core.specs.Invariant.{Rule, Sorted}
 use Rattle.stm_core.specs.History.{Serial, image_after}
 use Rattle.stm_region.specs.Shown.{RegionShown, stripe_of}
 
--- the words and the version are those of a last core state, in which the closing client had this value, and its records are all there are: lawful, and serial from the first opening image to the words
-pub record Ends (lawful : List ℕ → List (ℕ × ℕ) → List (ℕ × ℕ) → Type 0) (region : RegionShown) (v : Client) (words : List ℕ) (version : ℕ) : Type 0 where
+-- the words and the version are those of a last core state, in which the closing client had this
+-- value, and its records are all there are: lawful, and serial from the first opening image to the
+-- words
+pub record Ends (lawful : List ℕ → List (ℕ × ℕ) → List (ℕ × ℕ) → Type 0) (region : RegionShown)
+    (v : Client) (words : List ℕ) (version : ℕ) : Type 0 where
   pub core : Core
   pub rule : Rule lawful (stripe_of region.stripes) core
   pub first : core.first ≡ region.first

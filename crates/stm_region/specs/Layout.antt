@@ -1,35 +1,36 @@
--- Where a region's words stand in its table: the clock alone on its cache lines, the lock words, and the data words.
-use Rattle.std.specs.Prelude.{◌≡◌, ℕ, ◌+◌, ◌-◌, ◌%◌, ◌<◌, ◌≤◌, ◌^◌, length, cond, eqb}
+-- Where a region's words stand in its table: the clock alone on its cache lines, the lock words,
+-- and the data words.
+use Rattle.std.specs.Prelude.{◌≡◌, ℕ, ◌+◌, ◌-◌, ◌%◌, ◌<◌, ◌≤◌, length, cond, eqb}
 use Rattle.stm_core.specs.Client.{Client}
 use Rattle.stm_core.specs.Core.{left}
 use Rattle.stm_core.specs.Event.{Action, begin, probe, fetch, check, lock, tick, validate, put, release, give_back, finish}
 use Rattle.stm_region.specs.Shown.{Opened, stripe_of}
+use Rattle.stm_region.specs.declared.lay.TheConstants.{CLOCK, FIRST_LOCK, LINE_WORDS, LINE_START}
+use Rattle.stm_region.specs.declared.limits.TheConstants.{MOST_WORDS, MOST_STRIPES, VERSION_LIMIT}
 
--- the first lock word
-abbrev pub first_lock : ℕ
-first_lock = 16
-
--- how many words stand between the lock words and the data words: the first data word's place is 6 above a multiple of 8, which begins a cache line where the table lies 16 bytes behind the start of one
+-- how many words stand between the lock words and the data words: the rest of a line, and so many
+-- more as the data words begin behind the next
 abbrev pub padding : ℕ → ℕ
-padding stripes = 13 - (stripes + 7) % 8
+padding stripes =
+    LINE_START + (LINE_WORDS - 1) - (stripes + (LINE_WORDS - 1)) % LINE_WORDS
 
 -- the first data word
 abbrev pub first_cell : ℕ → ℕ
-first_cell stripes = 16 + stripes + padding stripes
+first_cell stripes = FIRST_LOCK + stripes + padding stripes
 
 -- the place of the word of a step
 abbrev pub place : ℕ → Action → ℕ
-place stripes begin = 0
-place stripes (probe k) = 16 + k
+place stripes begin = CLOCK
+place stripes (probe k) = FIRST_LOCK + k
 place stripes (fetch a) = first_cell stripes + a
-place stripes (check a) = 16 + stripe_of stripes a
-place stripes (lock k) = 16 + k
-place stripes (tick from tag writes) = 0
-place stripes (validate k) = 16 + k
+place stripes (check a) = FIRST_LOCK + stripe_of stripes a
+place stripes (lock k) = FIRST_LOCK + k
+place stripes (tick from tag writes) = CLOCK
+place stripes (validate k) = FIRST_LOCK + k
 place stripes (put a x) = first_cell stripes + a
-place stripes (release k) = 16 + k
-place stripes (give_back k) = 16 + k
-place stripes (finish tag) = 0
+place stripes (release k) = FIRST_LOCK + k
+place stripes (give_back k) = FIRST_LOCK + k
+place stripes (finish tag) = CLOCK
 
 -- the lock or the address of a step is one of the region
 abbrev pub InRange : ℕ → ℕ → Action → Type 0
@@ -52,12 +53,12 @@ pub record IsLaid (words slots : ℕ) (o : Opened)
   pub none : slots ≡ 0
   pub behind : cells ≡ first_cell stripes
   pub image : length o.image ≡ length_of_image
-  pub small : length_of_image ≤ 4194304
+  pub small : length_of_image ≤ MOST_WORDS
   pub last : o.last ≡ last_version
-  pub top : last_version < 2 ^ 62
+  pub top : last_version < VERSION_LIMIT
   pub same : o.stripes ≡ stripes
   pub some : 0 < stripes
-  pub few : stripes ≤ 1048576
+  pub few : stripes ≤ MOST_STRIPES
   pub counted : o.renewal ≡ renewals
 
 -- the step exchanges its word from this one to the next, whatever it finds

@@ -1,19 +1,21 @@
 -- When a region refuses what it was asked.
-use Rattle.std.specs.Prelude.{◌≡◌, ℕ, ◌-◌, ◌^◌, ◌<◌, ◌≤◌}
+use Rattle.std.specs.Prelude.{◌≡◌, ℕ, ◌-◌, ◌<◌, ◌≤◌}
 use Rattle.stm_region.specs.declared.fault.RegionFault.{RegionFault}
 use Rattle.stm_region.specs.declared.fault.RegionFault.TheVariants.{Size, Last, Memory, Clients, StillOut, Stripes, Renewals}
+use Rattle.stm_region.specs.declared.limits.TheConstants.{MOST_WORDS, MOST_STRIPES, VERSION_LIMIT}
+use Rattle.stm_region.specs.declared.limits.TheConstants.{MOST_GRANTS, MOST_RENEWALS}
 
 -- a region may have so many data words
 abbrev pub IsSize : ℕ → Type 0
-IsSize n = (1 ≤ n) × (n ≤ 4194304)
+IsSize n = (1 ≤ n) × (n ≤ MOST_WORDS)
 
 -- its clock may end here
 abbrev pub IsLast : ℕ → Type 0
-IsLast n = (1 ≤ n) × (n < 2 ^ 62)
+IsLast n = (1 ≤ n) × (n < VERSION_LIMIT)
 
 -- it may have so many lock words
 abbrev pub IsStripes : ℕ → Type 0
-IsStripes n = (1 ≤ n) × (n ≤ 1048576)
+IsStripes n = (1 ≤ n) × (n ≤ MOST_STRIPES)
 
 -- when an opening is refused: the first of its arguments that is out of range, or no memory
 abbrev pub OpensNot : ℕ → ℕ → ℕ → RegionFault → Type 0
@@ -29,20 +31,17 @@ OpensNot size last stripes Renewals = ⊥
 abbrev pub ClosesNot : ℕ → RegionFault → Type 0
 ClosesNot grants Size = ⊥
 ClosesNot grants Last = ⊥
-ClosesNot grants Memory = grants ≡ 63
+ClosesNot grants Memory = grants ≡ MOST_GRANTS
 ClosesNot grants Clients = ⊥
-ClosesNot grants (StillOut out) = (grants < 63) × (out ≡ 63 - grants)
+ClosesNot grants (StillOut out) = (grants < MOST_GRANTS) × (out ≡ MOST_GRANTS - grants)
 ClosesNot grants Stripes = ⊥
 ClosesNot grants Renewals = ⊥
-
--- so many renewals a region may have
-abbrev pub most_renewals : ℕ
-most_renewals = 65535
 
 -- a region may be renewed: the new last version is in range, there is a renewal left, and no other
 -- client is out
 abbrev pub MayRenew : ℕ → ℕ → ℕ → Type 0
-MayRenew renewals last grants = IsLast last × (renewals < most_renewals) × (grants ≡ 63)
+MayRenew renewals last grants =
+    IsLast last × (renewals < MOST_RENEWALS) × (grants ≡ MOST_GRANTS)
 
 -- when a renewal is refused before any word was moved: for the first of its reasons, or no memory
 abbrev pub RenewsNot : ℕ → ℕ → ℕ → RegionFault → Type 0
@@ -51,6 +50,7 @@ RenewsNot renewals last grants Last = ¬ IsLast last
 RenewsNot renewals last grants Memory = MayRenew renewals last grants
 RenewsNot renewals last grants Clients = ⊥
 RenewsNot renewals last grants (StillOut out) =
-    IsLast last × (renewals < most_renewals) × (grants < 63) × (out ≡ 63 - grants)
+    IsLast last × (renewals < MOST_RENEWALS) × (grants < MOST_GRANTS)
+    × (out ≡ MOST_GRANTS - grants)
 RenewsNot renewals last grants Stripes = ⊥
-RenewsNot renewals last grants Renewals = IsLast last × (most_renewals ≤ renewals)
+RenewsNot renewals last grants Renewals = IsLast last × (MOST_RENEWALS ≤ renewals)

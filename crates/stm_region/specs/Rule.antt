@@ -1,24 +1,31 @@
 -- What holds of a region's table between any two steps of any threads.
-use Rattle.std.specs.Prelude.{◌≡◌, ℕ, ◌<◌, ◌^◌, List, ◌∷◌, ◌++◌, length}
+use mathlib.Core.Option.{some}
+use lib.ListN.{get_elem?}
+use Rattle.std.specs.Prelude.{◌≡◌, ◌≢◌, ℕ, ◌<◌, List, ◌∷◌, ◌++◌, ◌-◌, length}
 use Rattle.atomic_table.specs.Table.{State}
 use Rattle.stm_core.specs.Client.{Client}
 use Rattle.stm_core.specs.Core.{Core}
 use Rattle.stm_core.specs.Invariant.{Rule}
 use Rattle.stm_region.specs.Shown.{Opened, stripe_of}
 use Rattle.stm_region.specs.Layout.{padding}
+use Rattle.stm_region.specs.declared.lay.TheConstants.{FIRST_LOCK}
+use Rattle.stm_region.specs.declared.limits.TheConstants.{VERSION_LIMIT}
 
--- the words of a core as those of a table: the clock, a gap, the lock words, a pad and the data words
+-- the words of a core as those of a table: the clock, a gap, the lock words, a padding and the data
+-- words
 abbrev pub listed : List ℕ → List ℕ → Core → List ℕ
 listed gap pad c = c.clock ∷ (gap ++ (c.locks ++ (pad ++ c.cells)))
 
 -- the table's words and all clients' values are a core state that meets the version invariant
-pub record Holds {S : Type 0} (fits : List ℕ → Type 0) (lawful : List ℕ → List (ℕ × ℕ) → List (ℕ × ℕ) → Type 0) (o : Opened) (s : State S Client) : Type 0 where
+pub record Holds {S : Type 0} (fits : List ℕ → Type 0)
+    (lawful : List ℕ → List (ℕ × ℕ) → List (ℕ × ℕ) → Type 0) (o : Opened) (s : State S Client)
+    : Type 0 where
   pub core : Core
   pub gap : List ℕ
   pub pad : List ℕ
   pub words : s.words ≡ listed gap pad core
   pub views : s.views ≡ core.clients
-  pub before_locks : length gap ≡ 15
+  pub before_locks : length gap ≡ FIRST_LOCK - 1
   pub locks : length core.locks ≡ o.stripes
   pub before_cells : length pad ≡ padding o.stripes
   pub last : core.last ≡ o.last
@@ -27,5 +34,19 @@ pub record Holds {S : Type 0} (fits : List ℕ → Type 0) (lawful : List ℕ �
   pub renewal : core.renewal ≡ o.renewal
   pub rule : Rule lawful (stripe_of o.stripes) core
   pub fitting : fits o.first
-  pub bounded : o.last < 2 ^ 62
+  pub bounded : o.last < VERSION_LIMIT
   pub some : 0 < o.stripes
+
+-- it is so of each region and each state of its table between any two steps of any threads
+abbrev pub Always : (List ℕ → Type 0) → (List ℕ → List (ℕ × ℕ) → List (ℕ × ℕ) → Type 0) →
+    (Opened → State (Unit {0}) Client → Type 0) → Type 0
+Always fits lawful P = (o : Opened) (s : State (Unit {0}) Client) → Holds fits lawful o s → P o s
+
+-- it is so of each client's value
+abbrev pub OfEach : State (Unit {0}) Client → (Client → Type 0) → Type 0
+OfEach s P = (i : ℕ) (v : Client) → get_elem? s.views i ≡ some v → P v
+
+-- it is so of each two values of different clients
+abbrev pub OfEachTwo : State (Unit {0}) Client → (Client → Client → Type 0) → Type 0
+OfEachTwo s P = (i j : ℕ) (v w : Client) → i ≢ j → get_elem? s.views i ≡ some v
+    → get_elem? s.views j ≡ some w → P v w

@@ -1,10 +1,13 @@
 -- What contracts see of a region and of its clients.
-use Rattle.std.specs.Prelude.{◌≡◌, ℕ, ◌+◌, ◌%◌, min, List, [], Option, None, Some}
+use Rattle.std.specs.Prelude.{◌≡◌, ◌≢◌, ℕ, ◌+◌, ◌%◌, ◌<◌, min, length, List, [], Option, None, Some, Result, MatchResult}
 use Rattle.atomic_table.specs.Seated.{TableId}
 use Rattle.stm_core.specs.Client.{Client, Stamp, Step, nothing, began, probed, fetched, checked, locked, ticked, looked, ended}
-use Rattle.stm_core.specs.Event.{Action, Bounds, May, after, taking, renewing, opener}
+use Rattle.stm_core.specs.Event.{Action, Bounds, May, after, giving, fresh, taking, renewing, opener}
+use Rattle.stm_region.specs.declared.limits.TheConstants.{MOST_GRANTS}
 
--- what a region was opened with: the data words, the last version, how many lock words; and since renewals: the data words of the first opening, how many renewals there were, and the value of the client that opened, which has all records of earlier renewals
+-- what a region was opened with: the data words, the last version, how many lock words; and since
+-- renewals: the data words of the first opening, how many renewals there were, and the value of
+-- the client that opened, which has all records of earlier renewals
 pub record Opened : Type 0 where
   pub image : List ℕ
   pub last : ℕ
@@ -29,12 +32,67 @@ pub record ClientShown : Type 0 where
   pub table : TableId
   pub value : Client
 
+-- a table that is none
+abbrev pub no_table : TableId
+no_table = record {
+  words = 0;
+  slots = 0;
+  views_name = 0;
+  atom = 0;
+  block = 0;
+  offset = 0;
+  slot_names = [];
+}
+
 -- a region that is none
 abbrev pub nowhere : RegionShown
-nowhere = record { table = record { words = 0; slots = 0; views_name = 0; atom = 0; block = 0; offset = 0; slot_names = [] }; size = 0; last = 0; stripes = 0; opening = []; first = []; renewal = 0; start = opener }
+nowhere = record {
+  table = no_table;
+  size = 0;
+  last = 0;
+  stripes = 0;
+  opening = [];
+  first = [];
+  renewal = 0;
+  start = opener;
+}
 
+-- what the rule of the region's table was told
 abbrev pub opened_with : RegionShown → Opened
-opened_with r = record { image = r.opening; last = r.last; stripes = r.stripes; first = r.first; renewal = r.renewal; start = r.start }
+opened_with r = record {
+  image = r.opening;
+  last = r.last;
+  stripes = r.stripes;
+  first = r.first;
+  renewal = r.renewal;
+  start = r.start;
+}
+
+-- the region as its table shows it, with its own numbers
+abbrev pub region_of : TableId → ℕ → ℕ → ℕ → Opened → RegionShown
+region_of table size last stripes o = record {
+  table = table;
+  size = size;
+  last = last;
+  stripes = stripes;
+  opening = o.image;
+  first = o.first;
+  renewal = o.renewal;
+  start = o.start;
+}
+
+-- a region that was opened on an image for the first time
+abbrev pub opened_on : TableId → List ℕ → ℕ → ℕ → RegionShown
+opened_on table image last stripes = record {
+  table = table;
+  size = length image;
+  last = last;
+  stripes = stripes;
+  opening = image;
+  first = image;
+  renewal = 0;
+  start = opener;
+}
 
 -- the lock of an address
 abbrev pub stripe_of : ℕ → ℕ → ℕ
@@ -47,17 +105,43 @@ bounds r = record { last = r.last; stripes = r.stripes; size = r.size }
 abbrev pub unplaced : ℕ → Stamp
 unplaced n = record { client = 0; place = 0; renewal = n }
 
--- the client's value allows the step in the region
-abbrev pub IsAllowed : (List ℕ → List (ℕ × ℕ) → List (ℕ × ℕ) → Type 0) → RegionShown → Action → ClientShown → Type 0
+-- this client's value allows the step in the region
+abbrev pub MayStep : (List ℕ → List (ℕ × ℕ) → List (ℕ × ℕ) → Type 0) → RegionShown → Action →
+    Client → Type 0
+MayStep lawful r step v = May lawful (stripe_of r.stripes) (bounds r) step v
+
+-- the client allows the step in the region
+abbrev pub IsAllowed : (List ℕ → List (ℕ × ℕ) → List (ℕ × ℕ) → Type 0) → RegionShown → Action →
+    ClientShown → Type 0
 IsAllowed lawful r step c = May lawful (stripe_of r.stripes) (bounds r) step c.value
+
+-- the client's value after a step that found this word
+abbrev pub value_after : RegionShown → Action → ℕ → Client → Client
+value_after r step word v = after (unplaced r.renewal) (stripe_of r.stripes) step word v
 
 -- the client after a step that found this word
 abbrev pub acted : RegionShown → Action → ℕ → ClientShown → ClientShown
-acted r step word c = record c { value = after (unplaced r.renewal) (stripe_of r.stripes) step word c.value }
+acted r step word c = record c {
+  value = after (unplaced r.renewal) (stripe_of r.stripes) step word c.value;
+}
 
--- a client with the records and grants of another and one grant more: at most 63, as all grants and all clients that are out make 64
+-- the client after an exchange of this word: it was won, or it found another word
+abbrev pub Exchanged : {A : Type 0} → RegionShown → Action → ℕ → Result A ℕ → ClientShown →
+    ClientShown → Type 0
+Exchanged r step word result before now =
+    MatchResult result (λ _. now ≡ acted r step word before)
+    (λ found. (found ≢ word) × (now ≡ acted r step found before))
+
+-- a client split another off, which cost it a grant
+abbrev pub HasSplit : ClientShown → ClientShown → ClientShown → Type 0
+HasSplit before now other =
+    (0 < before.value.grants) × (now ≡ record before { value = giving before.value })
+    × (other ≡ record before { value = fresh before.value })
+
+-- a client with the records and grants of another and one grant more: never more than all grants,
+-- as those of all clients that are out and these clients themselves make one more
 abbrev pub joined : Client → Client → Client
-joined v w = record (taking v w) { grants = min (v.grants + w.grants + 1) 63 }
+joined v w = record (taking v w) { grants = min (v.grants + w.grants + 1) MOST_GRANTS }
 
 -- the client's own number is the word of its last step, where that was a probe
 abbrev pub KeepsProbe : ℕ → Step → Type 0
@@ -76,7 +160,8 @@ abbrev pub first_words : List ℕ → Option (List ℕ) → List ℕ
 first_words image None = image
 first_words image (Some words) = words
 
--- the client that a region begins with: the one that closed the region before, without its attempt, or the first of all
+-- the client that a region begins with: the one that closed the region before, without its
+-- attempt, or the first of all
 abbrev pub started : Option Client → Client
 started None = opener
 started (Some v) = renewing v

@@ -1,5 +1,5 @@
 -- What a step tells its client of the region's state, beside the word that it found.
-use Rattle.std.specs.Prelude.{◌≡◌, ℕ, ◌/◌, ◌^◌, ◌<◌, ◌≤◌, ◌⊎◌, true, false, List, [], length}
+use Rattle.std.specs.Prelude.{◌≡◌, ℕ, ◌*◌, ◌/◌, ◌<◌, ◌≤◌, ◌⊎◌, true, false, List, [], length}
 use Rattle.atomic_table.specs.Table.{Me, Step}
 use mathlib.Core.Option.{some}
 use lib.ListN.{get_elem?}
@@ -7,19 +7,20 @@ use Rattle.stm_words.specs.Image.{In, Agrees}
 use Rattle.stm_core.specs.Client.{Client, Record, decided, version_of, IsFree, word_before}
 use Rattle.stm_core.specs.Core.{Core}
 use Rattle.stm_core.specs.Invariant.{Rule}
-use Rattle.stm_core.specs.Event.{Action, begin, probe, fetch, check, lock, tick, validate, put, release, give_back, finish, after, Holds}
+use Rattle.stm_core.specs.Event.{Action, begin, probe, fetch, check, lock, tick, validate, put, release, give_back, finish, Holds}
 use Rattle.stm_core.specs.History.{Serial, Sub, all_records}
-use Rattle.stm_region.specs.Shown.{RegionShown, unplaced, stripe_of}
+use Rattle.stm_region.specs.Shown.{RegionShown, value_after, stripe_of}
+use Rattle.stm_region.specs.declared.limits.TheConstants.{VERSION_LIMIT}
 
 -- a version of the clock is at most the last one
 pub record IsVersion (last version : ℕ) : Type 0 where
   pub known : version ≤ last
-  pub small : version < 2 ^ 62
+  pub small : version < VERSION_LIMIT
 
 -- a lock word has a version of at most the last one
 pub record IsLockWord (last word : ℕ) : Type 0 where
   pub version : word / 2 ≤ last
-  pub small : word < 2 ^ 63
+  pub small : word < 2 * VERSION_LIMIT
 
 -- a record is of an earlier renewal, or of this one with a version that the clock has reached
 pub record IsEarlier (renewal clock : ℕ) (r : Record) : Type 0 where
@@ -37,13 +38,22 @@ pub record StandsOn (fits : List ℕ → Type 0) (size : ℕ) (reads : List (ℕ
   pub fitting : fits image
   pub agrees : Agrees image reads
 
--- the records of all clients, this one's with its newest among them, each of its own once and in its order, are lawful and serial from the image
-pub record Decides (fits : List ℕ → Type 0) (lawful : List ℕ → List (ℕ × ℕ) → List (ℕ × ℕ) → Type 0) (region : RegionShown) (v : Client) : Type 0 where
-  -- the region's core state right after the deciding step, in which this client has this value
+-- the records of all clients, this one's with its newest among them, each of its own once and in
+-- its order, are lawful and serial from the first opening image
+pub record Decides (fits : List ℕ → Type 0)
+    (lawful : List ℕ → List (ℕ × ℕ) → List (ℕ × ℕ) → Type 0) (region : RegionShown) (v : Client)
+    : Type 0 where
+  -- the region's core state right after the deciding step
   pub core : Core
   pub rule : Rule lawful (stripe_of region.stripes) core
+  -- it is this region's: opened on the same images, with as many words and the same last version
   pub first : core.first ≡ region.first
   pub renewal : core.renewal ≡ region.renewal
+  pub opening : core.opening ≡ region.opening
+  pub last : core.last ≡ region.last
+  pub locks : length core.locks ≡ region.stripes
+  pub cells : length core.cells ≡ region.size
+  -- this client has this value in it
   pub number : ℕ
   pub member : get_elem? core.clients number ≡ some v
   pub fitting : fits region.first
@@ -55,7 +65,8 @@ pub record Decides (fits : List ℕ → Type 0) (lawful : List ℕ → List (ℕ
 abbrev pub IsLoneOpen : Client → Type 0
 IsLoneOpen v = (v.lone ≡ true) × (decided v ≡ false)
 
--- what a lone attempt finds: a lock word that is free or its own, and not newer; the word of its probe; the clock that it ticks from, and its tick decides
+-- what a lone attempt finds: a lock word that is free or its own, and not newer; the word of its
+-- probe; the clock that it ticks from, and its tick decides
 abbrev pub LoneTold : Action → ℕ → Client → Client → Type 0
 LoneTold begin n v w = Unit {0}
 LoneTold (probe k) n v w = (IsFree n ⊎ Holds v.held k) × (version_of n ≤ v.rv)
@@ -69,17 +80,25 @@ LoneTold (release k) n v w = Unit {0}
 LoneTold (give_back k) n v w = Unit {0}
 LoneTold (finish tag) n v w = Unit {0}
 
-module _ (fits : List ℕ → Type 0) (lawful : List ℕ → List (ℕ × ℕ) → List (ℕ × ℕ) → Type 0) (r : RegionShown) where
+module _ (fits : List ℕ → Type 0) (lawful : List ℕ → List (ℕ × ℕ) → List (ℕ × ℕ) → Type 0)
+    (r : RegionShown) where
   -- what is told of the word found, and of the client's values before and after the step
   abbrev pub Told : Action → ℕ → Client → Client → Type 0
   Told begin n v w =
-      IsVersion r.last n × (v.floor ≤ n) × StandsOn fits r.size [] × AreEarlier r.renewal n v.records
+      IsVersion r.last n × (v.floor ≤ n) × StandsOn fits r.size []
+      × AreEarlier r.renewal n v.records
   Told (probe k) n v w = IsLockWord r.last n × (IsLoneOpen v → LoneTold (probe k) n v w)
   Told (fetch a) n v w = Unit {0}
-  Told (check a) n v w = IsLockWord r.last n × StandsOn fits r.size w.reads × (IsLoneOpen v → LoneTold (check a) n v w)
+  Told (check a) n v w =
+      IsLockWord r.last n × StandsOn fits r.size w.reads
+      × (IsLoneOpen v → LoneTold (check a) n v w)
   Told (lock k) n v w = IsLockWord r.last n × (IsLoneOpen v → LoneTold (lock k) n v w)
-  Told (tick from tag writes) n v w = IsVersion r.last n × (0 < w.wv → w.rv < w.wv) × (decided w ≡ true → Decides fits lawful r w) × (IsLoneOpen v → LoneTold (tick from tag writes) n v w)
-  Told (validate k) n v w = IsLockWord r.last n × (decided w ≡ true → Decides fits lawful r w)
+  Told (tick from tag writes) n v w =
+      IsVersion r.last n × (0 < w.wv → w.rv < w.wv)
+      × (decided w ≡ true → Decides fits lawful r w)
+      × (IsLoneOpen v → LoneTold (tick from tag writes) n v w)
+  Told (validate k) n v w =
+      IsLockWord r.last n × (decided w ≡ true → Decides fits lawful r w)
   Told (put a x) n v w = Unit {0}
   Told (release k) n v w = Unit {0}
   Told (give_back k) n v w = Unit {0}
@@ -87,4 +106,5 @@ module _ (fits : List ℕ → Type 0) (lawful : List ℕ → List (ℕ × ℕ) �
 
   -- a step has its effect on the client's value, and tells what it can
   abbrev pub acting : {S : Type 0} → Action → Step S → Me S Client → ℕ → Me S Client → Type 0
-  acting e s m n w = let v = after (unplaced r.renewal) (stripe_of r.stripes) e n m.0 in (w ≡ (v, m.1)) × Told e n m.0 v
+  acting e s m n w =
+      (w ≡ (value_after r e n m.0, m.1)) × Told e n m.0 (value_after r e n m.0)

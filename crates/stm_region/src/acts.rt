@@ -3,12 +3,13 @@
 ghost use Rattle.std.specs.Prelude.{◌≡◌, ◌≢◌, ℕ, ◌+◌, ◌-◌, ◌*◌, ◌/◌, ◌<◌, ◌≤◌, ◌^◌, ◌==◌};
 ghost use Rattle.stm_core.specs.Core.{left};
 ghost use Rattle.stm_core.specs.Client.{word_before};
-ghost use Rattle.stm_core.specs.Event.{Action, May, after, lock as locks, tick as ticks, give_back as gives_back, finish as finishes};
+ghost use Rattle.stm_core.specs.Event.{Action, lock as locks, tick as ticks, give_back as gives_back, finish as finishes};
 ghost use Rattle.stm_logs.specs.Log.{log_pairs};
-ghost use Rattle.stm_region.specs.Shown.{bounds, stripe_of, unplaced};
+ghost use Rattle.stm_region.specs.Shown.{MayStep, value_after};
 ghost use Rattle.stm_region.specs.Layout.{place, InRange, Exchanges, Stores};
 ghost use Rattle.stm_region.specs.Told.{Told};
 
+use crate::lay::{CLOCK, FIRST_LOCK};
 use crate::plays::{Acting, Acts};
 use crate::region::Region;
 use crate::view::View;
@@ -30,10 +31,11 @@ impl<L: Law, A: Allocator> Region<L, A> {
         requires own { seat.old.table_id ≡ self.now.table }
         requires range { InRange self.now.stripes self.now.size T.action }
         requires place { word ≡ place self.now.stripes T.action }
-        requires allowed { May L.lawful (stripe_of self.now.stripes) (bounds self.now) T.action seat.old.me.0 }
+        requires allowed { MayStep L.lawful self.now T.action seat.old.me.0 }
         requires loads { (n : ℕ) → left T.action n seat.old.me.0 ≡ n }
         ensures table { seat.new.table_id ≡ seat.old.table_id }
-        ensures me { seat.new.me ≡ (after (unplaced self.now.renewal) (stripe_of self.now.stripes) T.action result seat.old.me.0, seat.old.me.1) }
+        ensures me { seat.new.me
+            ≡ (value_after self.now T.action result seat.old.me.0, seat.old.me.1) }
         ensures told { Told L.fits L.lawful self.now T.action result seat.old.me.0 seat.new.me.0 }
     {
         let _ = number;
@@ -54,10 +56,11 @@ impl<L: Law, A: Allocator> Region<L, A> {
         requires room { from + 1 < 2 ^ 64 }
         requires range { InRange self.now.stripes self.now.size T.action }
         requires place { word ≡ place self.now.stripes T.action }
-        requires allowed { May L.lawful (stripe_of self.now.stripes) (bounds self.now) T.action seat.old.me.0 }
+        requires allowed { MayStep L.lawful self.now T.action seat.old.me.0 }
         requires exchanges { Exchanges T.action from seat.old.me.0 }
         ensures table { seat.new.table_id ≡ seat.old.table_id }
-        ensures me { seat.new.me ≡ (after (unplaced self.now.renewal) (stripe_of self.now.stripes) T.action result seat.old.me.0, seat.old.me.1) }
+        ensures me { seat.new.me
+            ≡ (value_after self.now T.action result seat.old.me.0, seat.old.me.1) }
         ensures told { Told L.fits L.lawful self.now T.action result seat.old.me.0 seat.new.me.0 }
     {
         let _ = number;
@@ -79,10 +82,11 @@ impl<L: Law, A: Allocator> Region<L, A> {
         requires own { seat.old.table_id ≡ self.now.table }
         requires range { InRange self.now.stripes self.now.size T.action }
         requires place { word ≡ place self.now.stripes T.action }
-        requires allowed { May L.lawful (stripe_of self.now.stripes) (bounds self.now) T.action seat.old.me.0 }
+        requires allowed { MayStep L.lawful self.now T.action seat.old.me.0 }
         requires stores { Stores T.action new seat.old.me.0 }
         ensures table { seat.new.table_id ≡ seat.old.table_id }
-        ensures me { seat.new.me ≡ (after (unplaced self.now.renewal) (stripe_of self.now.stripes) T.action new seat.old.me.0, seat.old.me.1) }
+        ensures me { seat.new.me
+            ≡ (value_after self.now T.action new seat.old.me.0, seat.old.me.1) }
     {
         let _ = number;
         self.table.shared.store::<Acts<L, T>>(seat, word, new)
@@ -100,10 +104,11 @@ impl<L: Law, A: Allocator> Region<L, A> {
         requires gives { T.action ≡ gives_back number }
         requires own { seat.old.table_id ≡ self.now.table }
         requires range { number < self.now.stripes }
-        requires place { word ≡ 16 + number }
-        requires allowed { May L.lawful (stripe_of self.now.stripes) (bounds self.now) (gives_back number) seat.old.me.0 }
+        requires place { word ≡ FIRST_LOCK + number }
+        requires allowed { MayStep L.lawful self.now (gives_back number) seat.old.me.0 }
         ensures table { seat.new.table_id ≡ seat.old.table_id }
-        ensures me { seat.new.me ≡ (after (unplaced self.now.renewal) (stripe_of self.now.stripes) (gives_back number) 0 seat.old.me.0, seat.old.me.1) }
+        ensures me { seat.new.me
+            ≡ (value_after self.now (gives_back number) 0 seat.old.me.0, seat.old.me.1) }
     {
         let _ = number;
         self.table.shared.fetch_sub::<Acts<L, T>>(seat, word, 1);
@@ -122,14 +127,15 @@ impl<L: Law, A: Allocator> Region<L, A> {
         requires ticks { S.action ≡ ticks from (T.numbers tag.now) (log_pairs writes.now) }
         requires own { seat.old.table_id ≡ self.now.table }
         requires room { from + 1 < 2 ^ 64 }
-        requires allowed { May L.lawful (stripe_of self.now.stripes) (bounds self.now) S.action seat.old.me.0 }
+        requires allowed { MayStep L.lawful self.now S.action seat.old.me.0 }
         ensures table { seat.new.table_id ≡ seat.old.table_id }
-        ensures me { seat.new.me ≡ (after (unplaced self.now.renewal) (stripe_of self.now.stripes) S.action result seat.old.me.0, seat.old.me.1) }
+        ensures me { seat.new.me
+            ≡ (value_after self.now S.action result seat.old.me.0, seat.old.me.1) }
         ensures told { Told L.fits L.lawful self.now S.action result seat.old.me.0 seat.new.me.0 }
     {
         let _ = tag;
         let _ = writes;
-        self.exchange_as::<S>(seat, 0, from, 0)
+        self.exchange_as::<S>(seat, CLOCK, from, 0)
     }
 
     // The load that ends an attempt with this tag.
@@ -138,12 +144,13 @@ impl<L: Law, A: Allocator> Region<L, A> {
         requires told { S.region ≡ self.now }
         requires finishes { S.action ≡ finishes (T.numbers tag.now) }
         requires own { seat.old.table_id ≡ self.now.table }
-        requires allowed { May L.lawful (stripe_of self.now.stripes) (bounds self.now) S.action seat.old.me.0 }
+        requires allowed { MayStep L.lawful self.now S.action seat.old.me.0 }
         ensures table { seat.new.table_id ≡ seat.old.table_id }
-        ensures me { seat.new.me ≡ (after (unplaced self.now.renewal) (stripe_of self.now.stripes) S.action result seat.old.me.0, seat.old.me.1) }
+        ensures me { seat.new.me
+            ≡ (value_after self.now S.action result seat.old.me.0, seat.old.me.1) }
         ensures told { Told L.fits L.lawful self.now S.action result seat.old.me.0 seat.new.me.0 }
     {
         let _ = tag;
-        self.load_as::<S>(seat, 0, 0)
+        self.load_as::<S>(seat, CLOCK, 0)
     }
 }

@@ -2,6 +2,7 @@ ghost use Rattle.std.specs.Prelude.{◌≡◌, ◌≤◌, []};
 ghost use Rattle.stm_core.specs.Client.{nothing};
 ghost use Rattle.stm_core.specs.Invariant.{Sorted};
 
+use crate::limits::MOST_GRANTS;
 use crate::view::View;
 use atomic_table::Seat;
 use std::marker::{Model, PhantomData};
@@ -20,22 +21,27 @@ pub struct Client<L: Law> {
 }
 
 impl<L: Law> Model for Client<L> {
-    ghost use Rattle.std.specs.Prelude.{◌≡◌, ◌≤◌, ◌<◌, ◌^◌, []};
+    ghost use Rattle.std.specs.Prelude.{◌≡◌, ◌≤◌, ◌<◌, []};
     ghost use Rattle.stm_core.specs.Invariant.{Sorted};
     ghost use Rattle.stm_region.specs.Shown.{ClientShown, KeepsProbe};
+    ghost use Rattle.stm_region.specs.declared.limits.TheConstants.{MOST_GRANTS, VERSION_LIMIT};
 
     ghost Value = { ClientShown };
 
     ghost view = { λ c. record { table = c.seat.table_id; value = c.seat.me.0 } };
 
-    ghost invariant = { λ c. (c.seat.me.1 ≡ []) × (c.grants ≡ c.seat.me.0.grants) × (c.grants ≤ 63) × (c.version ≡ c.seat.me.0.wv) × (c.version < 2 ^ 62) × KeepsProbe c.probed c.seat.me.0.last × Sorted c.seat.me.0.records };
+    ghost invariant = { λ c.
+        (c.seat.me.1 ≡ [])
+        × (c.grants ≡ c.seat.me.0.grants) × (c.grants ≤ MOST_GRANTS)
+        × (c.version ≡ c.seat.me.0.wv) × (c.version < VERSION_LIMIT)
+        × KeepsProbe c.probed c.seat.me.0.last × Sorted c.seat.me.0.records };
 }
 
 impl<L: Law> Client<L> {
     // A client that has made no step, with so many grants.
     pub(crate) fn of_seat(seat: Seat<(), View>, grants: u64) -> Client<L>
         requires none { (seat.me.1 ≡ []) × (seat.me.0.wv ≡ 0) × (seat.me.0.last ≡ nothing) }
-        requires grants { (grants ≡ seat.me.0.grants) × (grants ≤ 63) }
+        requires grants { (grants ≡ seat.me.0.grants) × (grants ≤ MOST_GRANTS) }
         requires sorted { Sorted seat.me.0.records }
         ensures { result ≡ record { table = seat.table_id; value = seat.me.0 } }
     {
@@ -51,7 +57,7 @@ impl<L: Law> Client<L> {
     // The seat, and the number of grants.
     pub(crate) fn into_parts(self) -> (Seat<(), View>, u64)
         ensures seat { (result.0.table_id ≡ self.table) × (result.0.me ≡ (self.value, [])) }
-        ensures grants { (result.1 ≡ self.value.grants) × (result.1 ≤ 63) }
+        ensures grants { (result.1 ≡ self.value.grants) × (result.1 ≤ MOST_GRANTS) }
         ensures sorted { Sorted self.value.records }
     {
         let Self {

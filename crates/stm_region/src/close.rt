@@ -7,6 +7,8 @@ ghost use Rattle.stm_region.specs.Refused.{ClosesNot};
 
 use crate::client::Client;
 use crate::fault::RegionFault;
+use crate::lay::CLOCK;
+use crate::limits::MOST_GRANTS;
 use crate::region::Region;
 use atomic_table::Closed;
 use std::alloc::Allocator;
@@ -31,15 +33,16 @@ fn unload<A: Allocator, B: Allocator>(
     words: &mut Vec<u64, B>,
 ) -> u64
     requires full { IsFull closed.now.words }
-    requires range { (from + size ≡ slots_len closed.now.words) × (from ≢ 0) × (slots_len closed.now.words ≡ length (slots_items closed.now.words)) }
+    requires range { (from + size ≡ slots_len closed.now.words) × (CLOCK < from) }
+    requires all { slots_len closed.now.words ≡ length (slots_items closed.now.words) }
     requires room { (words.old.items ≡ []) × (size ≤ vec_capacity words.old) }
     ensures words { words.new.items ≡ drop from (slots_items closed.now.words) }
-    ensures clock { result ≡ slice_index (slots_items closed.now.words) 0 }
+    ensures clock { result ≡ slice_index (slots_items closed.now.words) CLOCK }
 {
     for k in 0..size {
         push(words, closed.word(from + k));
     }
-    closed.word(0)
+    closed.word(CLOCK)
 }
 
 /// A region that was not closed, with its client and the reason.
@@ -56,11 +59,12 @@ impl<L: Law, A: Allocator> Region<L, A> {
         requires own { client.table ≡ self.table }
         requires free_handed { IsFreeHanded client.value }
         ensures ends { IfOk result (λ r. Ends L.lawful self client.value r.0.items r.1) }
-        ensures all { IfOk result (λ _. client.value.grants ≡ 63) }
-        ensures kept { IfErr result (λ r. (r.0 ≡ self) × (r.1 ≡ client) × ClosesNot client.value.grants r.2) }
+        ensures all { IfOk result (λ _. client.value.grants ≡ MOST_GRANTS) }
+        ensures kept { IfErr result (λ r.
+            (r.0 ≡ self) × (r.1 ≡ client) × ClosesNot client.value.grants r.2) }
     {
-        if client.grants != 63 {
-            let out = 63 - client.grants;
+        if client.grants != MOST_GRANTS {
+            let out = MOST_GRANTS - client.grants;
             return Err((self, client, RegionFault::StillOut { out }));
         }
         let Ok(mut words) = Vec::with_capacity(alloc, self.size) else {
@@ -78,7 +82,7 @@ impl<L: Law, A: Allocator> Region<L, A> {
     ) -> Version
         requires own { client.table ≡ self.table }
         requires free_handed { IsFreeHanded client.value }
-        requires all { client.value.grants ≡ 63 }
+        requires all { client.value.grants ≡ MOST_GRANTS }
         requires room { (words.old.items ≡ []) × (self.size ≤ vec_capacity words.old) }
         ensures ends { Ends L.lawful self client.value words.new.items result }
         ensures fits { L.fits self.first }

@@ -7,10 +7,10 @@ use thiserror::Error;
 /// Why a region could not be opened, split, closed or renewed.
 #[derive(Clone, Copy, Debug, PartialEq, Eq, Error, Drop)]
 pub enum RegionFault {
-    /// A region has 1 to 4,194,304 data words.
+    /// A region has 1 to [`MOST_WORDS`](crate::MOST_WORDS) data words.
     #[error("the number of data words is not 1 to 4194304")]
     Size,
-    /// The last version is 1 to 2^62 - 1.
+    /// The last version is at least 1 and below [`VERSION_LIMIT`](crate::VERSION_LIMIT).
     #[error("the last version is not 1 to 2^62 - 1")]
     Last,
     /// There was no memory.
@@ -22,10 +22,10 @@ pub enum RegionFault {
     /// This many other clients are out.
     #[error("{out} other clients are out")]
     StillOut { out: u64 },
-    /// A region has 1 to 1,048,576 lock words.
+    /// A region has 1 to [`MOST_STRIPES`](crate::MOST_STRIPES) lock words.
     #[error("the number of lock words is not 1 to 1048576")]
     Stripes,
-    /// A region is renewed at most 65,535 times.
+    /// A region is renewed at most [`MOST_RENEWALS`](crate::MOST_RENEWALS) times.
     #[error("the region was renewed 65535 times")]
     Renewals,
 }

@@ -1,7 +1,23 @@
+//! Where the words of a region stand in its table: the clock, a gap, the lock words, a padding and
+//! the data words.
 ghost use Rattle.std.specs.Prelude.{◌≡◌, ◌+◌, ◌++◌, ◌≤◌, length, replicate, IfOk};
-ghost use Rattle.stm_region.specs.Layout.{padding};
+ghost use Rattle.stm_region.specs.Layout.{first_cell, padding};
 
+use crate::limits::{MOST_STRIPES, MOST_WORDS};
 use std::alloc::{AllocError, Allocator};
+
+/// The place of the clock.
+pub(crate) const CLOCK: usize = 0;
+
+/// The place of the first lock word. Those before it leave the clock alone on its cache lines.
+pub(crate) const FIRST_LOCK: usize = 16;
+
+/// A cache line has so many words.
+pub(crate) const LINE_WORDS: usize = 8;
+
+/// The first data word stands so many places behind a multiple of a line. The usual allocator puts
+/// the table 16 bytes behind the start of a line, so that a line of data words begins there.
+pub(crate) const LINE_START: usize = 6;
 
 /// The words of a region at its opening: the clock and the lock words at 0, and the image.
 pub(crate) fn lay<A: Allocator>(
@@ -9,11 +25,11 @@ pub(crate) fn lay<A: Allocator>(
     image: &[u64],
     stripes: u32,
 ) -> Result<Vec<u64, A>, AllocError>
-    requires small { length image.now ≤ 4194304 }
-    requires few { stripes ≤ 1048576 }
-    ensures { IfOk result (λ v. v.items ≡ replicate (16 + stripes + padding stripes) 0 ++ image.now) }
+    requires small { length image.now ≤ MOST_WORDS }
+    requires few { stripes ≤ MOST_STRIPES }
+    ensures { IfOk result (λ v. v.items ≡ replicate (first_cell stripes) 0 ++ image.now) }
 {
-    let zeros = 16 + stripes as usize + padding(stripes);
+    let zeros = first_cell(stripes);
     let mut words = Vec::with_capacity(alloc, zeros + image.len())?;
     for _k in 0..zeros {
         words.push(0)?;
@@ -22,10 +38,19 @@ pub(crate) fn lay<A: Allocator>(
     Ok(words)
 }
 
-/// How many words stand between the lock words and the data words.
-pub(crate) fn padding(stripes: u32) -> usize
-    requires { stripes ≤ 1048576 }
+/// The place of the first data word.
+pub(crate) fn first_cell(stripes: u32) -> usize
+    requires { stripes ≤ MOST_STRIPES }
+    ensures { result ≡ first_cell stripes }
+{
+    FIRST_LOCK + stripes as usize + padding(stripes)
+}
+
+/// How many words stand between the lock words and the data words: the rest of a line, and so many
+/// more as the data words begin behind the next.
+fn padding(stripes: u32) -> usize
+    requires { stripes ≤ MOST_STRIPES }
     ensures { result ≡ padding stripes }
 {
-    13 - (stripes as usize + 7) % 8
+    LINE_START + (LINE_WORDS - 1) - (stripes as usize + (LINE_WORDS - 1)) % LINE_WORDS
 }

@@ -11,6 +11,7 @@ mod client;
 mod close;
 mod fault;
 mod lay;
+mod limits;
 mod opening;
 mod plays;
 mod region;
@@ -21,6 +22,7 @@ mod view;
 
 pub use client::Client;
 pub use fault::RegionFault;
+pub use limits::{MOST_GRANTS, MOST_RENEWALS, MOST_STRIPES, MOST_WORDS, VERSION_LIMIT};
 pub use region::Region;
 pub use renew::RenewFault;
 pub use rule::{gathering_keeps_all_grants, reads_are_of_one_version, records_are_serial};

@@ -1,19 +1,20 @@
 //! The region: its opening, and the splitting and gathering of its clients.
-ghost use Rattle.std.specs.Prelude.{◌≡◌, ◌+◌, ◌<◌, ◌≤◌, ◌^◌, length, IfOk, IfErr};
+ghost use Rattle.std.specs.Prelude.{◌≡◌, ◌+◌, ◌<◌, ◌≤◌, length, IfOk, IfErr};
 ghost use Rattle.stm_region.specs.declared.fault.RegionFault.TheVariants.{Clients};
 ghost use Rattle.std.specs.Prelude.{◌⊎◌};
 ghost use Rattle.stm_words.specs.Image.{In};
 ghost use Rattle.stm_core.specs.Client.{Record};
 ghost use Rattle.stm_core.specs.History.{Sub};
 ghost use Rattle.stm_core.specs.Core.{IsFreeHanded};
-ghost use Rattle.stm_core.specs.Event.{opener, giving, fresh};
-ghost use Rattle.stm_region.specs.Shown.{joined, opened_with, stripe_of};
+ghost use Rattle.stm_core.specs.Event.{opener};
+ghost use Rattle.stm_region.specs.Shown.{HasSplit, joined, opened_on, opened_with, stripe_of};
 ghost use Rattle.stm_region.specs.Layout.{first_cell};
 ghost use Rattle.stm_region.specs.Refused.{IsSize, IsLast, IsStripes, OpensNot};
 
 use crate::client::Client;
 use crate::fault::RegionFault;
-use crate::lay::{lay, padding};
+use crate::lay::{first_cell, lay};
+use crate::limits::{MOST_GRANTS, MOST_STRIPES, MOST_WORDS, VERSION_LIMIT};
 use crate::opening::{Opening, RegionRule};
 use crate::plays::{Gives, Takes};
 use crate::view::View;
@@ -22,9 +23,6 @@ use std::alloc::{Allocator, Global};
 use std::marker::Model;
 use std::snapshot::Snapshot;
 use stm_words::{Addr, Law};
-
-/// The place of the first lock word. Those before it leave the clock alone on its cache lines.
-pub(crate) const FIRST_LOCK: usize = 16;
 
 /// The shared words of a transactional memory. Contracts see which table it is, its size, and the
 /// image, the last version and the number of lock words that it was opened with.
@@ -40,12 +38,13 @@ pub struct Region<L: Law, A: Allocator = Global> {
 }
 
 impl<L: Law, A: Allocator> Model for Region<L, A> {
-    ghost use Rattle.stm_region.specs.Shown.{RegionShown};
+    ghost use Rattle.stm_region.specs.Shown.{RegionShown, region_of};
     ghost use Rattle.stm_region.specs.Layout.{IsLaid};
 
     ghost Value = { RegionShown };
 
-    ghost view = { λ r. record { table = r.table.shared.table_id; size = r.size; last = r.last; stripes = r.stripes; opening = r.table.shared.key.image; first = r.table.shared.key.first; renewal = r.table.shared.key.renewal; start = r.table.shared.key.start } };
+    ghost view = { λ r.
+        region_of r.table.shared.table_id r.size r.last r.stripes r.table.shared.key };
 
     ghost invariant = { λ r.
         IsLaid r.table.shared.table_id.words r.table.shared.table_id.slots r.table.shared.key
@@ -55,7 +54,8 @@ impl<L: Law, A: Allocator> Model for Region<L, A> {
 impl<L: Law, A: Allocator> Region<L, A> {
     pub(crate) fn into_table(self) -> Table<(), View, Opening<A>, RegionRule<L>, A>
         ensures table { result.shared.table_id ≡ self.table }
-        ensures counts { (result.shared.table_id.words ≡ first_cell self.stripes + self.size) × (result.shared.table_id.slots ≡ 0) }
+        ensures words { result.shared.table_id.words ≡ first_cell self.stripes + self.size }
+        ensures slots { result.shared.table_id.slots ≡ 0 }
         ensures key { result.shared.key ≡ opened_with self }
     {
         let Self {
@@ -93,18 +93,20 @@ impl<L: Law, A: Allocator + Copy> Region<L, A> {
         stripes: u32,
     ) -> Result<(Region<L, A>, Client<L>), RegionFault>
         requires { L.fits image.now }
-        ensures region { IfOk result (λ r. r.0 ≡ record { table = r.0.table; size = length image.now; last = last; stripes = stripes; opening = image.now; first = image.now; renewal = 0; start = opener }) }
+        ensures region { IfOk result (λ r.
+            r.0 ≡ opened_on r.0.table image.now last stripes) }
         ensures client { IfOk result (λ r. r.1 ≡ record { table = r.0.table; value = opener }) }
-        ensures ranges { IfOk result (λ r. IsSize (length image.now) × IsLast last × IsStripes stripes) }
+        ensures ranges { IfOk result (λ r.
+            IsSize (length image.now) × IsLast last × IsStripes stripes) }
         ensures refused { IfErr result (λ fault. OpensNot (length image.now) last stripes fault) }
     {
-        if image.is_empty() || image.len() > 4_194_304 {
+        if image.is_empty() || image.len() > MOST_WORDS {
             return Err(RegionFault::Size);
         }
-        if last == 0 || last >= 1 << 62 {
+        if last == 0 || last >= VERSION_LIMIT {
             return Err(RegionFault::Last);
         }
-        if stripes == 0 || stripes > 1_048_576 {
+        if stripes == 0 || stripes > MOST_STRIPES {
             return Err(RegionFault::Stripes);
         }
         let words = lay(alloc, image, stripes)?;
@@ -122,10 +124,10 @@ impl<L: Law, A: Allocator + Copy> Region<L, A> {
             size: image.len(),
             last,
             stripes,
-            cells: FIRST_LOCK + stripes as usize + padding(stripes),
+            cells: first_cell(stripes),
             renewal: 0,
         };
-        let client = Client::of_seat(seat, 63);
+        let client = Client::of_seat(seat, MOST_GRANTS);
         Ok((region, client))
     }
 }
@@ -143,7 +145,7 @@ impl<L: Law, A: Allocator> Region<L, A> {
     #[inline]
     pub fn last(&self) -> u64
         ensures value { result ≡ self.now.last }
-        ensures small { result < 2 ^ 62 }
+        ensures small { result < VERSION_LIMIT }
     {
         self.last
     }
@@ -167,8 +169,9 @@ impl<L: Law, A: Allocator> Region<L, A> {
     pub fn split(&self, client: &mut Client<L>) -> Result<Client<L>, RegionFault>
         requires own { client.old.table ≡ self.now.table }
         requires free_handed { IsFreeHanded client.old.value }
-        ensures ok { IfOk result (λ other. (0 < client.old.value.grants) × (client.new ≡ record client.old { value = giving client.old.value }) × (other ≡ record client.old { value = fresh client.old.value })) }
-        ensures refused { IfErr result (λ fault. (fault ≡ Clients) × (client.old.value.grants ≡ 0) × (client.new ≡ client.old)) }
+        ensures ok { IfOk result (λ other. HasSplit client.old client.new other) }
+        ensures refused { IfErr result (λ fault.
+            (fault ≡ Clients) × (client.old.value.grants ≡ 0) × (client.new ≡ client.old)) }
     {
         if client.grants == 0 {
             return Err(RegionFault::Clients);
@@ -182,13 +185,15 @@ impl<L: Law, A: Allocator> Region<L, A> {
     pub fn gather(&self, client: &mut Client<L>, other: Client<L>)
         requires own { (client.old.table ≡ self.now.table) × (other.table ≡ self.now.table) }
         requires free_handed { IsFreeHanded client.old.value × IsFreeHanded other.value }
-        ensures client { client.new ≡ record client.old { value = joined client.old.value other.value } }
+        ensures client { client.new
+            ≡ record client.old { value = joined client.old.value other.value } }
         ensures mine { Sub client.old.value.records client.new.value.records }
         ensures theirs { Sub other.value.records client.new.value.records }
-        ensures only { (r : Record) → In r client.new.value.records → In r client.old.value.records ⊎ In r other.value.records }
+        ensures only { (r : Record) → In r client.new.value.records →
+            In r client.old.value.records ⊎ In r other.value.records }
     {
         let (seat, grants) = other.into_parts();
         self.table.shared.join_seat::<Takes>(&mut client.seat, seat);
-        client.grants = (client.grants + grants + 1).min(63);
+        client.grants = (client.grants + grants + 1).min(MOST_GRANTS);
     }
 }

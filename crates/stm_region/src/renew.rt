@@ -7,17 +7,15 @@ ghost use Rattle.stm_region.specs.Renewed.{EndsSomewhere, NotRenewed};
 
 use crate::client::Client;
 use crate::fault::RegionFault;
-use crate::lay::{lay, padding};
+use crate::lay::{first_cell, lay};
+use crate::limits::{MOST_GRANTS, MOST_RENEWALS, VERSION_LIMIT};
 use crate::opening::Opening;
-use crate::region::{FIRST_LOCK, Region};
+use crate::region::Region;
 use atomic_table::Table;
 use boxcar::tag::{Names, Tag};
 use std::alloc::{Allocator, Global};
 use std::snapshot::Snapshot;
 use stm_words::{Law, Version};
-
-/// So many renewals a region may have.
-const MOST_RENEWALS: u32 = 65_535;
 
 /// Why a region was not renewed.
 #[derive(Drop)]
@@ -43,14 +41,14 @@ impl<L: Law, A: Allocator> Region<L, A> {
         ensures some { IfSome result (λ fault.
             RenewsNot self.now.renewal last client.now.value.grants fault) }
     {
-        if last == 0 || last >= 1 << 62 {
+        if last == 0 || last >= VERSION_LIMIT {
             return Some(RegionFault::Last);
         }
         if self.renewal >= MOST_RENEWALS {
             return Some(RegionFault::Renewals);
         }
-        if client.grants != 63 {
-            let out = 63 - client.grants;
+        if client.grants != MOST_GRANTS {
+            let out = MOST_GRANTS - client.grants;
             return Some(RegionFault::StillOut { out });
         }
         None
@@ -112,9 +110,9 @@ impl<L: Law, A: Allocator + Copy> Region<L, A> {
             size: words.len(),
             last,
             stripes,
-            cells: FIRST_LOCK + stripes as usize + padding(stripes),
+            cells: first_cell(stripes),
             renewal,
         };
-        Ok((region, Client::of_seat(seat, 63)))
+        Ok((region, Client::of_seat(seat, MOST_GRANTS)))
     }
 }

@@ -3,14 +3,15 @@ ghost use Rattle.std.specs.Prelude.{◌≡◌, ◌≢◌, ℕ, ◌+◌, ◌*◌,
 ghost use Rattle.stm_core.specs.Client.{word_before, decided};
 ghost use Rattle.stm_core.specs.Event.{begin as begins, probe as probes, fetch as fetches, check as checks, lock as locks, tick as ticks, validate as validates, put as puts, release as releases, give_back as gives_back, finish as finishes};
 ghost use Rattle.stm_logs.specs.Log.{log_pairs};
-ghost use Rattle.stm_region.specs.Shown.{IsAllowed, acted};
+ghost use Rattle.stm_region.specs.Shown.{Exchanged, IsAllowed, acted};
 ghost use Rattle.stm_region.specs.Told.{IsLockWord, IsLoneOpen, StandsOn, AreEarlier, Decides};
 ghost use Rattle.std.specs.Prelude.{◌⊎◌};
 ghost use Rattle.stm_core.specs.Client.{version_of, IsFree};
 ghost use Rattle.stm_core.specs.Event.{Holds};
 
 use crate::client::Client;
-use crate::region::{FIRST_LOCK, Region};
+use crate::lay::{CLOCK, FIRST_LOCK};
+use crate::region::Region;
 use std::alloc::Allocator;
 use std::marker::Brand;
 use stm_logs::WriteLog;
@@ -28,7 +29,7 @@ impl<L: Law, A: Allocator> Region<L, A> {
         ensures stands { StandsOn L.fits self.now.size [] }
         ensures earlier { AreEarlier self.now.renewal result client.old.value.records }
     {
-        let found = self.load_as::<Brand>(&mut client.seat, 0, 0);
+        let found = self.load_as::<Brand>(&mut client.seat, CLOCK, 0);
         client.version = 0;
         let Some(version) = Version::new(found) else {
             unreachable!()
@@ -43,7 +44,9 @@ impl<L: Law, A: Allocator> Region<L, A> {
         requires allowed { IsAllowed L.lawful self.now (probes lock) client.old }
         ensures client { client.new ≡ acted self.now (probes lock) result client.old }
         ensures word { IsLockWord self.now.last result }
-        ensures lone { IsLoneOpen client.old.value → (IsFree result ⊎ Holds client.old.value.held lock) × (version_of result ≤ client.old.value.rv) }
+        ensures lone { IsLoneOpen client.old.value →
+            (IsFree result ⊎ Holds client.old.value.held lock)
+            × (version_of result ≤ client.old.value.rv) }
     {
         let found = self.load_as::<Brand>(&mut client.seat, FIRST_LOCK + lock as usize, lock);
         client.probed = found;
@@ -81,8 +84,11 @@ impl<L: Law, A: Allocator> Region<L, A> {
     pub fn lock(&self, client: &mut Client<L>, lock: u32) -> Result<(), u64>
         requires own { client.old.table ≡ self.now.table }
         requires allowed { IsAllowed L.lawful self.now (locks lock) client.old }
-        ensures client { MatchResult result (λ _. client.new ≡ acted self.now (locks lock) (word_before client.old.value.last) client.old) (λ found. (found ≢ word_before client.old.value.last) × (client.new ≡ acted self.now (locks lock) found client.old)) }
-        ensures word { MatchResult result (λ _. IsLockWord self.now.last (word_before client.old.value.last)) (λ found. IsLockWord self.now.last found) }
+        ensures client { Exchanged self.now (locks lock) (word_before client.old.value.last) result
+            client.old client.new }
+        ensures word { MatchResult result
+            (λ _. IsLockWord self.now.last (word_before client.old.value.last))
+            (λ found. IsLockWord self.now.last found) }
         ensures lone { IfErr result (λ _. IsLoneOpen client.old.value → ⊥) }
     {
         let word = client.probed;
@@ -108,12 +114,18 @@ impl<L: Law, A: Allocator> Region<L, A> {
         writes: &WriteLog<B>,
     ) -> Result<(), u64>
         requires own { client.old.table ≡ self.now.table }
-        requires allowed { IsAllowed L.lawful self.now (ticks from (T.numbers tag.now) (log_pairs writes.now)) client.old }
-        ensures client { MatchResult result (λ _. client.new ≡ acted self.now (ticks from (T.numbers tag.now) (log_pairs writes.now)) from client.old) (λ found. (found ≢ from) × (client.new ≡ acted self.now (ticks from (T.numbers tag.now) (log_pairs writes.now)) found client.old)) }
-        ensures version { MatchResult result (λ _. from + 1 ≤ self.now.last) (λ found. found ≤ self.now.last) }
-        ensures lone { IsLoneOpen client.old.value → IsOk result × (decided client.new.value ≡ true) }
+        requires allowed { IsAllowed L.lawful self.now
+            (ticks from (T.numbers tag.now) (log_pairs writes.now)) client.old }
+        ensures client { Exchanged self.now
+            (ticks from (T.numbers tag.now) (log_pairs writes.now)) from result
+            client.old client.new }
+        ensures version { MatchResult result (λ _. from + 1 ≤ self.now.last)
+            (λ found. found ≤ self.now.last) }
+        ensures lone { IsLoneOpen client.old.value →
+            IsOk result × (decided client.new.value ≡ true) }
         ensures later { 0 < client.new.value.wv → client.new.value.rv < client.new.value.wv }
-        ensures decides { decided client.new.value ≡ true → Decides L.fits L.lawful self.now client.new.value }
+        ensures decides { decided client.new.value ≡ true →
+            Decides L.fits L.lawful self.now client.new.value }
     {
         prove!(from < self.last);
         let found = self.tick_as::<Brand, T, B>(&mut client.seat, from, tag, writes);
@@ -132,7 +144,8 @@ impl<L: Law, A: Allocator> Region<L, A> {
         requires allowed { IsAllowed L.lawful self.now (validates lock) client.old }
         ensures client { client.new ≡ acted self.now (validates lock) result client.old }
         ensures word { IsLockWord self.now.last result }
-        ensures decides { decided client.new.value ≡ true → Decides L.fits L.lawful self.now client.new.value }
+        ensures decides { decided client.new.value ≡ true →
+            Decides L.fits L.lawful self.now client.new.value }
     {
         prove!(lock < self.stripes);
         self.load_as::<Brand>(&mut client.seat, FIRST_LOCK + lock as usize, lock)
@@ -183,7 +196,8 @@ impl<L: Law, A: Allocator> Region<L, A> {
     pub fn finish<T: Tag>(&self, client: &mut Client<L>, tag: &T)
         requires own { client.old.table ≡ self.now.table }
         requires allowed { IsAllowed L.lawful self.now (finishes (T.numbers tag.now)) client.old }
-        ensures client { (found : ℕ) × (client.new ≡ acted self.now (finishes (T.numbers tag.now)) found client.old) }
+        ensures client { (found : ℕ)
+            × (client.new ≡ acted self.now (finishes (T.numbers tag.now)) found client.old) }
         ensures decides { Decides L.fits L.lawful self.now client.new.value }
     {
         self.finish_as::<Brand, T>(&mut client.seat, tag);

@@ -174,11 +174,15 @@ fn two_threads_write_one_memory(rt: HostRuntime) -> Result<(), Fail> {
     let (first, second) = thread::join(
         &rt,
         move || -> Result<Client<FreeLaw>, AllocError>
-            requires { (client.table ≡ shared.now.table) × IsFreeHanded client.value × (5 < shared.now.size) }
+            requires own { client.table ≡ shared.now.table }
+            requires free { IsFreeHanded client.value }
+            requires range { 5 < shared.now.size }
             ensures { IfOk result (λ c. (c.table ≡ shared.entry.now.table) × IsFreeHanded c.value) }
         { write_until_done(alloc, shared, client, Addr(5), 50) },
         move || -> Result<Client<FreeLaw>, AllocError>
-            requires { (other.table ≡ shared.now.table) × IsFreeHanded other.value × (1 < shared.now.size) }
+            requires own { other.table ≡ shared.now.table }
+            requires free { IsFreeHanded other.value }
+            requires range { 1 < shared.now.size }
             ensures { IfOk result (λ c. (c.table ≡ shared.entry.now.table) × IsFreeHanded c.value) }
         { write_until_done(alloc, shared, other, Addr(1), 10) },
     );
