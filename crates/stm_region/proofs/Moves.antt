@@ -20,10 +20,11 @@ use Rattle.stm_core.proofs.Lones.{at_map, goes_on}
 use Rattle.stm_core.proofs.Renewals.{step_rules}
 use Rattle.stm_core.proofs.Renewing.{split_rules, gather_rules}
 use Rattle.stm_core.proofs.Whole.{whole_shared, opening_fits}
-use Rattle.stm_core.proofs.Facts.{some_fits, grants_of_two}
+use Rattle.stm_core.proofs.Histories.{image_fits}
+use Rattle.stm_core.proofs.Facts.{some_fits, grants_of_two, ahead, all_lawful, one_version}
 use Rattle.stm_region.specs.Shown.{Opened, RegionShown, joined, opened_with, bounds, unplaced, stripe_of}
 use Rattle.stm_region.specs.Layout.{place, first_cell, InRange, IsLaid, IsStore}
-use Rattle.stm_region.specs.Told.{IsLockWord, IsVersion, StandsOn, Decides, Told, acting, IsEarlier, AreEarlier}
+use Rattle.stm_region.specs.Told.{IsLockWord, IsVersion, StandsOn, IsOfOneVersion, Decides, Told, acting, IsEarlier, AreEarlier}
 use Rattle.stm_region.specs.Rule.{Holds}
 use Rattle.stm_region.proofs.Places.{Stays, stays, found_there, left_there, in_table}
 
@@ -131,6 +132,25 @@ module _ (fits : List ℕ → Type 0) (lawful : List ℕ → List (ℕ × ℕ) �
       let k : fits c.opening = opening_fits lawful lk c h fits law (subst fits (sym m.first) f) in
       subst (λ n. StandsOn fits n v.reads) (ap length m.opening ∙ z) (stands_on c.opening v.reads (some_fits lawful lk (now c) h.inv fits law k i (shed c.renewal v) (at_map (shed c.renewal) c.clients i v at)))
 
+  -- the image of the read version fits, and agrees with what was read
+  version_of_reads : (c : Core) → Matches o c → length r.opening ≡ r.size → fits r.first → Rule lawful lk c → (i : ℕ) (v : Client) → get_elem? c.clients i ≡ some v → IsOfOneVersion fits lawful r v
+  version_of_reads c m z f h i v at =
+      let k : fits c.opening = opening_fits lawful lk c h fits law (subst fits (sym m.first) f) in
+      let all = all_records (now c).clients in record {
+        core = c;
+        rule = h;
+        first = m.first;
+        renewal = m.renewal;
+        opening = m.opening;
+        last = m.last;
+        locks = m.locks;
+        cells = h.inv.size ∙ (ap length m.opening ∙ z);
+        number = i;
+        member = at;
+        fitting = image_fits c.opening h.inv.story fits lawful law all c.opening 0 v.rv (ahead lawful lk (now c) h.inv) (all_lawful lawful lk (now c) h.inv) k;
+        agrees = one_version lawful lk (now c) h.inv i (shed c.renewal v) (at_map (shed c.renewal) c.clients i v at);
+      }
+
   lock_word : (c : Core) → Matches o c → r.last < 2 ^ 62 → Rule lawful lk c → (k : ℕ) → IsLockWord r.last (slice_index c.locks k)
   lock_word c m top inv k =
       let h = inv.inv.version.versions k in
@@ -154,7 +174,7 @@ module _ (fits : List ℕ → Type 0) (lawful : List ℕ → List (ℕ × ℕ) �
   told_of c d m m' z top f h h' i v begin was at may = (clock c m top h, (h.inv.version.sound i (shed c.renewal v) (at_map (shed c.renewal) c.clients i v was)).floor, opening_stands c m z f h, subst (λ n. AreEarlier n c.clock v.records) m.renewal (earlier lawful lk c h i v was))
   told_of c d m m' z top f h h' i v (probe k) was at may = (lock_word c m top h k, λ y. (goes_on lawful lk c h.inv h.lone i v was y.0 y.1).probes k)
   told_of c d m m' z top f h h' i v (fetch a) was at may = tt
-  told_of c d m m' z top f h h' i v (check a) was at may = (lock_word c m top h (lk a), stands_of d m' z f h' i (after (unplaced r.renewal) lk (check a) (found lk c (check a)) v) at, λ y. (goes_on lawful lk c h.inv h.lone i v was y.0 y.1).checks a may)
+  told_of c d m m' z top f h h' i v (check a) was at may = (lock_word c m top h (lk a), stands_of d m' z f h' i (after (unplaced r.renewal) lk (check a) (found lk c (check a)) v) at, (λ y. (goes_on lawful lk c h.inv h.lone i v was y.0 y.1).checks a may), version_of_reads d m' z f h' i (after (unplaced r.renewal) lk (check a) (found lk c (check a)) v) at)
   told_of c d m m' z top f h h' i v (lock k) was at may = (lock_word c m top h k, λ y. (goes_on lawful lk c h.inv h.lone i v was y.0 y.1).locks k may)
   told_of c d m m' z top f h h' i v (tick from tag writes) was at may =
       let w = after (unplaced r.renewal) lk (tick from tag writes) c.clock v in

@@ -6,9 +6,9 @@ use lib.ListN.{get_elem?}
 use Rattle.stm_words.specs.Image.{In, Agrees}
 use Rattle.stm_core.specs.Client.{Client, Record, decided, version_of, IsFree, word_before}
 use Rattle.stm_core.specs.Core.{Core}
-use Rattle.stm_core.specs.Invariant.{Rule}
+use Rattle.stm_core.specs.Invariant.{Rule, now}
 use Rattle.stm_core.specs.Event.{Action, begin, probe, fetch, check, lock, tick, validate, put, release, give_back, finish, Holds}
-use Rattle.stm_core.specs.History.{Serial, Sub, all_records}
+use Rattle.stm_core.specs.History.{Serial, Sub, all_records, image_at}
 use Rattle.stm_region.specs.Shown.{RegionShown, value_after, stripe_of}
 use Rattle.stm_region.specs.declared.limits.TheConstants.{VERSION_LIMIT}
 
@@ -37,6 +37,26 @@ pub record StandsOn (fits : List ℕ → Type 0) (size : ℕ) (reads : List (ℕ
   pub length_is : length image ≡ size
   pub fitting : fits image
   pub agrees : Agrees image reads
+
+-- what the client has read is of one version: the image of its read version, in the region's core
+-- state right after the step, fits and agrees with its reads
+pub record IsOfOneVersion (fits : List ℕ → Type 0)
+    (lawful : List ℕ → List (ℕ × ℕ) → List (ℕ × ℕ) → Type 0) (region : RegionShown) (v : Client)
+    : Type 0 where
+  -- the core state is this region's
+  pub core : Core
+  pub rule : Rule lawful (stripe_of region.stripes) core
+  pub first : core.first ≡ region.first
+  pub renewal : core.renewal ≡ region.renewal
+  pub opening : core.opening ≡ region.opening
+  pub last : core.last ≡ region.last
+  pub locks : length core.locks ≡ region.stripes
+  pub cells : length core.cells ≡ region.size
+  -- this client has this value in it
+  pub number : ℕ
+  pub member : get_elem? core.clients number ≡ some v
+  pub fitting : fits (image_at core.opening v.rv (all_records (now core).clients))
+  pub agrees : Agrees (image_at core.opening v.rv (all_records (now core).clients)) v.reads
 
 -- the records of all clients, this one's with its newest among them, each of its own once and in
 -- its order, are lawful and serial from the first opening image
@@ -91,7 +111,7 @@ module _ (fits : List ℕ → Type 0) (lawful : List ℕ → List (ℕ × ℕ) �
   Told (fetch a) n v w = Unit {0}
   Told (check a) n v w =
       IsLockWord r.last n × StandsOn fits r.size w.reads
-      × (IsLoneOpen v → LoneTold (check a) n v w)
+      × (IsLoneOpen v → LoneTold (check a) n v w) × IsOfOneVersion fits lawful r w
   Told (lock k) n v w = IsLockWord r.last n × (IsLoneOpen v → LoneTold (lock k) n v w)
   Told (tick from tag writes) n v w =
       IsVersion r.last n × (0 < w.wv → w.rv < w.wv)

@@ -4,7 +4,7 @@ ghost use Rattle.stm_core.specs.Client.{word_before, decided};
 ghost use Rattle.stm_core.specs.Event.{begin as begins, probe as probes, fetch as fetches, check as checks, lock as locks, tick as ticks, validate as validates, put as puts, release as releases, give_back as gives_back, finish as finishes};
 ghost use Rattle.stm_logs.specs.Log.{log_pairs};
 ghost use Rattle.stm_region.specs.Shown.{Exchanged, IsAllowed, acted};
-ghost use Rattle.stm_region.specs.Told.{IsLockWord, IsLoneOpen, StandsOn, AreEarlier, Decides};
+ghost use Rattle.stm_region.specs.Told.{IsLockWord, IsLoneOpen, StandsOn, IsOfOneVersion, AreEarlier, Decides};
 ghost use Rattle.std.specs.Prelude.{◌⊎◌};
 ghost use Rattle.stm_core.specs.Client.{version_of, IsFree};
 ghost use Rattle.stm_core.specs.Event.{Holds};
@@ -73,6 +73,7 @@ impl<L: Law, A: Allocator> Region<L, A> {
         ensures word { IsLockWord self.now.last result }
         ensures stands { StandsOn L.fits self.now.size client.new.value.reads }
         ensures lone { IsLoneOpen client.old.value → result ≡ word_before client.old.value.last }
+        ensures version { IsOfOneVersion L.fits L.lawful self.now client.new.value }
     {
         let lock = self.lock_of(addr);
         self.load_as::<Brand>(&mut client.seat, FIRST_LOCK + lock as usize, addr.0)
