@@ -37,16 +37,17 @@ pub record Holds {S : Type 0} (fits : List ℕ → Type 0)
   pub bounded : o.last < VERSION_LIMIT
   pub some : 0 < o.stripes
 
--- it is so of each region and each state of its table between any two steps of any threads
+-- P holds of what a region was opened with and its table's state, between any two steps of any
+-- threads
 abbrev pub Always : (List ℕ → Type 0) → (List ℕ → List (ℕ × ℕ) → List (ℕ × ℕ) → Type 0) →
     (Opened → State (Unit {0}) Client → Type 0) → Type 0
 Always fits lawful P = (o : Opened) (s : State (Unit {0}) Client) → Holds fits lawful o s → P o s
 
--- it is so of each client's value
+-- P holds of each client's value
 abbrev pub OfEach : State (Unit {0}) Client → (Client → Type 0) → Type 0
 OfEach s P = (i : ℕ) (v : Client) → get_elem? s.views i ≡ some v → P v
 
--- it is so of each two values of different clients
+-- P holds of the values of each two clients
 abbrev pub OfEachTwo : State (Unit {0}) Client → (Client → Client → Type 0) → Type 0
 OfEachTwo s P = (i j : ℕ) (v w : Client) → i ≢ j → get_elem? s.views i ≡ some v
     → get_elem? s.views j ≡ some w → P v w

@@ -13,11 +13,11 @@ pub(crate) const CLOCK: usize = 0;
 pub(crate) const FIRST_LOCK: usize = 16;
 
 /// A cache line has so many words.
-pub(crate) const LINE_WORDS: usize = 8;
+const LINE_WORDS: usize = 8;
 
 /// The first data word stands so many places behind a multiple of a line. The usual allocator puts
 /// the table 16 bytes behind the start of a line, so that a line of data words begins there.
-pub(crate) const LINE_START: usize = 6;
+const LINE_START: usize = 6;
 
 /// The words of a region at its opening: the clock and the lock words at 0, and the image.
 pub(crate) fn lay<A: Allocator>(
