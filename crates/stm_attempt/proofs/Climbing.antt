@@ -6,8 +6,8 @@ use Rattle.stm_words.specs.LockWord.{free_word}
 use Rattle.stm_words.proofs.Paired.{in_later}
 use Rattle.stm_core.specs.Client.{Client, Step, probed, writes_to, IsFree, Stamp}
 use Rattle.stm_core.specs.Event.{probe, lock, after, May, Bounds, IsReading, HasFoundFree}
-use Rattle.stm_attempt.specs.Shown.{IsHeld}
-use Rattle.stm_attempt.specs.Committing.{IsAbove}
+use Rattle.stm_attempt.specs.Conflicts.{IsHeld}
+use Rattle.stm_attempt.specs.CommitParts.{IsAbove}
 
 pub not_mine : (held : List (ℕ × ℕ)) (k : ℕ) → ((j u : ℕ) → In (j, u) held → j < k) → writes_to held k ≡ false
 not_mine [] k above = refl

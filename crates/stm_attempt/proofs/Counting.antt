@@ -6,7 +6,7 @@ use Rattle.std.specs.List.{flat_map}
 use Rattle.stm_logs.specs.Log.{LogValue, log_pairs}
 use Rattle.stm_logs.proofs.TableLemmas.{both_bool, true_false}
 use Rattle.stm_logs.proofs.RisingLemmas.{Rising, In as Among}
-use Rattle.stm_attempt.specs.Running.{addresses, address_of}
+use Rattle.stm_attempt.specs.Begun.{addresses, address_of}
 
 -- the pairs of a log are as many as its words
 pub count_pairs : (w : LogValue) → length (log_pairs w) ≡ len w.words

@@ -11,10 +11,10 @@ use Rattle.stm_core.specs.Client.{Client}
 use Rattle.stm_logs.specs.Log.{LogValue, empty_log}
 use Rattle.stm_region.specs.Shown.{RegionShown, stripe_of}
 use Rattle.stm_region.specs.Told.{StandsOn}
-use Rattle.stm_attempt.specs.Running.{HasReadWord, IsPlaced, addresses}
-use Rattle.stm_attempt.specs.Shown.{IsReadConflict}
+use Rattle.stm_attempt.specs.Begun.{HasReadWord, IsPlaced, addresses}
+use Rattle.stm_attempt.specs.Conflicts.{IsReadConflict}
 use Rattle.stm_attempt.specs.declared.conflict.Conflict.{Conflict}
-use Rattle.stm_attempt.specs.Seen.{memory_of}
+use Rattle.stm_attempt.specs.Meaning.{memory_of}
 
 pub in_front : {A : Type 0} (x : A) (xs ys : List A) → In x xs → In x (xs ++ ys)
 in_front x [] ys (zero, e) = cc

@@ -8,7 +8,7 @@ use Rattle.stm_words.proofs.Paired.{agrees-map_of, laid-entries, length-laid}
 use Rattle.stm_core.specs.Client.{Client}
 use Rattle.stm_logs.specs.Log.{LogValue, empty_log, log_pairs}
 use Rattle.stm_region.specs.Shown.{RegionShown}
-use Rattle.stm_attempt.specs.Seen.{memory_of, Origin}
+use Rattle.stm_attempt.specs.Meaning.{memory_of, Origin}
 use Rattle.stm_attempt.specs.Leading.{Property, words_of, IsLocal, Carries, Leads, RecordsLead, ReadingsLead, IsFitting, KeepsFitting}
 use Rattle.stm_attempt.proofs.Parts.{no_pairs}
 

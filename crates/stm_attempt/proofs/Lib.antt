@@ -1,4 +1,5 @@
 pub mod Parity
+pub mod Named
 pub mod Entering
 pub mod Climbing
 pub mod Locks
@@ -8,8 +9,8 @@ pub mod Counting
 pub mod StoredPairs
 pub mod Ticks
 pub mod Writing
-pub mod Validating
-pub mod Looks
+pub mod ValidateAll
+pub mod ValidateOne
 pub mod Lone
 pub mod Parts
 pub mod Leading

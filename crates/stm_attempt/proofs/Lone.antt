@@ -3,8 +3,8 @@ use Rattle.std.proofs.Common.{◌≡◌, ◌⊎◌, inl, inr, ap, ℕ, ◌<◌, 
 use Rattle.stm_core.specs.Client.{Client, IsFree, is_committed}
 use Rattle.stm_core.specs.Event.{Holds, IsReading}
 use Rattle.stm_region.specs.Told.{IsLoneOpen}
-use Rattle.stm_attempt.specs.Shown.{IsHeld}
-use Rattle.stm_attempt.specs.Committing.{IsAbove}
+use Rattle.stm_attempt.specs.Conflicts.{IsHeld}
+use Rattle.stm_attempt.specs.CommitParts.{IsAbove}
 
 -- an attempt that reads is not decided
 pub open_reading : (v : Client) → v.lone ≡ true → IsReading v → IsLoneOpen v

@@ -3,7 +3,7 @@ use Rattle.std.proofs.Common.{◌≡◌, ◌⊎◌, inl, inr, ℕ, ◌*◌, ◌/
 use Rattle.std.proofs.lemmas.Bool.{cases_lt}
 use Rattle.stm_words.specs.LockWord.{free_word, held_word}
 use Rattle.stm_core.specs.Client.{IsFree}
-use Rattle.stm_attempt.specs.Shown.{IsHeld}
+use Rattle.stm_attempt.specs.Conflicts.{IsHeld}
 
 pub parity : (w : ℕ) → IsFree w ⊎ IsHeld w
 parity w = elim (cases_lt (2 * (w / 2)) w) [ inl odd ↦ inr (omega arith) | inr even ↦ inl (omega arith) ]

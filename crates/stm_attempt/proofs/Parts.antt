@@ -11,9 +11,11 @@ use Rattle.stm_logs.specs.Log.{LogValue, SameAddresses, log_pairs, log_locks}
 use Rattle.stm_logs.proofs.LockLemmas.{locks_few}
 use Rattle.stm_region.specs.Told.{StandsOn}
 use Rattle.stm_region.specs.Shown.{RegionShown, stripe_of, unplaced}
-use Rattle.stm_attempt.specs.Running.{addresses, IsBegun}
-use Rattle.stm_attempt.specs.Shown.{IsLockConflict, IsLookConflict, IsTickConflict, IsReadLock, IsCommitConflict}
-use Rattle.stm_attempt.specs.Committing.{unheld, returned, aside, apart, AreInside, is_at_once, writer_record, commit_record, IsCommitVersion, IsCommitStop, IsCounted, HasFailedLocking, HasFailedDeciding, HasTicked, HasLooked, IsDecided, HasSettled, HasCommitted, HasStopped}
+use Rattle.stm_attempt.specs.Begun.{addresses, IsBegun, AreInside}
+use Rattle.stm_attempt.specs.Conflicts.{IsLockConflict, IsValidateConflict, IsTickConflict, IsReadLock, IsCommitConflict}
+use Rattle.stm_attempt.specs.Committing.{settling, writer_record, commit_record, IsCommitVersion, IsCommitStop, IsCounted, HasCommitted, HasStopped}
+use Rattle.stm_attempt.specs.CommitParts.{IsReady, CanValidate, returned, is_at_once, HasFailedLocking, HasFailedDeciding, HasTicked, HasValidated, IsDecided, HasSettled}
+use Rattle.stm_attempt.proofs.Named.{apart, same_attempt, same_on}
 use Rattle.stm_attempt.specs.declared.conflict.Conflict.{Conflict}
 use Rattle.stm_attempt.specs.declared.conflict.Conflict.TheVariants.{Held, Newer, Moved, LostLock, LostTick}
 use Rattle.stm_attempt.specs.declared.conflict.Stop.{Stop}
@@ -27,9 +29,38 @@ inside_of fits size reads s = λ a x i. subst (λ (n : ℕ). a < n) s.length_is 
 pub inside_same : (size : ℕ) (reads reads' : List (ℕ × ℕ)) → reads' ≡ reads → AreInside size reads → AreInside size reads'
 inside_same size reads reads' e inside = λ a x i. inside a x (subst (λ (rs : List (ℕ × ℕ)). In (a, x) rs) e i)
 
+-- an attempt that took its locks may still commit
+pub still_ready : (region : RegionShown) (v l : Client) (rv : ℕ) → settling l ≡ settling v → IsReady region v rv → IsReady region l rv
+still_ready region v l rv e ready = record {
+  unspent = ap (λ (x : Client). x.spent) e ∙ ready.unspent;
+  reading = (ap (λ (x : Client). x.phase) e ∙ ready.reading.0, ap (λ (x : Client). x.wv) e ∙ ready.reading.1);
+  begun_at = ap (λ (x : Client). x.rv) e ∙ ready.begun_at;
+  known = ap (λ (x : Client). x.floor) e ∙ ready.known;
+  unticked = ap (λ (x : Client). x.ticks) e ∙ ready.unticked;
+  from = ap (λ (x : Client). x.next_from) e ∙ ready.from;
+  range = ready.range;
+  inside = inside_same region.size v.reads l.reads (ap (λ (x : Client). x.reads) e) ready.inside;
+}
+
 none_read : (reads : List (ℕ × ℕ)) → eqb (length (addresses reads)) 0 ≡ is_empty reads
 none_read [] = refl
 none_read (p ∷ ps) = ne_eqb (length (addresses (p ∷ ps))) 0 (λ e. absurd (omega arith))
+
+some_read : (v : Client) (version : ℕ) → is_at_once v version ≡ false → v.reads ≢ []
+some_read v version later none = let at_once : is_at_once v version ≡ true = rw none refl in cc
+
+-- a ticked attempt that is not decided may validate its reads
+pub may_validate : (region : RegionShown) (tag : List ℕ) (writes : List (ℕ × ℕ)) (v t : Client) (rv version : ℕ) → HasTicked region tag writes v t version → IsReady region v rv → 0 < version → is_at_once v version ≡ false → CanValidate region t rv
+may_validate region tag writes v t rv version ticked ready less later = record {
+  unspent = ticked.same.spent ∙ ready.unspent;
+  phase = ticked.phase ∙ ap (λ (b : Bool). cond b committed running) later;
+  versioned = omega (arith, less, ticked.versioned);
+  unvalidated = ticked.unvalidated;
+  unplaced = ticked.unplaced;
+  begun_at = ticked.same.rv ∙ ready.begun_at;
+  some = λ none. some_read v version later (sym ticked.same.reads ∙ none);
+  inside = inside_same region.size v.reads t.reads ticked.same.reads ready.inside;
+}
 
 -- the code's test is whether the tick decides
 pub once_is : (v : Client) (logged : List ℕ) (n rv version : ℕ) → n ≡ length logged → logged ≡ addresses v.reads → v.rv ≡ rv → (eqb n 0 || eqb version (rv + 1)) ≡ is_at_once v version
@@ -51,12 +82,12 @@ module _ (region : RegionShown) (tag : List ℕ) (writes : List (ℕ × ℕ)) (v
     steps = omega (arith, few);
   }
 
-  module _ (d : Client) (looked : HasLooked region t d) (not_once : is_at_once v version ≡ false) where
+  module _ (d : Client) (validated : HasValidated region t d) (not_once : is_at_once v version ≡ false) where
     reads_same : t.reads ≡ v.reads
-    reads_same = ap (λ (x : Client). x.reads) ticked.same
+    reads_same = ticked.same.reads
 
     attempt_same : t.attempt ≡ v.attempt
-    attempt_same = ap (λ (x : Client). x.attempt) ticked.same
+    attempt_same = ticked.same.attempt
 
     old_records : t.records ≡ v.records
     old_records = ticked.records ∙ ap (λ (b : Bool). cond b (inserted (writer_record region tag v writes version) v.records) v.records) not_once
@@ -64,17 +95,17 @@ module _ (region : RegionShown) (tag : List ℕ) (writes : List (ℕ × ℕ)) (v
     same_record : writer_record region t.tag t t.writes t.wv ≡ writer_record region tag v writes version
     same_record = rw (ticked.tagged, ticked.writing, ticked.versioned, reads_same, attempt_same) refl
 
-    pub decided_after_looks : IsDecided region tag writes v d version
-    decided_after_looks = record {
-      same = looked.same ∙ ticked.same;
-      held = looked.held ∙ ticked.held;
-      writing = looked.writing ∙ ticked.writing;
-      known = looked.known ∙ ticked.known;
-      unstored = looked.unstored;
-      phase = looked.phase;
-      records = looked.records ∙ ap (λ (r : Record). inserted r t.records) same_record ∙ ap (inserted (writer_record region tag v writes version)) old_records;
+    pub decided_after_validation : IsDecided region tag writes v d version
+    decided_after_validation = record {
+      same = same_on v t d ticked.same validated.same;
+      held = validated.held ∙ ticked.held;
+      writing = validated.writing ∙ ticked.writing;
+      known = validated.known ∙ ticked.known;
+      unstored = validated.unstored;
+      phase = validated.phase;
+      records = validated.records ∙ ap (λ (r : Record). inserted r t.records) same_record ∙ ap (inserted (writer_record region tag v writes version)) old_records;
       later = later;
-      steps = let n : length t.reads ≡ length v.reads = ap length reads_same in omega (arith, few, looked.steps, n);
+      steps = let n : length t.reads ≡ length v.reads = ap length reads_same in omega (arith, few, validated.steps, n);
     }
 
 no_length : {A : Type 0} (xs : List A) → length xs ≡ 0 → xs ≡ []
@@ -127,7 +158,7 @@ short (suc n) [] = omega arith
 short (suc n) (x ∷ xs) = let l = short n xs in omega (arith, l)
 
 -- the first of the parts left the client as it was but for its locks
-module _ (region : RegionShown) (tag : List ℕ) (writes : List (ℕ × ℕ)) (v l d e : Client) (version : ℕ) (locked : unheld l ≡ unheld v) (decided : IsDecided region tag writes l d version) (settled : HasSettled d e) (some : writes ≢ []) where
+module _ (region : RegionShown) (tag : List ℕ) (writes : List (ℕ × ℕ)) (v l d e : Client) (version : ℕ) (locked : settling l ≡ settling v) (decided : IsDecided region tag writes l d version) (settled : HasSettled d e) (some : writes ≢ []) where
   record_same : writer_record region tag l writes version ≡ commit_record region tag v writes version
   record_same =
       let reads : l.reads ≡ v.reads = ap (λ (x : Client). x.reads) locked in
@@ -141,7 +172,7 @@ module _ (region : RegionShown) (tag : List ℕ) (writes : List (ℕ × ℕ)) (v
     versioned = version_of_writer v writes version some (subst (λ (n : ℕ). n < version) (ap (λ (x : Client). x.rv) locked) decided.later);
     known = ap (λ (x : Client). x.floor) settled.same ∙ decided.known;
     free = settled.free;
-    same = ap apart settled.same ∙ decided.same ∙ ap apart locked;
+    same = same_on v l e (same_attempt v l (ap apart locked)) (same_on l d e decided.same (same_attempt d e (ap apart settled.same)));
   }
 
   module _ (w : LogValue) (taken : ℕ) (pairs : writes ≡ log_pairs w) (addressed : SameAddresses w) (holds : addresses l.held ≡ take taken (log_locks w)) (all : taken ≡ length (log_locks w)) (stepped : l.steps ≡ v.steps + 2 * taken) where
@@ -161,12 +192,12 @@ lock_kept k (Moved lock first second) l g e i = absurd i
 lock_kept k (LostLock lock found) l g e i = subst (λ (x : Client). IsLockConflict k (LostLock lock found) x) (sym e) i
 lock_kept k (LostTick found) l g e i = absurd i
 
-look_kept : (k : ℕ) (c : Conflict) (l g : Client) → returned g ≡ returned l → IsLookConflict k c l → IsLookConflict k c g
-look_kept k (Held lock word) l g e i = subst (λ (x : Client). IsLookConflict k (Held lock word) x) (sym e) i
-look_kept k (Newer lock version rv) l g e i = subst (λ (x : Client). IsLookConflict k (Newer lock version rv) x) (sym e) i
-look_kept k (Moved lock first second) l g e i = absurd i
-look_kept k (LostLock lock found) l g e i = absurd i
-look_kept k (LostTick found) l g e i = absurd i
+validate_kept : (k : ℕ) (c : Conflict) (l g : Client) → returned g ≡ returned l → IsValidateConflict k c l → IsValidateConflict k c g
+validate_kept k (Held lock word) l g e i = subst (λ (x : Client). IsValidateConflict k (Held lock word) x) (sym e) i
+validate_kept k (Newer lock version rv) l g e i = subst (λ (x : Client). IsValidateConflict k (Newer lock version rv) x) (sym e) i
+validate_kept k (Moved lock first second) l g e i = absurd i
+validate_kept k (LostLock lock found) l g e i = absurd i
+validate_kept k (LostTick found) l g e i = absurd i
 
 tick_kept : (c : Conflict) (l g : Client) → returned g ≡ returned l → IsTickConflict c l → IsTickConflict c g
 tick_kept (Held lock word) l g e i = absurd i
@@ -177,7 +208,7 @@ tick_kept (LostTick found) l g e i = subst (λ (x : Client). IsTickConflict (Los
 
 conflict_kept : (lk : ℕ → ℕ) (log : LogValue) (c : Conflict) (l g : Client) → returned g ≡ returned l → IsCommitConflict lk log c l → IsCommitConflict lk log c g
 conflict_kept lk log c l g e (inl (k, own, i)) = inl (k, own, lock_kept k c l g e i)
-conflict_kept lk log c l g e (inr (inl (k, own, i))) = inr (inl (k, subst (λ (x : Client). IsReadLock lk x.reads k) (sym e) own, look_kept k c l g e i))
+conflict_kept lk log c l g e (inr (inl (k, own, i))) = inr (inl (k, subst (λ (x : Client). IsReadLock lk x.reads k) (sym e) own, validate_kept k c l g e i))
 conflict_kept lk log c l g e (inr (inr i)) = inr (inr (tick_kept c l g e i))
 
 stop_kept : (region : RegionShown) (log : LogValue) (stop : Stop) (l g : Client) → returned g ≡ returned l → IsCommitStop region log stop l → IsCommitStop region log stop g
@@ -200,18 +231,20 @@ module _ (region : RegionShown) (log : LogValue) (v l : Client) (some : log_pair
     counted = tt;
     free = free;
     floor = let a : g.floor ≡ l.floor = ap (λ (x : Client). x.floor) back in omega (arith, a, failed.floor);
-    same = ap aside back ∙ failed.same;
+    same = same_on v l g failed.same (same_attempt l g (ap apart back));
+    records = ap (λ (x : Client). x.records) back ∙ failed.records;
   }
 
   -- the attempt was not decided, and all locks were given back
-  pub stopped_deciding : (stop : Stop) (f g : Client) → unheld l ≡ unheld v → l.steps ≡ v.steps + 2 * length (log_locks log) → HasFailedDeciding region log stop l f → returned g ≡ returned f → g.steps ≡ f.steps + length (log_locks log) → g.held ≡ [] → HasStopped region log stop v g
+  pub stopped_deciding : (stop : Stop) (f g : Client) → settling l ≡ settling v → l.steps ≡ v.steps + 2 * length (log_locks log) → HasFailedDeciding region log stop l f → returned g ≡ returned f → g.steps ≡ f.steps + length (log_locks log) → g.held ≡ [] → HasStopped region log stop v g
   stopped_deciding stop f g locked up failed back down free = record {
     written = some;
     shown = stop_kept region log stop f g back failed.shown;
     counted = counted_kept stop (length (log_locks log)) v l f g up back down failed.counted;
     free = free;
     floor = let a : g.floor ≡ f.floor = ap (λ (x : Client). x.floor) back in let b : l.floor ≡ v.floor = ap (λ (x : Client). x.floor) locked in omega (arith, a, b, failed.floor);
-    same = ap aside back ∙ failed.same ∙ ap aside locked;
+    same = same_on v l g (same_attempt v l (ap apart locked)) (same_on l f g failed.same (same_attempt f g (ap apart back)));
+    records = ap (λ (x : Client). x.records) back ∙ failed.records ∙ ap (λ (x : Client). x.records) locked;
   }
 
 -- an attempt that wrote nothing is finished as a reader
@@ -221,6 +254,6 @@ has_finished region tag [] v e rv found none begun is = record {
   versioned = sym begun.begun_at;
   known = ap (λ (x : Client). x.floor) is ∙ begun.known;
   free = ap (λ (x : Client). x.held) is ∙ begun.free;
-  same = ap apart is;
+  same = same_attempt v e (ap apart is);
 }
 has_finished region tag (p ∷ ps) v e rv found none begun is = cc

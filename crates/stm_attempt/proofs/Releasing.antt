@@ -7,8 +7,9 @@ use Rattle.stm_core.specs.Client.{Client, Stamp, without, writes_to, committed}
 use Rattle.stm_core.specs.Event.{release, after, May, Bounds, Holds}
 use Rattle.stm_logs.specs.Log.{LogValue, log_locks}
 use Rattle.stm_logs.proofs.RisingLemmas.{Rising, In as Among}
-use Rattle.stm_attempt.specs.Running.{addresses}
-use Rattle.stm_attempt.specs.Committing.{unreleasing, IsAllStored}
+use Rattle.stm_attempt.specs.Begun.{addresses}
+use Rattle.stm_attempt.specs.Committing.{settling}
+use Rattle.stm_attempt.specs.CommitParts.{IsAllStored}
 use Rattle.stm_logs.proofs.LockLemmas.{locks_rise, locks_in}
 use Rattle.stm_attempt.proofs.Locks.{rising_behind, gives_first, among_middle}
 
@@ -16,7 +17,8 @@ use Rattle.stm_attempt.proofs.Locks.{rising_behind, gives_first, among_middle}
 pub record IsReleasing (v v' : Client) (rest all : List ℕ) : Type 0 where
   pub gone : List ℕ
   pub order : gone ++ rest ≡ all
-  pub same : unreleasing v' ≡ unreleasing v
+  pub same : settling v' ≡ settling v
+  pub stored : v'.stored ≡ v.stored
   pub held : addresses v'.held ≡ rest
   pub steps : v'.steps + length rest ≡ v.steps + length v.held
 
@@ -39,7 +41,7 @@ module _ (lawful : List ℕ → List (ℕ × ℕ) → List (ℕ × ℕ) → Type
   pub may_release : (v0.spent ≡ false) × (v0.phase ≡ committed) → IsAllStored v0 → May lawful lk b (release k) v
   may_release decided stored =
       let writes : v.writes ≡ v0.writes = ap (λ (x : Client). x.writes) releasing.same in
-      let kept : v.stored ≡ v0.stored = ap (λ (x : Client). x.stored) releasing.same in (
+      let kept : v.stored ≡ v0.stored = releasing.stored in (
         ap (λ (x : Client). x.spent) releasing.same ∙ decided.0,
         (
           ap (λ (x : Client). x.phase) releasing.same ∙ decided.1,
@@ -52,7 +54,8 @@ module _ (lawful : List ℕ → List (ℕ × ℕ) → List (ℕ × ℕ) → Type
   released_one v' e = record {
     gone = releasing.gone ++ k ∷ [];
     order = append_assoc releasing.gone (k ∷ []) rest ∙ order;
-    same = ap unreleasing e ∙ releasing.same;
+    same = ap settling e ∙ releasing.same;
+    stored = ap (λ (x : Client). x.stored) e ∙ releasing.stored;
     held = ap (λ (x : Client). addresses x.held) e ∙ first.1;
     steps =
         let s : v'.steps ≡ v.steps + 1 = ap (λ (x : Client). x.steps) e in

@@ -1,13 +1,12 @@
 -- Locks that are given back.
-use Rattle.std.proofs.Common.{◌≡◌, ◌≢◌, inr, sym, ap, subst, ◌∙◌, ℕ, suc, ◌+◌, ◌-◌, List, [], ◌∷◌, ◌++◌, append_assoc, length, take, arith}
-use Rattle.std.proofs.Common.{Some}
+use Rattle.std.proofs.Common.{◌≡◌, ◌≢◌, inr, sym, ap, subst, ◌∙◌, ℕ, suc, ◌+◌, ◌-◌, List, [], ◌∷◌, ◌++◌, append_assoc, length, take, arith, Some}
 use Rattle.std.specs.FinMap.{get}
 use Rattle.stm_core.specs.Client.{Client, Stamp, without}
 use Rattle.stm_core.specs.Event.{give_back, after, May, Bounds, Holds}
 use Rattle.stm_logs.specs.Log.{LogValue, log_locks}
 use Rattle.stm_logs.proofs.RisingLemmas.{Rising, In as Among}
-use Rattle.stm_attempt.specs.Running.{addresses}
-use Rattle.stm_attempt.specs.Committing.{returned, IsReturning}
+use Rattle.stm_attempt.specs.Begun.{addresses}
+use Rattle.stm_attempt.specs.CommitParts.{returned, IsReturning}
 use Rattle.stm_logs.proofs.LockLemmas.{locks_rise, locks_in}
 use Rattle.stm_attempt.proofs.Locks.{rising_behind, gives_first, among_middle}
 

@@ -15,8 +15,9 @@ use Rattle.stm_logs.specs.Log.{LogValue, log_pairs, log_locks, is_number, pairs_
 use Rattle.stm_logs.proofs.LockLemmas.{in_locks, locks_rise}
 use Rattle.stm_logs.proofs.RisingLemmas.{Rising, rising_entries, rising_map, rising_filter, filter_in, in_filter, in_get, get_in, in_map, map_in, In as Among}
 use Rattle.stm_region.specs.Shown.{RegionShown, stripe_of, bounds}
-use Rattle.stm_attempt.specs.Running.{addresses, address_of, IsPlaced}
-use Rattle.stm_attempt.specs.Committing.{unstoring, IsAllStored, HasStored}
+use Rattle.stm_attempt.specs.Begun.{addresses, address_of, IsPlaced}
+use Rattle.stm_attempt.specs.Committing.{settling}
+use Rattle.stm_attempt.specs.CommitParts.{IsAllStored, HasStored}
 use Rattle.stm_attempt.specs.StoredPairs.{IsUnstored, HasStoredPairs}
 use Rattle.stm_attempt.proofs.Locks.{among_held, rising_before, among_middle, among_front}
 use Rattle.stm_attempt.proofs.Counting.{count_shares, one_kept}
@@ -102,6 +103,7 @@ pub record IsStoring (v v' : Client) (pairs rest : List (ℕ × ℕ)) : Type 0 w
 has_more : (v u v' : Client) (xs ys : List (ℕ × ℕ)) → HasStoredPairs v u xs → HasStoredPairs u v' ys → HasStoredPairs v v' (xs ++ ys)
 has_more v u v' xs ys first next = record {
   same = next.same ∙ first.same;
+  held = next.held ∙ first.held;
   stored = next.stored ∙ ap (λ (zs : List ℕ). zs ++ addresses ys) first.stored ∙ append_assoc v.stored (addresses xs) (addresses ys) ∙ ap (λ (zs : List ℕ). v.stored ++ zs) (sym (map-append address_of xs ys));
   steps = omega (arith, first.steps, next.steps, length-append xs ys);
 }
@@ -126,7 +128,7 @@ module _ (lawful : List ℕ → List (ℕ × ℕ) → List (ℕ × ℕ) → Type
   may_put decided writes holds unstored =
       let got = pair_logged w lock a x here in
       let same_writes : log_pairs w ≡ v.writes = sym (ap (λ (c : Client). c.writes) storing.has.same ∙ writes) in
-      let same_held : v0.held ≡ v.held = sym (ap (λ (c : Client). c.held) storing.has.same) in
+      let same_held : v0.held ≡ v.held = sym (storing.has.held) in
       let held_here : Holds v.held lock = subst (λ (h : List (ℕ × ℕ)). Holds h lock) same_held holds in (
         ap (λ (c : Client). c.spent) storing.has.same ∙ decided.0,
         (
@@ -145,7 +147,8 @@ module _ (lawful : List ℕ → List (ℕ × ℕ) → List (ℕ × ℕ) → Type
     done = storing.done ++ (a, x) ∷ [];
     order = append_assoc storing.done ((a, x) ∷ []) rest ∙ order;
     has = has_more v0 v v' storing.done ((a, x) ∷ []) storing.has (record {
-      same = ap unstoring e;
+      same = ap settling e;
+      held = ap (λ (c : Client). c.held) e;
       stored = ap (λ (c : Client). c.stored) e;
       steps = ap (λ (c : Client). c.steps) e;
     });
@@ -163,7 +166,7 @@ module _ (w : LogValue) (v0 v : Client) (k : ℕ) (now rest : List ℕ) (storing
 
   pub next_held : addresses v0.held ≡ log_locks w → Holds v.held k
   next_held held =
-      let same_held : v0.held ≡ v.held = sym (ap (λ (c : Client). c.held) storing.has.same) in
+      let same_held : v0.held ≡ v.held = sym (storing.has.held) in
       subst (λ (h : List (ℕ × ℕ)). Holds h k) same_held (among_held v0.held k (subst (Among k) (all_order ∙ sym held) (among_middle storing.done k rest)))
 
   pub next_unstored : v0.stored ≡ [] → IsUnstored (pairs_of w k) v.stored
@@ -206,6 +209,7 @@ module _ (w : LogValue) (v0 v : Client) (now : List ℕ) (storing : IsStoringAll
   pub has_stored : HasStored v0 v
   has_stored = record {
     same = all_has.same;
+    held = all_has.held;
     every = all_stored;
     steps = all_has.steps ∙ ap (λ (n : ℕ). v0.steps + n) (pairs_counted w same_addresses ∙ ap length (sym writes));
   }

@@ -3,7 +3,9 @@ use Rattle.std.proofs.Common.{◌≡◌, ◌≢◌, refl, ap, ◌∙◌, ℕ, �
 use Rattle.stm_core.specs.Client.{Client, running, committed, nothing, ticked, inserted}
 use Rattle.stm_core.specs.Event.{tick, after, won, versioned, committed_by, stepping, IsReading}
 use Rattle.stm_region.specs.Shown.{RegionShown, stripe_of, unplaced}
-use Rattle.stm_attempt.specs.Committing.{HasTicked, apart, writer_record, is_at_once}
+use Rattle.stm_attempt.specs.Committing.{writer_record}
+use Rattle.stm_attempt.specs.CommitParts.{HasTicked, is_at_once}
+use Rattle.stm_attempt.proofs.Named.{apart, same_attempt}
 
 -- the client's value without what a lost tick changes
 abbrev pub unticked : Client → Client
@@ -25,27 +27,27 @@ module _ (region : RegionShown) (tag : List ℕ) (writes : List (ℕ × ℕ)) (v
   -- the same by whether it decides
   won_by : (d : Bool) (v' : Client) → v' ≡ record (stepping (ticked from from) (cond d (committed_by (unplaced region.renewal) with_version) with_version)) { ticks = w.ticks + 1; next_from = from } → d ≡ is_at_once v (from + 1) → HasTicked region tag writes v v' (from + 1)
   won_by true v' stepped at_once = record {
-    same = ap apart stepped ∙ ap apart ticking.same;
+    same = same_attempt v v' (ap apart stepped ∙ ap apart ticking.same);
     held = ap (λ (x : Client). x.held) stepped ∙ ap (λ (x : Client). x.held) ticking.same;
     versioned = ap (λ (x : Client). x.wv) stepped;
     tagged = ap (λ (x : Client). x.tag) stepped;
     writing = ap (λ (x : Client). x.writes) stepped;
     known = ap (λ (x : Client). x.floor) stepped;
     unstored = ap (λ (x : Client). x.stored) stepped;
-    unlooked = ap (λ (x : Client). x.passed) stepped;
+    unvalidated = ap (λ (x : Client). x.passed) stepped;
     unplaced = ap (λ (x : Client). x.ticked_at) stepped;
     phase = ap (λ (x : Client). x.phase) stepped ∙ ap (λ (t : Bool). cond t committed running) at_once;
     records = ap (λ (x : Client). x.records) stepped ∙ ap (λ (x : Client). inserted (writer_record region tag x writes (from + 1)) x.records) ticking.same ∙ ap (λ (t : Bool). cond t (inserted (writer_record region tag v writes (from + 1)) v.records) v.records) at_once;
   }
   won_by false v' stepped at_once = record {
-    same = ap apart stepped ∙ ap apart ticking.same;
+    same = same_attempt v v' (ap apart stepped ∙ ap apart ticking.same);
     held = ap (λ (x : Client). x.held) stepped ∙ ap (λ (x : Client). x.held) ticking.same;
     versioned = ap (λ (x : Client). x.wv) stepped;
     tagged = ap (λ (x : Client). x.tag) stepped;
     writing = ap (λ (x : Client). x.writes) stepped;
     known = ap (λ (x : Client). x.floor) stepped;
     unstored = ap (λ (x : Client). x.stored) stepped;
-    unlooked = ap (λ (x : Client). x.passed) stepped;
+    unvalidated = ap (λ (x : Client). x.passed) stepped;
     unplaced = ap (λ (x : Client). x.ticked_at) stepped;
     phase = ap (λ (x : Client). x.phase) stepped ∙ ap (λ (x : Client). x.phase) ticking.same ∙ reading.0 ∙ ap (λ (t : Bool). cond t committed running) at_once;
     records = ap (λ (x : Client). x.records) stepped ∙ ap (λ (x : Client). x.records) ticking.same ∙ ap (λ (t : Bool). cond t (inserted (writer_record region tag v writes (from + 1)) v.records) v.records) at_once;

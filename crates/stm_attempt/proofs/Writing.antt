@@ -10,7 +10,7 @@ use Rattle.stm_logs.proofs.TableLemmas.{both_bool, some_none}
 use Rattle.stm_core.specs.Client.{writes_to}
 use Rattle.stm_core.specs.Event.{IsMap, LocksMatch, MayWrite}
 use Rattle.stm_region.specs.Shown.{RegionShown, stripe_of}
-use Rattle.stm_attempt.specs.Running.{IsPlaced, addresses}
+use Rattle.stm_attempt.specs.Begun.{IsPlaced, addresses}
 use Rattle.stm_attempt.proofs.Locks.{held_among, among_held}
 
 -- the pairs name an address exactly where it is among their addresses

@@ -6,8 +6,8 @@ use Rattle.stm_logs.specs.Log.{LogValue}
 use Rattle.stm_attempt.specs.declared.conflict.Conflict.{Conflict}
 use Rattle.stm_attempt.specs.declared.conflict.Stop.{Stop}
 use Rattle.stm_attempt.specs.declared.conflict.Stop.TheVariants.{Memory, Spent, Conflict as Conflicting}
-use Rattle.stm_attempt.specs.Running.{HasReadWord}
-use Rattle.stm_attempt.specs.Shown.{IsReadConflict}
+use Rattle.stm_attempt.specs.Begun.{HasReadWord}
+use Rattle.stm_attempt.specs.Conflicts.{IsReadConflict}
 
 -- the clock is at the last version, as far as the answer tells
 abbrev pub IsSpent : Stop → Type 0
@@ -15,21 +15,34 @@ IsSpent Memory = ⊥
 IsSpent (Conflicting conflict) = ⊥
 IsSpent (Spent version) = Unit {0}
 
--- a read of the region answered a value that entered the reads; or nothing but the log's growth was refused; or a conflict was shown, which the attempt keeps
-abbrev pub HasReadRegion : (ℕ → ℕ) → ℕ → Client → Client → Option Conflict → Result ℕ Stop → Type 0
+-- a read showed a conflict, which the attempt keeps, and read nothing
+abbrev pub HasMetOne : (ℕ → ℕ) → ℕ → Client → Client → Option Conflict → Conflict → Type 0
+HasMetOne lk address v v' stopped conflict =
+    IsReadConflict lk address conflict v' × (v'.reads ≡ v.reads) × (v'.steps ≤ v.steps + 3) ×
+    (stopped ≡ Some conflict)
+
+-- a read of the region answered a value that entered the reads; or nothing but the log's growth
+-- was refused; or a conflict was shown
+abbrev pub HasReadRegion : (ℕ → ℕ) → ℕ → Client → Client → Option Conflict →
+    Result ℕ Stop → Type 0
 HasReadRegion lk address v v' stopped (Ok x) = HasReadWord v v' address x × (stopped ≡ None)
 HasReadRegion lk address v v' stopped (Err Memory) = (v' ≡ v) × (stopped ≡ None)
-HasReadRegion lk address v v' stopped (Err (Conflicting conflict)) = IsReadConflict lk address conflict v' × (v'.reads ≡ v.reads) × (v'.steps ≤ v.steps + 3) × (stopped ≡ Some conflict)
+HasReadRegion lk address v v' stopped (Err (Conflicting conflict)) =
+    HasMetOne lk address v v' stopped conflict
 HasReadRegion lk address v v' stopped (Err (Spent version)) = ⊥
 
 -- the same of a read that keeps no log
-abbrev pub HasReadOnly : (ℕ → ℕ) → ℕ → Client → Client → Option Conflict → Result ℕ Conflict → Type 0
+abbrev pub HasReadOnly : (ℕ → ℕ) → ℕ → Client → Client → Option Conflict →
+    Result ℕ Conflict → Type 0
 HasReadOnly lk address v v' stopped (Ok x) = HasReadWord v v' address x × (stopped ≡ None)
-HasReadOnly lk address v v' stopped (Err conflict) = IsReadConflict lk address conflict v' × (v'.reads ≡ v.reads) × (v'.steps ≤ v.steps + 3) × (stopped ≡ Some conflict)
+HasReadOnly lk address v v' stopped (Err conflict) = HasMetOne lk address v v' stopped conflict
 
 -- a write entered the log, or nothing was done for want of memory
 abbrev pub HasWritten : ℕ → ℕ → ℕ → LogValue → LogValue → Result (Unit {0}) Stop → Type 0
-HasWritten lock address value w w' (Ok u) = w' ≡ record { words = insert w.words address value; locks = insert w.locks address lock }
+HasWritten lock address value w w' (Ok u) = w' ≡ record {
+  words = insert w.words address value;
+  locks = insert w.locks address lock;
+}
 HasWritten lock address value w w' (Err Memory) = w' ≡ w
 HasWritten lock address value w w' (Err (Conflicting conflict)) = ⊥
 HasWritten lock address value w w' (Err (Spent version)) = ⊥

@@ -1,8 +1,11 @@
-pub mod Running
-pub mod Shown
-pub mod Seen
-pub mod Leading
+pub mod Conflicts
+pub mod Begun
+pub mod Meaning
 pub mod Answers
 pub mod Committing
-pub mod Looks
+pub mod CommitParts
+pub mod Validating
 pub mod StoredPairs
+pub mod Attempt
+pub mod ReadAttempt
+pub mod Leading

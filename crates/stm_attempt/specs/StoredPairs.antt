@@ -2,8 +2,8 @@
 use Rattle.std.specs.Prelude.{◌≡◌, ℕ, ◌+◌, List, ◌++◌, length}
 use Rattle.stm_words.specs.Image.{In}
 use Rattle.stm_core.specs.Client.{Client}
-use Rattle.stm_attempt.specs.Running.{addresses}
-use Rattle.stm_attempt.specs.Committing.{unstoring}
+use Rattle.stm_attempt.specs.Begun.{addresses}
+use Rattle.stm_attempt.specs.Committing.{settling}
 
 -- no address of the pairs is stored
 abbrev pub IsUnstored : List (ℕ × ℕ) → List ℕ → Type 0
@@ -11,6 +11,7 @@ IsUnstored pairs stored = (address x : ℕ) → In (address, x) pairs → In add
 
 -- the pairs were stored in their order, one step each
 pub record HasStoredPairs (v v' : Client) (pairs : List (ℕ × ℕ)) : Type 0 where
-  pub same : unstoring v' ≡ unstoring v
+  pub same : settling v' ≡ settling v
+  pub held : v'.held ≡ v.held
   pub stored : v'.stored ≡ v.stored ++ addresses pairs
   pub steps : v'.steps ≡ v.steps + length pairs

@@ -11,13 +11,13 @@ mod conflict;
 mod gate;
 mod locking;
 mod logs;
-mod looking;
 mod read_attempt;
 mod reading;
 mod standing;
 mod storing;
 mod theorem;
 mod ticking;
+mod validating;
 
 pub use attempt::Attempt;
 pub use conflict::{Conflict, Stop};
@@ -25,6 +25,3 @@ pub use gate::{Gate, NoGate, Point};
 pub use logs::Logs;
 pub use read_attempt::ReadAttempt;
 pub use theorem::records_keep_fitting;
-
-#[cfg(test)]
-mod tests;

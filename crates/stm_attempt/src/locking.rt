@@ -3,9 +3,9 @@ ghost use Rattle.std.specs.Prelude.{◌≡◌, ◌+◌, ◌<◌, ◌≤◌, ◌*
 ghost use Rattle.stm_core.specs.Event.{IsReading};
 ghost use Rattle.stm_logs.specs.Log.{log_locks};
 ghost use Rattle.stm_region.specs.Shown.{stripe_of};
-ghost use Rattle.stm_attempt.specs.Running.{IsPlaced, addresses};
-ghost use Rattle.stm_attempt.specs.Shown.{IsLockConflict, IsCommitConflict};
-ghost use Rattle.stm_attempt.specs.Committing.{unheld, aside, returned, IsAbove, HasTaken, CanGiveBack, HasFailed, HasFailedLocking};
+ghost use Rattle.stm_attempt.specs.Begun.{IsPlaced, addresses};
+ghost use Rattle.stm_attempt.specs.Conflicts.{IsLockConflict, IsCommitConflict};
+ghost use Rattle.stm_attempt.specs.CommitParts.{returned, IsAbove, HasTaken, HasTakenAll, CanGiveBack, HasFailed, HasFailedLocking};
 
 use crate::conflict::Conflict;
 use crate::reading::free_version;
@@ -55,10 +55,13 @@ pub(crate) fn lock_all<L: Law, R: Allocator, A: Allocator + Copy>(
     requires placed { IsPlaced region.now writes.now }
     ensures own { client.new.table ≡ client.old.table }
     ensures held { addresses client.new.value.held ≡ take taken.new (log_locks writes.now) }
-    ensures all { IfOk result (λ _. (unheld client.new.value ≡ unheld client.old.value) × (taken.new ≡ length (log_locks writes.now)) × (client.new.value.steps ≡ client.old.value.steps + 2 * taken.new)) }
-    ensures failed { IfErr result (λ _. HasFailedLocking client.old.value client.new.value taken.new) }
+    ensures all { IfOk result (λ _.
+        HasTakenAll client.old.value client.new.value writes.now taken.new) }
+    ensures failed { IfErr result (λ _.
+        HasFailedLocking client.old.value client.new.value taken.new) }
     ensures few { IfErr result (λ _. taken.new < length (log_locks writes.now)) }
-    ensures shown { IfErr result (λ conflict. IsCommitConflict (stripe_of region.now.stripes) writes.now conflict client.new.value) }
+    ensures shown { IfErr result (λ conflict. IsCommitConflict (stripe_of region.now.stripes)
+        writes.now conflict client.new.value) }
     ensures lone { client.old.value.lone ≡ true → IsOk result }
 {
     let count = writes.lock_count();

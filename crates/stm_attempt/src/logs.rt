@@ -27,7 +27,8 @@ impl<A: Allocator + Copy> Logs<A> {
     }
 
     pub(crate) fn clear(&mut self)
-        ensures { (self.new.reads ≡ []) × (self.new.writes ≡ empty_log) × (self.new.in_use ≡ self.old.in_use) }
+        ensures empty { (self.new.reads ≡ []) × (self.new.writes ≡ empty_log) }
+        ensures use_same { self.new.in_use ≡ self.old.in_use }
     {
         self.reads.clear();
         self.writes.clear();

@@ -4,8 +4,8 @@ ghost use Rattle.stm_words.specs.LockWord.{free_word};
 ghost use Rattle.stm_core.specs.Client.{running};
 ghost use Rattle.stm_region.specs.Shown.{stripe_of};
 ghost use Rattle.stm_region.specs.Told.{StandsOn};
-ghost use Rattle.stm_attempt.specs.Running.{still, IsBegun, HasReadWord, is_unfinished};
-ghost use Rattle.stm_attempt.specs.Shown.{IsHeld, IsReadConflict};
+ghost use Rattle.stm_attempt.specs.Begun.{still, IsBegun, HasReadWord, is_unfinished};
+ghost use Rattle.stm_attempt.specs.Conflicts.{IsHeld, IsReadConflict};
 
 use crate::conflict::Conflict;
 use std::alloc::Allocator;
@@ -23,8 +23,8 @@ pub(crate) fn free_version(word: u64) -> Option<Version>
     if held { None } else { Some(version) }
 }
 
-// Reads a word between two looks at its lock, which must find the same free lock word, of a version
-// of at most the read version.
+// Reads a word between a probe and a check of its lock, which must find the same free lock word,
+// of a version of at most the read version.
 #[inline]
 pub(crate) fn read_word<L: Law, R: Allocator>(
     region: &Region<L, R>,
@@ -41,7 +41,8 @@ pub(crate) fn read_word<L: Law, R: Allocator>(
     ensures unfinished { is_unfinished client.new.value.phase ≡ true }
     ensures ok { IfOk result (λ x. HasReadWord client.old.value client.new.value addr.0 x) }
     ensures stands { IfOk result (λ _. StandsOn L.fits region.now.size client.new.value.reads) }
-    ensures conflict { IfErr result (λ conflict. IsReadConflict (stripe_of region.now.stripes) addr.0 conflict client.new.value) }
+    ensures conflict { IfErr result (λ conflict.
+        IsReadConflict (stripe_of region.now.stripes) addr.0 conflict client.new.value) }
     ensures reads { IfErr result (λ _. client.new.value.reads ≡ client.old.value.reads) }
     ensures lone { client.old.value.lone ≡ true → IsOk result }
     ensures steps { IfErr result (λ _. client.new.value.steps ≤ client.old.value.steps + 3) }

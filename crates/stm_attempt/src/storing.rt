@@ -1,10 +1,10 @@
 //! The end of a decided commit: its values are stored, and its locks released.
-ghost use Rattle.std.specs.Prelude.{◌≡◌, false, []};
+ghost use Rattle.std.specs.Prelude.{◌≡◌, false};
 ghost use Rattle.stm_core.specs.Client.{committed};
 ghost use Rattle.stm_core.specs.Event.{Holds};
 ghost use Rattle.stm_logs.specs.Log.{log_pairs, log_locks, pairs_of};
-ghost use Rattle.stm_attempt.specs.Running.{IsPlaced, addresses};
-ghost use Rattle.stm_attempt.specs.Committing.{HasStored, HasReleased, IsAllStored};
+ghost use Rattle.stm_attempt.specs.Begun.{IsPlaced, addresses};
+ghost use Rattle.stm_attempt.specs.CommitParts.{CanSettle, HasStored, HasReleased, IsAllStored};
 ghost use Rattle.stm_attempt.specs.StoredPairs.{IsUnstored, HasStoredPairs};
 
 use std::alloc::Allocator;
@@ -40,9 +40,7 @@ pub(crate) fn store_all<L: Law, R: Allocator, A: Allocator + Copy>(
     writes: &WriteLog<A>,
 )
     requires own { client.old.table ≡ region.now.table }
-    requires committed { (client.old.value.spent ≡ false) × (client.old.value.phase ≡ committed) × (client.old.value.stored ≡ []) }
-    requires writes { client.old.value.writes ≡ log_pairs writes.now }
-    requires held { addresses client.old.value.held ≡ log_locks writes.now }
+    requires decided { CanSettle client.old.value writes.now }
     requires placed { IsPlaced region.now writes.now }
     ensures own { client.new.table ≡ client.old.table }
     ensures stored { HasStored client.old.value client.new.value }

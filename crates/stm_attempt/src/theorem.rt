@@ -10,5 +10,7 @@ use stm_words::Law;
 pub fn records_keep_fitting<L: Law>()
     ensures records { RecordsLead L.fits (IsFitting L.fits) (IsFitting L.fits) }
     ensures readings { ReadingsLead L.fits (IsFitting L.fits) (IsFitting L.fits) }
-    ensures keeps { (reads writes : List (ℕ × ℕ)) → Leads L.fits (IsFitting L.fits) (IsFitting L.fits) reads writes → KeepsFitting L.fits reads writes }
+    ensures keeps { (reads writes : List (ℕ × ℕ)) →
+        Leads L.fits (IsFitting L.fits) (IsFitting L.fits) reads writes →
+        KeepsFitting L.fits reads writes }
 {}

@@ -1,12 +1,13 @@
 //! The tick of a commit.
-ghost use Rattle.std.specs.Prelude.{◌≡◌, ◌+◌, ◌<◌, ◌≤◌, ◌^◌, true, false, IfOk, IfErr, MatchResult};
+ghost use Rattle.std.specs.Prelude.{◌≡◌, ◌+◌, ◌<◌, ◌≤◌, ◌^◌, true, IfOk, IfErr, MatchResult};
 ghost use Rattle.stm_core.specs.Client.{decided};
-ghost use Rattle.stm_core.specs.Event.{IsReading, MayWrite};
+ghost use Rattle.stm_core.specs.Event.{MayWrite};
 ghost use Rattle.stm_logs.specs.Log.{log_pairs};
 ghost use Rattle.stm_region.specs.Shown.{stripe_of};
 ghost use Rattle.stm_region.specs.Told.{Decides};
 ghost use Rattle.stm_attempt.specs.Answers.{IsSpent};
-ghost use Rattle.stm_attempt.specs.Committing.{HasTicked, HasFailed, IsCommitStop, IsCounted};
+ghost use Rattle.stm_attempt.specs.Committing.{IsCommitStop, IsCounted};
+ghost use Rattle.stm_attempt.specs.CommitParts.{IsReady, HasTicked, HasFailed};
 
 use crate::conflict::{Conflict, Stop};
 use std::alloc::Allocator;
@@ -37,18 +38,23 @@ pub(crate) fn tick<L: Law, R: Allocator, A: Allocator + Copy, T: Tag>(
     writes: &WriteLog<A>,
 ) -> Result<Version, Stop>
     requires own { client.old.table ≡ region.now.table }
-    requires ready { (client.old.value.spent ≡ false) × IsReading client.old.value × (client.old.value.ticks ≡ 0) × (client.old.value.next_from ≡ rv) }
-    requires version { (client.old.value.rv ≡ rv) × (rv ≤ region.now.last) }
-    requires writes { MayWrite (stripe_of region.now.stripes) region.now.size client.old.value.held (log_pairs writes.now) }
+    requires ready { IsReady region.now client.old.value rv }
+    requires writes { MayWrite (stripe_of region.now.stripes) region.now.size
+        client.old.value.held (log_pairs writes.now) }
     requires lawful { L.lawful (T.numbers tag.now) client.old.value.reads (log_pairs writes.now) }
     ensures own { client.new.table ≡ client.old.table }
-    ensures won { IfOk result (λ version. HasTicked region.now (T.numbers tag.now) (log_pairs writes.now) client.old.value client.new.value version) }
+    ensures won { IfOk result (λ version. HasTicked region.now (T.numbers tag.now)
+        (log_pairs writes.now) client.old.value client.new.value version) }
     ensures version { IfOk result (λ version. (rv < version) × (version ≤ region.now.last)) }
-    ensures decides { IfOk result (λ _. decided client.new.value ≡ true → Decides L.fits L.lawful region.now client.new.value) }
+    ensures decides { IfOk result (λ _. decided client.new.value ≡ true →
+        Decides L.fits L.lawful region.now client.new.value) }
     ensures failed { IfErr result (λ _. HasFailed client.old.value client.new.value) }
-    ensures shown { IfErr result (λ stop. IsCommitStop region.now writes.now stop client.new.value) }
-    ensures counted { IfErr result (λ stop. IsCounted stop client.old.value.steps client.new.value) }
-    ensures lone { client.old.value.lone ≡ true → MatchResult result (λ _. decided client.new.value ≡ true) (λ stop. IsSpent stop) }
+    ensures shown { IfErr result (λ stop.
+        IsCommitStop region.now writes.now stop client.new.value) }
+    ensures counted { IfErr result (λ stop.
+        IsCounted stop client.old.value.steps client.new.value) }
+    ensures lone { client.old.value.lone ≡ true →
+        MatchResult result (λ _. decided client.new.value ≡ true) (λ stop. IsSpent stop) }
     ensures steps { client.new.value.steps ≤ client.old.value.steps + 16 }
 {
     let last = region.last();

@@ -4,14 +4,23 @@ use Rattle.stm_core.specs.Client.{Client}
 use Rattle.stm_logs.specs.Log.{log_pairs}
 use Rattle.stm_logs.proofs.LockLemmas.{locks_few}
 use Rattle.stm_region.specs.Shown.{ClientShown}
-use Rattle.stm_attempt.specs.Committing.{IsDecided, HasSettled, HasCommitted, HasStopped, HasFailedDeciding, returned}
-use Rattle.stm_attempt.proofs.Parts.{inside_same, some_pairs, map_ok, map_err, ok_of, err_of, has_committed, steps_committed, stopped_locking, stopped_deciding, err_not_ok}
+use Rattle.stm_attempt.specs.Begun.{addresses}
+use Rattle.stm_attempt.specs.Committing.{HasCommitted, HasStopped}
+use Rattle.stm_attempt.specs.CommitParts.{IsDecided, HasSettled, HasFailedDeciding, returned}
+use Rattle.stm_attempt.proofs.Parts.{still_ready, some_pairs, map_ok, map_err, ok_of, err_of, has_committed, steps_committed, stopped_locking, stopped_deciding, err_not_ok}
 use Rattle.stm_attempt.proofs.commit.commit_writes.Goals as goal
 use Rattle.stm_attempt.proofs.commit.commit_writes.Goals.{in-Ok, in-Err}
 
-pub decide-answer-requires-clause-inside : goal.decide-answer-requires-clause-inside
-decide-answer-requires-clause-inside g c =
-    inside_same _ c.args.client.now.value.reads c.lock_all.new.client.value.reads (ap (λ (x : Client). x.reads) c.in-Ok.ensures.all.0) c.requires.inside
+pub decide-answer-requires-clause-ready : goal.decide-answer-requires-clause-ready
+decide-answer-requires-clause-ready g c =
+    still_ready c.args.region.now c.args.client.now.value c.lock_all.new.client.value c.args.rv c.in-Ok.ensures.all.same c.requires.ready
+
+pub decide-answer-requires-clause-logged : goal.decide-answer-requires-clause-logged
+decide-answer-requires-clause-logged g c = record {
+  reads = c.requires.logged.reads ∙ ap (λ (x : Client). addresses x.reads) (sym c.in-Ok.ensures.all.same);
+  placed = c.requires.logged.placed;
+  written = c.requires.logged.written;
+}
 
 pub returns-then-is_ok-clause-ok : goal.returns-then-is_ok-clause-ok
 returns-then-is_ok-clause-ok g c =
@@ -20,11 +29,11 @@ returns-then-is_ok-clause-ok g c =
     let v = c.args.client.now.value in
     let l = c.lock_all.new.client.value in
     let e = c.settle.new.client.value in
-    let some = some_pairs c.args.logs.now.writes c.requires.written in
+    let some = some_pairs c.args.logs.now.writes c.requires.logged.written in
     elim c.match-lock_all.branch [
       | in-Ok w ↦ subst (λ r. IfOk r (λ version. HasCommitted c.args.region.now tag pairs v e version)) (sym w.answer-is)
           (map_ok w.decide-answer.result (λ version. IsDecided c.args.region.now tag pairs l w.decide-answer.new.client.value version) (λ version. HasCommitted c.args.region.now tag pairs v e version)
-          (λ version decided. has_committed c.args.region.now tag pairs v l w.decide-answer.new.client.value e version w.in-Ok.ensures.all.0 decided (subst (λ (s : ClientShown). HasSettled s.value e) w.client-is c.settle.ensures.settled) some)
+          (λ version decided. has_committed c.args.region.now tag pairs v l w.decide-answer.new.client.value e version w.in-Ok.ensures.all.same decided (subst (λ (s : ClientShown). HasSettled s.value e) w.client-is c.settle.ensures.settled) some)
           w.decide-answer.ensures.ok)
       | in-Err w ↦ subst (λ r. IfOk r (λ version. HasCommitted c.args.region.now tag pairs v e version)) (sym w.answer-is) tt
     ]
@@ -36,12 +45,12 @@ returns-then-is_ok-clause-steps g c =
     let v = c.args.client.now.value in
     let l = c.lock_all.new.client.value in
     let e = c.settle.new.client.value in
-    let some = some_pairs c.args.logs.now.writes c.requires.written in
+    let some = some_pairs c.args.logs.now.writes c.requires.logged.written in
     elim c.match-lock_all.branch [
       | in-Ok w ↦
           (let ok = ok_of w.decide-answer.result (λ version. IsDecided c.args.region.now tag pairs l w.decide-answer.new.client.value version) (ap is_ok (sym w.answer-is) ∙ sym c.if-is_ok.ensures.value) w.decide-answer.ensures.ok in
-          steps_committed c.args.region.now tag pairs v l w.decide-answer.new.client.value e ok.0 w.in-Ok.ensures.all.0 ok.2 (subst (λ (s : ClientShown). HasSettled s.value e) w.client-is c.settle.ensures.settled) some
-          c.args.logs.now.writes c.lock_all.new.taken refl c.same_addresses.ensures w.in-Ok.ensures.held w.in-Ok.ensures.all.1 w.in-Ok.ensures.all.2)
+          steps_committed c.args.region.now tag pairs v l w.decide-answer.new.client.value e ok.0 w.in-Ok.ensures.all.same ok.2 (subst (λ (s : ClientShown). HasSettled s.value e) w.client-is c.settle.ensures.settled) some
+          c.args.logs.now.writes c.lock_all.new.taken refl c.same_addresses.ensures w.in-Ok.ensures.held w.in-Ok.ensures.all.count w.in-Ok.ensures.all.steps)
       | in-Err w ↦ err_not_ok c.match-lock_all.answer _ w.answer-is (sym c.if-is_ok.ensures.value)
     ]
 
@@ -52,14 +61,14 @@ returns-else-is_ok-clause-stopped g c =
     let v = c.args.client.now.value in
     let l = c.lock_all.new.client.value in
     let e = c.give_back_first.new.client.value in
-    let some = some_pairs log c.requires.written in
+    let some = some_pairs log c.requires.logged.written in
     elim c.match-lock_all.branch [
       | in-Ok w ↦ subst (λ r. IfErr r (λ stop. HasStopped region log stop v e)) (sym w.answer-is)
           (map_err w.decide-answer.result (λ stop. HasFailedDeciding region log stop l w.decide-answer.new.client.value) (λ stop. HasStopped region log stop v e)
-          (λ stop failed. stopped_deciding region log v l some stop w.decide-answer.new.client.value e w.in-Ok.ensures.all.0
-          (w.in-Ok.ensures.all.2 ∙ ap (λ n. v.steps + 2 * n) w.in-Ok.ensures.all.1) failed
+          (λ stop failed. stopped_deciding region log v l some stop w.decide-answer.new.client.value e w.in-Ok.ensures.all.same
+          (w.in-Ok.ensures.all.steps ∙ ap (λ n. v.steps + 2 * n) w.in-Ok.ensures.all.count) failed
           (subst (λ (s : ClientShown). returned e ≡ returned s.value) w.client-is c.give_back_first.ensures.same)
-          (c.give_back_first.ensures.steps ∙ ap (λ (s : ClientShown). s.value.steps + c.lock_all.new.taken) w.client-is ∙ ap (λ n. w.decide-answer.new.client.value.steps + n) w.in-Ok.ensures.all.1)
+          (c.give_back_first.ensures.steps ∙ ap (λ (s : ClientShown). s.value.steps + c.lock_all.new.taken) w.client-is ∙ ap (λ n. w.decide-answer.new.client.value.steps + n) w.in-Ok.ensures.all.count)
           c.give_back_first.ensures.free)
           w.decide-answer.ensures.failed)
       | in-Err w ↦ subst (λ r. IfErr r (λ stop. HasStopped region log stop v e)) (sym w.answer-is)
@@ -75,8 +84,8 @@ returns-else-is_ok-clause-steps g c =
       | in-Ok w ↦
           (let failed = err_of w.decide-answer.result (λ stop. HasFailedDeciding c.args.region.now c.args.logs.now.writes stop l w.decide-answer.new.client.value) (ap is_ok (sym w.answer-is) ∙ sym c.if-is_ok.ensures.value) w.decide-answer.ensures.failed in
           let at = ap (λ (s : ClientShown). s.value.steps) w.client-is in
-          let reads = ap (λ (x : Client). length x.reads) w.in-Ok.ensures.all.0 in
-          omega (arith, few, failed.1.steps, at, reads, w.in-Ok.ensures.all.1, w.in-Ok.ensures.all.2, c.give_back_first.ensures.steps))
+          let reads = ap (λ (x : Client). length x.reads) w.in-Ok.ensures.all.same in
+          omega (arith, few, failed.1.steps, at, reads, w.in-Ok.ensures.all.count, w.in-Ok.ensures.all.steps, c.give_back_first.ensures.steps))
       | in-Err w ↦
           (let at = ap (λ (s : ClientShown). s.value.steps) w.client-is in
           omega (arith, few, w.in-Err.ensures.failed.steps, w.in-Err.ensures.few, at, c.give_back_first.ensures.steps))

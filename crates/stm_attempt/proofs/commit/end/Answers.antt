@@ -9,10 +9,10 @@ use Rattle.stm_attempt.proofs.commit.end.Goals.{in-Some, in-None+then-len-eq0, i
 pub finish-requires-clause-allowed : goal.finish-requires-clause-allowed
 finish-requires-clause-allowed g c =
     let none = no_pairs c.args.logs.now.writes (sym c.len.ensures ∙ c.if-len-eq0.true) in (
-      c.requires.begun.unspent,
+      c.requires.running.begun.unspent,
       (
-        (c.requires.runs c.in-None.is, c.requires.begun.unversioned),
-        c.requires.begun.free,
+        (c.requires.running.runs c.in-None.is, c.requires.running.begun.unversioned),
+        c.requires.running.begun.free,
         subst (λ ps. g.L.Law.lawful (g.T.Tag.numbers c.args.tag.now) c.args.client.now.value.reads ps) none (c.requires.lawful c.in-None.is),
       ),
     )
@@ -25,7 +25,7 @@ returns-else-is_err-clause-ok g c =
     elim c.match-stopped.branch [
       | in-Some w ↦ subst (λ r. IfOk r (λ version. HasCommitted c.args.region.now tag pairs v c.match-stopped.client.value version)) (sym w.answer-is) tt
       | in-None+then-len-eq0 w ↦ subst (λ r. IfOk r (λ version. HasCommitted c.args.region.now tag pairs v c.match-stopped.client.value version)) (sym w.answer-is)
-          (has_finished c.args.region.now tag pairs v c.match-stopped.client.value c.args.rv w.finish.ensures.client.0 (no_pairs c.args.logs.now.writes (sym w.len.ensures ∙ w.if-len-eq0.true)) c.requires.begun
+          (has_finished c.args.region.now tag pairs v c.match-stopped.client.value c.args.rv w.finish.ensures.client.0 (no_pairs c.args.logs.now.writes (sym w.len.ensures ∙ w.if-len-eq0.true)) c.requires.running.begun
           (ap (λ (s : ClientShown). s.value) w.client-is ∙ ap (λ (s : ClientShown). s.value) w.finish.ensures.client.1))
       | in-None+else-len-eq0 w ↦ subst (λ r. IfOk r (λ version. HasCommitted c.args.region.now tag pairs v c.match-stopped.client.value version)) (sym w.answer-is)
           (subst (λ (s : ClientShown). IfOk w.commit_writes.result (λ version. HasCommitted c.args.region.now tag pairs v s.value version)) (sym w.client-is) w.commit_writes.ensures.ok)

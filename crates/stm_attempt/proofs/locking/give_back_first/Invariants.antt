@@ -1,6 +1,6 @@
 use Rattle.std.proofs.Common.{◌≡◌}
 use Rattle.stm_logs.specs.Log.{log_locks}
-use Rattle.stm_attempt.specs.Committing.{IsReturning}
+use Rattle.stm_attempt.specs.CommitParts.{IsReturning}
 use Rattle.stm_attempt.proofs.locking.give_back_first.Given as goal
 
 abbrev pub invariant-loop-lock : goal.invariant-loop-lock

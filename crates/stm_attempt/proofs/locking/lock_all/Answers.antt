@@ -1,6 +1,6 @@
 use Rattle.std.proofs.Common.{inl, arith}
 use Rattle.stm_region.specs.Shown.{stripe_of}
-use Rattle.stm_attempt.specs.Shown.{IsCommitConflict}
+use Rattle.stm_attempt.specs.Conflicts.{IsCommitConflict}
 use Rattle.stm_attempt.proofs.Locks.{next_above, next_logged, room}
 use Rattle.stm_attempt.proofs.Parts.{handed_on}
 use Rattle.stm_attempt.proofs.locking.lock_all.Goals as goal

@@ -1,6 +1,6 @@
 use Rattle.std.proofs.Common.{◌≡◌}
 use Rattle.stm_logs.specs.Log.{log_locks}
-use Rattle.stm_attempt.specs.Committing.{IsClimbing}
+use Rattle.stm_attempt.specs.CommitParts.{IsClimbing}
 use Rattle.stm_attempt.proofs.locking.lock_all.Given as goal
 
 abbrev pub invariant-loop-lock : goal.invariant-loop-lock

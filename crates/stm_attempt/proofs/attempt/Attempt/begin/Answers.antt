@@ -2,4 +2,4 @@ use Rattle.stm_attempt.proofs.Entering.{nothing_placed}
 use Rattle.stm_attempt.proofs.attempt.Attempt.begin.Goals as goal
 
 pub invariant_of-result-clause-placed : goal.invariant_of-result-clause-placed
-invariant_of-result-clause-placed g c = λ _. nothing_placed _ _ c.clear.ensures.1
+invariant_of-result-clause-placed g c = λ _. nothing_placed _ _ c.clear.ensures.empty.1

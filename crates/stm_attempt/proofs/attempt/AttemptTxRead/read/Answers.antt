@@ -1,6 +1,5 @@
 use Rattle.std.proofs.Common.{sym, ◌∙◌, ap, refl, Ok}
-use Rattle.stm_attempt.proofs.Entering.{has_entered, same_some, runs_inside, logged_too, shown_there}
-use Rattle.stm_region.specs.Shown.{stripe_of}
+use Rattle.stm_attempt.proofs.Entering.{has_entered, same_some, runs_inside, logged_too}
 use Rattle.stm_attempt.proofs.Parts.{inside_of, inside_same}
 use Rattle.stm_attempt.proofs.attempt.AttemptTxRead.read.Goals as goal
 
@@ -11,7 +10,7 @@ returns-in-Ok-clause-answer g c =
     (sym c.own_write.ensures ∙ c.in_default-own_write.is) c.in-Ok.ensures.ok c.in-Ok.ensures.stands
 
 pub returns-in-Some-own_write-clause-own : goal.returns-in-Some-own_write-clause-own
-returns-in-Some-own_write-clause-own g c = λ none value is. (ap Ok (same_some _ _ (c.in-Some-own_write.ensures ∙ is)), refl, none)
+returns-in-Some-own_write-clause-own g c = λ none value is. (ap Ok (same_some _ _ (c.in-Some-own_write.ensures ∙ is)), (refl, refl))
 
 pub invariant_of-self-in-Ok-clause-inside : goal.invariant_of-self-in-Ok-clause-inside
 invariant_of-self-in-Ok-clause-inside g c = λ _. inside_of g.L.Law.fits c.args.self.now.region.now.size c.read_word.new.client.value.reads c.in-Ok.ensures.stands
@@ -21,6 +20,3 @@ invariant_of-self-in-Err-clause-inside g c = λ in_use. inside_same c.args.self.
 
 pub invariant_of-self-in-Ok-clause-logged : goal.invariant_of-self-in-Ok-clause-logged
 invariant_of-self-in-Ok-clause-logged g c = λ in_use none. logged_too c.args.self.now.client.now.value.reads c.read_word.new.client.value.reads c.args.self.now.logs.now.reads c.push.new.self _ _ (c.args.self.now.logged in_use none) c.in_ok-push.ensures c.in-Ok.ensures.ok.reads
-
-pub invariant_of-self-in-Err-clause-shown : goal.invariant_of-self-in-Err-clause-shown
-invariant_of-self-in-Err-clause-shown g c = λ in_use conflict e. shown_there (stripe_of c.args.self.now.region.now.stripes) _ c.in-Err.conflict conflict c.read_word.new.client.value c.in-Err.ensures.conflict e

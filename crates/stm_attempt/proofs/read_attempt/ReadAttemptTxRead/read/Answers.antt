@@ -1,7 +1,7 @@
 use Rattle.std.specs.FinMap.{get-empty}
 use Rattle.std.specs.Ordering.{nat_cmp}
 use Rattle.stm_logs.specs.Log.{empty_log}
-use Rattle.stm_attempt.specs.Running.{is_unfinished}
+use Rattle.stm_attempt.specs.Begun.{is_unfinished}
 use Rattle.stm_attempt.proofs.Entering.{has_entered_also, runs_inside, same_frame, same_reads}
 use Rattle.stm_attempt.proofs.read_attempt.ReadAttemptTxRead.read.Goals as goal
 

@@ -1,4 +1,4 @@
--- Looks at the locks of the words that were read.
+-- The validation of the lock of a word that was read.
 use Rattle.std.proofs.Common.{◌≡◌, inl, inr, refl, sym, ap, ◌∙◌, ℕ, ◌*◌, ◌/◌, ◌<◌, ◌≤◌, Bool, true, false, ◌||◌, ◌&&◌, eq-eqb, List, Some, cond, arith}
 use Rattle.std.proofs.lemmas.Bool.{ne_eqb, le-leb, lt-leb}
 use Rattle.std.proofs.Math.Bool.{or-true}
@@ -10,20 +10,20 @@ use Rattle.stm_logs.proofs.TableLemmas.{true_false}
 use Rattle.stm_core.specs.Client.{Client, looked, version_of, is_free, writes_to}
 use Rattle.stm_core.specs.Event.{validate, after, passing, failing, stepping}
 use Rattle.stm_region.specs.Shown.{RegionShown, ClientShown, acted, stripe_of, unplaced}
-use Rattle.stm_attempt.specs.Running.{addresses}
-use Rattle.stm_attempt.specs.Shown.{IsLookConflict}
-use Rattle.stm_attempt.specs.Looks.{HasLookedAt}
+use Rattle.stm_attempt.specs.Begun.{addresses}
+use Rattle.stm_attempt.specs.Conflicts.{IsValidateConflict}
+use Rattle.stm_attempt.specs.Validating.{HasValidatedLock}
 use Rattle.stm_attempt.specs.declared.conflict.Conflict.TheVariants.{Held, Newer}
 use Rattle.stm_attempt.proofs.Parity.{parity, says_held}
 use Rattle.stm_attempt.proofs.Writing.{own_lock}
 
--- what the client is after a look, by whether it passed
-pub by_look : (region : RegionShown) (lock : ℕ) (passed : Bool) (v v' : Client) (look : HasLookedAt region lock passed v v') → v' ≡ record (stepping (looked lock look.0) (cond passed (passing (unplaced region.renewal) v) (failing v))) { mine = writes_to v.held lock }
-by_look region lock passed v v' look = look.1 ∙ ap (λ (t : Bool). record (stepping (looked lock look.0) (cond t (passing (unplaced region.renewal) v) (failing v))) { mine = writes_to v.held lock }) look.2
+-- what the client is after the step, by whether it passed
+pub by_validate : (region : RegionShown) (lock : ℕ) (passed : Bool) (v v' : Client) (step : HasValidatedLock region lock passed v v') → v' ≡ record (stepping (looked lock step.0) (cond passed (passing (unplaced region.renewal) v) (failing v))) { mine = writes_to v.held lock }
+by_validate region lock passed v v' step = step.1 ∙ ap (λ (t : Bool). record (stepping (looked lock step.0) (cond t (passing (unplaced region.renewal) v) (failing v))) { mine = writes_to v.held lock }) step.2
 
 -- the word is free, or held by the client itself
-pub own_look : (word : ℕ) (held : List (ℕ × ℕ)) (lock : ℕ) (w : LogValue) → addresses held ≡ log_locks w → (has : Bool) → IsTrue has ↔ ((a : ℕ) × (get w.locks a ≡ Some lock)) → has ≡ true → (is_free word || writes_to held lock) ≡ true
-own_look word held lock w held_are has told there = ap (λ (t : Bool). is_free word || t) (own_lock w held lock held_are has told ∙ there) ∙ or-true (is_free word)
+pub own_passes : (word : ℕ) (held : List (ℕ × ℕ)) (lock : ℕ) (w : LogValue) → addresses held ≡ log_locks w → (has : Bool) → IsTrue has ↔ ((a : ℕ) × (get w.locks a ≡ Some lock)) → has ≡ true → (is_free word || writes_to held lock) ≡ true
+own_passes word held lock w held_are has told there = ap (λ (t : Bool). is_free word || t) (own_lock w held lock held_are has told ∙ there) ∙ or-true (is_free word)
 
 -- what a decoded word says
 module _ (word version : ℕ) (held : Bool) (free : (u : ℕ) → word ≡ free_word u → (version ≡ u) × (held ≡ false)) (is_held : (u : ℕ) → word ≡ held_word u → (version ≡ u) × (held ≡ true)) where
@@ -36,12 +36,12 @@ module _ (word version : ℕ) (held : Bool) (free : (u : ℕ) → word ≡ free_
   held_said : held ≡ true → is_free word ≡ false
   held_said t = elim (parity word) [ inl even ↦ absurd (true_false held t (free (word / 2) even).1) | inr odd ↦ ne_eqb word (2 * (word / 2)) (λ e. absurd (omega arith)) ]
 
-  pub free_look : (locks : List (ℕ × ℕ)) (lock : ℕ) → held ≡ false → (is_free word || writes_to locks lock) ≡ true
-  free_look locks lock is = ap (λ (t : Bool). t || writes_to locks lock) (free_said is)
+  pub free_passes : (locks : List (ℕ × ℕ)) (lock : ℕ) → held ≡ false → (is_free word || writes_to locks lock) ≡ true
+  free_passes locks lock is = ap (λ (t : Bool). t || writes_to locks lock) (free_said is)
 
   module _ (region : RegionShown) (c c' : ClientShown) (lock : ℕ) (stepped : c' ≡ acted region (validate lock) word c) (w : LogValue) (held_are : addresses c.value.held ≡ log_locks w) where
-    abbrev Looks : Bool → Type 0
-    Looks passed = HasLookedAt region lock passed c.value c'.value
+    abbrev Validates : Bool → Type 0
+    Validates passed = HasValidatedLock region lock passed c.value c'.value
 
     value_is : c'.value ≡ after (unplaced region.renewal) (stripe_of region.stripes) (validate lock) word c.value
     value_is = ap (λ (x : ClientShown). x.value) stepped
@@ -57,20 +57,20 @@ module _ (word version : ℕ) (held : Bool) (free : (u : ℕ) → word ≡ free_
       other : writes_to c.value.held lock ≡ false
       other = own_lock w c.value.held lock held_are has told ∙ none
 
-      pub refused_held : Looks false
+      pub refused_held : Validates false
       refused_held = (word, value_is, ap (λ (t : Bool). (t || writes_to c.value.held lock) && leb (version_of word) c.value.rv) (held_said is) ∙ ap (λ (t : Bool). t && leb (version_of word) c.value.rv) other)
 
-      pub shown_held : IsLookConflict lock (Held lock word) c'.value
+      pub shown_held : IsValidateConflict lock (Held lock word) c'.value
       shown_held = (refl, last, says_held word version held free is, mine ∙ other)
 
     module _ (ours : (is_free word || writes_to c.value.held lock) ≡ true) (rv : ℕ) (from : c.value.rv ≡ rv) where
-      pub refused_newer : rv < version → Looks false
+      pub refused_newer : rv < version → Validates false
       refused_newer newer = (word, value_is, ap (λ (t : Bool). t && leb (version_of word) c.value.rv) ours ∙ lt-leb (version_of word) c.value.rv (omega (arith, version_said)))
 
-      pub shown_newer : rv < version → IsLookConflict lock (Newer lock version rv) c'.value
+      pub shown_newer : rv < version → IsValidateConflict lock (Newer lock version rv) c'.value
       shown_newer newer =
-          let same : c'.value.rv ≡ c.value.rv = ap (λ (x : Client). x.rv) (by_look region lock false c.value c'.value (refused_newer newer)) in
+          let same : c'.value.rv ≡ c.value.rv = ap (λ (x : Client). x.rv) (by_validate region lock false c.value c'.value (refused_newer newer)) in
           (refl, (word, last, ap (λ (t : Bool). is_free word || t) mine ∙ ours, version_said, sym from ∙ sym same, newer))
 
-      pub has_passed : version ≤ rv → Looks true
+      pub has_passed : version ≤ rv → Validates true
       has_passed old = (word, value_is, ap (λ (t : Bool). t && leb (version_of word) c.value.rv) ours ∙ le-leb (version_of word) c.value.rv (omega (arith, version_said)))

@@ -1,13 +1,23 @@
--- What a running attempt is, in terms of its client's value.
-use Rattle.std.specs.Prelude.{◌≡◌, ℕ, ◌+◌, ◌<◌, Bool, List, [], ◌∷◌, ◌++◌, map, true, false, Option, None, Some}
+-- What an attempt that has begun is, in terms of its client's value.
+use Rattle.std.specs.Prelude.{◌≡◌, ℕ, ◌+◌, ◌*◌, ◌<◌, ◌≤◌, Bool, List, [], ◌∷◌, ◌++◌, length, map, true, false, Option, None, Some}
 use Rattle.std.specs.FinMap.{get}
+use Rattle.stm_words.specs.Image.{In}
 use Rattle.stm_core.specs.Client.{Client, Phase, idle, running, ending, committed, finished, nothing}
 use Rattle.stm_logs.specs.Log.{LogValue}
 use Rattle.stm_region.specs.Shown.{RegionShown, stripe_of}
+use Rattle.stm_attempt.specs.Conflicts.{HasMet, refused}
+use Rattle.stm_attempt.specs.declared.conflict.Conflict.{Conflict}
 
 -- the client's value without what a read changes
 abbrev pub still : Client → Client
-still v = record v { phase = running; reads = []; last = nothing; gave_back = false; mine = false; steps = 0 }
+still v = record v {
+  phase = running;
+  reads = [];
+  last = nothing;
+  gave_back = false;
+  mine = false;
+  steps = 0;
+}
 
 -- the client's attempt began with the read version rv, and has done nothing but read
 pub record IsBegun (v : Client) (rv : ℕ) : Type 0 where
@@ -29,6 +39,10 @@ pub record HasReadWord (v v' : Client) (address x : ℕ) : Type 0 where
 abbrev pub IsUnstopped : {A : Type 0} → Client → Option A → Type 0
 IsUnstopped v stopped = v.lone ≡ true → stopped ≡ None
 
+-- every address of the reads is one of the region
+abbrev pub AreInside : ℕ → List (ℕ × ℕ) → Type 0
+AreInside size reads = (address x : ℕ) → In (address, x) reads → address < size
+
 abbrev pub address_of : ℕ × ℕ → ℕ
 address_of p = p.0
 
@@ -38,9 +52,12 @@ addresses reads = map address_of reads
 
 -- each logged write has an address of the region, and the number of its lock
 pub record IsPlaced (region : RegionShown) (writes : LogValue) : Type 0 where
-  pub lock : (address number : ℕ) → get writes.locks address ≡ Some number → number ≡ stripe_of region.stripes address
-  pub inside : (address number : ℕ) → get writes.locks address ≡ Some number → address < region.size
-  pub range : (address number : ℕ) → get writes.locks address ≡ Some number → number < region.stripes
+  pub lock : (address number : ℕ) → get writes.locks address ≡ Some number →
+      number ≡ stripe_of region.stripes address
+  pub inside : (address number : ℕ) → get writes.locks address ≡ Some number →
+      address < region.size
+  pub range : (address number : ℕ) → get writes.locks address ≡ Some number →
+      number < region.stripes
 
 -- the attempt was not finished as a reader
 abbrev pub is_unfinished : Phase → Bool
@@ -49,3 +66,12 @@ is_unfinished running = true
 is_unfinished ending = true
 is_unfinished committed = true
 is_unfinished finished = false
+
+-- it reads on unless a read met a conflict, which is then shown; and its steps are counted
+pub record IsRunning (region : RegionShown) (v : Client) (rv : ℕ)
+    (stopped : Option Conflict) : Type 0 where
+  pub begun : IsBegun v rv
+  pub runs : stopped ≡ None → v.phase ≡ running
+  pub shown : HasMet (stripe_of region.stripes) stopped v
+  pub lone : IsUnstopped v stopped
+  pub steps : v.steps ≤ 1 + 3 * (length v.reads + refused stopped)

@@ -1,0 +1,95 @@
+-- What an attempt means to its contracts.
+use Rattle.std.specs.Prelude.{◌≡◌, ℕ, ◌+◌, Bool, true, List, [], length, Option, Result}
+use Rattle.std.specs.Borrow.{MutBor}
+use Rattle.std.specs.FinMap.{get, len}
+use Rattle.stm_words.specs.View.{View}
+use Rattle.stm_words.specs.declared.law.Law as Law
+use Rattle.stm_core.specs.Client.{Client}
+use Rattle.stm_logs.specs.Log.{LogValue, empty_log, log_pairs}
+use Rattle.stm_region.specs.Shown.{ClientShown, stripe_of}
+use Rattle.stm_attempt.specs.Meaning.{memory_of, Origin, origin_of}
+use Rattle.stm_attempt.specs.Conflicts.{refused, most_steps}
+use Rattle.stm_attempt.specs.Answers.{HasReadRegion, HasWritten}
+use Rattle.stm_attempt.specs.Committing.{HasCommitted, HasStopped}
+use Rattle.stm_attempt.specs.declared.attempt.Attempt.{Attempt}
+use Rattle.stm_attempt.specs.declared.logs.Logs.{Logs}
+use Rattle.stm_attempt.specs.declared.conflict.Stop.{Stop}
+
+module _ {L R A : Type 0} {l : Law.Ghosts L} where
+  -- it has not come to its commit
+  abbrev pub runs : Attempt L R A l → Bool
+  runs s = s.logs.now.in_use
+
+  -- its client's value
+  abbrev pub client_of : Attempt L R A l → Client
+  client_of s = s.client.now.value
+
+  -- its write log
+  abbrev pub log_of : Attempt L R A l → LogValue
+  log_of s = s.logs.now.writes
+
+  -- the value that it has written at an address
+  abbrev pub written_at : Attempt L R A l → ℕ → Option ℕ
+  written_at s address = get (log_of s).words address
+
+  -- the lock of an address of its region
+  abbrev pub lock_of : Attempt L R A l → ℕ → ℕ
+  lock_of s = stripe_of s.region.now.stripes
+
+  -- what it means as a memory
+  abbrev pub view : Attempt L R A l → View
+  view s = memory_of (runs s) s.region.now l.fits (client_of s) (log_of s)
+
+  -- what none of its reads and writes changes
+  abbrev pub origin : Attempt L R A l → Origin
+  origin s =
+      origin_of (runs s) s.region.now s.client.ghost_name s.logs.ghost_name s.client.now
+
+  -- it runs, and has nothing read or written in its logs
+  abbrev pub IsFresh : Attempt L R A l → Type 0
+  IsFresh s = (s.logs.now.reads ≡ []) × (log_of s ≡ empty_log) × (runs s ≡ true)
+
+  -- its client is as before, and so is the conflict that it met, if any
+  abbrev pub IsAsBefore : Attempt L R A l → Attempt L R A l → Type 0
+  IsAsBefore s s' = (s'.client.now ≡ s.client.now) × (s'.stopped ≡ s.stopped)
+
+  -- a read at an address that it has not written answered this
+  abbrev pub Reads : Attempt L R A l → Attempt L R A l → ℕ → Result ℕ Stop → Type 0
+  Reads s s' address result =
+      HasReadRegion (lock_of s) address (client_of s) (client_of s') s'.stopped result
+
+  -- a write answered this
+  abbrev pub Writes : Attempt L R A l → Attempt L R A l → ℕ → ℕ →
+      Result (Unit {0}) Stop → Type 0
+  Writes s s' address x result =
+      HasWritten (lock_of s address) address x (log_of s) (log_of s') result
+
+  -- its commit made a record of this tag and this version, and left its client so
+  abbrev pub Commits : Attempt L R A l → List ℕ → Client → ℕ → Type 0
+  Commits s tag v version =
+      HasCommitted s.region.now tag (log_pairs (log_of s)) (client_of s) v version
+
+  -- its commit stopped, and left its client so
+  abbrev pub Stops : Attempt L R A l → Client → Stop → Type 0
+  Stops s v stop = HasStopped s.region.now (log_of s) stop (client_of s) v
+
+  -- how many steps it takes at most
+  abbrev pub step_bound : Attempt L R A l → ℕ
+  step_bound s =
+      most_steps (length (client_of s).reads + refused s.stopped) (len (log_of s).words)
+
+-- the client that an attempt leaves where it ends
+abbrev pub client_left : {B C : Type 0} → B × (MutBor ClientShown × C) → ClientShown
+client_left exit = exit.1.0.now
+
+-- its value
+abbrev pub value_left : {B C : Type 0} → B × (MutBor ClientShown × C) → Client
+value_left exit = exit.1.0.now.value
+
+-- the logs that it leaves
+abbrev pub logs_left : {A B C D : Type 0} → B × (C × (MutBor (Logs A) × D)) → Logs A
+logs_left exit = exit.1.1.0.now
+
+-- nothing is logged
+abbrev pub AreEmpty : {A : Type 0} → Logs A → Type 0
+AreEmpty logs = (logs.reads ≡ []) × (logs.writes ≡ empty_log)

@@ -1,0 +1,89 @@
+-- When a conflict is shown: the word that it carries is what the client's last step found, a give
+-- back apart.
+use Rattle.std.specs.Prelude.{◌≡◌, ◌≢◌, ℕ, ◌+◌, ◌*◌, ◌<◌, ◌⊎◌, List, true, false, ◌||◌, Option, Some, None}
+use Rattle.std.specs.FinMap.{get}
+use Rattle.stm_words.specs.Image.{In}
+use Rattle.stm_words.specs.LockWord.{free_word, held_word}
+use Rattle.stm_core.specs.Client.{Client, probed, checked, locked, ticked, looked, version_of, is_free}
+use Rattle.stm_logs.specs.Log.{LogValue}
+use Rattle.stm_attempt.specs.declared.conflict.Conflict.{Conflict}
+use Rattle.stm_attempt.specs.declared.conflict.Conflict.TheVariants.{Held, Newer, Moved, LostLock, LostTick}
+
+-- a lock word that says held
+abbrev pub IsHeld : ℕ → Type 0
+IsHeld word = word ≡ held_word (version_of word)
+
+-- a conflict of a read at an address: the probe of its lock found it held, and not by the client
+-- itself, or free with a version above the read version; or the check found another word
+abbrev pub IsReadConflict : (ℕ → ℕ) → ℕ → Conflict → Client → Type 0
+IsReadConflict lk address (Held lock word) v =
+    (lock ≡ lk address) × (v.last ≡ probed lock word) × IsHeld word × (v.mine ≡ false)
+IsReadConflict lk address (Newer lock version rv) v =
+    (lock ≡ lk address) × (v.last ≡ probed lock (free_word version)) × (rv ≡ v.rv) × (rv < version)
+IsReadConflict lk address (Moved lock first second) v =
+    (lock ≡ lk address) × (v.last ≡ checked address first second) × (first ≢ second)
+IsReadConflict lk address (LostLock lock found) v = ⊥
+IsReadConflict lk address (LostTick found) v = ⊥
+
+-- a conflict over a lock that is to be taken: the load before its exchange found it held, and not
+-- by the client itself, or the exchange lost
+abbrev pub IsLockConflict : ℕ → Conflict → Client → Type 0
+IsLockConflict wanted (Held lock word) v =
+    (lock ≡ wanted) × (v.last ≡ probed lock word) × IsHeld word × (v.mine ≡ false)
+IsLockConflict wanted (Newer lock version rv) v = ⊥
+IsLockConflict wanted (Moved lock first second) v = ⊥
+IsLockConflict wanted (LostLock lock found) v =
+    (lock ≡ wanted) × ((word : ℕ) × (v.last ≡ locked lock word found) × (word ≢ found))
+IsLockConflict wanted (LostTick found) v = ⊥
+
+-- a conflict of the validation of a read word's lock: it was held by another, or it was free, or
+-- the client's own, with a version above the read version
+abbrev pub IsValidateConflict : ℕ → Conflict → Client → Type 0
+IsValidateConflict wanted (Held lock word) v =
+    (lock ≡ wanted) × (v.last ≡ looked lock word) × IsHeld word × (v.mine ≡ false)
+IsValidateConflict wanted (Newer lock version rv) v =
+    (lock ≡ wanted) × ((word : ℕ) × (v.last ≡ looked lock word) ×
+    ((is_free word || v.mine) ≡ true) × (version ≡ version_of word) × (rv ≡ v.rv) × (rv < version))
+IsValidateConflict wanted (Moved lock first second) v = ⊥
+IsValidateConflict wanted (LostLock lock found) v = ⊥
+IsValidateConflict wanted (LostTick found) v = ⊥
+
+-- a conflict over the clock: the sixteenth tick lost
+abbrev pub IsTickConflict : Conflict → Client → Type 0
+IsTickConflict (Held lock word) v = ⊥
+IsTickConflict (Newer lock version rv) v = ⊥
+IsTickConflict (Moved lock first second) v = ⊥
+IsTickConflict (LostLock lock found) v = ⊥
+IsTickConflict (LostTick found) v =
+    (from : ℕ) × (v.last ≡ ticked from found) × (from ≢ found) × (v.ticks ≡ 16)
+
+-- it is the lock of an address that is written
+abbrev pub IsWriteLock : LogValue → ℕ → Type 0
+IsWriteLock log lock = (address : ℕ) × (get log.locks address ≡ Some lock)
+
+-- it is the lock of an address that was read
+abbrev pub IsReadLock : (ℕ → ℕ) → List (ℕ × ℕ) → ℕ → Type 0
+IsReadLock lk reads lock = (address x : ℕ) × In (address, x) reads × (lock ≡ lk address)
+
+-- a conflict of a commit: over the lock of an address that it writes, of one that it has read, or
+-- over the clock
+abbrev pub IsCommitConflict : (ℕ → ℕ) → LogValue → Conflict → Client → Type 0
+IsCommitConflict lk log conflict v =
+    ((lock : ℕ) × IsWriteLock log lock × IsLockConflict lock conflict v) ⊎
+    (((lock : ℕ) × IsReadLock lk v.reads lock × IsValidateConflict lock conflict v) ⊎
+    IsTickConflict conflict v)
+
+-- a read of the attempt met the conflict, and it is shown
+abbrev pub HasMet : (ℕ → ℕ) → Option Conflict → Client → Type 0
+HasMet lk stopped v = (conflict : Conflict) → stopped ≡ Some conflict →
+    ∥ ((address : ℕ) × IsReadConflict lk address conflict v) ∥₁
+
+-- how many reads a conflict ended: one, where there is one
+abbrev pub refused : Option Conflict → ℕ
+refused None = 0
+refused (Some conflict) = 1
+
+-- how many steps an attempt takes at most, with so many reads that its write log did not answer,
+-- and so many words to write
+abbrev pub most_steps : ℕ → ℕ → ℕ
+most_steps reads words = 4 * reads + 4 * words + 17

@@ -1,9 +1,0 @@
--- What one look of a commit makes of a client's value.
-use Rattle.std.specs.Prelude.{◌≡◌, ℕ, Bool}
-use Rattle.stm_core.specs.Client.{Client}
-use Rattle.stm_core.specs.Event.{validate, after, passes}
-use Rattle.stm_region.specs.Shown.{RegionShown, stripe_of, unplaced}
-
--- a look at this lock was made, and passed or not
-abbrev pub HasLookedAt : RegionShown → ℕ → Bool → Client → Client → Type 0
-HasLookedAt region lock passed v v' = (word : ℕ) × (v' ≡ after (unplaced region.renewal) (stripe_of region.stripes) (validate lock) word v) × (passes lock word v ≡ passed)
