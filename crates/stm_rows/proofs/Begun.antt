@@ -6,7 +6,7 @@ use Rattle.stm_words.specs.View.{memory}
 use Rattle.stm_core.specs.Client.{Client}
 use Rattle.stm_logs.specs.Log.{LogValue, empty_log}
 use Rattle.stm_region.specs.Shown.{RegionShown}
-use Rattle.stm_attempt.specs.Seen.{memory_of}
+use Rattle.stm_attempt.specs.Meaning.{memory_of}
 use Rattle.stm_attempt.specs.Leading.{Property, words_of}
 use Rattle.stm_rows.specs.Laws.{Fits, Holds}
 

@@ -9,8 +9,9 @@ use Rattle.stm_core.proofs.Lists.{by_bool}
 use Rattle.stm_logs.specs.Log.{LogValue}
 use Rattle.stm_region.specs.Shown.{RegionShown, ClientShown, acted, joined}
 use Rattle.stm_region.specs.Told.{IsEarlier, AreEarlier}
-use Rattle.stm_attempt.specs.Running.{still}
-use Rattle.stm_attempt.specs.Committing.{HasCommitted, HasStopped, IsCommitVersion, commit_record, apart}
+use Rattle.stm_attempt.specs.Begun.{still}
+use Rattle.stm_attempt.specs.Committing.{HasCommitted, HasStopped, IsCommitVersion, commit_record}
+use Rattle.stm_attempt.proofs.Named.{apart, same_attempt}
 use Rattle.stm_attempt.specs.declared.conflict.Stop.{Stop}
 use Rattle.vac_model.specs.declared.tasks.Task.{Task}
 use Rattle.vac_model.specs.declared.replies.Reply.{Reply}
@@ -99,8 +100,8 @@ committed region region' t r pairs rv version c c0 v1 v2 v' renewed earlier unpl
     let rv1 : v1.rv ≡ c0.value.rv = ap (λ (x : Client). x.rv) same in
     let place1 : v1.began_at ≡ 0 = ap (λ (x : Client). x.began_at) same ∙ place0 in
     let records1 : v1.records ≡ c0.value.records = ap (λ (x : Client). x.records) same in
-    let attempt2 : v2.attempt ≡ v1.attempt = ap (λ (x : Client). x.attempt) done.same in
-    let grants2 : v2.grants ≡ v1.grants = ap (λ (x : Client). x.grants) done.same in
+    let attempt2 : v2.attempt ≡ v1.attempt = done.same.attempt in
+    let grants2 : v2.grants ≡ v1.grants = done.same.grants in
     let early : c.value.floor ≤ v1.rv = omega (arith, low, rv0, rv1) in
     let later = version_later v1 pairs version c.value.floor done.versioned early in
     let known : (x : Record) → In x c.value.records → IsEarlier region'.renewal v1.rv x = λ x i.
@@ -142,7 +143,7 @@ finished region region' t r rv n c c0 c1 c2 v' renewed earlier unplaced begun sa
       versioned = refl;
       known = ap (λ (x : ClientShown). x.value.floor) ended ∙ floor1;
       free = free;
-      same = ap (λ (x : ClientShown). apart x.value) ended;
+      same = same_attempt c1.value c2.value (ap (λ (x : ClientShown). apart x.value) ended);
     } in
     committed region region' t r [] rv c1.value.rv c c0 c1.value c2.value v' renewed earlier unplaced begun same low done end
 
@@ -158,7 +159,7 @@ pub unplaced_stopped : (region region' : RegionShown) (rv : ℕ) (log : LogValue
     HasStopped region' log s v v2 → v' ≡ v2 → IsUnplaced v'
 unplaced_stopped region region' rv log s c c0 v v2 v' unplaced begun same stopped end =
     let before = unplaced_begun region rv c c0 v v unplaced begun same refl in
-    subst (λ (x : Client). IsUnplaced x) (sym end) (unplaced_still v v2 before (ap (λ (x : Client). x.records) stopped.same))
+    subst (λ (x : Client). IsUnplaced x) (sym end) (unplaced_still v v2 before stopped.records)
 
 -- what clients that split, gather and go on with a new clock keep
 pub unplaced_fresh : (v : Client) → IsUnplaced (fresh v)

@@ -8,7 +8,7 @@ use Rattle.stm_words.proofs.Paired.{agrees-map_of, laid-entries, length-laid}
 use Rattle.stm_core.specs.Client.{Client}
 use Rattle.stm_logs.specs.Log.{LogValue, empty_log, log_pairs}
 use Rattle.stm_region.specs.Shown.{RegionShown, ClientShown}
-use Rattle.stm_attempt.specs.Seen.{memory_of, Origin, origin_of}
+use Rattle.stm_attempt.specs.Meaning.{memory_of, Origin, origin_of}
 use Rattle.vac_model.specs.declared.tasks.Task.{Task}
 use Rattle.vac_model.specs.declared.replies.Reply.{Reply}
 use Rattle.vac_model.specs.State.{State}

@@ -3,8 +3,8 @@ use Rattle.std.proofs.Common.{◌≡◌, ◌⊎◌, inl, inr, ℕ, ◌+◌, ◌*
 use Rattle.stm_core.specs.Client.{Client}
 use Rattle.stm_logs.specs.Log.{LogValue}
 use Rattle.stm_region.specs.Shown.{RegionShown, stripe_of}
-use Rattle.stm_attempt.specs.Seen.{Origin, origin_of}
-use Rattle.stm_attempt.specs.Shown.{IsReadConflict}
+use Rattle.stm_attempt.specs.Meaning.{Origin, origin_of}
+use Rattle.stm_attempt.specs.Conflicts.{IsReadConflict}
 use Rattle.stm_attempt.specs.Committing.{HasStopped}
 use Rattle.stm_attempt.specs.declared.conflict.Conflict.{Conflict}
 use Rattle.stm_attempt.specs.declared.conflict.Stop.{Stop}

@@ -9,7 +9,7 @@ use Rattle.stm_core.specs.Event.{giving, fresh}
 use Rattle.stm_region.specs.Shown.{RegionShown, stripe_of}
 use Rattle.stm_region.specs.declared.fault.RegionFault.{RegionFault}
 use Rattle.stm_region.specs.declared.fault.RegionFault.TheVariants.{Clients}
-use Rattle.stm_attempt.specs.Shown.{IsReadConflict, IsCommitConflict}
+use Rattle.stm_attempt.specs.Conflicts.{IsReadConflict, IsCommitConflict}
 use Rattle.stm_attempt.specs.declared.conflict.Conflict.{Conflict}
 use Rattle.stm_attempt.specs.declared.conflict.Stop.{Stop}
 use Rattle.stm_attempt.specs.declared.conflict.Stop.TheVariants as stop

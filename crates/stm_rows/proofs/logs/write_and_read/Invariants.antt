@@ -1,5 +1,5 @@
 use Rattle.std.proofs.Common.{◌≡◌, true}
-use Rattle.stm_attempt.specs.Seen.{origin_of}
+use Rattle.stm_attempt.specs.Meaning.{origin_of}
 use Rattle.stm_rows.proofs.logs.write_and_read.Given as goal
 
 abbrev pub invariant-loop-addr : goal.invariant-loop-addr

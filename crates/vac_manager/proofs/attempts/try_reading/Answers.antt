@@ -1,7 +1,7 @@
 use Rattle.std.proofs.Common.{rules, refl, ap, ◌∙◌}
 use Rattle.stm_region.specs.Shown.{RegionShown, ClientShown}
-use Rattle.stm_attempt.specs.Seen.{Origin}
-use Rattle.stm_attempt.specs.Running.{is_unfinished}
+use Rattle.stm_attempt.specs.Meaning.{Origin}
+use Rattle.stm_attempt.specs.Begun.{is_unfinished}
 use Rattle.vac_manager.proofs.Adding.{finished, unplaced_begun}
 use Rattle.vac_manager.proofs.Lawful.{holds_begun, lawful_read}
 use Rattle.vac_manager.proofs.Legality.{finished_legal}

@@ -1,6 +1,6 @@
 use Rattle.std.proofs.Common.{rules, ap, ◌∙◌}
 use Rattle.stm_region.specs.Shown.{RegionShown}
-use Rattle.stm_attempt.specs.Seen.{Origin}
+use Rattle.stm_attempt.specs.Meaning.{Origin}
 use Rattle.vac_manager.proofs.Adding.{committed, unplaced_begun, unplaced_stopped}
 use Rattle.vac_manager.proofs.Lawful.{holds_begun, lawful}
 use Rattle.vac_manager.proofs.Legality.{committed_legal}
