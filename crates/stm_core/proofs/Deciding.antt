@@ -5,7 +5,7 @@ use mathlib.Core.Logic.{dite}
 use native.Mathlib.Decide.{ℕ_discrete, dec_le}
 use lib.ListN.{get_elem?}
 use Rattle.stm_words.specs.Image.{In}
-use Rattle.stm_core.specs.Client.{Client, Record, Step, nothing, began, probed, fetched, checked, locked, ticked, looked, ended, decided, version_of, IsFree, writes_to, base, inserted}
+use Rattle.stm_core.specs.Client.{Client, Record, Step, probed, fetched, decided, version_of, IsFree, writes_to, base, inserted}
 use Rattle.stm_core.specs.Version.{World, At, IsOpen, Claims, runs, passes, noted, Saw, IsSound, IsKept, IsBooked}
 use Rattle.stm_core.proofs.Lists.{same_at, clash, by_bool, nothing_in}
 use Rattle.stm_core.proofs.Turns.{Heart, turn_keeps}
@@ -50,8 +50,6 @@ module _ (lk : ℕ → ℕ) (s : World) (cs : List Client) (id : ℕ) (v w : Cli
   not_mine a f = by_bool (writes_to v.writes a) (λ t. let g = its_lock a t in absurd (f g.0 g.1)) (λ e. e)
 
   saw_stays : (y : ℕ) (l : Step) → Saw lk s y l → Saw lk told' y l
-  saw_stays y nothing p = tt
-  saw_stays y (began n) p = tt
   saw_stays y (probed k n) p = p
   saw_stays y (fetched a n x) p = (
     p.0,
@@ -60,11 +58,7 @@ module _ (lk : ℕ → ℕ) (s : World) (cs : List Client) (id : ℕ) (v w : Cli
     ⊎_elim (λ eq. by_bool (writes_to v.writes a) (λ t. let g = its_lock a t in inr (v.wv, omega (arith, g.2, g.3, p.2), d.own a ∙ t)) (λ f. inl (eq ∙ sym (d.beside s.clock a f))))
         (λ over. inr (over.0, over.1, d.others over.0 a (λ e. clash over.2 (subst (λ n. s.wrote n a ≡ false) (sym e) (mine.unwritten open' a))) ∙ over.2)) p.3,
   )
-  saw_stays y (checked a n m) p = tt
-  saw_stays y (locked k n m) p = tt
-  saw_stays y (ticked f m) p = tt
-  saw_stays y (looked k n) p = tt
-  saw_stays y (ended n) p = tt
+  saw_stays y _ p = tt
 
   other_sound : (i : ℕ) (o : Client) → At cs i o → IsSound lk told' o
   other_sound i o e = let it = h.version.sound i o e in record {

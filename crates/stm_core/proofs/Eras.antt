@@ -4,7 +4,7 @@ use mathlib.Core.Option.{some}
 use Rattle.std.proofs.lemmas.Bool.Decides.{nat_tests}
 use Rattle.stm_words.specs.Image.{In}
 use Rattle.stm_core.specs.Client.{Client, Record, Stamp, before, inserted, merged, of_renewal, shed, writes_to, word_before, value_fetched, checked, locked, ticked, looked, version_of}
-use Rattle.stm_core.specs.Event.{Action, begin, probe, fetch, check, lock, tick, validate, put, release, give_back, finish, committed_by, stepping, failing, read_too, holding, versioned, decides_at_once, won, passes, passing, after}
+use Rattle.stm_core.specs.Event.{Action, check, lock, tick, validate, finish, committed_by, stepping, failing, read_too, holding, versioned, decides_at_once, won, passes, passing, after, writer_record, reader_record}
 use Rattle.stm_core.specs.Invariant.{Sorted}
 use Rattle.stm_core.proofs.Lists.{nothing_in, in_snoc}
 use Rattle.stm_core.proofs.Orders.{in_cons, in_merged}
@@ -105,7 +105,7 @@ pub shed_pad : (n : ℕ) (pre : List Record) (u : Client) → AllBefore n pre �
 shed_pad n pre u f g = ap (λ l. record u { records = l }) (of_padded n pre u.records f g)
 
 committed_pad : (t : Stamp) (pre : List Record) (u : Client) → AllBefore t.renewal pre → committed_by t (pad pre u) ≡ pad pre (committed_by t u)
-committed_pad t pre u f = ap (λ l. record (committed_by t u) { records = l }) (inserted_padded (record { tag = u.tag; reads = u.reads; writes = u.writes; writer = true; version = u.wv; attempt = u.attempt; renewal = t.renewal; point = u.ticked_at; client = t.client }) pre u.records f)
+committed_pad t pre u f = ap (λ l. record (committed_by t u) { records = l }) (inserted_padded (writer_record t u) pre u.records f)
 
 on_cond : {A X : Type 0} (f g : A → X) (b : Bool) (x y x' y' : A) → f x ≡ g x' → f y ≡ g y' → f (cond b x y) ≡ g (cond b x' y')
 on_cond f g true x y x' y' e k = e
@@ -113,9 +113,6 @@ on_cond f g false x y x' y' e k = k
 
 -- a step does not look at the records
 pub after_pad : (t : Stamp) (lk : ℕ → ℕ) (e : Action) (n : ℕ) (pre : List Record) (u : Client) → AllBefore t.renewal pre → after t lk e n (pad pre u) ≡ pad pre (after t lk e n u)
-after_pad t lk begin n pre u f = refl
-after_pad t lk (probe k) n pre u f = refl
-after_pad t lk (fetch a) n pre u f = refl
 after_pad t lk (check a) n pre u f =
     on_cond (λ w. stepping (checked a (word_before u.last) n) w) (λ w. pad pre (stepping (checked a (word_before u.last) n) w)) (eqb n (word_before u.last)) (read_too a (value_fetched u.last) (pad pre u)) (failing (pad pre u)) (read_too a (value_fetched u.last) u) (failing u) refl refl
 after_pad t lk (lock k) n pre u f =
@@ -130,8 +127,6 @@ after_pad t lk (validate k) n pre u f =
     on_cond (λ w. record (stepping (looked k n) w) { mine = writes_to u.held k }) (λ w. pad pre (record (stepping (looked k n) w) { mine = writes_to u.held k })) (passes k n u) (passing t (pad pre u)) (failing (pad pre u)) (passing t u) (failing u)
     (on_cond (λ w. record (stepping (looked k n) w) { mine = writes_to u.held k }) (λ w. pad pre (record (stepping (looked k n) w) { mine = writes_to u.held k })) (eqb w0.passed (length u.reads)) (committed_by t (pad pre w0)) (pad pre w0) (committed_by t w0) w0
     (ap (λ w. record (stepping (looked k n) w) { mine = writes_to u.held k }) (committed_pad t pre w0 f)) refl) refl
-after_pad t lk (put a x) n pre u f = refl
-after_pad t lk (release k) n pre u f = refl
-after_pad t lk (give_back k) n pre u f = refl
 after_pad t lk (finish tag) n pre u f =
-    ap (λ l. record (after t lk (finish tag) n u) { records = l }) (inserted_padded (record { tag = tag; reads = u.reads; writes = []; writer = false; version = u.rv; attempt = u.attempt; renewal = t.renewal; point = u.began_at; client = t.client }) pre u.records f)
+    ap (λ l. record (after t lk (finish tag) n u) { records = l }) (inserted_padded (reader_record t tag u) pre u.records f)
+after_pad t lk _ n pre u f = refl

@@ -1,13 +1,13 @@
 -- The running core follows the core, event by event.
-use Rattle.std.proofs.Common.{◌≡◌, ◌≢◌, ℕ, zero, suc, ◌+◌, ◌-◌, ◌*◌, ◌^◌, ◌≤◌, ◌<◌, ◌⊎◌, inl, inr, ⊎_elim, Bool, true, false, cond, not, eqb, ltb, nat_lt, nat_le, append-nil, ◌==◌, ◌&&◌, ◌||◌, List, [], ◌∷◌, ◌++◌, length, length-set, set, get_or, map, replicate, slice_set, refl, sym, ap, ◌∙◌, subst, arith}
+use Rattle.std.proofs.Common.{◌≡◌, ◌≢◌, ℕ, zero, suc, ◌+◌, ◌-◌, ◌*◌, ◌^◌, ◌≤◌, ◌<◌, ◌⊎◌, inl, inr, ⊎_elim, Bool, true, false, cond, eqb, ltb, append-nil, ◌&&◌, ◌||◌, List, [], ◌∷◌, ◌++◌, length, length-set, set, get_or, map, replicate, slice_set, refl, sym, ap, ◌∙◌, subst, arith}
 use mathlib.Core.Option.{some, some-injective}
 use lib.ListN.{get_elem?}
 use Rattle.std.proofs.lemmas.Bool.Decides.{nat_tests}
 use Rattle.std.proofs.lemmas.List.{length-replicate}
 use Rattle.stm_words.specs.Image.{In}
 use Rattle.stm_core.specs.Client.{shed, Client, Record, Stamp, checked, locked, ticked, looked, version_of, word_before, value_fetched, writes_to, old_version, is_committed}
-use Rattle.stm_core.specs.Event.{Action, begin, probe, fetch, check, lock, tick, validate, put, release, give_back, finish, is_empty, committed_by, stepping, failing, read_too, holding, versioned, decides_at_once, won, passes, passing, after, giving, fresh, taking, renewing, gone}
-use Rattle.stm_core.specs.Core.{Core, bounds_of, found, left, written, Event, acts, splits, gathers, renews, IsClient, Allowed, client_of, played, Leads, opened}
+use Rattle.stm_core.specs.Event.{Action, begin, probe, fetch, check, lock, tick, validate, put, release, give_back, finish, committed_by, stepping, failing, read_too, holding, versioned, decides_at_once, won, passes, passing, after, giving, fresh, taking, renewing, gone, MayAct}
+use Rattle.stm_core.specs.Core.{Core, bounds_of, found, left, written, Event, acts, splits, gathers, renews, IsClient, IsAlone, Allowed, client_of, played, Leads, opened}
 use Rattle.stm_core.specs.Theorem.{stripe_of, free_law, IsHistory}
 use Rattle.stm_core.specs.Invariant.{Inv, now, Rule}
 use Rattle.stm_core.specs.Seat.{blank, seat_after}
@@ -18,7 +18,7 @@ use Rattle.stm_core.specs.Follows.{IsOrderOf, IsReached, FollowsCore, RunningFol
 use Rattle.stm_core.proofs.Lists.{clash, nothing_in, by_bool, in_range}
 use Rattle.stm_core.proofs.Steps.{by_case, word_inside}
 use Rattle.stm_core.proofs.Held.{old_in}
-use Rattle.stm_core.proofs.Simulating.{act_is, is_act, left_of, right_of, both, not_of, empty_is}
+use Rattle.stm_core.proofs.Simulating.{Decides, through, and2, and3, and4, and5, eq_test, lt_test, le_test, false_test, not_test, empty_test, act_test}
 use Rattle.stm_core.proofs.Playing.{get_is, filed, earlier_after, history_after, Beside, event_beside, opening_beside, is_history, every_list_stands}
 use Rattle.stm_core.proofs.Dating.{placed, placed_in}
 use Rattle.stm_core.proofs.Placing.{order_of, as_kept, decision_shown, entered_order, one_history}
@@ -47,34 +47,13 @@ client_shown c k = get_map c.clients (k - 1)
 
 found_shown : (lk : ℕ → ℕ) (c : Core) (e : Action) → found lk (shown c) e ≡ found lk c e
 found_shown lk c begin = refl
-found_shown lk c (probe k) = refl
-found_shown lk c (fetch a) = refl
-found_shown lk c (check a) = refl
-found_shown lk c (lock k) = refl
-found_shown lk c (tick f t w) = refl
-found_shown lk c (validate k) = refl
-found_shown lk c (put a x) = refl
-found_shown lk c (release k) = refl
-found_shown lk c (give_back k) = refl
-found_shown lk c (finish t) = refl
+found_shown lk c _ = refl
 
 left_shown : (e : Action) (n : ℕ) (v : Client) → left e n (blank v) ≡ left e n v
 left_shown begin n v = refl
-left_shown (probe k) n v = refl
-left_shown (fetch a) n v = refl
-left_shown (check a) n v = refl
-left_shown (lock k) n v = refl
-left_shown (tick f t w) n v = refl
-left_shown (validate k) n v = refl
-left_shown (put a x) n v = refl
-left_shown (release k) n v = refl
-left_shown (give_back k) n v = refl
-left_shown (finish t) n v = refl
+left_shown _ n v = refl
 
 after_shown : (t : Stamp) (lk : ℕ → ℕ) (e : Action) (n : ℕ) (v : Client) → blank (after t lk e n v) ≡ seat_after t.place e n (blank v)
-after_shown t lk begin n v = refl
-after_shown t lk (probe k) n v = refl
-after_shown t lk (fetch a) n v = refl
 after_shown t lk (check a) n v = by_case (λ b. blank (stepping (checked a (word_before v.last) n) (cond b (read_too a (value_fetched v.last) v) (failing v))) ≡ blank (stepping (checked a (word_before v.last) n) (cond b (read_too a (value_fetched v.last) (blank v)) (failing (blank v))))) (eqb n (word_before v.last)) (λ e. refl) (λ e. refl)
 after_shown t lk (lock k) n v = by_case (λ b. blank (stepping (locked k (word_before v.last) n) (cond b (holding k (version_of n) v) (failing v))) ≡ blank (stepping (locked k (word_before v.last) n) (cond b (holding k (version_of n) (blank v)) (failing (blank v))))) (eqb n (word_before v.last)) (λ e. refl) (λ e. refl)
 after_shown t lk (tick from tag writes) n v =
@@ -91,23 +70,11 @@ after_shown t lk (validate k) n v =
     by_case (λ b. blank (record (stepping (looked k n) (cond b (passing t v) (failing v))) { mine = writes_to v.held k }) ≡ blank (record (stepping (looked k n) (cond b (passing u (blank v)) (failing (blank v)))) { mine = writes_to v.held k })) (passes k n v)
     (λ e. by_case (λ b. blank (record (stepping (looked k n) (cond b (committed_by t w) w)) { mine = writes_to v.held k }) ≡ blank (record (stepping (looked k n) (cond b (committed_by u w') w')) { mine = writes_to v.held k })) (eqb (v.passed + 1) (length v.reads)) (λ z. refl) (λ z. refl))
     (λ e. refl)
-after_shown t lk (put a x) n v = refl
-after_shown t lk (release k) n v = refl
-after_shown t lk (give_back k) n v = refl
-after_shown t lk (finish tag) n v = refl
+after_shown t lk _ n v = refl
 
 written_shown : (e : Action) (m : ℕ) (c : Core) (cs : List Client) → record (written e m (shown c)) { clients = map blank cs; events = c.events + 1 } ≡ shown (record (written e m c) { clients = cs; events = c.events + 1 })
 written_shown begin m c cs = refl
-written_shown (probe k) m c cs = refl
-written_shown (fetch a) m c cs = refl
-written_shown (check a) m c cs = refl
-written_shown (lock k) m c cs = refl
-written_shown (tick f t w) m c cs = refl
-written_shown (validate k) m c cs = refl
-written_shown (put a x) m c cs = refl
-written_shown (release k) m c cs = refl
-written_shown (give_back k) m c cs = refl
-written_shown (finish t) m c cs = refl
+written_shown _ m c cs = refl
 
 entered_core : (rs : List Record) (s : Running) → (entered rs s).core ≡ s.core
 entered_core [] s = refl
@@ -149,9 +116,8 @@ play_order (acts k e) c s old h same o f =
     let rs = decision t e (found (stripes_of c) c e) (client_of c k) in
     let kept : decision (stamp_of (shown c) k) e (found (stripes_of c) (shown c) e) (client_of (shown c) k) ≡ map as_kept rs = rw (found_shown (stripes_of c) c e, client_shown c k) (decision_shown t e (found (stripes_of c) c e) (client_of c k)) in
     subst (λ d. (run_acts k e (record s { core = d })).order ≡ order_of (filed rs (old ++ h))) (sym same) (entered_order _ rs kept _ (old ++ h) o) ∙ ap order_of (filed_behind rs old h f)
-play_order (splits k) c s old h same o f = o
-play_order (gathers k j) c s old h same o f = o
 play_order (renews k last) c s old h same o f = o ∙ ap order_of (sym (append-nil (old ++ h)))
+play_order _ c s old h same o f = o
 
 at_of : (l : List Client) (i : ℕ) → i < length l → get_elem? l i ≡ some (get_or l i gone)
 at_of [] i h = absurd (omega arith)
@@ -192,136 +158,72 @@ may_shown (renews k last) c = rw (out_shown c k, client_shown c k, others_shown 
     others_shown (v ∷ vs) zero = are_shown vs
     others_shown (v ∷ vs) (suc i) = ap (λ b. v.spent && b) (others_shown vs i)
 
-all_spent : (l : List Client) → are_spent l ≡ true → (j : ℕ) (w : Client) → get_elem? l j ≡ some w → w.spent ≡ true
-all_spent [] h j w e = absurd (nothing_in w (j, e))
-all_spent (v ∷ vs) h zero w e = sym (ap (λ (z : Client). z.spent) (some-injective v w e)) ∙ left_of v.spent (are_spent vs) h
-all_spent (v ∷ vs) h (suc j) w e = all_spent vs (right_of v.spent (are_spent vs) h) j w e
+bool_test : (b : Bool) → Decides b (b ≡ true)
+bool_test b = record { sound = λ h. h; complete = λ h. h }
 
-spent_all : (l : List Client) → ((j : ℕ) (w : Client) → get_elem? l j ≡ some w → w.spent ≡ true) → are_spent l ≡ true
-spent_all [] f = refl
-spent_all (v ∷ vs) f = both v.spent (are_spent vs) (f 0 v refl) (spent_all vs (λ j w e. f (suc j) w e))
+spent_test : (l : List Client) → Decides (are_spent l) ((j : ℕ) (w : Client) → get_elem? l j ≡ some w → w.spent ≡ true)
+spent_test [] = record { sound = λ h j w e. absurd (nothing_in w (j, e)); complete = λ f. refl }
+spent_test (v ∷ vs) = through (λ q j w e. go q.0 q.1 j w e) (λ f. (f 0 v refl, λ j w e. f (suc j) w e)) (and2 (bool_test v.spent) (spent_test vs))
+  where
+    go : v.spent ≡ true → ((j : ℕ) (w : Client) → get_elem? vs j ≡ some w → w.spent ≡ true) → (j : ℕ) (w : Client) → get_elem? (v ∷ vs) j ≡ some w → w.spent ≡ true
+    go s f zero w e = subst (λ (z : Client). z.spent ≡ true) (some-injective v w e) s
+    go s f (suc j) w e = f j w e
 
-others_are : (l : List Client) (i : ℕ) → others_spent l i ≡ true → (j : ℕ) (w : Client) → get_elem? l j ≡ some w → j ≢ i → w.spent ≡ true
-others_are [] i h j w e n = absurd (nothing_in w (j, e))
-others_are (v ∷ vs) zero h zero w e n = absurd (n refl)
-others_are (v ∷ vs) zero h (suc j) w e n = all_spent vs h j w e
-others_are (v ∷ vs) (suc i) h zero w e n = sym (ap (λ (z : Client). z.spent) (some-injective v w e)) ∙ left_of v.spent (others_spent vs i) h
-others_are (v ∷ vs) (suc i) h (suc j) w e n = others_are vs i (right_of v.spent (others_spent vs i) h) j w e (λ z. n (ap suc z))
+others_test : (l : List Client) (i : ℕ) → Decides (others_spent l i) ((j : ℕ) (w : Client) → get_elem? l j ≡ some w → j ≢ i → w.spent ≡ true)
+others_test [] i = record { sound = λ h j w e n. absurd (nothing_in w (j, e)); complete = λ f. refl }
+others_test (v ∷ vs) zero = through (λ f j w e n. go f j w e n) (λ f j w e. f (suc j) w e (λ z. (let q : suc j ≡ 0 = z in omega arith))) (spent_test vs)
+  where
+    go : ((j : ℕ) (w : Client) → get_elem? vs j ≡ some w → w.spent ≡ true) → (j : ℕ) (w : Client) → get_elem? (v ∷ vs) j ≡ some w → j ≢ 0 → w.spent ≡ true
+    go f zero w e n = absurd (n refl)
+    go f (suc j) w e n = f j w e
+others_test (v ∷ vs) (suc i) = through (λ q j w e n. go q.0 q.1 j w e n) (λ f. (f 0 v refl (λ z. (let q : 0 ≡ suc i = z in omega arith)), λ j w e n. f (suc j) w e (λ z. n (let q : j ≡ i = omega arith in q))))
+    (and2 (bool_test v.spent) (others_test vs i))
+  where
+    go : v.spent ≡ true → ((j : ℕ) (w : Client) → get_elem? vs j ≡ some w → j ≢ i → w.spent ≡ true) → (j : ℕ) (w : Client) → get_elem? (v ∷ vs) j ≡ some w → j ≢ suc i → w.spent ≡ true
+    go s f zero w e n = subst (λ (z : Client). z.spent ≡ true) (some-injective v w e) s
+    go s f (suc j) w e n = f j w e (λ z. n (ap suc z))
 
-are_others : (l : List Client) (i : ℕ) → ((j : ℕ) (w : Client) → get_elem? l j ≡ some w → j ≢ i → w.spent ≡ true) → others_spent l i ≡ true
-are_others [] i f = refl
-are_others (v ∷ vs) zero f = spent_all vs (λ j w e. f (suc j) w e (λ z. (let q : suc j ≡ 0 = z in omega arith)))
-are_others (v ∷ vs) (suc i) f = both v.spent (others_spent vs i) (f 0 v refl (λ z. (let q : 0 ≡ suc i = z in omega arith))) (are_others vs i (λ j w e n. f (suc j) w e (λ z. n (let q : j ≡ i = omega arith in q))))
+pub out_test : (c : Core) (k : ℕ) → Decides (is_out c k) (IsClient c k (client_of c k) × ((client_of c k).spent ≡ false))
+out_test c k = through (λ q. ((q.0, at_of c.clients (k - 1) q.1), q.2)) (λ q. (q.0.0, in_range c.clients (k - 1) (client_of c k) q.0.1, q.1))
+    (and3 (lt_test 0 k) (lt_test (k - 1) (length c.clients)) (false_test (client_of c k).spent))
 
-out_is : (c : Core) (k : ℕ) → is_out c k ≡ true → IsClient c k (client_of c k) × ((client_of c k).spent ≡ false)
-out_is c k h =
-    let g = left_of (nat_lt 0 k && nat_lt (k - 1) (length c.clients)) (not (client_of c k).spent) h in
-    let a = left_of (nat_lt 0 k) (nat_lt (k - 1) (length c.clients)) g in
-    let b = right_of (nat_lt 0 k) (nat_lt (k - 1) (length c.clients)) g in
-    (((grind (arith, nat_tests)), at_of c.clients (k - 1) (grind (arith, nat_tests))), not_of (client_of c k).spent (right_of (nat_lt 0 k && nat_lt (k - 1) (length c.clients)) (not (client_of c k).spent) h))
-
-is_out_of : (c : Core) (k : ℕ) (v : Client) → IsClient c k v → v.spent ≡ false → (is_out c k ≡ true) × (client_of c k ≡ v)
-is_out_of c k v h s =
-    let same : client_of c k ≡ v = get_is c.clients (k - 1) v gone h.1 in
-    let l = in_range c.clients (k - 1) v h.1 in
-    (both (nat_lt 0 k && nat_lt (k - 1) (length c.clients)) (not (client_of c k).spent) (both (nat_lt 0 k) (nat_lt (k - 1) (length c.clients)) (let z = h.0 in grind (arith, nat_tests)) (grind (arith, nat_tests))) (rw same (ap not s)), same)
+client_is : (c : Core) (k : ℕ) (v : Client) → IsClient c k v → v ≡ client_of c k
+client_is c k v h = sym (get_is c.clients (k - 1) v gone h.1)
 
 -- the running core allows just the events that are allowed
-pub may_is : (e : Event) (c : Core) → may_play e c ≡ true → Allowed free_law (stripes_of c) e c
-may_is (acts k e) c h = let o = out_is c k (left_of (is_out c k) (may_act (bounds_of c) e (client_of c k)) h) in (client_of c k, o.0, (o.1, act_is (bounds_of c) (client_of c k) e (right_of (is_out c k) (may_act (bounds_of c) e (client_of c k)) h)))
-may_is (splits k) c h =
-    let g2 = left_of (is_out c k && is_empty (client_of c k).held && nat_lt 0 (client_of c k).grants) (nat_lt (length c.clients) (2 ^ 32 - 1)) h in
-    let g1 = left_of (is_out c k && is_empty (client_of c k).held) (nat_lt 0 (client_of c k).grants) g2 in
-    let o = out_is c k (left_of (is_out c k) (is_empty (client_of c k).held) g1) in (
-      client_of c k,
-      o.0,
-      (o.1, empty_is (client_of c k).held (right_of (is_out c k) (is_empty (client_of c k).held) g1)),
-      (let e = right_of (is_out c k && is_empty (client_of c k).held) (nat_lt 0 (client_of c k).grants) g2 in grind (arith, nat_tests)),
-      (let e = right_of (is_out c k && is_empty (client_of c k).held && nat_lt 0 (client_of c k).grants) (nat_lt (length c.clients) (2 ^ 32 - 1)) h in grind (arith, nat_tests)),
-    )
-may_is (gathers k j) c h =
-    let g3 = left_of (is_out c k && is_out c j && not (k == j) && is_empty (client_of c k).held) (is_empty (client_of c j).held) h in
-    let g2 = left_of (is_out c k && is_out c j && not (k == j)) (is_empty (client_of c k).held) g3 in
-    let g1 = left_of (is_out c k && is_out c j) (not (k == j)) g2 in
-    let o = out_is c k (left_of (is_out c k) (is_out c j) g1) in
-    let q = out_is c j (right_of (is_out c k) (is_out c j) g1) in (
-      client_of c k,
-      client_of c j,
-      o.0,
-      q.0,
-      (λ z. let e = not_of (k == j) (right_of (is_out c k && is_out c j) (not (k == j)) g2) in clash (let y : (k == j) ≡ true = grind (arith, nat_tests) in y) e),
-      (o.1, empty_is (client_of c k).held (right_of (is_out c k && is_out c j && not (k == j)) (is_empty (client_of c k).held) g3)),
-      (q.1, empty_is (client_of c j).held (right_of (is_out c k && is_out c j && not (k == j) && is_empty (client_of c k).held) (is_empty (client_of c j).held) h)),
-    )
-may_is (renews k last) c h =
-    let x1 = is_out c k in
-    let x2 = is_empty (client_of c k).held in
-    let x3 = others_spent c.clients (k - 1) in
-    let x4 = nat_le 1 last in
-    let x5 = nat_lt last (2 ^ 62) in
-    let x6 = nat_lt c.renewal 65535 in
-    let g4 = left_of (x1 && x2 && x3 && x4 && x5) x6 h in
-    let g3 = left_of (x1 && x2 && x3 && x4) x5 g4 in
-    let g2 = left_of (x1 && x2 && x3) x4 g3 in
-    let g1 = left_of (x1 && x2) x3 g2 in
-    let o = out_is c k (left_of x1 x2 g1) in (
-      client_of c k,
-      o.0,
-      (o.1, empty_is (client_of c k).held (right_of x1 x2 g1)),
-      others_are c.clients (k - 1) (right_of (x1 && x2) x3 g2),
-      (let e = right_of (x1 && x2 && x3) x4 g3 in grind (arith, nat_tests)),
-      (let e = right_of (x1 && x2 && x3 && x4) x5 g4 in grind (arith, nat_tests)),
-      (let e = right_of (x1 && x2 && x3 && x4 && x5) x6 h in grind (arith, nat_tests)),
-    )
-
-pub is_may : (e : Event) (c : Core) → Allowed free_law (stripes_of c) e c → may_play e c ≡ true
-is_may (acts k e) c h = let o = is_out_of c k h.0 h.1 h.2.0 in both (is_out c k) (may_act (bounds_of c) e (client_of c k)) o.0 (rw o.1 (is_act (bounds_of c) h.0 e h.2.1))
-is_may (splits k) c h = let o = is_out_of c k h.0 h.1 h.2.0 in
-    both (is_out c k && is_empty (client_of c k).held && nat_lt 0 (client_of c k).grants) (nat_lt (length c.clients) (2 ^ 32 - 1)) (both (is_out c k && is_empty (client_of c k).held) (nat_lt 0 (client_of c k).grants) (both (is_out c k) (is_empty (client_of c k).held) o.0 (rw o.1 (ap is_empty h.2.1))) (rw o.1 (let e = h.3 in grind (arith, nat_tests)))) (let e = h.4 in grind (arith, nat_tests))
-is_may (gathers k j) c h = let o = is_out_of c k h.0 h.2 h.5.0 in let q = is_out_of c j h.1 h.3 h.6.0 in
-    both (is_out c k && is_out c j && not (k == j) && is_empty (client_of c k).held) (is_empty (client_of c j).held) (both (is_out c k && is_out c j && not (k == j)) (is_empty (client_of c k).held) (both (is_out c k && is_out c j) (not (k == j)) (both (is_out c k) (is_out c j) o.0 q.0) (let n = h.4 in by_bool (k == j) (λ t. absurd (n (grind (arith, nat_tests)))) (λ f. ap not f))) (rw o.1 (ap is_empty h.5.1))) (rw q.1 (ap is_empty h.6.1))
-is_may (renews k last) c h =
-    let o = is_out_of c k h.0 h.1 h.2.0 in
-    let x1 = is_out c k in
-    let x2 = is_empty (client_of c k).held in
-    let x3 = others_spent c.clients (k - 1) in
-    let x4 = nat_le 1 last in
-    let x5 = nat_lt last (2 ^ 62) in
-    let x6 = nat_lt c.renewal 65535 in
-    both (x1 && x2 && x3 && x4 && x5) x6 (both (x1 && x2 && x3 && x4) x5 (both (x1 && x2 && x3) x4 (both (x1 && x2) x3 (both x1 x2 o.0 (rw o.1 (ap is_empty h.2.1))) (are_others c.clients (k - 1) h.3)) (let e = h.4 in grind (arith, nat_tests))) (let e = h.5 in grind (arith, nat_tests))) (let e = h.6 in grind (arith, nat_tests))
+pub play_test : (e : Event) (c : Core) → Decides (may_play e c) (Allowed free_law (stripes_of c) e c)
+play_test (acts k e) c = through (λ p. (client_of c k, p.0.0, (p.0.1, p.1)))
+    (λ p. subst (λ (v : Client). (IsClient c k v × (v.spent ≡ false)) × MayAct free_law (stripes_of c) (bounds_of c) e v) (client_is c k p.0 p.1) ((p.1, p.2.0), p.2.1))
+    (and2 (out_test c k) (act_test (bounds_of c) (client_of c k) e))
+play_test (splits k) c = through (λ p. (client_of c k, p.0.0, (p.0.1, p.1), p.2, p.3))
+    (λ p. subst (λ (v : Client). (IsClient c k v × (v.spent ≡ false)) × (v.held ≡ []) × (0 < v.grants) × (length c.clients < 2 ^ 32 - 1)) (client_is c k p.0 p.1) ((p.1, p.2.0), p.2.1, p.3, p.4))
+    (and4 (out_test c k) (empty_test (client_of c k).held) (lt_test 0 (client_of c k).grants) (lt_test (length c.clients) (2 ^ 32 - 1)))
+play_test (gathers k j) c = through (λ p. (client_of c k, client_of c j, p.0.0, p.1.0, p.2, (p.0.1, p.3), (p.1.1, p.4)))
+    (λ p. (
+      subst (λ (v : Client). IsClient c k v × (v.spent ≡ false)) (client_is c k p.0 p.2) (p.2, p.5.0),
+      subst (λ (v : Client). IsClient c j v × (v.spent ≡ false)) (client_is c j p.1 p.3) (p.3, p.6.0),
+      p.4,
+      subst (λ (v : Client). v.held ≡ []) (client_is c k p.0 p.2) p.5.1,
+      subst (λ (v : Client). v.held ≡ []) (client_is c j p.1 p.3) p.6.1,
+    ))
+    (and5 (out_test c k) (out_test c j) (not_test (eq_test k j)) (empty_test (client_of c k).held) (empty_test (client_of c j).held))
+play_test (renews k last) c = through (λ p. (client_of c k, p.0.0.0, (p.0.0.1, p.0.1), p.0.2, p.0.3, p.0.4, p.1))
+    (λ p. (subst (λ (v : Client). (IsClient c k v × (v.spent ≡ false)) × (v.held ≡ []) × IsAlone c (k - 1) × (1 ≤ last) × (last < 2 ^ 62)) (client_is c k p.0 p.1) ((p.1, p.2.0), p.2.1, p.3, p.4, p.5), p.6))
+    (and2 (and5 (out_test c k) (empty_test (client_of c k).held) (others_test c.clients (k - 1)) (le_test 1 last) (lt_test last (2 ^ 62))) (lt_test c.renewal 65535))
 
 locks_stay : (lk : ℕ → ℕ) (e : Event) (c : Core) → length (played lk e c).locks ≡ length c.locks
 locks_stay lk (acts k begin) c = refl
-locks_stay lk (acts k (probe n)) c = refl
-locks_stay lk (acts k (fetch a)) c = refl
-locks_stay lk (acts k (check a)) c = refl
 locks_stay lk (acts k (lock n)) c = length-set c.locks n (left (lock n) (found lk c (lock n)) (client_of c k))
-locks_stay lk (acts k (tick f t w)) c = refl
-locks_stay lk (acts k (validate n)) c = refl
-locks_stay lk (acts k (put a x)) c = refl
 locks_stay lk (acts k (release n)) c = length-set c.locks n (2 * (client_of c k).wv)
 locks_stay lk (acts k (give_back n)) c = length-set c.locks n (2 * old_version (client_of c k).held n)
-locks_stay lk (acts k (finish t)) c = refl
-locks_stay lk (splits k) c = refl
-locks_stay lk (gathers k j) c = refl
 locks_stay lk (renews k last) c = length-replicate (length c.locks) 0
+locks_stay lk _ c = refl
 
 -- the last version stays small
 last_small : (lk : ℕ → ℕ) (e : Event) (c : Core) → Allowed free_law lk e c → c.last < 2 ^ 62 → (played lk e c).last < 2 ^ 62
 last_small lk (acts k begin) c h l = l
-last_small lk (acts k (probe n)) c h l = l
-last_small lk (acts k (fetch a)) c h l = l
-last_small lk (acts k (check a)) c h l = l
-last_small lk (acts k (lock n)) c h l = l
-last_small lk (acts k (tick f t w)) c h l = l
-last_small lk (acts k (validate n)) c h l = l
-last_small lk (acts k (put a x)) c h l = l
-last_small lk (acts k (release n)) c h l = l
-last_small lk (acts k (give_back n)) c h l = l
-last_small lk (acts k (finish t)) c h l = l
-last_small lk (splits k) c h l = l
-last_small lk (gathers k j) c h l = l
 last_small lk (renews k last) c h l = h.5
+last_small lk _ c h l = l
 
 replicated : (n : ℕ) → length (replicate n (let z : ℕ = 0 in z)) ≡ n
 replicated zero = refl
@@ -364,7 +266,7 @@ module _ (c : Core) (h : Inv free_law (stripes_of c) c) (low : c.last < 2 ^ 62) 
       (λ f. (let e = old_none (client_of c k).held j f in omega arith))
 
   few_grants : (k j : ℕ) → k ≢ j → is_out c k ≡ true → is_out c j ≡ true → (client_of c k).grants + (client_of c j).grants + 1 ≤ 63
-  few_grants k j n o p = let a = out_is c k o in let b = out_is c j p in grants_of_two free_law (stripes_of c) c h (k - 1) (j - 1) (client_of c k) (client_of c j) (λ e. n (let x = a.0.0 in let y = b.0.0 in omega arith)) a.0.1 b.0.1 a.1 b.1
+  few_grants k j n o p = let a = (out_test c k).sound o in let b = (out_test c j).sound p in grants_of_two free_law (stripes_of c) c h (k - 1) (j - 1) (client_of c k) (client_of c j) (λ e. n (let x = a.0.0 in let y = b.0.0 in omega arith)) a.0.1 b.0.1 a.1 b.1
 
   sane_shown : IsSane (shown c)
   sane_shown = record {
@@ -422,8 +324,8 @@ running_follows image last stripes es c leads =
       finds = λ k. ap (λ x. found_of x k) same ∙ last_found_shown c k;
       order = order_beside q.0 q.1 (ran es (run_opened image last stripes)) c q.2;
       allows = λ e. (
-        (λ t. subst (λ k. Allowed free_law (stripe_of k) e c) m (may_is e c (sym (may_shown e c) ∙ (ap (may_play e) (sym same) ∙ t)))),
-        (λ a. ap (may_play e) same ∙ (may_shown e c ∙ is_may e c (subst (λ k. Allowed free_law (stripe_of k) e c) (sym m) a))),
+        (λ t. subst (λ k. Allowed free_law (stripe_of k) e c) m ((play_test e c).sound (sym (may_shown e c) ∙ (ap (may_play e) (sym same) ∙ t)))),
+        (λ a. ap (may_play e) same ∙ (may_shown e c ∙ (play_test e c).complete (subst (λ k. Allowed free_law (stripe_of k) e c) (sym m) a))),
       );
     }
 

@@ -6,7 +6,7 @@ use Rattle.std.proofs.lemmas.Bool.Decides.{nat_tests}
 use mathlib.Core.Option.{some, some-injective, some-ne-none}
 use lib.ListN.{get_elem?}
 use Rattle.stm_core.specs.Client.{Client, Record, Stamp, checked, locked, ticked, looked, version_of, word_before, value_fetched, writes_to, before, inserted, merged}
-use Rattle.stm_core.specs.Event.{Action, begin, probe, fetch, check, lock, tick, validate, put, release, give_back, finish, Bounds, MayAct, committed_by, stepping, failing, read_too, holding, versioned, decides_at_once, won, passes, passing, after, giving, fresh, taking, renewing, gone}
+use Rattle.stm_core.specs.Event.{Action, begin, check, lock, tick, validate, finish, Bounds, MayAct, committed_by, stepping, failing, read_too, holding, versioned, decides_at_once, won, passes, passing, after, giving, fresh, taking, renewing, gone, writer_record, reader_record}
 use Rattle.stm_core.specs.Core.{Core, bounds_of, found, left, written, stepped, divided, gathered, renewed, Event, acts, splits, gathers, renews, IsClient, Allowed, client_of, played, Leads, opened}
 use Rattle.stm_core.specs.Version.{At}
 use Rattle.stm_core.specs.Theorem.{stripe_of, free_law}
@@ -42,9 +42,8 @@ module _ (number : List ℕ → ℕ) where
   tag_numbered v h = (let e : eqb v.wv 0 ≡ false = grind (arith, nat_tests) in rw e refl)
 
   committed_numbered : (t : Stamp) (v : Client) → 0 < v.wv → numbered_client number (committed_by t v) ≡ committed_by t (numbered_client number v)
-  committed_numbered t v h =
-      let r : List ℕ → Record = λ g. record { tag = g; reads = v.reads; writes = v.writes; writer = true; version = v.wv; attempt = v.attempt; renewal = t.renewal; point = v.ticked_at; client = t.client } in
-      ap (λ l. record (committed_by t (numbered_client number v)) { records = l }) (inserted_numbered (r v.tag) v.records ∙ ap (λ g. inserted (r g) (map (numbered_record number) v.records)) (sym (tag_numbered v h)))
+  committed_numbered t v h = ap (λ l. record (committed_by t (numbered_client number v)) { records = l })
+      (inserted_numbered (writer_record t v) v.records ∙ ap (λ g. inserted (record (writer_record t v) { tag = g }) (map (numbered_record number) v.records)) (sym (tag_numbered v h)))
 
   versioned_numbered : (t : Stamp) (n : ℕ) (tag : List ℕ) (writes : List (ℕ × ℕ)) (v : Client) → 0 < n → numbered_client number (versioned t n tag writes v) ≡ versioned t n (number tag ∷ []) writes (numbered_client number v)
   versioned_numbered t n tag writes v h = ap (λ g. record (versioned t n (number tag ∷ []) writes (numbered_client number v)) { tag = g }) (tag_numbered (versioned t n tag writes v) h)
@@ -67,61 +66,23 @@ module _ (number : List ℕ → ℕ) where
 
   found_numbered : (lk : ℕ → ℕ) (c : Core) (e : Action) → found lk (numbered_core number c) (numbered_action number e) ≡ found lk c e
   found_numbered lk c begin = refl
-  found_numbered lk c (probe k) = refl
-  found_numbered lk c (fetch a) = refl
-  found_numbered lk c (check a) = refl
-  found_numbered lk c (lock k) = refl
-  found_numbered lk c (tick f t w) = refl
-  found_numbered lk c (validate k) = refl
-  found_numbered lk c (put a x) = refl
-  found_numbered lk c (release k) = refl
-  found_numbered lk c (give_back k) = refl
-  found_numbered lk c (finish t) = refl
+  found_numbered lk c _ = refl
 
   left_numbered : (e : Action) (n : ℕ) (v : Client) → left (numbered_action number e) n (numbered_client number v) ≡ left e n v
   left_numbered begin n v = refl
-  left_numbered (probe k) n v = refl
-  left_numbered (fetch a) n v = refl
-  left_numbered (check a) n v = refl
-  left_numbered (lock k) n v = refl
-  left_numbered (tick f t w) n v = refl
-  left_numbered (validate k) n v = refl
-  left_numbered (put a x) n v = refl
-  left_numbered (release k) n v = refl
-  left_numbered (give_back k) n v = refl
-  left_numbered (finish t) n v = refl
+  left_numbered _ n v = refl
 
   written_numbered : (e : Action) (m : ℕ) (c : Core) (cs : List Client) → record (written (numbered_action number e) m (numbered_core number c)) { clients = map (numbered_client number) cs; events = c.events + 1 } ≡ numbered_core number (record (written e m c) { clients = cs; events = c.events + 1 })
   written_numbered begin m c cs = refl
-  written_numbered (probe k) m c cs = refl
-  written_numbered (fetch a) m c cs = refl
-  written_numbered (check a) m c cs = refl
-  written_numbered (lock k) m c cs = refl
-  written_numbered (tick f t w) m c cs = refl
-  written_numbered (validate k) m c cs = refl
-  written_numbered (put a x) m c cs = refl
-  written_numbered (release k) m c cs = refl
-  written_numbered (give_back k) m c cs = refl
-  written_numbered (finish t) m c cs = refl
+  written_numbered _ m c cs = refl
 
   module _ (lawful : List ℕ → List (ℕ × ℕ) → List (ℕ × ℕ) → Type 0) (lk : ℕ → ℕ) where
     may_numbered : (b : Bounds) (e : Action) (v : Client) → MayAct lawful lk b e v → MayAct free_law lk b (numbered_action number e) (numbered_client number v)
-    may_numbered b begin v m = m
-    may_numbered b (probe k) v m = m
-    may_numbered b (fetch a) v m = m
-    may_numbered b (check a) v m = m
-    may_numbered b (lock k) v m = m
     may_numbered b (tick from tag writes) v m = (m.0, m.1, m.2, m.3, m.4, tt)
-    may_numbered b (validate k) v m = m
-    may_numbered b (put a x) v m = m
-    may_numbered b (release k) v m = m
-    may_numbered b (give_back k) v m = m
     may_numbered b (finish tag) v m = (m.0, m.1, tt)
+    may_numbered b _ v m = m
 
     after_numbered : (t : Stamp) (b : Bounds) (e : Action) (n : ℕ) (v : Client) → MayAct lawful lk b e v → numbered_client number (after t lk e n v) ≡ after t lk (numbered_action number e) n (numbered_client number v)
-    after_numbered t b begin n v m = refl
-    after_numbered t b (probe k) n v m = refl
-    after_numbered t b (fetch a) n v m = refl
     after_numbered t b (check a) n v m =
         let l = checked a (word_before v.last) n in
         by_case (λ z. numbered_client number (stepping l (cond z (read_too a (value_fetched v.last) v) (failing v))) ≡ stepping l (cond z (read_too a (value_fetched v.last) (numbered_client number v)) (failing (numbered_client number v)))) (eqb n (word_before v.last)) (λ e. refl) (λ e. refl)
@@ -138,10 +99,8 @@ module _ (number : List ℕ → ℕ) where
         by_case (λ z. numbered_client number (to (cond z (passing t v) (failing v))) ≡ to (cond z (passing t (numbered_client number v)) (failing (numbered_client number v)))) (passes k n v)
         (λ e. ap to (passing_numbered t v m.1))
         (λ e. refl)
-    after_numbered t b (put a x) n v m = refl
-    after_numbered t b (release k) n v m = refl
-    after_numbered t b (give_back k) n v m = refl
-    after_numbered t b (finish tag) n v m = ap (λ l. record (after t lk (finish (number tag ∷ [])) n (numbered_client number v)) { records = l }) (inserted_numbered (record { tag = tag; reads = v.reads; writes = []; writer = false; version = v.rv; attempt = v.attempt; renewal = t.renewal; point = v.began_at; client = t.client }) v.records)
+    after_numbered t b (finish tag) n v m = ap (λ l. record (after t lk (finish (number tag ∷ [])) n (numbered_client number v)) { records = l }) (inserted_numbered (reader_record t tag v) v.records)
+    after_numbered t b _ n v m = refl
 
   client_numbered : (c : Core) (k : ℕ) → client_of (numbered_core number c) k ≡ numbered_client number (client_of c k)
   client_numbered c k = get_or-map (numbered_client number) c.clients (k - 1) gone

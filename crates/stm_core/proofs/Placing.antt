@@ -1,9 +1,9 @@
 -- The order of the running core beside the core's history: a record comes to the same place in both, and a core has one history.
-use Rattle.std.proofs.Common.{◌≡◌, ℕ, suc, ◌+◌, ⊎_elim, true, cond, eqb, ltb, List, [], ◌∷◌, length, map, refl, sym, ap, ◌∙◌, subst, arith, add-one}
+use Rattle.std.proofs.Common.{◌≡◌, ℕ, suc, ◌+◌, ⊎_elim, cond, eqb, ltb, List, [], ◌∷◌, length, map, refl, sym, ap, ◌∙◌, subst, arith, add-one}
 use Rattle.std.specs.List.{insert}
 use Rattle.stm_words.specs.Image.{In}
 use Rattle.stm_core.specs.Client.{Client, Record, Stamp}
-use Rattle.stm_core.specs.Event.{Action, begin, probe, fetch, check, lock, tick, validate, put, release, give_back, finish, versioned, decides_at_once, passes}
+use Rattle.stm_core.specs.Event.{Action, tick, validate, versioned, decides_at_once, passes, writer_record}
 use Rattle.stm_core.specs.Core.{Core}
 use Rattle.stm_core.specs.History.{ByPoint}
 use Rattle.stm_core.specs.Theorem.{IsHistory}
@@ -36,25 +36,17 @@ as_kept r = record r { attempt = 0 }
 
 -- a client as far as it is kept decides the same record as far as it is kept
 pub decision_shown : (t : Stamp) (e : Action) (n : ℕ) (v : Client) → decision t e n (blank v) ≡ map as_kept (decision t e n v)
-decision_shown t begin n v = refl
-decision_shown t (probe k) n v = refl
-decision_shown t (fetch a) n v = refl
-decision_shown t (check a) n v = refl
-decision_shown t (lock k) n v = refl
 decision_shown t (tick from tag writes) n v =
-    let r : Record = record { tag = tag; reads = v.reads; writes = writes; writer = true; version = from + 1; attempt = v.attempt; renewal = t.renewal; point = t.place; client = t.client } in
+    let r : Record = writer_record t (versioned t (from + 1) tag writes v) in
     by_case (λ b. cond b (cond (decides_at_once (versioned t (from + 1) tag writes v)) (as_kept r ∷ []) []) [] ≡ map as_kept (cond b (cond (decides_at_once (versioned t (from + 1) tag writes v)) (r ∷ []) []) [])) (eqb n from)
     (λ e. by_case (λ b. cond b (as_kept r ∷ []) [] ≡ map as_kept (cond b (r ∷ []) [])) (decides_at_once (versioned t (from + 1) tag writes v)) (λ z. refl) (λ z. refl))
     (λ e. refl)
 decision_shown t (validate k) n v =
-    let r : Record = record { tag = v.tag; reads = v.reads; writes = v.writes; writer = true; version = v.wv; attempt = v.attempt; renewal = t.renewal; point = v.ticked_at; client = t.client } in
+    let r : Record = writer_record t v in
     by_case (λ b. cond b (cond (eqb (v.passed + 1) (length v.reads)) (as_kept r ∷ []) []) [] ≡ map as_kept (cond b (cond (eqb (v.passed + 1) (length v.reads)) (r ∷ []) []) [])) (passes k n v)
     (λ e. by_case (λ b. cond b (as_kept r ∷ []) [] ≡ map as_kept (cond b (r ∷ []) [])) (eqb (v.passed + 1) (length v.reads)) (λ z. refl) (λ z. refl))
     (λ e. refl)
-decision_shown t (put a x) n v = refl
-decision_shown t (release k) n v = refl
-decision_shown t (give_back k) n v = refl
-decision_shown t (finish tag) n v = refl
+decision_shown t _ n v = refl
 
 -- what is decided comes to its place in the order as in the history
 pub entered_order : (kept rs : List Record) → kept ≡ map as_kept rs → (s : Running) (h : List Record) → s.order ≡ order_of h → (entered kept s).order ≡ order_of (filed rs h)

@@ -8,7 +8,7 @@ use Rattle.std.proofs.lemmas.Bool.Decides.{nat_tests}
 use Rattle.stm_words.specs.Image.{In}
 use Rattle.stm_core.specs.History.{Serial, image_after, ByPoint}
 use Rattle.stm_core.specs.Client.{shed, Client, Record, idle, running, ending, committed, checked, locked, ticked, looked, Stamp, version_of, word_before, value_fetched, writes_to}
-use Rattle.stm_core.specs.Event.{Action, begin, probe, fetch, check, lock, tick, validate, put, release, give_back, finish, IsReading, MayAct, committed_by, stepping, failing, read_too, holding, versioned, decides_at_once, won, passes, passing, after, giving, fresh, renewing, gone, opener}
+use Rattle.stm_core.specs.Event.{Action, begin, probe, fetch, check, lock, tick, validate, put, release, give_back, finish, IsReading, MayAct, committed_by, stepping, failing, read_too, holding, versioned, decides_at_once, won, passes, passing, after, giving, fresh, renewing, gone, opener, writer_record, reader_record}
 use Rattle.stm_core.specs.Core.{Core, bounds_of, found, stepped, divided, gathered, renewed, IsFreeHanded, IsAlone, Event, acts, splits, gathers, renews, Allowed, client_of, played, Leads, opened}
 use Rattle.stm_core.specs.Version.{At, IsOpen}
 use Rattle.stm_core.specs.Invariant.{now, Rule}
@@ -60,10 +60,8 @@ history_after lk (renews k last) c h = []
 
 -- and the history of the earlier renewals
 abbrev pub earlier_after : Event → List Record → List Record → List Record
-earlier_after (acts k e) old h = old
-earlier_after (splits k) old h = old
-earlier_after (gathers k j) old h = old
 earlier_after (renews k last) old h = old ++ h
+earlier_after _ old h = old
 
 -- a core beside its history
 abbrev pub IsDatedBy : List Record → List Record → Core → Type 0
@@ -107,29 +105,25 @@ module _ (lawful : List ℕ → List (ℕ × ℕ) → List (ℕ × ℕ) → Type
       (λ e. quiet (stepping (locked k (word_before v.last) n) (holding k (version_of n) v)) refl refl (λ r. (r, refl, refl)) (λ o. (o, refl, refl)) refl (λ s. s))
       (λ e. let w : Client = stepping (locked k (word_before v.last) n) (failing v) in quiet w refl refl (λ r. absurd (not_running w refl r)) (λ o. absurd (closed may o.0)) refl (λ s. absurd (unsettled v may.0 s)))
 
-  -- the record of a decided writer
-  abbrev record_of : Client → Record
-  record_of w = record { tag = w.tag; reads = w.reads; writes = w.writes; writer = true; version = w.wv; attempt = w.attempt; renewal = c.renewal; point = w.ticked_at; client = suc i }
-
   -- a decision right after a step of the same client
-  then_decided : (clock events : ℕ) (w : Client) (g : Dated old clock events (set c.clients i w) h) → IsOpen w → w.spent ≡ v.spent → Dated old clock events (set c.clients i (committed_by stamp w)) (placed (record_of w) h)
+  then_decided : (clock events : ℕ) (w : Client) (g : Dated old clock events (set c.clients i w) h) → IsOpen w → w.spent ≡ v.spent → Dated old clock events (set c.clients i (committed_by stamp w)) (placed (writer_record stamp w) h)
   then_decided clock events w g open' spent =
       let here : At (set c.clients i w) i w = set_here c.clients i v w at in
       let q = (g.each i w here).ticking open' in
-      subst (λ cs. Dated old clock events cs (placed (record_of w) h)) (set-set c.clients i w (committed_by stamp w))
-      (date_decide old clock events (set c.clients i w) h g i w (committed_by stamp w) here (record_of w) (inr (open', refl)) refl refl
+      subst (λ cs. Dated old clock events cs (placed (writer_record stamp w) h)) (set-set c.clients i w (committed_by stamp w))
+      (date_decide old clock events (set c.clients i w) h g i w (committed_by stamp w) here (writer_record stamp w) (inr (open', refl)) refl refl
       (λ p m. ⊎_elim (λ s. (let z = s.0.0 in cc)) (λ s. clash refl s.0.1) m) (record { past = q.0; writer = λ t. (q.1, q.2); reader = λ t. clash refl t }) refl refl refl refl)
 
   tick_dates : (from : ℕ) (tag : List ℕ) (writes : List (ℕ × ℕ)) → IsReading v → Next (tick from tag writes)
   tick_dates from tag writes may =
       let w0 : Client = versioned stamp (from + 1) tag writes v in
-      by_case (λ b. Dated old (cond b (from + 1) c.clock) (c.events + 1) (slice_set c.clients i (record (stepping (ticked from c.clock) (cond b (won stamp (from + 1) tag writes v) v)) { ticks = v.ticks + 1; next_from = c.clock })) (filed (cond b (cond (decides_at_once w0) (record_of w0 ∷ []) []) []) h)) (eqb c.clock from)
+      by_case (λ b. Dated old (cond b (from + 1) c.clock) (c.events + 1) (slice_set c.clients i (record (stepping (ticked from c.clock) (cond b (won stamp (from + 1) tag writes v) v)) { ticks = v.ticks + 1; next_from = c.clock })) (filed (cond b (cond (decides_at_once w0) (writer_record stamp w0 ∷ []) []) []) h)) (eqb c.clock from)
       (λ e. let same : c.clock ≡ from = grind (arith, nat_tests) in
       let w : Client = record (stepping (ticked from c.clock) w0) { ticks = v.ticks + 1; next_from = c.clock } in
       let open' : IsOpen w = (omega arith, undecided_at v may.0) in
       let g : Dated old (from + 1) (c.events + 1) (set c.clients i w) h =
       date_step old c.clock c.events c.clients h d i v w at (from + 1) (omega arith) refl refl (λ r. absurd (let z = r.1 in omega arith)) (λ o. inr (refl, omega arith, omega arith)) (inr (refl, λ s. s)) in
-      by_case (λ b. Dated old (from + 1) (c.events + 1) (slice_set c.clients i (record (stepping (ticked from c.clock) (cond b (committed_by stamp w0) w0)) { ticks = v.ticks + 1; next_from = c.clock })) (filed (cond b (record_of w0 ∷ []) []) h)) (decides_at_once w0)
+      by_case (λ b. Dated old (from + 1) (c.events + 1) (slice_set c.clients i (record (stepping (ticked from c.clock) (cond b (committed_by stamp w0) w0)) { ticks = v.ticks + 1; next_from = c.clock })) (filed (cond b (writer_record stamp w0 ∷ []) []) h)) (decides_at_once w0)
       (λ z. then_decided (from + 1) (c.events + 1) w g open' refl)
       (λ z. g))
       (λ e. quiet (record (stepping (ticked from c.clock) v) { ticks = v.ticks + 1; next_from = c.clock }) refl refl (λ r. (r, refl, refl)) (λ o. (o, refl, refl)) refl (λ s. s))
@@ -138,11 +132,11 @@ module _ (lawful : List ℕ → List (ℕ × ℕ) → List (ℕ × ℕ) → Type
   validate_dates k run number =
       let n = slice_index c.locks k in
       let w0 : Client = record v { passed = v.passed + 1 } in
-      by_case (λ b. Dated old c.clock (c.events + 1) (slice_set c.clients i (record (stepping (looked k n) (cond b (passing stamp v) (failing v))) { mine = writes_to v.held k })) (filed (cond b (cond (eqb w0.passed (length v.reads)) (record_of w0 ∷ []) []) []) h)) (passes k n v)
+      by_case (λ b. Dated old c.clock (c.events + 1) (slice_set c.clients i (record (stepping (looked k n) (cond b (passing stamp v) (failing v))) { mine = writes_to v.held k })) (filed (cond b (cond (eqb w0.passed (length v.reads)) (writer_record stamp w0 ∷ []) []) []) h)) (passes k n v)
       (λ e. let w : Client = record (stepping (looked k n) w0) { mine = writes_to v.held k } in
       let open' : IsOpen w = (number, undecided_at v run) in
       let g : Dated old c.clock (c.events + 1) (set c.clients i w) h = quiet w refl refl (λ r. (r, refl, refl)) (λ o. (o, refl, refl)) refl (λ s. s) in
-      by_case (λ b. Dated old c.clock (c.events + 1) (slice_set c.clients i (record (stepping (looked k n) (cond b (committed_by stamp w0) w0)) { mine = writes_to v.held k })) (filed (cond b (record_of w0 ∷ []) []) h)) (eqb w0.passed (length v.reads))
+      by_case (λ b. Dated old c.clock (c.events + 1) (slice_set c.clients i (record (stepping (looked k n) (cond b (committed_by stamp w0) w0)) { mine = writes_to v.held k })) (filed (cond b (writer_record stamp w0 ∷ []) []) h)) (eqb w0.passed (length v.reads))
       (λ z. then_decided c.clock (c.events + 1) w g open' refl)
       (λ z. g))
       (λ e. let w : Client = record (stepping (looked k n) (failing v)) { mine = writes_to v.held k } in quiet w refl refl (λ r. absurd (not_running w refl r)) (λ o. ((number, undecided_at v run), refl, refl)) refl (λ s. absurd (unsettled v run s)))
@@ -159,7 +153,7 @@ module _ (lawful : List ℕ → List (ℕ × ℕ) → List (ℕ × ℕ) → Type
 
   finish_dates : (tag : List ℕ) → IsReading v → Next (finish tag)
   finish_dates tag may =
-      let r : Record = record { tag = tag; reads = v.reads; writes = []; writer = false; version = v.rv; attempt = v.attempt; renewal = c.renewal; point = v.began_at; client = suc i } in
+      let r : Record = reader_record stamp tag v in
       let w : Client = after stamp lk (finish tag) c.clock v in
       let g : Dated old c.clock (c.events + 1) (set c.clients i v) h = quiet v refl refl (λ q. (q, refl, refl)) (λ o. (o, refl, refl)) refl (λ s. s) in
       let k : Dated old c.clock (c.events + 1) c.clients h = subst (λ cs. Dated old c.clock (c.events + 1) cs h) (set_same c.clients i v at) g in
@@ -212,16 +206,7 @@ pub record Earlier (old : List Record) (f : Frame) : Type 0 where
 
 frame_stays : (t : Stamp) (lk : ℕ → ℕ) (e : Action) (i : ℕ) (v : Client) (c : Core) → frame_of c ≡ frame_of (stepped t lk e i v c)
 frame_stays t lk begin i v c = refl
-frame_stays t lk (probe k) i v c = refl
-frame_stays t lk (fetch a) i v c = refl
-frame_stays t lk (check a) i v c = refl
-frame_stays t lk (lock k) i v c = refl
-frame_stays t lk (tick f g w) i v c = refl
-frame_stays t lk (validate k) i v c = refl
-frame_stays t lk (put a x) i v c = refl
-frame_stays t lk (release k) i v c = refl
-frame_stays t lk (give_back k) i v c = refl
-frame_stays t lk (finish g) i v c = refl
+frame_stays t lk _ i v c = refl
 
 module _ (lawful : List ℕ → List (ℕ × ℕ) → List (ℕ × ℕ) → Type 0) (lk : ℕ → ℕ) where
   -- a core beside the history of the earlier renewals and that of the present one
@@ -330,29 +315,11 @@ module _ (lawful : List ℕ → List (ℕ × ℕ) → List (ℕ × ℕ) → Type
 
   found_now : (c : Core) (e : Action) → found lk (now c) e ≡ found lk c e
   found_now c begin = refl
-  found_now c (probe k) = refl
-  found_now c (fetch a) = refl
-  found_now c (check a) = refl
-  found_now c (lock k) = refl
-  found_now c (tick f g w) = refl
-  found_now c (validate k) = refl
-  found_now c (put a x) = refl
-  found_now c (release k) = refl
-  found_now c (give_back k) = refl
-  found_now c (finish g) = refl
+  found_now c _ = refl
 
   decision_now : (t : Stamp) (m : ℕ) (e : Action) (n : ℕ) (v : Client) → decision t e n (shed m v) ≡ decision t e n v
   decision_now t m begin n v = refl
-  decision_now t m (probe k) n v = refl
-  decision_now t m (fetch a) n v = refl
-  decision_now t m (check a) n v = refl
-  decision_now t m (lock k) n v = refl
-  decision_now t m (tick f g w) n v = refl
-  decision_now t m (validate k) n v = refl
-  decision_now t m (put a x) n v = refl
-  decision_now t m (release k) n v = refl
-  decision_now t m (give_back k) n v = refl
-  decision_now t m (finish g) n v = refl
+  decision_now t m _ n v = refl
 
   -- and leads to a core beside the histories with its decision
   pub event_beside : (c : Core) (e : Event) (old h : List Record) → Beside old h c → Allowed lawful lk e c → Beside (earlier_after e old h) (history_after lk e c h) (played lk e c)
@@ -432,9 +399,7 @@ module _ (lawful : List ℕ → List (ℕ × ℕ) → List (ℕ × ℕ) → Type
 
   first_stays : (e : Event) (c : Core) → (played lk e c).first ≡ c.first
   first_stays (acts k e) c = sym (ap (λ (f : Frame). f.first) (frame_stays (record { client = k; place = c.events; renewal = c.renewal }) lk e (k - 1) (client_of c k) c))
-  first_stays (splits k) c = refl
-  first_stays (gathers k j) c = refl
-  first_stays (renews k last) c = refl
+  first_stays _ c = refl
 
   pub leads_beside : (es : List Event) (c e : Core) (old h : List Record) → Beside old h c → Leads lawful lk c es e → ((old' : List Record) × (h' : List Record) × Beside old' h' e) × (e.first ≡ c.first)
   leads_beside [] c e old h b same = ((old, h, subst (λ x. Beside old h x) same b), ap (λ (x : Core). x.first) (sym same))

@@ -19,48 +19,18 @@ with_clients c cs = record c { clients = cs }
 
 renewal_stays : (t : Stamp) (lk : ℕ → ℕ) (e : Action) (i : ℕ) (v : Client) (c : Core) → (stepped t lk e i v c).renewal ≡ c.renewal
 renewal_stays t lk begin i v c = refl
-renewal_stays t lk (probe k) i v c = refl
-renewal_stays t lk (fetch a) i v c = refl
-renewal_stays t lk (check a) i v c = refl
-renewal_stays t lk (lock k) i v c = refl
-renewal_stays t lk (tick f g w) i v c = refl
-renewal_stays t lk (validate k) i v c = refl
-renewal_stays t lk (put a x) i v c = refl
-renewal_stays t lk (release k) i v c = refl
-renewal_stays t lk (give_back k) i v c = refl
-renewal_stays t lk (finish g) i v c = refl
+renewal_stays t lk _ i v c = refl
 
 clients_stay : (t : Stamp) (lk : ℕ → ℕ) (e : Action) (i : ℕ) (v : Client) (c : Core) → (stepped t lk e i v c).clients ≡ set c.clients i (after t lk e (found lk c e) v)
 clients_stay t lk begin i v c = refl
-clients_stay t lk (probe k) i v c = refl
-clients_stay t lk (fetch a) i v c = refl
-clients_stay t lk (check a) i v c = refl
-clients_stay t lk (lock k) i v c = refl
-clients_stay t lk (tick f g w) i v c = refl
-clients_stay t lk (validate k) i v c = refl
-clients_stay t lk (put a x) i v c = refl
-clients_stay t lk (release k) i v c = refl
-clients_stay t lk (give_back k) i v c = refl
-clients_stay t lk (finish g) i v c = refl
+clients_stay t lk _ i v c = refl
 
 -- a step does not look at the records
 pub may_shed : (lawful : List ℕ → List (ℕ × ℕ) → List (ℕ × ℕ) → Type 0) (lk : ℕ → ℕ) (c : Core) (e : Action) (v : Client) → MayAct lawful lk (bounds_of c) e v → MayAct lawful lk (bounds_of (now c)) e (shed c.renewal v)
 may_shed lawful lk c begin v m = m
-may_shed lawful lk c (probe k) v m = m
-may_shed lawful lk c (fetch a) v m = m
-may_shed lawful lk c (check a) v m = m
-may_shed lawful lk c (lock k) v m = m
-may_shed lawful lk c (tick f g w) v m = m
-may_shed lawful lk c (validate k) v m = m
-may_shed lawful lk c (put a x) v m = m
-may_shed lawful lk c (release k) v m = m
-may_shed lawful lk c (give_back k) v m = m
-may_shed lawful lk c (finish g) v m = m
+may_shed lawful lk c _ v m = m
 
 after_spent : (t : Stamp) (lk : ℕ → ℕ) (e : Action) (n : ℕ) (v : Client) → (after t lk e n v).spent ≡ v.spent
-after_spent t lk begin n v = refl
-after_spent t lk (probe k) n v = refl
-after_spent t lk (fetch a) n v = refl
 after_spent t lk (check a) n v = by_case (λ b. (stepping (checked a (word_before v.last) n) (cond b (read_too a (value_fetched v.last) v) (failing v))).spent ≡ v.spent) (eqb n (word_before v.last)) (λ _. refl) (λ _. refl)
 after_spent t lk (lock k) n v = by_case (λ b. (stepping (locked k (word_before v.last) n) (cond b (holding k (version_of n) v) (failing v))).spent ≡ v.spent) (eqb n (word_before v.last)) (λ _. refl) (λ _. refl)
 after_spent t lk (tick f g w) n v =
@@ -69,10 +39,7 @@ after_spent t lk (tick f g w) n v =
 after_spent t lk (validate k) n v =
     let w0 : Client = record v { passed = v.passed + 1 } in
     by_case (λ b. (stepping (looked k n) (cond b (passing t v) (failing v))).spent ≡ v.spent) (passes k n v) (λ _. by_case (λ b. (stepping (looked k n) (cond b (committed_by t w0) w0)).spent ≡ v.spent) (eqb w0.passed (length v.reads)) (λ _. refl) (λ _. refl)) (λ _. refl)
-after_spent t lk (put a x) n v = refl
-after_spent t lk (release k) n v = refl
-after_spent t lk (give_back k) n v = refl
-after_spent t lk (finish g) n v = refl
+after_spent t lk _ n v = refl
 
 cond_in : {A : Type 0} (P : A → Type 0) (b : Bool) (l : List A) → ((x : A) → In x l → P x) → (x : A) → In x (cond b l []) → P x
 cond_in P true l f x i = f x i

@@ -3,7 +3,7 @@ use Rattle.std.proofs.Common.{◌≡◌, ◌≢◌, ℕ, suc, ◌+◌, ◌-◌, 
 use Rattle.std.proofs.lemmas.Bool.Decides.{nat_tests}
 use Rattle.stm_words.specs.Image.{In}
 use Rattle.stm_core.specs.Client.{Client, Record, running, ending, committed, probed, fetched, checked, locked, ticked, looked, Stamp, is_committed, decided, version_of, IsFree, is_free, writes_to, old_version, word_before, value_fetched}
-use Rattle.stm_core.specs.Event.{Action, begin, probe, fetch, check, lock, tick, validate, put, release, give_back, finish, IsReading, MayWrite, MayAct, May, committed_by, begun, stepping, failing, read_too, holding, versioned, is_empty, decides_at_once, won, passes, passing, after}
+use Rattle.stm_core.specs.Event.{Action, begin, probe, fetch, check, lock, tick, validate, put, release, give_back, finish, IsReading, MayWrite, MayAct, May, committed_by, begun, stepping, failing, read_too, holding, versioned, is_empty, decides_at_once, won, passes, passing, after, writer_record, reader_record}
 use Rattle.stm_core.specs.Core.{Core, bounds_of, stepped}
 use Rattle.stm_core.specs.Version.{World, At, IsOpen, Claims, runs, Saw, IsSound, IsBooked, Version, Books}
 use Rattle.stm_core.specs.Version as version
@@ -106,7 +106,7 @@ module _ (lawful : List ℕ → List (ℕ × ℕ) → List (ℕ × ℕ) → Type
         let n : suc (v.wv - 1) ≡ v.wv = (let z = open'.0 in omega arith) in
         let d : Decides (world c h.story) (value_of c.opening (set h.story (v.wv - 1) v.writes)) (wrote_in (set h.story (v.wv - 1) v.writes)) v.wv v.writes = subst (λ m. Decides (world c h.story) (value_of c.opening (set h.story (v.wv - 1) v.writes)) (wrote_in (set h.story (v.wv - 1) v.writes)) m v.writes) n
         (decides c.clock (λ k. slice_index c.locks k) (λ a. slice_index c.cells a) c.opening h.story (v.wv - 1) v.writes (it.writes open'.0).1 (h.filed.empty i v at open')) in
-        let r : Record = record { tag = v.tag; reads = v.reads; writes = v.writes; writer = true; version = v.wv; attempt = v.attempt; renewal = t.renewal; point = v.ticked_at; client = t.client } in
+        let r : Record = writer_record t v in
         let k : Heart lk (record (world c h.story) { val = value_of c.opening (set h.story (v.wv - 1) v.writes); wrote = wrote_in (set h.story (v.wv - 1) v.writes) }) (set c.clients i (committed_by t v)) =
         decide_keeps lk (world c h.story) c.clients i v (committed_by t v) r (value_of c.opening (set h.story (v.wv - 1) v.writes)) (wrote_in (set h.story (v.wv - 1) v.writes)) heart at open' d all refl refl refl refl refl refl refl refl refl refl refl refl refl me.saw in
         record {
@@ -218,7 +218,7 @@ module _ (lawful : List ℕ → List (ℕ × ℕ) → List (ℕ × ℕ) → Type
     finish_inv : (t : Stamp) (tag : List ℕ) → t.renewal ≡ c.renewal → MayAct lawful lk (bounds_of c) (finish tag) v → Inv lawful lk (stepped t lk (finish tag) i v c)
     finish_inv t tag era may =
         let undecided = undecided_at v may.0.0 in
-        let r : Record = record { tag = tag; reads = v.reads; writes = []; writer = false; version = v.rv; attempt = v.attempt; renewal = t.renewal; point = v.began_at; client = t.client } in
+        let r : Record = reader_record t tag v in
         let w : Client = after t lk (finish tag) c.clock v in
         quiet w refl (finish_keeps lk (world c h.story) c.clients i v heart at w r refl refl refl refl refl refl refl refl refl refl refl (sym undecided) refl tt)
         (reader_keeps lawful (length c.opening) c.renewal h.story c.clock c.clients i v w r h.filed at refl live refl refl may.0.1 refl may.2 refl refl refl era)

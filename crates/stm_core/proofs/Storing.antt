@@ -3,7 +3,7 @@ use Rattle.std.proofs.Common.{◌≡◌, ◌≢◌, ℕ, ◌<◌, inl, inr, ⊎_
 use mathlib.Core.Logic.{dite}
 use native.Mathlib.Decide.{ℕ_discrete}
 use Rattle.stm_words.specs.Image.{In}
-use Rattle.stm_core.specs.Client.{Client, Step, nothing, began, probed, fetched, checked, locked, ticked, looked, ended, decided, version_of, writes_to}
+use Rattle.stm_core.specs.Client.{Client, Step, probed, fetched, decided, version_of, writes_to}
 use Rattle.stm_core.specs.Version.{World, At, Claims, Saw, IsSound, IsBooked}
 use Rattle.stm_core.proofs.Lists.{in_snoc, in_longer, in_last, same_at, clash}
 use Rattle.stm_core.proofs.Turns.{Heart, turn_keeps}
@@ -40,15 +40,9 @@ module _ (lk : ℕ → ℕ) (s : World) (cs : List Client) (id : ℕ) (v w : Cli
   claims_same = claims_as v w rv reads wv passed records
 
   saw_stays : (m : ℕ) (l : Step) → Saw lk s m l → Saw lk after m l
-  saw_stays m nothing p = tt
-  saw_stays m (began n) p = tt
   saw_stays m (probed k n) p = p
   saw_stays m (fetched b n y) p = p
-  saw_stays m (checked b n y) p = tt
-  saw_stays m (locked k n y) p = tt
-  saw_stays m (ticked f y) p = tt
-  saw_stays m (looked k n) p = tt
-  saw_stays m (ended n) p = tt
+  saw_stays m _ p = tt
 
   other_sound : (i : ℕ) (o : Client) → At cs i o → IsSound lk after o
   other_sound i o e = let it = h.version.sound i o e in record {

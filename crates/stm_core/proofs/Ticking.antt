@@ -3,7 +3,7 @@ use Rattle.std.proofs.Common.{◌≡◌, ℕ, ◌+◌, ◌≤◌, ◌<◌, inl, 
 use mathlib.Core.Logic.{dite}
 use native.Mathlib.Decide.{ℕ_discrete}
 use Rattle.stm_words.specs.Image.{In}
-use Rattle.stm_core.specs.Client.{Client, Step, nothing, began, probed, fetched, checked, locked, ticked, looked, ended, decided, version_of, writes_to}
+use Rattle.stm_core.specs.Client.{Client, Step, probed, fetched, decided, version_of, writes_to}
 use Rattle.stm_core.specs.Version.{World, At, Claims, runs, passes, noted, Saw, IsSound, IsKept, IsBooked}
 use Rattle.stm_core.proofs.Lists.{same_at, clash}
 use Rattle.stm_core.proofs.Turns.{Heart, turn_keeps}
@@ -23,15 +23,9 @@ module _ (lk : ℕ → ℕ) (s : World) (cs : List Client) (id : ℕ) (v w : Cli
   newest_same a = h.books.steady a s.clock (s.clock + 1) (omega arith) (λ u p q. h.books.story u a p) ∙ sym (same_val (s.clock + 1) a)
 
   saw_ticks : (r : ℕ) (l : Step) → Saw lk s r l → Saw lk after r l
-  saw_ticks r nothing p = tt
-  saw_ticks r (began n) p = tt
   saw_ticks r (probed j m) p = p
   saw_ticks r (fetched a m x) p = (p.0, p.1, p.2, ⊎_elim (λ e. inl (e ∙ newest_same a)) (λ e. inr (e.0, e.1, same_wrote e.0 a ∙ e.2)) p.3)
-  saw_ticks r (checked a n m) p = tt
-  saw_ticks r (locked k n m) p = tt
-  saw_ticks r (ticked f m) p = tt
-  saw_ticks r (looked k n) p = tt
-  saw_ticks r (ended n) p = tt
+  saw_ticks r _ p = tt
 
   other_sound : (i : ℕ) (o : Client) → At cs i o → IsSound lk after o
   other_sound i o e = let it = h.version.sound i o e in record {

@@ -4,7 +4,7 @@ use Rattle.std.proofs.lemmas.Bool.Decides.{nat_tests}
 use Rattle.stm_words.specs.Image.{In, Agrees, laid}
 use Rattle.stm_core.specs.Client.{Client, Record, before, inserted, merged, of_renewal, shed}
 use Rattle.stm_core.specs.Client.{Stamp, version_of, word_before, value_fetched, checked, locked, ticked, looked}
-use Rattle.stm_core.specs.Event.{Action, begin, probe, fetch, check, lock, tick, validate, put, release, give_back, finish, committed_by, stepping, failing, read_too, holding, versioned, decides_at_once, won, passes, passing, after, taking}
+use Rattle.stm_core.specs.Event.{Action, check, lock, tick, validate, finish, committed_by, stepping, failing, read_too, holding, versioned, decides_at_once, won, passes, passing, after, taking}
 use Rattle.stm_core.specs.Core.{Core, IsFreeHanded, IsAlone}
 use Rattle.stm_core.proofs.Steps.{by_case}
 use Rattle.stm_core.specs.Version.{At}
@@ -151,9 +151,6 @@ module _ (lawful : List ℕ → List (ℕ × ℕ) → List (ℕ × ℕ) → Type
 
 -- a client's records stay sorted through its steps, and where two clients' come together
 pub after_sorted : (t : Stamp) (lk : ℕ → ℕ) (e : Action) (n : ℕ) (v : Client) → Sorted v.records → Sorted (after t lk e n v).records
-after_sorted t lk begin n v s = s
-after_sorted t lk (probe k) n v s = s
-after_sorted t lk (fetch a) n v s = s
 after_sorted t lk (check a) n v s = by_case (λ b. Sorted (stepping (checked a (word_before v.last) n) (cond b (read_too a (value_fetched v.last) v) (failing v))).records) (eqb n (word_before v.last)) (λ _. s) (λ _. s)
 after_sorted t lk (lock k) n v s = by_case (λ b. Sorted (stepping (locked k (word_before v.last) n) (cond b (holding k (version_of n) v) (failing v))).records) (eqb n (word_before v.last)) (λ _. s) (λ _. s)
 after_sorted t lk (tick f g w) n v s =
@@ -162,10 +159,8 @@ after_sorted t lk (tick f g w) n v s =
 after_sorted t lk (validate k) n v s =
     let w0 : Client = record v { passed = v.passed + 1 } in
     by_case (λ b. Sorted (stepping (looked k n) (cond b (passing t v) (failing v))).records) (passes k n v) (λ _. by_case (λ b. Sorted (stepping (looked k n) (cond b (committed_by t w0) w0)).records) (eqb w0.passed (length v.reads)) (λ _. inserted_sorted _ v.records s) (λ _. s)) (λ _. s)
-after_sorted t lk (put a x) n v s = s
-after_sorted t lk (release k) n v s = s
-after_sorted t lk (give_back k) n v s = s
 after_sorted t lk (finish g) n v s = inserted_sorted _ v.records s
+after_sorted t lk _ n v s = s
 
 -- joining keeps both lists, each in its order
 pub joined_both : (v w : Client) → Sorted v.records → Sorted w.records → Sub v.records (taking v w).records × Sub w.records (taking v w).records × Sorted (taking v w).records

@@ -92,11 +92,8 @@ pub record Stamp : Type 0 where
   pub renewal : ℕ
 
 abbrev pub is_committed : Phase → Bool
-is_committed idle = false
-is_committed running = false
-is_committed ending = false
 is_committed committed = true
-is_committed finished = false
+is_committed _ = false
 
 -- the client is a decided writer
 abbrev pub decided : Client → Bool
@@ -129,26 +126,13 @@ old_version (p ∷ ps) k = cond (eqb p.0 k) p.1 (old_version ps k)
 
 -- the word of the probe that the last step still stands on
 abbrev pub word_before : Step → ℕ
-word_before nothing = 0
-word_before (began n) = 0
 word_before (probed k n) = n
 word_before (fetched a n x) = n
-word_before (checked a n m) = 0
-word_before (locked k n m) = 0
-word_before (ticked f m) = 0
-word_before (looked k n) = 0
-word_before (ended n) = 0
+word_before _ = 0
 
 abbrev pub value_fetched : Step → ℕ
-value_fetched nothing = 0
-value_fetched (began n) = 0
-value_fetched (probed k n) = 0
 value_fetched (fetched a n x) = x
-value_fetched (checked a n m) = 0
-value_fetched (locked k n m) = 0
-value_fetched (ticked f m) = 0
-value_fetched (looked k n) = 0
-value_fetched (ended n) = 0
+value_fetched _ = 0
 
 abbrev pub word_found : Step → Option ℕ
 word_found nothing = None

@@ -41,31 +41,21 @@ found lk c (finish tag) = c.clock
 
 -- the word that the step leaves where it found n
 abbrev pub left : Action → ℕ → Client → ℕ
-left begin n v = n
-left (probe k) n v = n
-left (fetch a) n v = n
-left (check a) n v = n
 left (lock k) n v = cond (eqb n (word_before v.last)) (n + 1) n
 left (tick from tag writes) n v = cond (eqb n from) (from + 1) n
-left (validate k) n v = n
 left (put a x) n v = x
 left (release k) n v = 2 * v.wv
 left (give_back k) n v = 2 * old_version v.held k
-left (finish tag) n v = n
+left _ n v = n
 
 -- the words after a step that leaves m
 abbrev pub written : Action → ℕ → Core → Core
-written begin m c = c
-written (probe k) m c = c
-written (fetch a) m c = c
-written (check a) m c = c
 written (lock k) m c = record c { locks = slice_set c.locks k m }
 written (tick from tag writes) m c = record c { clock = m }
-written (validate k) m c = c
 written (put a x) m c = record c { cells = slice_set c.cells a m }
 written (release k) m c = record c { locks = slice_set c.locks k m }
 written (give_back k) m c = record c { locks = slice_set c.locks k m }
-written (finish tag) m c = c
+written _ m c = c
 
 -- the core after a step of the client at a place of the list
 abbrev pub stepped : Stamp → (ℕ → ℕ) → Action → ℕ → Client → Core → Core

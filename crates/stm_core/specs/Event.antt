@@ -3,7 +3,7 @@ use Rattle.std.specs.Prelude.{◌≡◌, ◌≢◌, ℕ, ◌+◌, ◌-◌, ◌<�
 use Rattle.stm_words.specs.Image.{In}
 use mathlib.Core.Option.{some}
 use lib.ListN.{get_elem?}
-use Rattle.stm_core.specs.Client.{Client, idle, running, ending, committed, finished, Step, nothing, began, probed, fetched, checked, locked, ticked, looked, ended, Stamp, version_of, IsFree, is_free, writes_to, without, word_before, value_fetched, inserted, merged}
+use Rattle.stm_core.specs.Client.{Client, Record, idle, running, ending, committed, finished, Step, nothing, began, probed, fetched, checked, locked, ticked, looked, ended, Stamp, version_of, IsFree, is_free, writes_to, without, word_before, value_fetched, inserted, merged}
 
 -- one step of one client: an atomic load, store or exchange of one word
 pub data Action : Type 0 where
@@ -27,39 +27,18 @@ pub record Bounds : Type 0 where
 
 -- the last step was a probe of this lock that found it free, with a version of at most rv
 abbrev pub HasProbed : ℕ → ℕ → Step → Type 0
-HasProbed k rv nothing = ⊥
-HasProbed k rv (began n) = ⊥
 HasProbed k rv (probed j n) = (j ≡ k) × IsFree n × (version_of n ≤ rv)
-HasProbed k rv (fetched a n x) = ⊥
-HasProbed k rv (checked a n m) = ⊥
-HasProbed k rv (locked j n m) = ⊥
-HasProbed k rv (ticked f m) = ⊥
-HasProbed k rv (looked j n) = ⊥
-HasProbed k rv (ended n) = ⊥
+HasProbed k rv _ = ⊥
 
 -- the last step was a probe of this lock that found it free
 abbrev pub HasFoundFree : ℕ → Step → Type 0
-HasFoundFree k nothing = ⊥
-HasFoundFree k (began n) = ⊥
 HasFoundFree k (probed j n) = (j ≡ k) × IsFree n
-HasFoundFree k (fetched a n x) = ⊥
-HasFoundFree k (checked a n m) = ⊥
-HasFoundFree k (locked j n m) = ⊥
-HasFoundFree k (ticked f m) = ⊥
-HasFoundFree k (looked j n) = ⊥
-HasFoundFree k (ended n) = ⊥
+HasFoundFree k _ = ⊥
 
 -- the last step was a fetch of this address, after a probe that found its lock free with a version of at most rv
 abbrev pub HasFetched : ℕ → ℕ → Step → Type 0
-HasFetched a rv nothing = ⊥
-HasFetched a rv (began n) = ⊥
-HasFetched a rv (probed j n) = ⊥
 HasFetched a rv (fetched b n x) = (b ≡ a) × IsFree n × (version_of n ≤ rv)
-HasFetched a rv (checked b n m) = ⊥
-HasFetched a rv (locked j n m) = ⊥
-HasFetched a rv (ticked f m) = ⊥
-HasFetched a rv (looked j n) = ⊥
-HasFetched a rv (ended n) = ⊥
+HasFetched a rv _ = ⊥
 
 -- the client holds the lock
 abbrev pub Holds : List (ℕ × ℕ) → ℕ → Type 0
@@ -108,13 +87,36 @@ module _ (lawful : List ℕ → List (ℕ × ℕ) → List (ℕ × ℕ) → Type
   abbrev pub May : Action → Client → Type 0
   May e c = (c.spent ≡ false) × MayAct e c
 
+-- the record that a client's running attempt makes as a writer, and as a reader with this tag
+abbrev pub writer_record : Stamp → Client → Record
+writer_record t c = record {
+  tag = c.tag;
+  reads = c.reads;
+  writes = c.writes;
+  writer = true;
+  version = c.wv;
+  attempt = c.attempt;
+  renewal = t.renewal;
+  point = c.ticked_at;
+  client = t.client;
+}
+
+abbrev pub reader_record : Stamp → List ℕ → Client → Record
+reader_record t tag c = record {
+  tag = tag;
+  reads = c.reads;
+  writes = [];
+  writer = false;
+  version = c.rv;
+  attempt = c.attempt;
+  renewal = t.renewal;
+  point = c.began_at;
+  client = t.client;
+}
+
 -- a decided writer, with its record
 abbrev pub committed_by : Stamp → Client → Client
-committed_by t c = record c {
-  phase = committed;
-  stored = [];
-  records = inserted (record { tag = c.tag; reads = c.reads; writes = c.writes; writer = true; version = c.wv; attempt = c.attempt; renewal = t.renewal; point = c.ticked_at; client = t.client }) c.records;
-}
+committed_by t c = record c { phase = committed; stored = []; records = inserted (writer_record t c) c.records }
 
 -- a new attempt, with the clock's value as its read version
 abbrev pub begun : Stamp → ℕ → Client → Client
@@ -190,7 +192,7 @@ after t lk (release k) n c = record (stepping nothing c) { held = without c.held
 after t lk (give_back k) n c = record c { held = without c.held k; wv = 0; tag = []; writes = []; passed = 0; phase = ending; gave_back = true; steps = c.steps + 1 }
 after t lk (finish tag) n c = record (stepping (ended n) c) {
   phase = finished;
-  records = inserted (record { tag = tag; reads = c.reads; writes = []; writer = false; version = c.rv; attempt = c.attempt; renewal = t.renewal; point = c.began_at; client = t.client }) c.records;
+  records = inserted (reader_record t tag c) c.records;
 }
 
 -- a grant goes to a new client

@@ -1,6 +1,6 @@
 -- The version invariant of a whole core.
 use Rattle.std.specs.Prelude.{◌≡◌, ℕ, ◌+◌, ◌≤◌, ◌<◌, ◌⊎◌, cond, eqb, true, false, List, [], ◌∷◌, ◌++◌, length, map, slice_index, sum_by}
-use Rattle.stm_core.specs.Client.{Client, Record, Stamp, Step, nothing, began, probed, fetched, checked, locked, ticked, looked, ended, decided, running, version_of, IsFree, word_before, before, shed, of_renewal}
+use Rattle.stm_core.specs.Client.{Client, Record, Stamp, Step, probed, fetched, decided, running, version_of, IsFree, word_before, before, shed, of_renewal}
 use Rattle.stm_words.specs.Image.{In}
 use Rattle.stm_core.specs.Event.{check, lock, tick, after, MayAct, Holds, gone}
 use Rattle.stm_core.specs.Core.{Core, bounds_of}
@@ -37,15 +37,9 @@ now c = record c { clients = map (shed c.renewal) c.clients }
 
 -- the lock word that the last step's probe found is still what it found
 abbrev pub Unmoved : (ℕ → ℕ) → List ℕ → Step → Type 0
-Unmoved lk locks nothing = Unit {0}
-Unmoved lk locks (began n) = Unit {0}
 Unmoved lk locks (probed k n) = slice_index locks k ≡ n
 Unmoved lk locks (fetched a n x) = slice_index locks (lk a) ≡ n
-Unmoved lk locks (checked a n m) = Unit {0}
-Unmoved lk locks (locked k n m) = Unit {0}
-Unmoved lk locks (ticked f m) = Unit {0}
-Unmoved lk locks (looked k n) = Unit {0}
-Unmoved lk locks (ended n) = Unit {0}
+Unmoved lk locks _ = Unit {0}
 
 -- a client whose last attempt was lone, beside the clock and the lock words
 pub record IsLone (lk : ℕ → ℕ) (clock : ℕ) (locks : List ℕ) (v : Client) : Type 0 where

@@ -1,9 +1,9 @@
 -- The running core: its state as far as it is kept, and its decided records.
-use Rattle.std.specs.Prelude.{◌≡◌, ℕ, ◌+◌, ◌-◌, ◌^◌, ◌<◌, Bool, true, false, not, ◌&&◌, ◌==◌, nat_lt, nat_le, zero, suc, cond, eqb, List, [], ◌∷◌, ◌++◌, length, map, slice_set, replicate, ◌≢◌, ◌≤◌, Option, None}
+use Rattle.std.specs.Prelude.{◌≡◌, ℕ, ◌+◌, ◌-◌, ◌^◌, ◌<◌, Bool, true, not, ◌&&◌, ◌==◌, nat_lt, nat_le, zero, suc, cond, eqb, List, [], ◌∷◌, ◌++◌, length, map, slice_set, replicate, ◌≢◌, ◌≤◌, Option, None}
 use Rattle.std.specs.List.{insert}
 use Rattle.stm_words.specs.Image.{In}
 use Rattle.stm_core.specs.Client.{Client, Record, Stamp, found_by, old_version, writes_to, is_committed}
-use Rattle.stm_core.specs.Event.{Action, begin, probe, fetch, check, lock, tick, validate, put, release, give_back, finish, is_empty, versioned, decides_at_once, passes, giving, fresh, taking, renewing, gone, opener}
+use Rattle.stm_core.specs.Event.{Action, tick, validate, finish, is_empty, versioned, decides_at_once, passes, writer_record, reader_record, giving, fresh, taking, renewing, gone, opener}
 use Rattle.stm_core.specs.Core.{Core, bounds_of, found, left, written, client_of, Event, acts, splits, gathers, renews}
 use Rattle.stm_core.specs.Theorem.{stripe_of}
 use Rattle.stm_core.specs.Seat.{blank, seat_after, tag_number}
@@ -41,19 +41,13 @@ may_play (renews k last) c = is_out c k && is_empty (client_of c k).held && othe
 
 -- the record that a step decides
 abbrev pub decision : Stamp → Action → ℕ → Client → List Record
-decision t begin n v = []
-decision t (probe k) n v = []
-decision t (fetch a) n v = []
-decision t (check a) n v = []
-decision t (lock k) n v = []
 decision t (tick from tag writes) n v =
-    cond (eqb n from) (cond (decides_at_once (versioned t (from + 1) tag writes v)) (record { tag = tag; reads = v.reads; writes = writes; writer = true; version = from + 1; attempt = v.attempt; renewal = t.renewal; point = t.place; client = t.client } ∷ []) []) []
+    let w = versioned t (from + 1) tag writes v in
+    cond (eqb n from) (cond (decides_at_once w) (writer_record t w ∷ []) []) []
 decision t (validate k) n v =
-    cond (passes k n v) (cond (eqb (v.passed + 1) (length v.reads)) (record { tag = v.tag; reads = v.reads; writes = v.writes; writer = true; version = v.wv; attempt = v.attempt; renewal = t.renewal; point = v.ticked_at; client = t.client } ∷ []) []) []
-decision t (put a x) n v = []
-decision t (release k) n v = []
-decision t (give_back k) n v = []
-decision t (finish tag) n v = record { tag = tag; reads = v.reads; writes = []; writer = false; version = v.rv; attempt = v.attempt; renewal = t.renewal; point = v.began_at; client = t.client } ∷ []
+    cond (passes k n v) (cond (eqb (v.passed + 1) (length v.reads)) (writer_record t v ∷ []) []) []
+decision t (finish tag) n v = reader_record t tag v ∷ []
+decision t _ n v = []
 
 abbrev pub entry_of : Record → Entry
 entry_of r = record { client = r.client; tag = tag_number r.tag; version = r.version; writer = r.writer; renewal = r.renewal }

@@ -1,59 +1,33 @@
 -- The conditions of the events as tests.
 use Rattle.std.specs.Prelude.{ℕ, zero, suc, ◌%◌, ◌/◌, Bool, true, false, not, ◌&&◌, ◌||◌, ◌==◌, nat_lt, nat_le, List, [], ◌∷◌}
 use Rattle.std.specs.List.{list_any, list_all}
-use Rattle.stm_core.specs.Client.{Client, Phase, idle, running, ending, committed, finished, Step, nothing, began, probed, fetched, checked, locked, ticked, looked, ended, is_free, is_committed, writes_to}
+use Rattle.stm_core.specs.Client.{Client, Phase, running, ending, Step, probed, fetched, is_free, is_committed, writes_to}
 use Rattle.stm_core.specs.Event.{is_empty, Bounds, Action, begin, probe, fetch, check, lock, tick, validate, put, release, give_back, finish}
 
 abbrev pub is_running : Phase → Bool
-is_running idle = false
 is_running running = true
-is_running ending = false
-is_running committed = false
-is_running finished = false
+is_running _ = false
 
 abbrev pub may_end : Phase → Bool
-may_end idle = false
 may_end running = true
 may_end ending = true
-may_end committed = false
-may_end finished = false
+may_end _ = false
 
 -- an attempt runs that has no write version
 abbrev pub is_reading : Client → Bool
 is_reading c = is_running c.phase && (c.wv == 0)
 
 abbrev pub has_probed : ℕ → ℕ → Step → Bool
-has_probed k rv nothing = false
-has_probed k rv (began n) = false
 has_probed k rv (probed j n) = (j == k) && is_free n && nat_le (n / 2) rv
-has_probed k rv (fetched a n x) = false
-has_probed k rv (checked a n m) = false
-has_probed k rv (locked j n m) = false
-has_probed k rv (ticked f m) = false
-has_probed k rv (looked j n) = false
-has_probed k rv (ended n) = false
+has_probed k rv _ = false
 
 abbrev pub has_found_free : ℕ → Step → Bool
-has_found_free k nothing = false
-has_found_free k (began n) = false
 has_found_free k (probed j n) = (j == k) && is_free n
-has_found_free k (fetched a n x) = false
-has_found_free k (checked a n m) = false
-has_found_free k (locked j n m) = false
-has_found_free k (ticked f m) = false
-has_found_free k (looked j n) = false
-has_found_free k (ended n) = false
+has_found_free k _ = false
 
 abbrev pub has_fetched : ℕ → ℕ → Step → Bool
-has_fetched a rv nothing = false
-has_fetched a rv (began n) = false
-has_fetched a rv (probed j n) = false
 has_fetched a rv (fetched b n x) = (b == a) && is_free n && nat_le (n / 2) rv
-has_fetched a rv (checked b n m) = false
-has_fetched a rv (locked j n m) = false
-has_fetched a rv (ticked f m) = false
-has_fetched a rv (looked j n) = false
-has_fetched a rv (ended n) = false
+has_fetched a rv _ = false
 
 -- no address stands twice
 abbrev pub is_map : List (ℕ × ℕ) → Bool

@@ -1,7 +1,7 @@
 -- What holds of every core that a list of allowed events leads to.
 use Rattle.std.specs.Prelude.{◌≡◌, ◌≢◌, ℕ, suc, ◌%◌, ◌<◌, Bool, true, false, List, [], ◌++◌}
 use Rattle.stm_words.specs.Image.{In, Agrees}
-use Rattle.stm_core.specs.Client.{Client, Record, decided, Phase, idle, running, ending, committed, finished}
+use Rattle.stm_core.specs.Client.{Client, Record, decided, Phase, running, ending}
 use Rattle.stm_core.specs.Core.{Core, Event, Leads, opened}
 use Rattle.stm_core.specs.Version.{At}
 use Rattle.stm_core.specs.Invariant.{Rule, GoesOn}
@@ -17,11 +17,9 @@ free_law tag reads writes = Unit {0}
 
 -- the client has no attempt that could still be decided: its last one was decided, as a writer or as a reader, or it has none
 abbrev pub is_settled : Phase → Bool
-is_settled idle = true
 is_settled running = false
 is_settled ending = false
-is_settled committed = true
-is_settled finished = true
+is_settled _ = true
 
 -- the history of a core: the decided records of all clients, each once, in the order of their point steps
 pub record IsHistory (c : Core) (rs : List Record) : Type 0 where

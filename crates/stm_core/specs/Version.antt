@@ -3,7 +3,7 @@ use Rattle.std.specs.Prelude.{◌≡◌, ◌≢◌, ℕ, suc, ◌+◌, ◌*◌, 
 use Rattle.stm_words.specs.Image.{In}
 use mathlib.Core.Option.{some}
 use lib.ListN.{get_elem?}
-use Rattle.stm_core.specs.Client.{Client, Record, Step, nothing, began, probed, fetched, checked, locked, ticked, looked, ended, decided, version_of, IsFree, writes_to, base}
+use Rattle.stm_core.specs.Client.{Client, Record, Step, probed, fetched, decided, version_of, IsFree, writes_to, base}
 
 -- the words, and the story: the value of an address in the image of a version, and whether the decided writer of a version wrote it
 pub record World : Type 0 where
@@ -28,15 +28,9 @@ pub data Claims (v : Client) (b a x : ℕ) : Type 0 where
 
 -- what the last step saw still holds, or was overtaken: a probed lock does not go back, and a fetched value is the newest or a newer decided writer wrote the word
 abbrev pub Saw : (ℕ → ℕ) → World → ℕ → Step → Type 0
-Saw lk s rv nothing = Unit {0}
-Saw lk s rv (began n) = Unit {0}
 Saw lk s rv (probed k n) = version_of n ≤ version_of (s.lock k)
 Saw lk s rv (fetched a n x) = (version_of n ≤ rv) × IsFree n × (version_of n ≤ version_of (s.lock (lk a))) × ((x ≡ s.val s.clock a) ⊎ ((u : ℕ) × (version_of n < u) × (s.wrote u a ≡ true)))
-Saw lk s rv (checked a n m) = Unit {0}
-Saw lk s rv (locked k n m) = Unit {0}
-Saw lk s rv (ticked f m) = Unit {0}
-Saw lk s rv (looked k n) = Unit {0}
-Saw lk s rv (ended n) = Unit {0}
+Saw lk s rv _ = Unit {0}
 
 module _ (lk : ℕ → ℕ) where
   -- the clauses that speak of one client beside the words and the story
