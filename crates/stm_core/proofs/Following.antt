@@ -7,6 +7,7 @@ use Rattle.std.proofs.lemmas.List.{length-replicate}
 use Rattle.stm_words.specs.Image.{In}
 use Rattle.stm_core.specs.Client.{shed, Client, Record, Stamp, checked, locked, ticked, looked, version_of, word_before, value_fetched, writes_to, old_version, is_committed}
 use Rattle.stm_core.specs.Event.{Action, begin, probe, fetch, check, lock, tick, validate, put, release, give_back, finish, committed_by, stepping, failing, read_too, holding, versioned, decides_at_once, won, passes, passing, after, giving, fresh, taking, renewing, gone, MayAct}
+use Rattle.stm_core.specs.History.{ByPoint}
 use Rattle.stm_core.specs.Core.{Core, bounds_of, found, left, written, Event, acts, splits, gathers, renews, IsClient, IsAlone, Allowed, client_of, played, Leads, opened}
 use Rattle.stm_core.specs.Theorem.{stripe_of, free_law, IsHistory}
 use Rattle.stm_core.specs.Invariant.{Inv, now, Rule}
@@ -109,15 +110,15 @@ filed_behind [] old h f = refl
 filed_behind (r ∷ rs) old h f = placed_behind r old h (λ x i. f x r i (placed_in r h))
 
 -- an event brings what it decides to its place in the order
-play_order : (e : Event) (c : Core) (s : Running) (old h : List Record) → s.core ≡ shown c → s.order ≡ order_of (old ++ h) → ((x y : Record) → In x (earlier_after e old h) → In y (history_after (stripes_of c) e c h) → x.point < y.point)
+play_order : (e : Event) (c : Core) (s : Running) (old h : List Record) → s.core ≡ shown c → ByPoint (old ++ h) → s.order ≡ order_of (old ++ h) → ((x y : Record) → In x (earlier_after e old h) → In y (history_after (stripes_of c) e c h) → x.point < y.point)
     → (run_played e s).order ≡ order_of (earlier_after e old h ++ history_after (stripes_of c) e c h)
-play_order (acts k e) c s old h same o f =
+play_order (acts k e) c s old h same by o f =
     let t : Stamp = record { client = k; place = c.events; renewal = c.renewal } in
     let rs = decision t e (found (stripes_of c) c e) (client_of c k) in
     let kept : decision (stamp_of (shown c) k) e (found (stripes_of c) (shown c) e) (client_of (shown c) k) ≡ map as_kept rs = rw (found_shown (stripes_of c) c e, client_shown c k) (decision_shown t e (found (stripes_of c) c e) (client_of c k)) in
-    subst (λ d. (run_acts k e (record s { core = d })).order ≡ order_of (filed rs (old ++ h))) (sym same) (entered_order _ rs kept _ (old ++ h) o) ∙ ap order_of (filed_behind rs old h f)
-play_order (renews k last) c s old h same o f = o ∙ ap order_of (sym (append-nil (old ++ h)))
-play_order _ c s old h same o f = o
+    subst (λ d. (run_acts k e (record s { core = d })).order ≡ order_of (filed rs (old ++ h))) (sym same) (entered_order _ rs kept _ (old ++ h) by o) ∙ ap order_of (filed_behind rs old h f)
+play_order (renews k last) c s old h same by o f = o ∙ ap order_of (sym (append-nil (old ++ h)))
+play_order _ c s old h same by o f = o
 
 at_of : (l : List Client) (i : ℕ) → i < length l → get_elem? l i ≡ some (get_or l i gone)
 at_of [] i h = absurd (omega arith)
@@ -298,7 +299,7 @@ runs_next : (e : Event) (old h : List Record) (s : Running) (c : Core) → RunsB
 runs_next e old h s c b may =
     let g = event_beside free_law (stripes_of c) c e old h b.beside may in record {
       shows = play_shown e c s b.shows;
-      orders = play_order e c s old h b.shows b.orders (λ x y m n. g.dated.old_before x y m n);
+      orders = play_order e c s old h b.shows (is_history (stripes_of c) c old h b.beside).ascending b.orders (λ x y m n. g.dated.old_before x y m n);
       beside = subst (λ m. Beside free_law (stripe_of m) (earlier_after e old h) (history_after (stripes_of c) e c h) (played (stripes_of c) e c)) (sym (locks_stay (stripes_of c) e c)) g;
     }
 

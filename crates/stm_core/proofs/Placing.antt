@@ -1,6 +1,7 @@
 -- The order of the running core beside the core's history: a record comes to the same place in both, and a core has one history.
-use Rattle.std.proofs.Common.{◌≡◌, ℕ, suc, ◌+◌, ⊎_elim, cond, eqb, ltb, List, [], ◌∷◌, length, map, refl, sym, ap, ◌∙◌, subst, arith, add-one}
-use Rattle.std.specs.List.{insert}
+use Rattle.std.proofs.Common.{◌≡◌, ℕ, suc, ◌+◌, ⊎_elim, cond, eqb, ltb, List, [], ◌∷◌, length, map, refl, sym, ap, ◌∙◌, subst, arith, add-one, zero, ◌-◌, ◌<◌, ◌≤◌, true, false, get_or}
+use Rattle.std.proofs.lemmas.Bool.Decides.{nat_tests}
+use Rattle.std.specs.List.{insert, list_all}
 use Rattle.stm_words.specs.Image.{In}
 use Rattle.stm_core.specs.Client.{Client, Record, Stamp}
 use Rattle.stm_core.specs.Event.{Action, tick, validate, versioned, decides_at_once, passes, writer_record}
@@ -10,7 +11,7 @@ use Rattle.stm_core.specs.Theorem.{IsHistory}
 use Rattle.stm_core.specs.Seat.{blank}
 use Rattle.stm_core.specs.Placing.{Placed, place_in}
 use Rattle.stm_core.specs.Running.{Running, decision, entry_of, entered}
-use Rattle.stm_core.proofs.Lists.{nothing_in}
+use Rattle.stm_core.proofs.Lists.{nothing_in, by_bool}
 use Rattle.stm_core.proofs.Orders.{in_cons}
 use Rattle.stm_core.proofs.Steps.{by_case}
 use Rattle.stm_core.proofs.Dating.{placed}
@@ -23,12 +24,38 @@ points_of h = map (λ (r : Record). r.point) h
 abbrev pub order_of : List Record → Placed
 order_of h = record { entries = map entry_of h; points = points_of h }
 
+later_all : (p : ℕ) (h : List Record) → ((x : Record) → In x h → p < x.point) → list_all (ltb p) (points_of h) ≡ true
+later_all p [] f = refl
+later_all p (x ∷ h) f = let e : ltb p x.point ≡ true = (let l = f x (0, refl) in grind (arith, nat_tests)) in rw e (later_all p h (λ y i. f y (suc i.0, i.1)))
+
 -- a record placed by its point is an insertion at the place among the points
-placed_map : {X : Type 0} (f : Record → X) (r : Record) (h : List Record) → map f (placed r h) ≡ insert (map f h) (place_in (points_of h) r.point) (f r)
-placed_map f r [] = refl
-placed_map f r (x ∷ h) = by_case (λ b. map f (cond b (r ∷ x ∷ h) (x ∷ placed r h)) ≡ insert (f x ∷ map f h) (cond b 0 (place_in (points_of h) r.point + 1)) (f r)) (ltb r.point x.point)
-    (λ e. refl)
-    (λ e. rw (add-one (place_in (points_of h) r.point)) (ap (λ l. f x ∷ l) (placed_map f r h)))
+placed_map : {X : Type 0} (f : Record → X) (r : Record) (h : List Record) → ByPoint h → map f (placed r h) ≡ insert (map f h) (place_in (points_of h) r.point) (f r)
+placed_map f r [] o = refl
+placed_map f r (x ∷ h) o = by_bool (ltb r.point x.point)
+    (λ e. let all : list_all (ltb r.point) (points_of h) ≡ true = later_all r.point h (λ y i. (let a = o.0 y i in let b : r.point < x.point = grind (arith, nat_tests) in omega arith)) in rw (e, all) refl)
+    (λ e. rw (e, add-one (place_in (points_of h) r.point)) (ap (λ l. f x ∷ l) (placed_map f r h o.1)))
+
+-- the place found from the back: all from there on are later, and the one before is not
+pub place_found : (l : List ℕ) (p n : ℕ) → n ≤ length l → ((i : ℕ) → n ≤ i → i < length l → p < get_or l i 0) → (0 < n → get_or l (n - 1) 0 ≤ p) → n ≡ place_in l p
+place_found [] p n w f g = omega arith
+place_found (x ∷ xs) p zero w f g = let all : list_all (ltb p) (x ∷ xs) ≡ true = later (x ∷ xs) (λ i l. f i (omega arith) l) in rw all refl
+  where
+    later : (l : List ℕ) → ((i : ℕ) → i < length l → p < get_or l i 0) → list_all (ltb p) l ≡ true
+    later [] k = refl
+    later (y ∷ l) k = let e : ltb p y ≡ true = (let a = k 0 (omega arith) in grind (arith, nat_tests)) in rw e (later l (λ i m. k (suc i) (omega arith)))
+place_found (x ∷ xs) p (suc n) w f g =
+    let last : get_or (x ∷ xs) n 0 ≤ p = subst (λ m. get_or (x ∷ xs) m 0 ≤ p) (let e : suc n - 1 ≡ n = omega arith in e) (g (omega arith)) in
+    let some : list_all (ltb p) (x ∷ xs) ≡ false = earlier (x ∷ xs) n (omega arith) last in
+    rw (some, add-one (place_in xs p)) (ap suc (place_found xs p n (omega arith) (λ i a b. f (suc i) (omega arith) (omega arith)) (λ a. before n a last)))
+  where
+    earlier : (l : List ℕ) (i : ℕ) → i < length l → get_or l i 0 ≤ p → list_all (ltb p) l ≡ false
+    earlier [] i a b = absurd (omega arith)
+    earlier (y ∷ l) zero a b = let e : ltb p y ≡ false = grind (arith, nat_tests) in rw e refl
+    earlier (y ∷ l) (suc i) a b = by_bool (ltb p y) (λ e. rw e (earlier l i (omega arith) b)) (λ e. rw e refl)
+
+    before : (n : ℕ) → 0 < n → get_or (x ∷ xs) n 0 ≤ p → get_or xs (n - 1) 0 ≤ p
+    before zero a b = absurd (omega arith)
+    before (suc n) a b = subst (λ m. get_or xs m 0 ≤ p) (let e : n ≡ suc n - 1 = omega arith in e) b
 
 -- a record without what the running core does not keep
 abbrev pub as_kept : Record → Record
@@ -49,12 +76,12 @@ decision_shown t (validate k) n v =
 decision_shown t _ n v = refl
 
 -- what is decided comes to its place in the order as in the history
-pub entered_order : (kept rs : List Record) → kept ≡ map as_kept rs → (s : Running) (h : List Record) → s.order ≡ order_of h → (entered kept s).order ≡ order_of (filed rs h)
-entered_order kept rs same s h o = subst (λ l. (entered l s).order ≡ order_of (filed rs h)) (sym same) (go rs)
+pub entered_order : (kept rs : List Record) → kept ≡ map as_kept rs → (s : Running) (h : List Record) → ByPoint h → s.order ≡ order_of h → (entered kept s).order ≡ order_of (filed rs h)
+entered_order kept rs same s h by o = subst (λ l. (entered l s).order ≡ order_of (filed rs h)) (sym same) (go rs)
   where
     go : (l : List Record) → (entered (map as_kept l) s).order ≡ order_of (filed l h)
     go [] = o
-    go (r ∷ l) = ap (λ (p : Placed). put_in p r) o ∙ (λ i. record { entries = sym (placed_map entry_of r h) i; points = sym (placed_map (λ (x : Record). x.point) r h) i })
+    go (r ∷ l) = ap (λ (p : Placed). put_in p r) o ∙ (λ i. record { entries = sym (placed_map entry_of r h by) i; points = sym (placed_map (λ (x : Record). x.point) r h by) i })
       where
         put_in : Placed → Record → Placed
         put_in p x = record { entries = insert p.entries (place_in p.points x.point) (entry_of x); points = insert p.points (place_in p.points x.point) x.point }

@@ -1,12 +1,13 @@
 -- Decided records in the order of their point steps.
 use Rattle.std.specs.Prelude.{ℕ, ◌+◌, cond, ltb, List, [], ◌∷◌}
+use Rattle.std.specs.List.{list_all}
 use Rattle.stm_core.specs.declared.event.Entry.{Entry}
 
 pub record Placed : Type 0 where
   pub entries : List Entry
   pub points : List ℕ
 
--- how many of the points come first, up to the first that is later
+-- how many of the points stand up to the last one that is not later: none where all are later
 abbrev pub place_in : List ℕ → ℕ → ℕ
 place_in [] p = 0
-place_in (x ∷ xs) p = cond (ltb p x) 0 (place_in xs p + 1)
+place_in (x ∷ xs) p = cond (list_all (ltb p) (x ∷ xs)) 0 (place_in xs p + 1)

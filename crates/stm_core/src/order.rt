@@ -1,4 +1,4 @@
-ghost use Rattle.std.specs.Prelude.{◌≡◌, ◌<◌, ◌≤◌, ◌++◌, ◌∷◌, [], length, vec_len, vec_capacity, OnOk, OnErr};
+ghost use Rattle.std.specs.Prelude.{◌≡◌, ◌<◌, ◌≤◌, [], length, vec_len, vec_capacity, OnOk, OnErr};
 ghost use Rattle.std.specs.List.{insert};
 ghost use Rattle.stm_core.specs.Placing.{place_in};
 
@@ -56,19 +56,16 @@ impl Order {
     }
 }
 
-/// How many of the points come first, up to the first that is later.
+/// How many of the points stand up to the last one that is not later, looked for from the back.
 fn place_in(points: &[usize], point: usize) -> usize
     ensures place { result ≡ place_in points.now point }
     ensures within { result ≤ length points.now }
 {
-    match points {
-        [] => 0,
-        [first, rest @ ..] => if point < *first {
-            0
-        } else {
-            place_in(rest, point) + 1
-        },
+    let mut place = points.len();
+    while 0 < place && point < points[place - 1] {
+        place -= 1;
     }
+    place
 }
 
 /// Puts a value in, where there is room.
@@ -78,12 +75,4 @@ fn insert_in_room<T: Drop>(list: &mut Vec<T>, place: usize, value: T)
     ensures { list.new.items ≡ insert list.old.items place value }
 {
     let _ = list.insert(place, value);
-}
-
-/// Puts a number behind the others, where there is room.
-pub(crate) fn push_in_room(list: &mut Vec<u32>, value: u32)
-    requires { vec_len list.old < vec_capacity list.old }
-    ensures { list.new.items ≡ list.old.items ++ value ∷ [] }
-{
-    let _ = list.push(value);
 }

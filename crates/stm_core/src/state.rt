@@ -6,7 +6,7 @@ ghost use Rattle.stm_core.specs.Played.{event_of};
 ghost use Rattle.stm_core.specs.Running.{Running, IsSane, is_out, may_play, run_acts, run_played, run_opened, found_of};
 
 use crate::event::{Entry, Event, Writes};
-use crate::order::{Order, push_in_room};
+use crate::order::Order;
 use crate::seat::{Seat, others_spent};
 use std::alloc::{AllocError, Global};
 use std::marker::Model;
@@ -21,8 +21,8 @@ pub(crate) struct State {
     locks: Vec<u64>,
     cells: Vec<u64>,
     seats: Vec<Seat>,
-    /// The client of each event so far.
-    trace: Vec<u32>,
+    /// How many events there were: the place of the next one.
+    events: usize,
     order: Order,
 }
 
@@ -55,17 +55,24 @@ impl State {
         &self.seats[client as usize - 1]
     }
 
+    /// The number of events with the next one.
+    fn one_more(&self) -> Result<usize, AllocError>
+        ensures { IfOk result (λ n. n ≡ self.now.core.events + 1) }
+    {
+        self.events.checked_add(1).ok_or(AllocError)
+    }
+
     /// Begins an attempt.
     fn begin(&mut self, client: u32) -> Result<(), AllocError>
         requires out { is_out self.old.core client ≡ true }
         ensures done { OnOk result (self.new ≡ run_acts client begin self.old) }
         ensures kept { OnErr result (self.new ≡ self.old) }
     {
-        self.trace.reserve(1)?;
-        let place = self.trace.len();
+        let events = self.one_more()?;
+        let place = self.events;
         let seat = &mut self.seats[client as usize - 1];
         seat.begin(self.clock, place);
-        push_in_room(&mut self.trace, client);
+        self.events = events;
         Ok(())
     }
 
@@ -76,11 +83,11 @@ impl State {
         ensures done { OnOk result (self.new ≡ run_acts client (probe stripe) self.old) }
         ensures kept { OnErr result (self.new ≡ self.old) }
     {
-        self.trace.reserve(1)?;
+        let events = self.one_more()?;
         let word = self.locks[stripe as usize];
         let seat = &mut self.seats[client as usize - 1];
         seat.probe(stripe, word);
-        push_in_room(&mut self.trace, client);
+        self.events = events;
         Ok(())
     }
 
@@ -91,11 +98,11 @@ impl State {
         ensures done { OnOk result (self.new ≡ run_acts client (fetch address) self.old) }
         ensures kept { OnErr result (self.new ≡ self.old) }
     {
-        self.trace.reserve(1)?;
+        let events = self.one_more()?;
         let value = self.cells[address as usize];
         let seat = &mut self.seats[client as usize - 1];
         seat.fetch(address, value);
-        push_in_room(&mut self.trace, client);
+        self.events = events;
         Ok(())
     }
 
@@ -105,11 +112,11 @@ impl State {
         ensures done { OnOk result (self.new ≡ run_acts client (check address) self.old) }
         ensures kept { OnErr result (self.new ≡ self.old) }
     {
-        self.trace.reserve(1)?;
+        let events = self.one_more()?;
         let word = self.locks[(address % self.stripes) as usize];
         let seat = &mut self.seats[client as usize - 1];
         seat.check(address, word)?;
-        push_in_room(&mut self.trace, client);
+        self.events = events;
         Ok(())
     }
 
@@ -121,7 +128,7 @@ impl State {
         ensures done { OnOk result (self.new ≡ run_acts client (lock stripe) self.old) }
         ensures kept { OnErr result (self.new ≡ self.old) }
     {
-        self.trace.reserve(1)?;
+        let events = self.one_more()?;
         let word = self.locks[stripe as usize];
         let seat = &mut self.seats[client as usize - 1];
         let wins = word == seat.word_before();
@@ -129,7 +136,7 @@ impl State {
         if wins {
             self.locks[stripe as usize] = word + 1;
         }
-        push_in_room(&mut self.trace, client);
+        self.events = events;
         Ok(())
     }
 
@@ -140,11 +147,11 @@ impl State {
         ensures done { OnOk result (self.new ≡ run_acts client (put address value) self.old) }
         ensures kept { OnErr result (self.new ≡ self.old) }
     {
-        self.trace.reserve(1)?;
+        let events = self.one_more()?;
         let seat = &mut self.seats[client as usize - 1];
         seat.put(address, value)?;
         self.cells[address as usize] = value;
-        push_in_room(&mut self.trace, client);
+        self.events = events;
         Ok(())
     }
 
@@ -156,12 +163,12 @@ impl State {
         ensures done { OnOk result (self.new ≡ run_acts client (release stripe) self.old) }
         ensures kept { OnErr result (self.new ≡ self.old) }
     {
-        self.trace.reserve(1)?;
+        let events = self.one_more()?;
         let seat = &mut self.seats[client as usize - 1];
         let version = seat.write_version();
         seat.release(stripe);
         self.locks[stripe as usize] = 2 * version;
-        push_in_room(&mut self.trace, client);
+        self.events = events;
         Ok(())
     }
 
@@ -173,12 +180,12 @@ impl State {
         ensures done { OnOk result (self.new ≡ run_acts client (give_back stripe) self.old) }
         ensures kept { OnErr result (self.new ≡ self.old) }
     {
-        self.trace.reserve(1)?;
+        let events = self.one_more()?;
         let seat = &mut self.seats[client as usize - 1];
         let version = seat.old_version(stripe);
         seat.give_back(stripe);
         self.locks[stripe as usize] = 2 * version;
-        push_in_room(&mut self.trace, client);
+        self.events = events;
         Ok(())
     }
 
@@ -188,7 +195,7 @@ impl State {
         ensures done { OnOk result (self.new ≡ run_acts client (finish (tag ∷ [])) self.old) }
         ensures kept { OnErr result (self.new ≡ self.old) }
     {
-        self.trace.reserve(1)?;
+        let events = self.one_more()?;
         let seat = &mut self.seats[client as usize - 1];
         let entry = Entry {
             client,
@@ -199,7 +206,7 @@ impl State {
         };
         self.order.enter(entry, seat.began_at())?;
         seat.finish(self.clock);
-        push_in_room(&mut self.trace, client);
+        self.events = events;
         Ok(())
     }
 
@@ -211,7 +218,7 @@ impl State {
         ensures done { OnOk result (self.new ≡ run_acts client (validate stripe) self.old) }
         ensures kept { OnErr result (self.new ≡ self.old) }
     {
-        self.trace.reserve(1)?;
+        let events = self.one_more()?;
         let word = self.locks[stripe as usize];
         let seat = &mut self.seats[client as usize - 1];
         if seat.decides_by(stripe, word) {
@@ -225,7 +232,7 @@ impl State {
             self.order.enter(entry, seat.ticked_at())?;
         }
         seat.validate(stripe, word);
-        push_in_room(&mut self.trace, client);
+        self.events = events;
         Ok(())
     }
 
@@ -237,9 +244,9 @@ impl State {
         ensures done { OnOk result (self.new ≡ run_acts client (tick from (tag ∷ []) writes) self.old) }
         ensures kept { OnErr result (self.new ≡ self.old) }
     {
-        self.trace.reserve(1)?;
+        let events = self.one_more()?;
         let now = self.clock;
-        let place = self.trace.len();
+        let place = self.events;
         let seat = &mut self.seats[client as usize - 1];
         if now == from && seat.decides_from(from) {
             let entry = Entry {
@@ -255,7 +262,7 @@ impl State {
         if now == from {
             self.clock = from + 1;
         }
-        push_in_room(&mut self.trace, client);
+        self.events = events;
         Ok(())
     }
 
@@ -266,12 +273,12 @@ impl State {
         ensures done { OnOk result (self.new ≡ run_played (splits client) self.old) }
         ensures kept { OnErr result (self.new ≡ self.old) }
     {
-        self.trace.reserve(1)?;
+        let events = self.one_more()?;
         self.seats.reserve(1)?;
         let seat = &mut self.seats[client as usize - 1];
         seat.give();
         let _ = self.seats.push(Seat::fresh(alloc));
-        push_in_room(&mut self.trace, client);
+        self.events = events;
         Ok(())
     }
 
@@ -284,13 +291,13 @@ impl State {
         ensures done { OnOk result (self.new ≡ run_played (gathers client other) self.old) }
         ensures kept { OnErr result (self.new ≡ self.old) }
     {
-        self.trace.reserve(1)?;
+        let events = self.one_more()?;
         let grants = self.seat(other).grants();
         let seat = &mut self.seats[client as usize - 1];
         seat.take(grants);
         let seat = &mut self.seats[other as usize - 1];
         seat.leave(alloc);
-        push_in_room(&mut self.trace, client);
+        self.events = events;
         Ok(())
     }
 
@@ -301,7 +308,7 @@ impl State {
         ensures done { OnOk result (self.new ≡ run_played (renews client last) self.old) }
         ensures kept { OnErr result (self.new ≡ self.old) }
     {
-        self.trace.reserve(1)?;
+        let events = self.one_more()?;
         let locks = vec![in alloc; 0u64; self.stripes as usize]?;
         let seat = &mut self.seats[client as usize - 1];
         seat.renew(alloc);
@@ -309,7 +316,7 @@ impl State {
         self.clock = 0;
         self.last = last;
         self.renewal += 1;
-        push_in_room(&mut self.trace, client);
+        self.events = events;
         Ok(())
     }
 
@@ -467,7 +474,7 @@ impl State {
             locks: vec![in alloc; 0u64; stripes as usize]?,
             cells: Vec::from_slice(alloc, image)?,
             seats,
-            trace: Vec::new(alloc),
+            events: 0,
             order: Order::new(alloc),
         })
     }
