@@ -19,7 +19,10 @@ struct Decided {
 #[derive(Drop)]
 pub(super) struct History {
     pub shape: Shape,
+    /// The image of the first opening, and that of the present renewal.
+    first: Vec<u64>,
     opening: Vec<u64>,
+    renewal: u32,
     clock: u64,
     events: u64,
     values: u64,
@@ -37,7 +40,9 @@ impl History {
         players.push(Player::new(alloc, 63))?;
         Ok(History {
             shape,
+            first: Vec::from_slice(alloc, &opening)?,
             opening,
+            renewal: 0,
             clock: 0,
             events: 0,
             values: 100,
@@ -49,6 +54,35 @@ impl History {
     /// Whether the clock is at the last version.
     pub(super) fn is_spent(&self) -> bool {
         self.clock == self.shape.last
+    }
+
+    /// How many clients there were.
+    pub(super) fn known(&self) -> u32 {
+        self.players.len().min(1000) as u32
+    }
+
+    /// How many clients are out.
+    pub(super) fn outs(&self) -> u32 {
+        let mut outs = 0u32;
+        for player in self.players.iter() {
+            outs = outs.wrapping_add(u32::from(player.out));
+        }
+        outs
+    }
+
+    /// A client that is out: the next after so many others, or the last.
+    pub(super) fn out_after(&self, others: u32) -> u32 {
+        let mut left = others.wrapping_add(1);
+        let mut client = 0u32;
+        let mut chosen = 0;
+        for player in self.players.iter() {
+            client = client.wrapping_add(1);
+            if player.out && left != 0 {
+                left -= 1;
+                chosen = client;
+            }
+        }
+        chosen
     }
 
     /// The event of a move; a tick has what its client is going to write.
@@ -69,7 +103,8 @@ impl History {
         let mut newest = 0;
         let mut value = self.opening.get(addr as usize).map_or(0, |word| *word);
         for attempt in self.decided.iter() {
-            if newest < attempt.entry.version && attempt.entry.version <= version {
+            let present = attempt.entry.renewal == self.renewal;
+            if present && newest < attempt.entry.version && attempt.entry.version <= version {
                 if let Some(pair) = attempt.writes.iter().find(|pair| pair.0 == addr) {
                     newest = attempt.entry.version;
                     value = pair.1;
@@ -95,6 +130,7 @@ impl History {
                 .iter()
                 .any(|pair| self.shape.lock_of(pair.0) == lock);
             if there
+                && attempt.entry.renewal == self.renewal
                 && version < attempt.entry.version
                 && !self.is_kept(attempt.entry.version, lock)
             {
@@ -119,7 +155,8 @@ impl History {
             Kind::Probe | Kind::Lock | Kind::Validate => Some(self.lock_word(turn.place)),
             Kind::Check => Some(self.lock_word(self.shape.lock_of(turn.place))),
             Kind::Fetch => Some(self.cell(turn.place)),
-            Kind::Put | Kind::Release | Kind::GiveBack | Kind::Split | Kind::Gather => None,
+            Kind::Put | Kind::Release | Kind::GiveBack => None,
+            Kind::Split | Kind::Gather | Kind::Renew => None,
         }
     }
 
@@ -129,9 +166,13 @@ impl History {
             return false;
         };
         let other = self.player(turn.place).filter(|other| other.out);
-        player.may(turn, &self.shape)
-            && (turn.kind != Kind::Gather
-                || (turn.client != turn.place && other.is_some_and(|other| other.held.is_empty())))
+        let others_may = match turn.kind {
+            Kind::Gather => turn.client != turn.place
+                && other.is_some_and(|other| other.held.is_empty()),
+            Kind::Renew => self.outs() == 1 && self.shape.renewed(turn.number).is_some(),
+            _ => true,
+        };
+        player.may(turn, &self.shape) && others_may
     }
 
     /// Takes an event that was allowed. True where it decides.
@@ -149,6 +190,10 @@ impl History {
             self.clock = self.clock.wrapping_add(1);
         }
         let grants = self.comes_and_goes(alloc, turn)?;
+        if turn.kind == Kind::Renew {
+            self.renews(alloc, turn.number)?;
+        }
+        let renewal = self.renewal;
         let Some(player) = self.players.get_mut(turn.client.wrapping_sub(1) as usize) else {
             panic!(rt; "an event of nobody was allowed");
         };
@@ -156,10 +201,25 @@ impl History {
         player.grants = player.grants.wrapping_add(grants);
         let decides = player.moves(turn, tag, place, found.unwrap_or(0))?;
         if decides {
-            let attempt = Decided::of(alloc, turn.client, player)?;
+            let attempt = Decided::of(alloc, turn.client, renewal, player)?;
             self.decided.push(attempt)?;
         }
         Ok(decides)
+    }
+
+    /// The clock begins anew, on the newest image.
+    fn renews(&mut self, alloc: Global, last: u64) -> Result<(), AllocError> {
+        let mut image = Vec::new(alloc);
+        for addr in 0..self.shape.words {
+            image.push(self.value_at(u64::MAX, addr))?;
+        }
+        self.opening = image;
+        self.renewal = self.renewal.wrapping_add(1);
+        self.clock = 0;
+        if let Some(shape) = self.shape.renewed(last) {
+            self.shape = shape;
+        }
+        Ok(())
     }
 
     /// A client that is split off comes, and one that is gathered goes and leaves its grants and one more.
@@ -257,10 +317,12 @@ impl History {
         }
     }
 
-    /// Played one by one in the order, from the opening image on, each decided attempt reads what stands there, and
-    /// the last leaves the newest image. The points rise, so that no attempt is there twice, and so do the versions.
+    /// Played one by one in the order, from the first image on, each decided attempt reads what stands there, and the
+    /// last leaves the newest image. The points rise, so that no attempt is there twice, and so do the versions of a
+    /// renewal.
     fn is_serial(&self, rt: &impl Abort, alloc: Global, order: &[Entry]) -> Result<(), AllocError> {
-        let mut image = Vec::from_slice(alloc, &self.opening)?;
+        let mut image = Vec::from_slice(alloc, &self.first)?;
+        let mut renewal = 0;
         let mut version = 0;
         let mut point = None;
         for entry in order {
@@ -268,8 +330,10 @@ impl History {
                 panic!(rt; "an entry of no attempt");
             };
             assert!(rt; point < Some(attempt.point));
-            assert!(rt; version < entry.version || (!entry.writer && version == entry.version));
+            let later = version < entry.version || (!entry.writer && version == entry.version);
+            assert!(rt; renewal < entry.renewal || (renewal == entry.renewal && later));
             point = Some(attempt.point);
+            renewal = entry.renewal;
             version = entry.version;
             attempt.plays(rt, &mut image);
         }
@@ -289,7 +353,12 @@ impl History {
 
 impl Decided {
     /// What a client decides now.
-    fn of(alloc: Global, client: u32, player: &Player) -> Result<Decided, AllocError> {
+    fn of(
+        alloc: Global,
+        client: u32,
+        renewal: u32,
+        player: &Player,
+    ) -> Result<Decided, AllocError> {
         let writer = player.stage == Stage::Committed;
         Ok(Decided {
             entry: Entry {
@@ -297,7 +366,7 @@ impl Decided {
                 tag: player.tag,
                 version: if writer { player.wv } else { player.rv },
                 writer,
-                renewal: 0,
+                renewal,
             },
             point: if writer { player.ticked } else { player.began },
             reads: Vec::from_slice(alloc, &player.reads)?,

@@ -1,6 +1,6 @@
 //! What a client of a random list may ask for next, as plain numbers.
 
-ghost use Rattle.std.specs.Prelude.{◌<◌, ◌≤◌};
+ghost use Rattle.std.specs.Prelude.{◌<◌, ◌≤◌, ◌^◌};
 
 use crate::{Event, Writes};
 use rand_core::utils::NextWord;
@@ -13,7 +13,8 @@ pub(super) struct Shape {
     pub words: u32,
     pub stripes: u32,
     pub last: u64,
-    ghost small: { (1 ≤ words) × (words ≤ 8) × (1 ≤ stripes) × (stripes ≤ 8) × (1 ≤ last) × (last ≤ 16) },
+    ghost small: { (1 ≤ words) × (words ≤ 8) × (1 ≤ stripes) × (stripes ≤ 8) },
+    ghost versions: { (1 ≤ last) × (last < 2 ^ 62) },
 }
 
 impl Shape {
@@ -23,6 +24,19 @@ impl Shape {
             words: 1 + below(rng, 5),
             stripes: 1 + below(rng, 4),
             last: 1 + u64::from(below(rng, 16)),
+        }
+    }
+
+    /// The same with another last version, where a region may have it.
+    pub(super) fn renewed(self, last: u64) -> Option<Shape> {
+        if 1 <= last && last < 1 << 62 {
+            Some(Shape {
+                words: self.words,
+                stripes: self.stripes,
+                last,
+            })
+        } else {
+            None
         }
     }
 
@@ -55,12 +69,13 @@ pub(super) enum Kind {
     Finish,
     Split,
     Gather,
+    Renew,
 }
 
 impl Kind {
     /// Any kind.
     pub(super) fn drawn(rng: &mut Pcg32) -> Kind {
-        match below(rng, 13) {
+        match below(rng, 14) {
             0 => Kind::Begin,
             1 => Kind::Probe,
             2 => Kind::Fetch,
@@ -73,7 +88,8 @@ impl Kind {
             9 => Kind::GiveBack,
             10 => Kind::Finish,
             11 => Kind::Split,
-            _ => Kind::Gather,
+            12 => Kind::Gather,
+            _ => Kind::Renew,
         }
     }
 }
@@ -85,7 +101,7 @@ pub(super) struct Move {
     pub client: u32,
     /// The lock, the address or the other client.
     pub place: u32,
-    /// The value to store, or the clock's value to tick from.
+    /// The value to store, the clock's value to tick from, or the new last version.
     pub number: u64,
 }
 
@@ -97,6 +113,16 @@ impl Move {
             client,
             place,
             number: 0,
+        }
+    }
+
+    /// A renewal with this last version.
+    pub(super) fn renewal(client: u32, last: u64) -> Move {
+        Move {
+            kind: Kind::Renew,
+            client,
+            place: 0,
+            number: last,
         }
     }
 
@@ -135,6 +161,10 @@ impl Move {
             Kind::Gather => Event::Gather {
                 client,
                 other: self.place,
+            },
+            Kind::Renew => Event::Renew {
+                client,
+                last: self.number,
             },
         })
     }

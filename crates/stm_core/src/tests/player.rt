@@ -119,7 +119,7 @@ impl Player {
         let bare = self.held.is_empty();
         let reads = self.is_reading();
         match turn.kind {
-            Kind::Begin | Kind::Gather => bare,
+            Kind::Begin | Kind::Gather | Kind::Renew => bare,
             Kind::Probe => reads && place < shape.stripes,
             Kind::Fetch => reads
                 && bare
@@ -193,15 +193,22 @@ impl Player {
                 self.forgets();
             }
             Kind::Gather => self.forgets(),
+            Kind::Renew => self.renews(),
         }
         Ok(false)
     }
 
     fn begins(&mut self, place: u64, clock: u64) {
+        self.renews();
         self.stage = Stage::Running;
         self.began = place;
         self.rv = clock;
         self.from = clock;
+    }
+
+    /// It has no attempt any more.
+    fn renews(&mut self) {
+        self.stage = Stage::Resting;
         self.wv = 0;
         self.passed = 0;
         self.reads.clear();

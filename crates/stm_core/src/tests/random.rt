@@ -9,9 +9,10 @@ use std::alloc::{AllocError, Global};
 use std::process::Abort;
 use std::test::Fail;
 
-const LISTS: u64 = 2500;
+const LISTS: u64 = 2000;
 
-const EVENTS: u32 = 64;
+/// How many moves are drawn before the renewal, for the one client that is left, and after.
+const EVENTS: [u32; 3] = [48, 8, 32];
 
 /// What has happened in all lists.
 #[derive(Clone, Copy, Debug)]
@@ -27,6 +28,8 @@ struct Tally {
     lost_checks: u64,
     spent: u64,
     gathered: u64,
+    renewed: u64,
+    not_renewed: u64,
 }
 
 fn add(count: &mut u64, happens: bool) {
@@ -46,10 +49,12 @@ impl Tally {
             lost_checks: 0,
             spent: 0,
             gathered: 0,
+            renewed: 0,
+            not_renewed: 0,
         }
     }
 
-    fn all(&self) -> [u64; 10] {
+    fn all(&self) -> [u64; 12] {
         [
             self.refused,
             self.readers,
@@ -61,6 +66,8 @@ impl Tally {
             self.lost_checks,
             self.spent,
             self.gathered,
+            self.renewed,
+            self.not_renewed,
         ]
     }
 
@@ -82,6 +89,7 @@ impl Tally {
             kind == Kind::Tick && found != Some(turn.number),
         );
         add(&mut self.gathered, kind == Kind::Gather);
+        add(&mut self.renewed, kind == Kind::Renew);
     }
 }
 
@@ -103,11 +111,10 @@ fn opening(rng: &mut Pcg32, alloc: Global, shape: &Shape) -> Result<Vec<u64>, Al
 
 /// A move of some client: mostly the next by the rules, now and then any other.
 fn drawn(rng: &mut Pcg32, history: &History) -> Move {
-    let known = history.players.len().min(8) as u32;
     let client = if below(rng, 20) == 0 {
         below(rng, 10)
     } else {
-        1 + below(rng, known.max(1))
+        history.out_after(below(rng, history.outs().min(8).max(1)))
     };
     let turn = match history.player(client) {
         Some(player) => player.next(client, &history.shape),
@@ -174,6 +181,7 @@ impl Trial {
                 assert!(rt; !allowed, "list {list}: {turn:?} was refused");
                 self.history.drops(&turn);
                 add(&mut self.tally.refused, true);
+                add(&mut self.tally.not_renewed, turn.kind == Kind::Renew);
                 core
             }
         };
@@ -202,11 +210,22 @@ impl Trial {
         Ok(decides || turn.kind == Kind::Check)
     }
 
-    /// Splits clients off the first.
-    fn splits(&mut self, rt: &impl Abort, core: Core, many: u32) -> Result<Core, AllocError> {
+    /// Plays moves as they are drawn.
+    fn goes_on(&mut self, rt: &impl Abort, core: Core, many: u32) -> Result<Core, AllocError> {
         let mut core = core;
         for _ in 0..many {
-            core = self.must_play(rt, core, Move::of(Kind::Split, 1, 0))?;
+            let turn = drawn(&mut self.rng, &self.history);
+            core = self.plays(rt, core, turn)?;
+        }
+        Ok(core)
+    }
+
+    /// Splits clients off the first that is out.
+    fn splits(&mut self, rt: &impl Abort, core: Core, many: u32) -> Result<Core, AllocError> {
+        let client = self.history.out_after(0);
+        let mut core = core;
+        for _ in 0..many {
+            core = self.must_play(rt, core, Move::of(Kind::Split, client, 0))?;
         }
         Ok(core)
     }
@@ -239,11 +258,40 @@ impl Trial {
         self.must_play(rt, core, Move::of(Kind::Finish, client, 0))
     }
 
+    /// Lets one client gather all others, once they hold no lock.
+    fn joins(&mut self, rt: &impl Abort, core: Core, client: u32) -> Result<Core, AllocError> {
+        let mut core = self.settles(rt, core, client)?;
+        for other in 1..=self.history.known() {
+            let out = self.history.player(other).is_some_and(|player| player.out);
+            if out && other != client {
+                core = self.settles(rt, core, other)?;
+                core = self.must_play(rt, core, Move::of(Kind::Gather, client, other))?;
+            }
+        }
+        Ok(core)
+    }
+
+    /// Renews the clock by a client that is left alone, after tries while others are out, with a last version that no
+    /// region has, and in the midst of what it does.
+    fn renews(&mut self, rt: &impl Abort, core: Core) -> Result<Core, AllocError> {
+        let last = 1 + u64::from(below(&mut self.rng, 16));
+        let client = self.history.out_after(below(&mut self.rng, 4));
+        let core = self.plays(rt, core, Move::renewal(client, last))?;
+        let core = self.joins(rt, core, client)?;
+        let core = self.plays(rt, core, Move::renewal(client, 0))?;
+        let core = self.plays(rt, core, Move::renewal(client, 1 << 62))?;
+        let core = self.goes_on(rt, core, EVENTS[1])?;
+        let core = self.plays(rt, core, Move::renewal(client, last))?;
+        let client = self.history.out_after(0);
+        let core = self.joins(rt, core, client)?;
+        self.must_play(rt, core, Move::renewal(client, last))
+    }
+
     /// Brings all clients to rest, and reads every word.
     fn ends(&mut self, rt: &impl Abort, core: Core) -> Result<(), AllocError> {
         let mut core = core;
         let mut reader = 0;
-        for client in 1..=9 {
+        for client in 1..=self.history.known() {
             if self.history.player(client).is_some_and(|player| player.out) {
                 core = self.settles(rt, core, client)?;
                 reader = client;
@@ -255,7 +303,7 @@ impl Trial {
     }
 }
 
-/// Plays one list. In some of them the first client splits off as many as it may.
+/// Plays one list, with a renewal in its midst. In some of them the first client splits off as many as it may.
 fn one_list(rt: &impl Abort, alloc: Global, list: u64, tally: Tally) -> Result<Tally, AllocError> {
     let mut rng = Pcg32::new(list, 54);
     let shape = Shape::drawn(&mut rng);
@@ -274,11 +322,12 @@ fn one_list(rt: &impl Abort, alloc: Global, list: u64, tally: Tally) -> Result<T
         tally,
         tag: 0,
     };
-    let mut core = trial.splits(rt, core, many)?;
-    for _ in 0..EVENTS {
-        let turn = drawn(&mut trial.rng, &trial.history);
-        core = trial.plays(rt, core, turn)?;
-    }
+    let core = trial.splits(rt, core, many)?;
+    let core = trial.goes_on(rt, core, EVENTS[0])?;
+    let core = trial.renews(rt, core)?;
+    let few = 1 + below(&mut trial.rng, 3);
+    let core = trial.splits(rt, core, few)?;
+    let core = trial.goes_on(rt, core, EVENTS[2])?;
     trial.ends(rt, core)?;
     Ok(trial.tally)
 }
