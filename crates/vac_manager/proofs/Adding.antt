@@ -1,5 +1,5 @@
 -- A commit adds the record of the task and its reply.
-use Rattle.std.proofs.Common.{◌≡◌, ◌⊎◌, inl, inr, ℕ, zero, suc, ◌+◌, ◌*◌, ◌≤◌, max, Bool, true, false, cond, eqb, ltb, ◌||◌, ◌&&◌, List, [], ◌∷◌, ◌++◌, Ok, refl, sym, ap, subst, ◌∙◌, arith}
+use Rattle.std.proofs.Common.{◌≡◌, ◌⊎◌, inl, inr, ℕ, zero, suc, ◌+◌, ◌*◌, ◌<◌, ◌≤◌, max, Bool, true, false, cond, eqb, ltb, ◌||◌, ◌&&◌, List, [], ◌∷◌, ◌++◌, Ok, refl, sym, ap, subst, ◌∙◌, arith}
 use Rattle.std.proofs.lemmas.Bool.Decides.{nat_tests}
 use mathlib.Core.Option.{some, some-injective, some-ne-none}
 use Rattle.stm_words.specs.Image.{In}
@@ -30,6 +30,14 @@ record_later : (region : RegionShown) (tag : List ℕ) (v : Client) (pairs : Lis
 record_later region tag v [] version floor h l = l
 record_later region tag v (p ∷ ps) version floor h l = omega (arith, h, l)
 
+record_renewal : (region : RegionShown) (tag : List ℕ) (v : Client) (pairs : List (ℕ × ℕ)) (version : ℕ) → (commit_record region tag v pairs version).renewal ≡ region.renewal
+record_renewal region tag v [] version = refl
+record_renewal region tag v (p ∷ ps) version = refl
+
+record_behind : (region : RegionShown) (tag : List ℕ) (v : Client) (pairs : List (ℕ × ℕ)) (version floor : ℕ) → IsCommitVersion v pairs version → floor ≤ v.rv → 2 * floor < rank (commit_record region tag v pairs version)
+record_behind region tag v [] version floor h l = omega (arith, l)
+record_behind region tag v (p ∷ ps) version floor h l = omega (arith, h, l)
+
 version_later : (v : Client) (pairs : List (ℕ × ℕ)) (version floor : ℕ) → IsCommitVersion v pairs version → floor ≤ v.rv → floor ≤ version
 version_later v [] version floor h l = omega (arith, h, l)
 version_later v (p ∷ ps) version floor h l = omega (arith, h, l)
@@ -52,7 +60,7 @@ inserted_last r [] f = refl
 inserted_last r (x ∷ l) f = rw (f x (zero, refl)) (ap (λ (m : List Record). x ∷ m) (inserted_last r l (λ y i. f y (suc i.0, i.1))))
 
 -- neither an earlier renewal, nor a smaller place in it
-not_earlier : (a b c d e f : ℕ) → d ≤ a → (d ≡ a → (e ≤ b) × (f ≤ c)) → (ltb a d || (eqb a d && (ltb b e || (eqb b e && ltb c f)))) ≡ false
+pub not_earlier : (a b c d e f : ℕ) → d ≤ a → (d ≡ a → (e ≤ b) × (f ≤ c)) → (ltb a d || (eqb a d && (ltb b e || (eqb b e && ltb c f)))) ≡ false
 not_earlier a b c d e f l h = by_bool (eqb a d)
     (λ t. let same : d ≡ a = grind (arith, nat_tests) in let p = h same in let q = p.0 in let w = p.1 in grind (arith, nat_tests))
     (λ t. let q : ltb a d ≡ false = grind (arith, nat_tests) in rw (q, t) refl)
@@ -61,7 +69,7 @@ half : (b : Bool) → cond b 0 1 ≤ 1
 half true = omega arith
 half false = omega arith
 
-rank_small : (x : Record) → rank x ≤ 2 * x.version + 1
+pub rank_small : (x : Record) → rank x ≤ 2 * x.version + 1
 rank_small x = let h = half x.writer in omega arith
 
 -- the record of a commit stands before none that its client had
@@ -83,12 +91,12 @@ record_unplaced region tag v [] version p = p
 record_unplaced region tag v (w ∷ ws) version p = refl
 
 -- what a client is after an attempt that was decided
-pub record Decided (t : Task) (r : Reply) (v v' : Client) : Type 0 where
-  pub tried : Tried {E = Stop} t v v' (Ok r)
+pub record Decided (region : RegionShown) (t : Task) (r : Reply) (v v' : Client) : Type 0 where
+  pub tried : Tried {E = Stop} region t v v' (Ok r)
   pub unplaced : IsUnplaced v'
 
 pub committed : (region region' : RegionShown) (t : Task) (r : Reply) (pairs : List (ℕ × ℕ)) (rv version : ℕ) (c c0 : ClientShown) (v1 v2 v' : Client) → region'.renewal ≡ region.renewal → AreEarlier region.renewal rv c.value.records → IsUnplaced c.value →
-    c0 ≡ acted region begin rv c → still v1 ≡ still c0.value → c.value.floor ≤ rv → HasCommitted region' (code t r) pairs v1 v2 version → v' ≡ v2 → Decided t r c.value v'
+    c0 ≡ acted region begin rv c → still v1 ≡ still c0.value → c.value.floor ≤ rv → HasCommitted region' (code t r) pairs v1 v2 version → v' ≡ v2 → Decided region t r c.value v'
 committed region region' t r pairs rv version c c0 v1 v2 v' renewed earlier unplaced begun same low done end =
     let attempt0 : c0.value.attempt ≡ c.value.attempt + 1 = ap (λ (x : ClientShown). x.value.attempt) begun in
     let grants0 : c0.value.grants ≡ c.value.grants = ap (λ (x : ClientShown). x.value.grants) begun in
@@ -111,15 +119,18 @@ committed region region' t r pairs rv version c c0 v1 v2 v' renewed earlier unpl
     done.records ∙ (ap (λ (rs : List Record). inserted added rs) (records1 ∙ records0)
     ∙ inserted_last added c.value.records (λ x i. stands_last region' (code t r) v1 pairs version place1 done.versioned x (known x i) (unplaced.each x i))) in
     let small = record_small region' (code t r) v1 pairs version done.versioned in
-    let adds : Adds (code t r) c.value v2 = record {
+    let adds : Adds region.renewal (code t r) c.value v2 = record {
       added = added;
       tag_is = record_tag region' (code t r) v1 pairs version;
       attempt_is = record_attempt region' (code t r) v1 pairs version ∙ sym attempt2;
+      renewal_is = record_renewal region' (code t r) v1 pairs version ∙ renewed;
+      unplaced = record_unplaced region' (code t r) v1 pairs version place1;
+      behind = record_behind region' (code t r) v1 pairs version c.value.floor done.versioned early;
       later = record_later region' (code t r) v1 pairs version c.value.floor done.versioned early;
       known = omega (arith, small, done.known);
       records = records;
     } in
-    let tried : Tried {E = Stop} t c.value v2 (Ok r) = record {
+    let tried : Tried {E = Stop} region t c.value v2 (Ok r) = record {
       attempt = attempt2 ∙ (attempt1 ∙ attempt0);
       grants = grants2 ∙ (grants1 ∙ grants0);
       floor = omega (arith, later, done.known);
@@ -131,11 +142,11 @@ committed region region' t r pairs rv version c c0 v1 v2 v' renewed earlier unpl
         | inr e ↦ subst (λ (y : Record). y.point ≡ 0) e (record_unplaced region' (code t r) v1 pairs version place1)
       ];
     } in
-    subst (λ (x : Client). Decided t r c.value x) (sym end) (record { tried = tried; unplaced = every })
+    subst (λ (x : Client). Decided region t r c.value x) (sym end) (record { tried = tried; unplaced = every })
 
 -- the same of a task that only read
 pub finished : (region region' : RegionShown) (t : Task) (r : Reply) (rv n : ℕ) (c c0 : ClientShown) (c1 c2 : ClientShown) (v' : Client) → region'.renewal ≡ region.renewal → AreEarlier region.renewal rv c.value.records → IsUnplaced c.value →
-    c0 ≡ acted region begin rv c → still c1.value ≡ still c0.value → c.value.floor ≤ rv → c2 ≡ acted region' (finish (code t r)) n c1 → c2.value.held ≡ [] → v' ≡ c2.value → Decided t r c.value v'
+    c0 ≡ acted region begin rv c → still c1.value ≡ still c0.value → c.value.floor ≤ rv → c2 ≡ acted region' (finish (code t r)) n c1 → c2.value.held ≡ [] → v' ≡ c2.value → Decided region t r c.value v'
 finished region region' t r rv n c c0 c1 c2 v' renewed earlier unplaced begun same low ended free end =
     let floor1 : c1.value.floor ≡ c1.value.rv = ap (λ (x : Client). x.floor) same ∙ (ap (λ (x : ClientShown). x.value.floor) begun ∙ (sym (ap (λ (x : ClientShown). x.value.rv) begun) ∙ sym (ap (λ (x : Client). x.rv) same))) in
     let done : HasCommitted region' (code t r) [] c1.value c2.value c1.value.rv = record {

@@ -73,7 +73,7 @@ last_runs : (s : State) (rs : List Record) (r : Record) (last : State) → IsLeg
 last_runs s [] r last h = (s, refl, subst (λ (x : State). Runs r s x) h.2 h.1)
 last_runs s (x ∷ rs) r last h = let q = last_runs h.0 rs r last h.2 in (q.0, (h.0, h.1, q.1), q.2)
 
-leads_on : (region : RegionShown) (t : Task) (reply : Reply) (v v' : Client) → Adds (code t reply) v v' → IsWhole region v' → (s : State) → IsHistory region v.records s →
+leads_on : (region : RegionShown) (t : Task) (reply : Reply) (v v' : Client) → Adds region.renewal (code t reply) v v' → IsWhole region v' → (s : State) → IsHistory region v.records s →
     LeadsOn region t reply s v'
 leads_on region t reply v v' a w s h =
     let q = last_runs (empty_state (capacity_of region)) v.records a.added w.0 (subst (λ (rs : List Record). IsHistory region rs w.0) a.records w.1) in
@@ -86,7 +86,7 @@ leads_on region t reply v v' a w s h =
       history = subst (λ (x : State). IsHistory region v'.records x) (sym (ap (λ (x : State × Reply). x.0) ran)) w.1;
     }
 
-pub continues : {E : Type 0} (region : RegionShown) (t : Task) (result : Result Reply E) (v v' : Client) → Records t result v v' → IfOk result (λ _. IsWhole region v') → Continues region t result v v'
+pub continues : {E : Type 0} (region : RegionShown) (t : Task) (result : Result Reply E) (v v' : Client) → Records region t result v v' → IfOk result (λ _. IsWhole region v') → Continues region t result v v'
 continues region t (Ok reply) v v' a w = λ s h. leads_on region t reply v v' a w s h
 continues region t (Err e) v v' r w = λ s h. subst (λ (rs : List Record). IsHistory region rs s) (sym r) h
 

@@ -3,7 +3,7 @@ use Rattle.std.specs.Prelude.{◌≡◌, ℕ, ◌+◌, ◌*◌, ◌%◌, ◌<◌
 use Rattle.std.specs.Prelude.{List, [], ◌∷◌, ◌++◌, Result, Ok, Err}
 use Rattle.atomic_table.specs.Seated.{TableId}
 use Rattle.stm_words.specs.Image.{In}
-use Rattle.stm_core.specs.Client.{Client, Record}
+use Rattle.stm_core.specs.Client.{Client, Record, rank}
 use Rattle.stm_logs.specs.Log.{LogValue}
 use Rattle.stm_core.specs.Event.{giving, fresh}
 use Rattle.stm_region.specs.Shown.{RegionShown, stripe_of}
@@ -52,20 +52,23 @@ is_try_count tries = nat_le 1 tries && nat_le tries MOST_TRIES
 abbrev pub is_call : Task → ℕ → Bool
 is_call t tries = is_task t && is_try_count tries
 
--- exactly one record was added, as the last one, with this tag, by the last attempt, and of no
--- version below the floor
-pub record Adds (tag : List ℕ) (v v' : Client) : Type 0 where
+-- exactly one record was added, as the last one, with this tag, by the last attempt: of this
+-- renewal and of no version below the floor, and behind the writer of that version
+pub record Adds (renewal : ℕ) (tag : List ℕ) (v v' : Client) : Type 0 where
   pub added : Record
   pub tag_is : added.tag ≡ tag
   pub attempt_is : added.attempt ≡ v'.attempt
+  pub renewal_is : added.renewal ≡ renewal
+  pub unplaced : added.point ≡ 0
   pub later : v.floor ≤ added.version
+  pub behind : 2 * v.floor < rank added
   pub known : added.version ≤ v'.floor
   pub records : v'.records ≡ v.records ++ (added ∷ [])
 
 -- at an answer the record of the task and this reply was added, at a refusal none
-abbrev pub Records : {E : Type 0} → Task → Result Reply E → Client → Client → Type 0
-Records t (Ok reply) v v' = Adds (code t reply) v v'
-Records t (Err e) v v' = v'.records ≡ v.records
+abbrev pub Records : {E : Type 0} → RegionShown → Task → Result Reply E → Client → Client → Type 0
+Records region t (Ok reply) v v' = Adds region.renewal (code t reply) v v'
+Records region t (Err e) v v' = v'.records ≡ v.records
 
 -- the records, which were a history that leads to the state s, are one that leads on to the state
 -- after the task, and the answer is its reply
@@ -87,11 +90,12 @@ abbrev pub IsWhole : RegionShown → Client → Type 0
 IsWhole region v = (last : State) × IsHistory region v.records last
 
 -- one attempt was made
-pub record Tried {E : Type 0} (t : Task) (v v' : Client) (result : Result Reply E) : Type 0 where
+pub record Tried {E : Type 0} (region : RegionShown) (t : Task) (v v' : Client)
+    (result : Result Reply E) : Type 0 where
   pub attempt : v'.attempt ≡ v.attempt + 1
   pub grants : v'.grants ≡ v.grants
   pub floor : v.floor ≤ v'.floor
-  pub records : Records t result v v'
+  pub records : Records region t result v v'
 
 -- the client's last step showed the conflict: in a read, or in a commit
 abbrev pub WasShown : RegionShown → Conflict → Client → Type 0
@@ -131,7 +135,7 @@ pub record Repeated (region : RegionShown) (t : Task) (tries : ℕ) (v v' : Clie
   pub count : IsCount tries v.attempt v'.attempt result
   pub grants : v'.grants ≡ v.grants
   pub floor : v.floor ≤ v'.floor
-  pub records : Records t result v v'
+  pub records : Records region t result v v'
 
 -- how many attempts a call made: at most as many as tries, all of them where it answers Busy, none
 -- where it answers Arguments

@@ -32,7 +32,7 @@ fn try_reading<G: Gate>(
     ensures own { client.new.table ≡ client.old.table }
     ensures free_handed { IsFreeHanded client.new.value }
     ensures unplaced { IsUnplaced client.new.value }
-    ensures tried { Tried task.now client.old.value client.new.value result }
+    ensures tried { Tried region.now task.now client.old.value client.new.value result }
     ensures legal { IfOk result (λ _. WasLegal region.now client.new.value) }
     ensures stopped { IfErr result (λ conflict. WasShown region.now conflict client.new.value) }
     ensures lone { client.old.value.grants ≡ 63 → IsOk result }
@@ -74,7 +74,7 @@ fn try_writing<G: Gate>(
     ensures own { client.new.table ≡ client.old.table }
     ensures free_handed { IsFreeHanded client.new.value }
     ensures unplaced { IsUnplaced client.new.value }
-    ensures tried { Tried task.now client.old.value client.new.value result }
+    ensures tried { Tried region.now task.now client.old.value client.new.value result }
     ensures legal { IfOk result (λ _. WasLegal region.now client.new.value) }
     ensures stopped { IfErr result (λ stop. IsStop region.now task.now stop client.new.value) }
     ensures lone { client.old.value.grants ≡ 63 → IfErr result (λ stop. IsNoConflict stop) }
@@ -117,7 +117,7 @@ fn try_once<G: Gate>(
     ensures own { client.new.table ≡ client.old.table }
     ensures free_handed { IsFreeHanded client.new.value }
     ensures unplaced { IsUnplaced client.new.value }
-    ensures tried { Tried task.now client.old.value client.new.value result }
+    ensures tried { Tried region.now task.now client.old.value client.new.value result }
     ensures legal { IfOk result (λ _. WasLegal region.now client.new.value) }
     ensures stopped { IfErr result (λ stop. IsStop region.now task.now stop client.new.value) }
     ensures lone { client.old.value.grants ≡ 63 → IfErr result (λ stop. IsNoConflict stop) }

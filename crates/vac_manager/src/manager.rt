@@ -118,7 +118,8 @@ impl Manager {
         ensures floor { client.old.value.floor ≤ client.new.value.floor }
         ensures free_handed { IsFreeHanded client.new.value }
         ensures arguments { IsErrOf result Fault.Arguments ↔ (is_call task.now tries ≡ false) }
-        ensures records { Records task.now result client.old.value client.new.value }
+        ensures records { Records self.now task.now result
+            client.old.value client.new.value }
         ensures attempts { Attempts tries
             client.old.value.attempt client.new.value.attempt result }
         ensures legal { IfOk result (λ _. WasLegal self.now client.new.value) }
@@ -148,7 +149,8 @@ impl Manager {
         ensures floor { client.old.value.floor ≤ client.new.value.floor }
         ensures free_handed { IsFreeHanded client.new.value }
         ensures arguments { IsErrOf result Fault.Arguments ↔ (is_call task.now tries ≡ false) }
-        ensures records { Records task.now result client.old.value client.new.value }
+        ensures records { Records self.now task.now result
+            client.old.value client.new.value }
         ensures attempts { Attempts tries
             client.old.value.attempt client.new.value.attempt result }
         ensures legal { IfOk result (λ _. WasLegal self.now client.new.value) }
