@@ -1,11 +1,11 @@
 -- A row may cross threads where its values may, and the right to free its block where the allocator
 -- may.
-use Rattle.std.specs.Prelude.{ℕ, ◌+◌, Bool, true, false, List, [], ◌∷◌}
+use Rattle.std.specs.Prelude.{ℕ, Bool, true, false, List, [], ◌∷◌}
 use base.Fraction.{full_share}
 use base.Shift.{Keyless}
 use denote.Exit.{Exit, unchanged, leaves, hidden, under}
 use denote.RattleType.{RattleType}
-use denote.RawPtr.{Ptr, block_ptr, null_ptr, lies_at, in_block, ◌+ₚ◌}
+use denote.RawPtr.{Ptr, block_ptr, null_ptr, ◌+ₚ◌}
 use denote.Struct.Struct.{exits_of}
 use denote.Struct.Owning.{shape, fields, to}
 use denote.Param.Send.{IsSend, Frees, Quiet, AllSend, part_keyless, owning_send, struct_send, sendable}

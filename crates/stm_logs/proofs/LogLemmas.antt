@@ -1,16 +1,17 @@
 -- What a log says, and how it changes.
 use Rattle.std.proofs.Common.{◌≡◌, inl, inr, ℕ, zero, suc, ◌+◌, ◌<◌, ◌≤◌, Bool, true, false, cond, not, nat_eq, Option, Some, None, is_some, List, length, set, refl, sym, ap, ◌∙◌, arith, subst, add-one, length-set}
-use Rattle.std.specs.FinMap.{get, insert, len, len-insert, same_map, nat_cmp-IsAntisymmetric}
+use Rattle.std.specs.FinMap.{get, get-empty, insert, len, len-insert, same_map, nat_cmp-IsAntisymmetric}
+use Rattle.std.specs.Ordering.{nat_cmp}
 use Rattle.std.proofs.lemmas.Cmp.{nat_cmp_total}
 use Rattle.std.proofs.lemmas.Bool.Decides.{nat_tests}
 use Rattle.std.proofs.lemmas.Bool.{cases_lt}
 use Rattle.stm_words.specs.View.{Words}
 use Rattle.stm_logs.specs.declared.nodes.Node.{Node}
-use Rattle.stm_logs.specs.Nodes.{Block, at}
-use Rattle.stm_logs.specs.Log.{LogValue}
+use Rattle.stm_logs.specs.Nodes.{at}
+use Rattle.stm_logs.specs.Log.{LogValue, empty_log}
 use Rattle.stm_logs.specs.Index.{is_lock_node, HasKey, HasNone, SameNode, IsIndexed, Answers, Entered}
 use Rattle.stm_logs.specs.Tree.{IsTree, IsReady, SameSight, Added, trues, is_word_at, log_value}
-use Rattle.stm_logs.specs.Held.{IsLog, IsHeld, HasLock, held_value, with_word, Copied}
+use Rattle.stm_logs.specs.Held.{IsLog, HasLock, held_value, with_word, Copied}
 use Rattle.stm_logs.proofs.NodeLemmas.{same_or, put_here, put_other, field_kept}
 use Rattle.stm_logs.proofs.AddLemmas.{tree_kept, indexed_kept, chains_of, indexed_none, tree_none}
 use Rattle.stm_logs.proofs.TableLemmas.{Apart, get_here, get_other, some_none, both_bool, true_false, get_there, get_none, table_yes, table_no, table_same, table_value, len_table, mark}
@@ -299,16 +300,25 @@ free_answer ns n b k q ix an none = elim (same_or (at ns q).slot 0) [
       absurd (none _ some f.0 f.1))
 ]
 
-pub held_follow : (o : Option Block) (a : ℕ) → IsHeld o → (get (held_value o).words a ≡ None → get (held_value o).locks a ≡ None) × (get (held_value o).locks a ≡ None → get (held_value o).words a ≡ None)
-held_follow None a h = (λ none. none, λ none. none)
-held_follow (Some s) a h = locks_follow s.list s.count a h.ready.tree
+-- ---- a log with no tree yet, and one with a tree
+pub held_none : (o : Option LogValue) (w : LogValue) → o ≡ None → held_value o ≡ w → w ≡ empty_log
+held_none o w none is = sym is ∙ ap held_value none
+
+pub held_some : (o : Option LogValue) (t w : LogValue) → o ≡ Some t → held_value o ≡ w → t ≡ w
+held_some o t w some is = sym (ap held_value some) ∙ is
+
+pub none_there : (o : Option LogValue) (w : LogValue) (a : ℕ) → o ≡ None → held_value o ≡ w → get w.words a ≡ None
+none_there o w a none is = ap (λ (x : LogValue). get x.words a) (held_none o w none is) ∙ get-empty nat_cmp a
+
+pub one_more : (old new : LogValue) (n a lock v : ℕ) → n ≡ len old.words → get old.words a ≡ None → new ≡ with_word old a lock v → n + 1 ≡ len new.words
+one_more old new n a lock v count none is = omega (arith, count, len_more old.words a v none, ap (λ (w : LogValue). len w.words) is)
 
 -- a value that is put where an address is there leaves its lock
-pub put_value : (w : LogValue) (a lock v : ℕ) → (get w.locks a ≡ None → get w.words a ≡ None) → (get w.words a ≡ None → ⊥) → ((l : ℕ) → get w.locks a ≡ Some l → l ≡ lock)
+pub put_value : (w : LogValue) (a lock v : ℕ) → (get w.locks a ≡ None → ⊥) → ((l : ℕ) → get w.locks a ≡ Some l → l ≡ lock)
     → record w { words = insert w.words a v } ≡ with_word w a lock v
-put_value w a lock v follow some is =
+put_value w a lock v some is =
     let go : (o : Option ℕ) → get w.locks a ≡ o → insert w.locks a lock ≡ w.locks = λ o. elim o as (λ p. get w.locks a ≡ p → insert w.locks a lock ≡ w.locks) [
-      | None ↦ λ none. absurd (some (follow none))
+      | None ↦ λ none. absurd (some none)
       | Some l ↦ λ at_l. insert_same w.locks a lock (at_l ∙ ap Some (is l at_l))
     ] in
     same_log (record w { words = insert w.words a v }) (with_word w a lock v) refl (sym (go (get w.locks a) refl))

@@ -4,7 +4,7 @@ use Rattle.std.proofs.lemmas.Bool.{cases_lt}
 use Rattle.stm_logs.specs.declared.nodes.Node.{Node}
 use Rattle.stm_logs.specs.Nodes.{at}
 use Rattle.stm_logs.specs.Index.{is_lock_node}
-use Rattle.stm_logs.specs.Tree.{Least, IsBefore, IsWaiting, SameKeys, Linked}
+use Rattle.stm_logs.specs.Tree.{Least, IsBefore, IsWaiting, SameKeys, Linked, with_next, with_first, with_recent}
 use Rattle.stm_logs.proofs.NodeLemmas.{same_or, put_here, put_other, field_kept}
 
 least_more : (ns : List Node) (n l low p : ℕ) → Least ns n l low p
@@ -264,15 +264,6 @@ linked_behind ns ns' n l b w c is_before next_other next_here next_before first_
       len = c.len;
       same = c.same;
     }
-
-abbrev pub with_next : Node → ℕ → Node
-with_next y next = record y { next = next }
-
-abbrev pub with_first : Node → ℕ → Node
-with_first y first = record y { first = first; recent = first }
-
-abbrev pub with_recent : Node → ℕ → Node
-with_recent y recent = record y { recent = recent }
 
 -- a node put anew with the same fields but for those of the chains
 keys_put : (ns : List Node) (i : ℕ) (y : Node) → i < length ns → SameKeys (at ns i) y → (j : ℕ) → SameKeys (at ns j) (at (set ns i y) j)

@@ -22,7 +22,8 @@ abbrev pub pair_of : Node → ℕ × ℕ
 pair_of node = (node.number, node.value)
 
 -- the same of a block that there may be
-abbrev pub chain_in : {X : Type 0} → (Node → X) → Option (Bor Block) → ℕ → ℕ → List X
+abbrev pub chain_in : {X : Type 0} → (Node → X)
+    → Option (Bor Block) → ℕ → ℕ → List X
 chain_in f None most p = []
 chain_in f (Some block) most p = chain f block.now.list most p
 

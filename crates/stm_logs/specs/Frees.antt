@@ -1,5 +1,6 @@
 -- A block and the right to free it.
-use Rattle.std.specs.Prelude.{◌≡◌}
+use Rattle.std.specs.Prelude.{◌≡◌, ℕ}
+use Rattle.core.specs.Mem.Slots.Ownership.{Filled}
 use Rattle.stm_logs.specs.declared.row.Row.{Row}
 use Rattle.stm_logs.specs.declared.row.Right.{Right}
 
@@ -8,3 +9,7 @@ pub record Frees {T A : Type 0} (alloc : A) (row : Row T) (right : Right T A) : 
   pub ptr : right.ptr ≡ row.ptr
   pub len : right.len ≡ row.len
   pub heap : right.alloc ≡ alloc
+
+-- the row has len places, and each has its value
+abbrev pub IsFull : {T : Type 0} → Row T → ℕ → Type 0
+IsFull row len = (row.len ≡ len) × Filled row.filled 0 len

@@ -1,39 +1,42 @@
--- A write log in its block, or one that has no block yet.
-use Rattle.std.specs.Prelude.{◌≡◌, ℕ, ◌+◌, ◌<◌, ◌≤◌, Option, Some, None, List, length}
-use Rattle.std.specs.FinMap.{insert}
+-- A write log: its tree, and how the tree changes.
+use Rattle.std.specs.Prelude.{◌≡◌, ◌≢◌, ℕ, ◌+◌, ◌<◌, ◌≤◌, Option, Some, None, List, length}
+use Rattle.std.specs.FinMap.{get, insert}
 use Rattle.stm_logs.specs.declared.nodes.Node.{Node}
 use Rattle.stm_logs.specs.Nodes.{Block, at}
 use Rattle.stm_logs.specs.Log.{LogValue, empty_log}
 use Rattle.stm_logs.specs.Index.{IsIndexed, SameNode, IsTaken}
-use Rattle.stm_logs.specs.Tree.{IsReady, SameSight, log_value}
+use Rattle.stm_logs.specs.Tree.{IsReady, SameSight, block_log}
 
 -- nodes 1 to n are a log: each lock has a word
 pub record IsLog (ns : List Node) (n : ℕ) : Type 0 where
   pub ready : IsReady ns n
   pub places : 4 ≤ length ns
-  pub used : (l : ℕ) → 0 < l → l ≤ n → (at ns l).parent ≡ 0 → (f : ℕ) × ((0 < f) × (f ≤ n) × ((at ns f).parent ≡ l))
+  pub used : (l : ℕ) → 0 < l → l ≤ n → (at ns l).parent ≡ 0
+      → (f : ℕ) × ((0 < f) × (f ≤ n) × ((at ns f).parent ≡ l))
 
-abbrev pub held_value : Option Block → LogValue
+-- what a log says that has a tree, or none yet
+abbrev pub held_value : Option LogValue → LogValue
 held_value None = empty_log
-held_value (Some s) = log_value s.list s.count
-
-abbrev pub IsHeld : Option Block → Type 0
-IsHeld None = Unit {0}
-IsHeld (Some s) = IsLog s.list s.count
+held_value (Some tree) = tree
 
 -- the log with one word more
 abbrev pub with_word : LogValue → ℕ → ℕ → ℕ → LogValue
-with_word w address lock value = record { words = insert w.words address value; locks = insert w.locks address lock }
+with_word w address lock value = record {
+  words = insert w.words address value;
+  locks = insert w.locks address lock;
+}
 
--- there is a block, with room for two nodes more
-abbrev pub HasBlock : Option Block → Type 0
-HasBlock None = ⊥
-HasBlock (Some s) = IsLog s.list s.count × (s.count + 2 < length s.list)
+-- the word was there, and new has the value for it
+pub record IsReplaced (old new : LogValue) (address value : ℕ) : Type 0 where
+  pub has_word : get old.words address ≢ None
+  pub has_lock : get old.locks address ≢ None
+  pub put : new ≡ record old { words = insert old.words address value }
 
--- new has a block with room, and says what old says
-pub record IsRoomy (old new : Option Block) : Type 0 where
-  pub block : HasBlock new
-  pub same : held_value new ≡ held_value old
+-- new has room for two nodes more, and says what old says
+pub record IsRoomy (old new : Block) : Type 0 where
+  pub log : IsLog new.list new.count
+  pub room : new.count + 2 < length new.list
+  pub same : block_log new ≡ block_log old
 
 -- l is the node of the lock, which was there or has entered behind the others
 pub record HasLock (old : List Node) (n : ℕ) (new : List Node) (m lock l : ℕ) : Type 0 where
@@ -58,4 +61,5 @@ pub record Cleared (old new : List Node) (n e : ℕ) : Type 0 where
   pub len : length new ≡ length old
   pub places : (i : ℕ) → (at new i).place ≡ (at old i).place
   pub parents : (i : ℕ) → (at new i).parent ≡ (at old i).parent
-  pub left : (q : ℕ) → q < length new → IsTaken new q → (e < (at new q).slot) × ((at new q).slot ≤ n) × ((at new ((at new q).slot)).place ≡ q)
+  pub left : (q : ℕ) → q < length new → IsTaken new q
+      → (e < (at new q).slot) × ((at new q).slot ≤ n) × ((at new ((at new q).slot)).place ≡ q)

@@ -9,11 +9,16 @@ is_lock_node node = nat_eq node.parent 0
 
 -- where the search for a node begins, in an index of len places
 abbrev pub home : Bool → ℕ → ℕ → ℕ
-home is_lock number len = (number * cond is_lock 2246822519 2654435769 % 4294967296) * len / 4294967296
+home is_lock number len =
+    (number * cond is_lock 2246822519 2654435769 % 4294967296) * len / 4294967296
 
 -- the node is a lock or a word, as asked, and has the number
 abbrev pub HasKey : Node → Bool → ℕ → Type 0
 HasKey node is_lock number = (node.number ≡ number) × (is_lock_node node ≡ is_lock)
+
+-- node e is one of the first n, and has the key
+abbrev pub IsFound : List Node → ℕ → Bool → ℕ → ℕ → Type 0
+IsFound ns n is_lock number e = (e ≤ n) × HasKey (at ns e) is_lock number
 
 -- P holds at each place from start on and before end, where the places go round
 pub record Along (P : ℕ → Type 0) (len start end : ℕ) : Type 0 where
@@ -34,24 +39,40 @@ abbrev pub taken : List Node → ℕ
 taken [] = 0
 taken (node ∷ ns) = cond (nat_eq node.slot 0) 0 1 + taken ns
 
+-- place q leads to one of the first n nodes, which knows its place
+abbrev pub LeadsTo : List Node → ℕ → ℕ → Type 0
+LeadsTo ns n q = ((at ns q).slot ≤ n) × ((at ns ((at ns q).slot)).place ≡ q)
+
+-- node e has a place of the index, which leads to it
+abbrev pub HasPlace : List Node → ℕ → Type 0
+HasPlace ns e = ((at ns e).place < length ns) × ((at ns ((at ns e).place)).slot ≡ e)
+
+-- a search for the key finds no free place before q
+abbrev pub Reaches : List Node → Bool → ℕ → ℕ → Type 0
+Reaches ns is_lock number q =
+    Along (IsTaken ns) (length ns) (home is_lock number (length ns)) q
+
 -- nodes 1 to n are indexed, and nothing else
 pub record IsIndexed (ns : List Node) (n : ℕ) : Type 0 where
   pub room : n < length ns
   pub limit : length ns ≤ 2147483648
   pub count : taken ns ≡ n
-  pub places : (e : ℕ) → 0 < e → e ≤ n → ((at ns e).place < length ns) × ((at ns ((at ns e).place)).slot ≡ e)
-  pub slots : (q : ℕ) → q < length ns → IsTaken ns q → ((at ns q).slot ≤ n) × ((at ns ((at ns q).slot)).place ≡ q)
-  pub reached : (e : ℕ) → 0 < e → e ≤ n → Along (IsTaken ns) (length ns) (home (is_lock_node (at ns e)) (at ns e).number (length ns)) (at ns e).place
+  pub places : (e : ℕ) → 0 < e → e ≤ n → HasPlace ns e
+  pub slots : (q : ℕ) → q < length ns → IsTaken ns q → LeadsTo ns n q
+  pub reached : (e : ℕ) → 0 < e → e ≤ n
+      → Reaches ns (is_lock_node (at ns e)) (at ns e).number (at ns e).place
 
 -- no node has the key
 abbrev pub HasNone : List Node → ℕ → Bool → ℕ → Type 0
-HasNone ns n is_lock number = (e : ℕ) → 0 < e → e ≤ n → ¬ (HasKey (at ns e) is_lock number)
+HasNone ns n is_lock number =
+    (e : ℕ) → 0 < e → e ≤ n → ¬ (HasKey (at ns e) is_lock number)
 
--- a place of the index answers for a key: it leads to the node with the key, or it is the free one where that node would enter
+-- a place of the index answers for a key: it leads to the node with the key, or it is the free one
+-- where that node would enter
 pub record Answers (ns : List Node) (n : ℕ) (is_lock : Bool) (number q : ℕ) : Type 0 where
   pub inside : q < length ns
-  pub found : IsTaken ns q → ((at ns q).slot ≤ n) × HasKey (at ns ((at ns q).slot)) is_lock number
-  pub free : (at ns q).slot ≡ 0 → HasNone ns n is_lock number × Along (IsTaken ns) (length ns) (home is_lock number (length ns)) q
+  pub found : IsTaken ns q → IsFound ns n is_lock number (at ns q).slot
+  pub free : (at ns q).slot ≡ 0 → HasNone ns n is_lock number × Reaches ns is_lock number q
 
 -- what the index and the tree see of two nodes is the same
 pub record SameNode (old new : Node) : Type 0 where

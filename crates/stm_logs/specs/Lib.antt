@@ -1,3 +1,4 @@
+pub mod Refusals
 pub mod Log
 pub mod Chunks
 pub mod Frees

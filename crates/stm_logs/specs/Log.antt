@@ -14,7 +14,9 @@ pub record LogValue : Type 0 where
 
 -- a log is stored as its two maps
 abbrev pub log_code : Coded LogValue
-log_code = code_by (Words × Words) (coded× (finite.code coded_ℕ coded_ℕ) (finite.code coded_ℕ coded_ℕ)) (λ w. (w.words, w.locks)) (λ p. record { words = p.0; locks = p.1 }) (λ _. refl)
+log_code =
+    code_by (Words × Words) (coded× (finite.code coded_ℕ coded_ℕ) (finite.code coded_ℕ coded_ℕ))
+    (λ w. (w.words, w.locks)) (λ p. record { words = p.0; locks = p.1 }) (λ _. refl)
 
 -- nothing was written
 abbrev pub empty_log : LogValue
@@ -43,7 +45,8 @@ pairs_of w lock = filter (λ p. is_number (get w.locks p.0) lock) (log_pairs w)
 
 -- the same addresses have a value and a lock
 abbrev pub SameAddresses : LogValue → Type 0
-SameAddresses w = (a : ℕ) → (get w.words a ≡ None → get w.locks a ≡ None) × (get w.locks a ≡ None → get w.words a ≡ None)
+SameAddresses w = (a : ℕ)
+    → (get w.words a ≡ None → get w.locks a ≡ None) × (get w.locks a ≡ None → get w.words a ≡ None)
 
 -- each address has the lock of its remainder by the number of stripes
 abbrev pub IsStriped : LogValue → ℕ → Type 0

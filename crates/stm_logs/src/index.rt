@@ -1,7 +1,7 @@
 //! The index of a write log: open addressing with linear probing.
 ghost use Rattle.std.specs.Prelude.{◌≡◌, ◌↔◌, ℕ, ◌+◌, ◌*◌, ◌<◌, ◌≤◌, Bool, true, false, IsTrue, List, length, slice_set};
 ghost use Rattle.stm_logs.specs.Nodes.{Block, at};
-ghost use Rattle.stm_logs.specs.Index.{home, is_lock_node, HasKey, IsIndexed, HasNone, Answers, Entered};
+ghost use Rattle.stm_logs.specs.Index.{home, is_lock_node, HasKey, IsFound, IsIndexed, HasNone, Answers, Entered};
 
 use crate::nodes::{Node, Nodes};
 use std::alloc::Allocator;
@@ -67,7 +67,7 @@ pub(crate) fn probe<A: Allocator>(nodes: &Nodes<A>, is_lock: bool, number: u32) 
 #[inline]
 pub(crate) fn find<A: Allocator>(nodes: &Nodes<A>, is_lock: bool, number: u32) -> usize
     requires { IsIndexed nodes.now.list nodes.now.count }
-    ensures there { 0 < result → (result ≤ nodes.now.count) × HasKey (at nodes.now.list result) is_lock number }
+    ensures there { 0 < result → IsFound nodes.now.list nodes.now.count is_lock number result }
     ensures none { result ≡ 0 → HasNone nodes.now.list nodes.now.count is_lock number }
 {
     let place = probe(nodes, is_lock, number);
@@ -80,7 +80,7 @@ pub(crate) fn find<A: Allocator>(nodes: &Nodes<A>, is_lock: bool, number: u32) -
 pub(crate) fn enter<A: Allocator>(nodes: &mut Nodes<A>, place: usize, node: Node)
     requires indexed { IsIndexed nodes.old.list nodes.old.count }
     requires room { nodes.old.count + 1 < length nodes.old.list }
-    requires answers { Answers nodes.old.list nodes.old.count (is_lock_node node) node.number place }
+    requires place { Answers nodes.old.list nodes.old.count (is_lock_node node) node.number place }
     requires free { (at nodes.old.list place).slot ≡ 0 }
     ensures entered { Entered nodes.old.list nodes.new.list nodes.old.count node }
     ensures count { nodes.new.count ≡ nodes.old.count }

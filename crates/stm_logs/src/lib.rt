@@ -6,7 +6,9 @@
 #![tactic(auto)]
 
 mod chain;
+mod grow;
 mod index;
+mod link;
 mod nodes;
 mod read;
 mod row;

@@ -52,17 +52,15 @@ pub(crate) struct Nodes<A: Allocator> {
 }
 
 impl<A: Allocator> Model for Nodes<A> {
-    ghost use Rattle.std.specs.Prelude.{◌≡◌, ℕ};
-    ghost use Rattle.core.specs.Mem.Slots.Ownership.{Filled};
     ghost use Rattle.stm_logs.specs.Nodes.{Block};
 
     ghost Value = { Block };
 
-    ghost use Rattle.stm_logs.specs.Frees.{Frees};
+    ghost use Rattle.stm_logs.specs.Frees.{Frees, IsFull};
 
     ghost view = { λ s. record { list = s.row.items; count = s.count } };
 
-    ghost invariant = { λ s. (s.row.len ≡ s.len) × Filled s.row.filled 0 s.len × Frees s.alloc s.row s.right };
+    ghost invariant = { λ s. IsFull s.row s.len × Frees s.alloc s.row s.right };
 }
 
 impl<A: Allocator> Drop for Nodes<A> {
@@ -79,12 +77,12 @@ impl<A: Allocator> Drop for Nodes<A> {
 }
 
 impl<A: Allocator> Nodes<A> {
-    ghost use Rattle.stm_logs.specs.Nodes.{blank, at};
+    ghost use Rattle.stm_logs.specs.Nodes.{at, with_node, IsBlank};
 
     /// A block of `len` blank places.
     pub(crate) fn new(alloc: A, len: usize) -> Result<Nodes<A>, AllocError>
         requires { len ≤ 2147483648 }
-        ensures { IfOk result (λ s. (length s.list ≡ len) × (s.count ≡ 0) × ((k : ℕ) → at s.list k ≡ blank)) }
+        ensures { IfOk result (λ s. IsBlank s len) }
     {
         let (mut row, right) = unsafe { reserve(&alloc, len)? };
         fill(&mut row, len, BLANK);
@@ -140,7 +138,7 @@ impl<A: Allocator> Nodes<A> {
     #[inline]
     pub(crate) fn put(&mut self, i: usize, node: Node)
         requires { i < length self.old.list }
-        ensures { self.new ≡ record self.old { list = slice_set self.old.list i node } }
+        ensures { self.new ≡ with_node self.old i node }
     {
         self.row.put(i, node);
     }

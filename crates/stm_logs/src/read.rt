@@ -1,6 +1,7 @@
 //! The read log: the addresses that a transaction has read.
 ghost use Rattle.stm_logs.specs.Chunks.{HasRoom, IsLonger, IsRoomier};
-ghost use Rattle.std.specs.Prelude.{◌≡◌, ℕ, ◌+◌, ◌*◌, ◌<◌, ◌≤◌, List, [], ◌∷◌, ◌++◌, length, take, slice_index, slice_set, IfOk, MatchResult};
+ghost use Rattle.stm_logs.specs.Refusals.{OrSame, Becomes};
+ghost use Rattle.std.specs.Prelude.{◌≡◌, ℕ, ◌+◌, ◌*◌, ◌<◌, ◌≤◌, List, [], ◌∷◌, ◌++◌, length, take, slice_index, slice_set, IfOk};
 
 use crate::row::{Right, Row, fill, release, reserve};
 use std::alloc::{AllocError, Allocator, Global};
@@ -21,16 +22,15 @@ struct Chunk<A: Allocator> {
 }
 
 impl<A: Allocator> Model for Chunk<A> {
-    ghost use Rattle.std.specs.Prelude.{◌≡◌, ℕ, List};
-    ghost use Rattle.core.specs.Mem.Slots.Ownership.{Filled};
+    ghost use Rattle.std.specs.Prelude.{ℕ, List};
 
     ghost Value = { List ℕ };
 
-    ghost use Rattle.stm_logs.specs.Frees.{Frees};
+    ghost use Rattle.stm_logs.specs.Frees.{Frees, IsFull};
 
     ghost view = { λ c. c.row.items };
 
-    ghost invariant = { λ c. (c.row.len ≡ 1024) × Filled c.row.filled 0 1024 × Frees c.alloc c.row c.right };
+    ghost invariant = { λ c. IsFull c.row 1024 × Frees c.alloc c.row c.right };
 }
 
 impl<A: Allocator> Drop for Chunk<A> {
@@ -117,7 +117,7 @@ impl<A: Allocator + Copy> ReadLog<A> {
     /// Appends an address. Where memory is refused, the log stays as it was.
     #[inline]
     pub fn push(&mut self, addr: Addr) -> Result<(), AllocError>
-        ensures { MatchResult result (λ _. self.new ≡ self.old ++ addr.0 ∷ []) (λ _. self.new ≡ self.old) }
+        ensures { Becomes result self.old self.new (self.old ++ addr.0 ∷ []) }
     {
         make_room(self.alloc, &mut self.chunks, self.len)?;
         self.chunks[self.len / PLACES].put(self.len % PLACES, addr.0);
@@ -142,7 +142,7 @@ fn make_room<A: Allocator + Copy>(
     len: usize,
 ) -> Result<(), AllocError>
     requires { HasRoom chunks.old.items len }
-    ensures { MatchResult result (λ _. IsRoomier chunks.old.items chunks.new.items len) (λ _. chunks.new.items ≡ chunks.old.items) }
+    ensures { OrSame result (λ old new. IsRoomier old new len) chunks.old.items chunks.new.items }
 {
     if len / PLACES == chunks.len() {
         add_chunk(alloc, chunks)?;
@@ -154,7 +154,7 @@ fn make_room<A: Allocator + Copy>(
 #[cold]
 fn add_chunk<A: Allocator + Copy>(alloc: A, chunks: &mut Vec<Chunk<A>, A>) -> Result<(), AllocError>
     requires { HasRoom chunks.old.items (1024 * length chunks.old.items) }
-    ensures { MatchResult result (λ _. IsLonger chunks.old.items chunks.new.items) (λ _. chunks.new.items ≡ chunks.old.items) }
+    ensures { OrSame result IsLonger chunks.old.items chunks.new.items }
 {
     if chunks.len() >= MAX_CHUNKS {
         return Err(AllocError);

@@ -20,4 +20,4 @@ returns-clause-entered g c =
     ∙ ap (λ x. set (set ns (n + 1) y) c.args.place (leads x (c.count-position.result + 1))) there
     ∙ ap (λ i. set (set ns (n + 1) y) c.args.place (leads (at (set ns (n + 1) y) c.args.place) (i + 1))) position in
     subst (λ xs. Entered ns xs n c.args.node) (sym two)
-    (entered ns _ n c.args.place c.args.node c.requires.indexed c.requires.room c.requires.answers c.requires.free (written ns n c.args.place c.args.node c.requires.room c.requires.answers.inside c.requires.free))
+    (entered ns _ n c.args.place c.args.node c.requires.indexed c.requires.room c.requires.place c.requires.free (written ns n c.args.place c.args.node c.requires.room c.requires.place.inside c.requires.free))

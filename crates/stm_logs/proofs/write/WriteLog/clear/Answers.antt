@@ -1,8 +1,15 @@
-use Rattle.std.proofs.Common.{ℕ, sym, ap, ◌∙◌}
+use Rattle.std.proofs.Common.{◌≡◌, Option, ℕ, sym, ap, ◌∙◌}
 use Rattle.std.specs.FinMap.{len, len-empty}
 use Rattle.std.specs.Ordering.{nat_cmp}
-use Rattle.stm_logs.specs.Log.{LogValue}
+use Rattle.stm_logs.specs.Log.{LogValue, empty_log}
+use Rattle.stm_logs.specs.Held.{held_value}
 use Rattle.stm_logs.proofs.write.WriteLog.clear.Goals as goal
+use Rattle.stm_logs.proofs.write.WriteLog.clear.Goals.{in-Some, in_default}
 
 pub invariant_of-self : goal.invariant_of-self
-invariant_of-self g c = (c.clear_held.ensures.log, sym (ap (λ (w : LogValue). len w.words) c.clear_held.ensures.value ∙ len-empty nat_cmp ℕ))
+invariant_of-self g c =
+    let none : 0 ≡ len empty_log.words = sym (len-empty nat_cmp ℕ) in
+    elim c.match-self.branch [
+      | in-Some w ↦ rw w.self-inside-is (none ∙ sym (ap (λ (x : LogValue). len x.words) w.clear.ensures))
+      | in_default w ↦ rw w.self-inside-is (none ∙ sym (ap (λ (o : Option LogValue). len (held_value o).words) w.in_default.is))
+    ]

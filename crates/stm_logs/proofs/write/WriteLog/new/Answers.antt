@@ -4,4 +4,4 @@ use Rattle.std.specs.Ordering.{nat_cmp}
 use Rattle.stm_logs.proofs.write.WriteLog.new.Goals as goal
 
 pub invariant_of-result : goal.invariant_of-result
-invariant_of-result g c = (tt, sym (len-empty nat_cmp ℕ))
+invariant_of-result g c = sym (len-empty nat_cmp ℕ)

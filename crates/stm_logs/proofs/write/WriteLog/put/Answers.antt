@@ -1,33 +1,54 @@
-use Rattle.std.proofs.Common.{◌≡◌, ◌+◌, sym, ap, ◌∙◌, arith}
+use Rattle.std.proofs.Common.{◌≡◌, ◌+◌, Option, None, refl, sym, ap, ◌∙◌}
 use Rattle.std.specs.FinMap.{get, len}
-use Rattle.stm_logs.specs.Log.{LogValue}
-use Rattle.stm_logs.specs.Held.{held_value, with_word, IsRoomy}
-use Rattle.stm_logs.proofs.LogLemmas.{held_follow, put_value, len_there, len_more}
+use Rattle.stm_logs.specs.Log.{LogValue, empty_log}
+use Rattle.stm_logs.specs.Held.{held_value, with_word}
+use Rattle.stm_logs.proofs.LogLemmas.{held_some, none_there, put_value, len_there, one_more}
 use Rattle.stm_logs.proofs.write.WriteLog.put.Goals as goal
+use Rattle.stm_logs.proofs.write.WriteLog.put.Given as given
+use Rattle.stm_logs.proofs.write.WriteLog.put.Goals.{in-Some+else-replace+in_ok-insert-in-Some, in-None+in_ok-tree-in-None+in_ok-insert-in-None+in-Some-1, in-None+in_ok-tree-in-None+in_ok-insert-in-None+in-None-1}
 
 pub invariant_of-self : goal.invariant_of-self
 invariant_of-self g c =
-    let there = c.put_there.ensures.there c.if-put_there.true in
-    let w : LogValue = held_value c.self.inside.nodes in (
-      c.put_there.ensures.log,
-      c.self.invariant.1 ∙ sym (ap (λ (x : LogValue). len x.words) there.1 ∙ len_there w.words c.args.addr.0 c.args.value there.0),
-    )
+    let there = c.replace.ensures.there c.if-replace.true in
+    let words = c.self.invariant ∙ ap (λ (o : Option LogValue). len (held_value o).words) c.in-Some.is in
+    words ∙ sym (ap (λ (w : LogValue). len w.words) there.put ∙ len_there _ c.args.addr.0 c.args.value there.has_word)
 
-pub returns-then-put_there-clause-answer : goal.returns-then-put_there-clause-answer
-returns-then-put_there-clause-answer g c =
-    let there = c.put_there.ensures.there c.if-put_there.true in
-    let w : LogValue = held_value c.self.inside.nodes in
-    let is : w ≡ c.args.self.now = c.self.view_is in
-    there.1 ∙ put_value w c.args.addr.0 c.args.lock c.args.value (held_follow c.self.inside.nodes c.args.addr.0 c.self.invariant.0).1 there.0
-    (λ l at_l. c.requires l (ap (λ (x : LogValue). get x.locks c.args.addr.0) (sym is) ∙ at_l))
-    ∙ ap (λ x. with_word x c.args.addr.0 c.args.lock c.args.value) is
+pub returns-then-replace-clause-answer : goal.returns-then-replace-clause-answer
+returns-then-replace-clause-answer g c =
+    let there = c.replace.ensures.there c.if-replace.true in
+    let tree : c.in-Some.tree ≡ c.args.self.now = held_some c.self.inside.tree _ _ c.in-Some.is c.self.view_is in
+    there.put
+    ∙ put_value c.in-Some.tree c.args.addr.0 c.args.lock c.args.value there.has_lock
+    (λ l at_l. c.requires l (ap (λ (w : LogValue). get w.locks c.args.addr.0) (sym tree) ∙ at_l))
+    ∙ ap (λ w. with_word w c.args.addr.0 c.args.lock c.args.value) tree
+
+pub returns-in_err-tree-in-None-clause-there : goal.returns-in_err-tree-in-None-clause-there
+returns-in_err-tree-in-None-clause-there g c = λ there. absurd (there (none_there c.self.inside.tree _ c.args.addr.0 c.in-None.is c.self.view_is))
+
+pub insert-requires-in-None : goal.insert-requires-in-None
+insert-requires-in-None g c = none_there None _ c.args.addr.0 refl (sym c.in_ok-tree-in-None.ensures)
+
+pub returns-in_err-insert-in-None-clause-there : goal.returns-in_err-insert-in-None-clause-there
+returns-in_err-insert-in-None-clause-there g c = λ there. absurd (there (none_there c.self.inside.tree _ c.args.addr.0 c.in-None.is c.self.view_is))
+
+-- the first word of a log with no tree yet
+first_word : (g : given.Over) (c : goal.After-self-2-1 g) (tree new : LogValue) → c.self.inside.tree ≡ None → tree ≡ empty_log
+    → new ≡ with_word tree c.args.addr.0 c.args.lock c.args.value → c.self.inside.len + 1 ≡ len new.words
+first_word g c tree new none empty is =
+    one_more tree new c.self.inside.len c.args.addr.0 c.args.lock c.args.value
+    (c.self.invariant ∙ ap (λ (o : Option LogValue). len (held_value o).words) none ∙ sym (ap (λ (w : LogValue). len w.words) empty))
+    (none_there None tree c.args.addr.0 refl (sym empty)) is
 
 pub invariant_of-self-2 : goal.invariant_of-self-2
-invariant_of-self-2 g c =
-    let none = c.put_there.ensures.none c.if-put_there.false in
-    let w : LogValue = held_value c.self.inside.nodes in
-    let roomy : IsRoomy c.put_there.new.nodes c.make_room.new.nodes = c.in_ok-make_room.ensures in
-    let same : held_value c.make_room.new.nodes ≡ w = roomy.same ∙ ap held_value none.1 in
-    let more : len (held_value c.put_in_room.new.nodes).words ≡ len w.words + 1 =
-    ap (λ (x : LogValue). len x.words) (c.put_in_room.ensures.value ∙ ap (λ x. with_word x c.args.addr.0 c.args.lock c.args.value) same) ∙ len_more w.words c.args.addr.0 c.args.value none.0 in
-    (c.put_in_room.ensures.log, omega (arith, more, c.self.invariant.1))
+invariant_of-self-2 g c = elim c.match-self.branch [
+  | in-Some+else-replace+in_ok-insert-in-Some w ↦ (
+      let none = w.replace.ensures.none w.if-replace.false in
+      let words = c.self.invariant ∙ ap (λ (o : Option LogValue). len (held_value o).words) w.in-Some.is in
+      rw w.self-inside-is
+      (one_more w.replace.new.self _ c.self.inside.len c.args.addr.0 c.args.lock c.args.value (words ∙ sym (ap (λ (x : LogValue). len x.words) none.1))
+      (ap (λ (x : LogValue). get x.words c.args.addr.0) none.1 ∙ none.0) w.in_ok-insert-in-Some.ensures.answer))
+  | in-None+in_ok-tree-in-None+in_ok-insert-in-None+in-Some-1 w ↦
+      rw w.self-inside-is (first_word g c w.in_ok-tree-in-None.tree _ w.in-None.is w.in_ok-tree-in-None.ensures w.in_ok-insert-in-None.ensures.answer)
+  | in-None+in_ok-tree-in-None+in_ok-insert-in-None+in-None-1 w ↦
+      rw w.self-inside-is (first_word g c w.in_ok-tree-in-None.tree _ w.in-None.is w.in_ok-tree-in-None.ensures w.in_ok-insert-in-None.ensures.answer)
+]

@@ -1,0 +1,58 @@
+//! The growth of a write log's block.
+ghost use Rattle.std.specs.Prelude.{◌≡◌, ℕ, ◌*◌, ◌≤◌, length, IfOk};
+ghost use Rattle.stm_logs.specs.Nodes.{at};
+ghost use Rattle.stm_logs.specs.Held.{IsLog, IsRoomy, Copied};
+ghost use Rattle.stm_logs.specs.Refusals.{OrSame};
+
+use crate::index::{enter, probe};
+use crate::nodes::{Node, Nodes};
+use std::alloc::{AllocError, Allocator};
+
+/// The places of the largest block.
+const MAX_PLACES: usize = 2_147_483_648;
+
+/// Makes room for two nodes more.
+#[inline]
+pub(crate) fn make_room<A: Allocator + Copy>(nodes: &mut Nodes<A>) -> Result<(), AllocError>
+    requires { IsLog nodes.old.list nodes.old.count }
+    ensures { OrSame result IsRoomy nodes.old nodes.new }
+{
+    if nodes.len() < 2 * (nodes.count() + 3) {
+        *nodes = grown(nodes)?;
+    }
+    Ok(())
+}
+
+// A block of twice the places with the same nodes.
+#[cold]
+fn grown<A: Allocator + Copy>(old: &Nodes<A>) -> Result<Nodes<A>, AllocError>
+    requires { IsLog old.now.list old.now.count }
+    ensures { IfOk result (λ new. IsRoomy old.now new) }
+{
+    let places = old.len();
+    if places > MAX_PLACES / 2 {
+        return Err(AllocError);
+    }
+    let mut new = Nodes::new(old.alloc(), 2 * places)?;
+    copy(old, &mut new);
+    Ok(new)
+}
+
+fn copy<A: Allocator>(old: &Nodes<A>, new: &mut Nodes<A>)
+    requires log { IsLog old.now.list old.now.count }
+    requires twice { length new.old.list ≡ 2 * length old.now.list }
+    requires limit { length new.old.list ≤ 2147483648 }
+    requires blank { (new.old.count ≡ 0) × ((k : ℕ) → (at new.old.list k).slot ≡ 0) }
+    ensures copied { Copied old.now.list new.new.list old.now.count }
+    ensures count { new.new.count ≡ old.now.count }
+    ensures places { length new.new.list ≡ length new.old.list }
+{
+    let root = *old.get(0);
+    new.put(0, Node { slot: 0, ..root });
+    for e in 0..old.count() {
+        let node = *old.get(e + 1);
+        let place = probe(new, node.parent == 0, node.number);
+        enter(new, place, node);
+        new.set_count(e + 1);
+    }
+}

@@ -1,0 +1,151 @@
+//! The chains of a tree: each node's children by ascending number.
+ghost use Rattle.std.specs.Prelude.{◌≡◌, ◌↔◌, ℕ, ◌+◌, ◌*◌, ◌<◌, ◌≤◌, Bool, true, false, IsTrue, List, length, slice_set};
+ghost use Rattle.stm_logs.specs.Nodes.{Block, at, with_node};
+ghost use Rattle.stm_logs.specs.Index.{is_lock_node, HasNone};
+ghost use Rattle.stm_logs.specs.Tree.{IsTree, IsBelow, IsBefore, ComesFirst, GoesBehind, IsWaiting, Linked, with_next, with_first, with_recent};
+
+use crate::nodes::{Node, Nodes};
+use std::alloc::Allocator;
+
+#[inline]
+fn set_next<A: Allocator>(nodes: &mut Nodes<A>, e: usize, next: usize)
+    requires inside { e < length nodes.old.list }
+    requires fits { next ≤ 2147483648 }
+    ensures { nodes.new ≡ with_node nodes.old e (with_next (at nodes.old.list e) next) }
+{
+    let node = *nodes.get(e);
+    nodes.put(
+        e,
+        Node {
+            next: next as u32,
+            ..node
+        },
+    );
+}
+
+#[inline]
+fn set_first<A: Allocator>(nodes: &mut Nodes<A>, e: usize, first: usize)
+    requires inside { e < length nodes.old.list }
+    requires fits { first ≤ 2147483648 }
+    ensures { nodes.new ≡ with_node nodes.old e (with_first (at nodes.old.list e) first) }
+{
+    let node = *nodes.get(e);
+    nodes.put(
+        e,
+        Node {
+            first: first as u32,
+            recent: first as u32,
+            ..node
+        },
+    );
+}
+
+#[inline]
+fn set_recent<A: Allocator>(nodes: &mut Nodes<A>, e: usize, recent: usize)
+    requires inside { e < length nodes.old.list }
+    requires fits { recent ≤ 2147483648 }
+    ensures { nodes.new ≡ with_node nodes.old e (with_recent (at nodes.old.list e) recent) }
+{
+    let node = *nodes.get(e);
+    nodes.put(
+        e,
+        Node {
+            recent: recent as u32,
+            ..node
+        },
+    );
+}
+
+// A child of the parent with a smaller number, to walk on from: where the last child was chained,
+// or the first. 0 where the number comes before them all.
+#[inline]
+fn start<A: Allocator>(nodes: &Nodes<A>, parent: usize, number: u32) -> usize
+    requires tree { IsTree nodes.now.list nodes.now.count }
+    requires room { nodes.now.count < length nodes.now.list }
+    requires parent { parent ≤ nodes.now.count }
+    ensures below { 0 < result → IsBelow nodes.now.list nodes.now.count parent number result }
+    ensures front { result ≡ 0 → ComesFirst nodes.now.list parent number }
+{
+    let above = nodes.get(parent);
+    let recent = above.recent as usize;
+    let first = above.first as usize;
+    if recent != 0 && nodes.get(recent).number < number {
+        recent
+    } else if first != 0 && nodes.get(first).number < number {
+        first
+    } else {
+        0
+    }
+}
+
+// From a child with a smaller number, the last child with a smaller number.
+#[inline]
+fn walk<A: Allocator>(nodes: &Nodes<A>, parent: usize, start: usize, number: u32) -> usize
+    requires tree { IsTree nodes.now.list nodes.now.count }
+    requires room { nodes.now.count < length nodes.now.list }
+    requires start { IsBelow nodes.now.list nodes.now.count parent number start }
+    ensures { IsBefore nodes.now.list nodes.now.count parent number result }
+{
+    let mut before = start;
+    loop {
+        let next = nodes.get(before).next as usize;
+        if next == 0 {
+            return before;
+        }
+        if number <= nodes.get(next).number {
+            return before;
+        }
+        before = next;
+    }
+}
+
+/// Chains the node that has just entered, and is not counted yet, below its parent.
+#[inline]
+pub(crate) fn link<A: Allocator>(nodes: &mut Nodes<A>, parent: usize)
+    requires waits { IsWaiting nodes.old.list nodes.old.count parent }
+    requires room { nodes.old.count + 1 < length nodes.old.list }
+    requires limit { length nodes.old.list ≤ 2147483648 }
+    ensures linked { Linked nodes.old.list nodes.new.list nodes.old.count }
+    ensures count { nodes.new.count ≡ nodes.old.count }
+{
+    let child = nodes.count() + 1;
+    let number = nodes.get(child).number;
+    let start = start(nodes, parent, number);
+    if start == 0 {
+        link_first(nodes, parent, child);
+    } else {
+        let before = walk(nodes, parent, start, number);
+        link_behind(nodes, parent, before, child);
+    }
+}
+
+#[inline]
+fn link_first<A: Allocator>(nodes: &mut Nodes<A>, parent: usize, child: usize)
+    requires waits { IsWaiting nodes.old.list nodes.old.count parent }
+    requires room { nodes.old.count + 1 < length nodes.old.list }
+    requires limit { length nodes.old.list ≤ 2147483648 }
+    requires child { child ≡ nodes.old.count + 1 }
+    requires front { ComesFirst nodes.old.list parent (at nodes.old.list child).number }
+    ensures linked { Linked nodes.old.list nodes.new.list nodes.old.count }
+    ensures count { nodes.new.count ≡ nodes.old.count }
+{
+    let first = nodes.get(parent).first as usize;
+    set_next(nodes, child, first);
+    set_first(nodes, parent, child);
+}
+
+#[inline]
+fn link_behind<A: Allocator>(nodes: &mut Nodes<A>, parent: usize, before: usize, child: usize)
+    requires waits { IsWaiting nodes.old.list nodes.old.count parent }
+    requires room { nodes.old.count + 1 < length nodes.old.list }
+    requires limit { length nodes.old.list ≤ 2147483648 }
+    requires child { child ≡ nodes.old.count + 1 }
+    requires before { GoesBehind nodes.old.list nodes.old.count parent child before }
+    ensures linked { Linked nodes.old.list nodes.new.list nodes.old.count }
+    ensures count { nodes.new.count ≡ nodes.old.count }
+{
+    let next = nodes.get(before).next as usize;
+    set_next(nodes, child, next);
+    set_next(nodes, before, child);
+    set_recent(nodes, parent, before);
+}
