@@ -21,7 +21,7 @@ number_of node = node.number
 abbrev pub pair_of : Node → ℕ × ℕ
 pair_of node = (node.number, node.value)
 
--- the same of a block that there may be
+-- the chain of a block that there may be
 abbrev pub chain_in : {X : Type 0} → (Node → X)
     → Option (Bor Block) → ℕ → ℕ → List X
 chain_in f None most p = []
@@ -30,3 +30,7 @@ chain_in f (Some block) most p = chain f block.now.list most p
 abbrev pub EndsIn : Option (Bor Block) → ℕ → ℕ → Type 0
 EndsIn None most p = Unit {0}
 EndsIn (Some block) most p = Ends block.now.list most p
+
+-- the words of a chain with their values
+abbrev pub pairs_from : Block → ℕ → List (ℕ × ℕ)
+pairs_from block p = chain pair_of block.list block.count p

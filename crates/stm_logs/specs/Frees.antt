@@ -13,3 +13,8 @@ pub record Frees {T A : Type 0} (alloc : A) (row : Row T) (right : Right T A) : 
 -- the row has len places, and each has its value
 abbrev pub IsFull : {T : Type 0} → Row T → ℕ → Type 0
 IsFull row len = (row.len ≡ len) × Filled row.filled 0 len
+
+-- a row of n places, and the allocator's right to free its block
+abbrev pub IsReserved : {T A : Type 0} → ℕ → A → Row T × Right T A → Type 0
+IsReserved n alloc p =
+    (p.0.len ≡ n) × (p.1.ptr ≡ p.0.ptr) × (p.1.len ≡ p.0.len) × (p.1.alloc ≡ alloc)

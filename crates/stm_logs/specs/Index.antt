@@ -34,6 +34,10 @@ IsTaken ns q = 0 < (at ns q).slot
 abbrev pub IsOther : List Node → Bool → ℕ → ℕ → Type 0
 IsOther ns is_lock number q = IsTaken ns q × ¬ (HasKey (at ns ((at ns q).slot)) is_lock number)
 
+-- a place that leads nowhere
+abbrev pub unslotted : Node → Node
+unslotted node = record node { slot = 0 }
+
 -- how many places lead somewhere
 abbrev pub taken : List Node → ℕ
 taken [] = 0

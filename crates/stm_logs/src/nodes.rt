@@ -1,7 +1,7 @@
 //! The one raw block of a write log.
 ghost use Rattle.std.specs.Prelude.{◌≡◌, ℕ, ◌+◌, ◌*◌, ◌<◌, ◌≤◌, List, length, slice_set, IfOk};
 
-use crate::row::{Right, Row, fill, release, reserve};
+use crate::row::{Right, Row, fill, release};
 use std::alloc::{AllocError, Allocator};
 use std::marker::Model;
 
@@ -84,7 +84,7 @@ impl<A: Allocator> Nodes<A> {
         requires { len ≤ 2147483648 }
         ensures { IfOk result (λ s. IsBlank s len) }
     {
-        let (mut row, right) = unsafe { reserve(&alloc, len)? };
+        let (mut row, right) = unsafe { Row::reserve(&alloc, len)? };
         fill(&mut row, len, BLANK);
         Ok(Nodes {
             alloc,

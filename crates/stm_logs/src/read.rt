@@ -3,7 +3,7 @@ ghost use Rattle.stm_logs.specs.Chunks.{HasRoom, IsLonger, IsRoomier};
 ghost use Rattle.stm_logs.specs.Refusals.{OrSame, Becomes};
 ghost use Rattle.std.specs.Prelude.{◌≡◌, ℕ, ◌+◌, ◌*◌, ◌<◌, ◌≤◌, List, [], ◌∷◌, ◌++◌, length, take, slice_index, slice_set, IfOk};
 
-use crate::row::{Right, Row, fill, release, reserve};
+use crate::row::{Right, Row, fill, release};
 use std::alloc::{AllocError, Allocator, Global};
 use std::marker::Model;
 use stm_words::Addr;
@@ -44,7 +44,7 @@ impl<A: Allocator> Chunk<A> {
     fn new(alloc: A) -> Result<Chunk<A>, AllocError>
         ensures { IfOk result (λ c. length c ≡ 1024) }
     {
-        let (mut row, right) = unsafe { reserve(&alloc, PLACES)? };
+        let (mut row, right) = unsafe { Row::reserve(&alloc, PLACES)? };
         fill(&mut row, PLACES, 0);
         Ok(Chunk { alloc, row, right })
     }
@@ -145,14 +145,14 @@ fn make_room<A: Allocator + Copy>(
     ensures { OrSame result (λ old new. IsRoomier old new len) chunks.old.items chunks.new.items }
 {
     if len / PLACES == chunks.len() {
-        add_chunk(alloc, chunks)?;
+        grow(alloc, chunks)?;
     }
     Ok(())
 }
 
 // Appends a chunk.
 #[cold]
-fn add_chunk<A: Allocator + Copy>(alloc: A, chunks: &mut Vec<Chunk<A>, A>) -> Result<(), AllocError>
+fn grow<A: Allocator + Copy>(alloc: A, chunks: &mut Vec<Chunk<A>, A>) -> Result<(), AllocError>
     requires { HasRoom chunks.old.items (1024 * length chunks.old.items) }
     ensures { OrSame result IsLonger chunks.old.items chunks.new.items }
 {

@@ -28,6 +28,31 @@ impl<T> Model for Row<T> {
 unsafe impl<T: Send> Send for Row<T> {}
 
 impl<T> Row<T> {
+    ghost use Rattle.stm_logs.specs.Frees.{IsReserved};
+
+    /// A row of `n` empty places, and the right to free it.
+    ///
+    /// # Safety
+    ///
+    /// A row forgets the values that it holds.
+    pub(crate) unsafe fn reserve<A: Allocator>(
+        alloc: &A,
+        n: usize,
+    ) -> Result<(Row<T>, Right<T, A>), AllocError>
+        ghost items: { List T }
+        requires { (n ≡ length items) × FitsBlock T.row n }
+        ensures { IfOk result (λ p. IsReserved n alloc.now p) }
+    {
+        match alloc.allocate(n * size_of::<T>(), align_of::<T>()) {
+            Ok(block) => {
+                let ptr = block as *mut T;
+                let by = PhantomData;
+                Ok((Row { ptr, len: n }, Right { ptr, len: n, by }))
+            }
+            Err(refused) => Err(refused),
+        }
+    }
+
     /// The value at place `i`.
     #[inline]
     pub(crate) fn get(&self, i: usize) -> &T
@@ -63,29 +88,6 @@ impl<T, A: Allocator> Model for Right<T, A> {
 
 // What an allocator gave out may be given back from any thread, where the allocator may cross.
 unsafe impl<T, A: Allocator + Send> Send for Right<T, A> {}
-
-/// A row of `n` empty places, and the right to free it.
-///
-/// # Safety
-///
-/// A row forgets the values that it holds.
-pub(crate) unsafe fn reserve<T, A: Allocator>(
-    alloc: &A,
-    n: usize,
-) -> Result<(Row<T>, Right<T, A>), AllocError>
-    ghost items: { List T }
-    requires { (n ≡ length items) × FitsBlock T.row n }
-    ensures { IfOk result (λ p. (p.0.len ≡ n) × (p.1.ptr ≡ p.0.ptr) × (p.1.len ≡ p.0.len) × (p.1.alloc ≡ alloc.now)) }
-{
-    match alloc.allocate(n * size_of::<T>(), align_of::<T>()) {
-        Ok(block) => {
-            let ptr = block as *mut T;
-            let by = PhantomData;
-            Ok((Row { ptr, len: n }, Right { ptr, len: n, by }))
-        }
-        Err(refused) => Err(refused),
-    }
-}
 
 /// Frees the block behind a row. Values that it holds are forgotten.
 pub(crate) fn release<T, A: Allocator>(alloc: &A, row: Row<T>, right: Right<T, A>)

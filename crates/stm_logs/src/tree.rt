@@ -2,10 +2,10 @@
 ghost use Rattle.std.specs.Prelude.{◌≡◌, ◌≢◌, ◌↔◌, ℕ, ◌+◌, ◌*◌, ◌<◌, ◌≤◌, false, IsTrue, None, Some, length, nat_eq, IfOk};
 ghost use Rattle.std.specs.FinMap.{get, len};
 ghost use Rattle.stm_logs.specs.Nodes.{Block, at, with_node};
-ghost use Rattle.stm_logs.specs.Index.{HasNone};
+ghost use Rattle.stm_logs.specs.Index.{HasNone, unslotted};
 ghost use Rattle.stm_logs.specs.Tree.{IsReady, Added, block_log};
 ghost use Rattle.stm_logs.specs.Held.{IsLog, IsReplaced, HasLock, with_word};
-ghost use Rattle.stm_logs.specs.Chain.{chain, Ends, pair_of};
+ghost use Rattle.stm_logs.specs.Chain.{Ends, pairs_from};
 ghost use Rattle.stm_logs.specs.Log.{LogValue, empty_log, log_locks, pairs_of, SameAddresses};
 ghost use Rattle.stm_logs.specs.Refusals.{Becomes};
 
@@ -108,7 +108,8 @@ impl<A: Allocator + Copy> Tree<A> {
     #[inline]
     pub(crate) fn replace(&mut self, number: u32, value: u64) -> bool
         ensures there { IsTrue result → IsReplaced self.old self.new number value }
-        ensures none { result ≡ false → (get self.old.words number ≡ None) × (self.new ≡ self.old) }
+        ensures absent { result ≡ false → get self.old.words number ≡ None }
+        ensures same { result ≡ false → self.new ≡ self.old }
     {
         let word = find(&self.nodes, false, number);
         if word == 0 {
@@ -152,7 +153,7 @@ impl<A: Allocator + Copy> Tree<A> {
 fn first_word<A: Allocator>(nodes: &Nodes<A>, lock: u32) -> usize
     requires { IsLog nodes.now.list nodes.now.count }
     ensures ends { Ends nodes.now.list nodes.now.count result }
-    ensures pairs { chain pair_of nodes.now.list nodes.now.count result ≡ pairs_of (block_log nodes.now) lock }
+    ensures pairs { pairs_from nodes.now result ≡ pairs_of (block_log nodes.now) lock }
 {
     let there = find(nodes, true, lock);
     if there == 0 {
@@ -187,7 +188,7 @@ fn clear_nodes<A: Allocator>(nodes: &mut Nodes<A>)
 #[inline]
 fn set_free<A: Allocator>(nodes: &mut Nodes<A>, place: usize)
     requires { place < length nodes.old.list }
-    ensures { nodes.new ≡ with_node nodes.old place (record (at nodes.old.list place) { slot = 0 }) }
+    ensures { nodes.new ≡ with_node nodes.old place (unslotted (at nodes.old.list place)) }
 {
     let node = *nodes.get(place);
     nodes.put(place, Node { slot: 0, ..node });

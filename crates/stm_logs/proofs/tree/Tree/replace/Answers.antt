@@ -1,4 +1,4 @@
-use Rattle.std.proofs.Common.{◌≡◌, set, refl, sym, ap, ◌∙◌, arith, subst}
+use Rattle.std.proofs.Common.{◌≡◌, set, sym, ap, ◌∙◌, arith, subst}
 use Rattle.std.specs.FinMap.{get}
 use Rattle.stm_logs.specs.declared.nodes.Node.{Node}
 use Rattle.stm_logs.specs.Nodes.{at}
@@ -10,8 +10,8 @@ use Rattle.stm_logs.proofs.LogLemmas.{get_word, get_lock, no_word, with_value, r
 use Rattle.stm_logs.proofs.tree.Tree.replace.Goals as goal
 use Rattle.stm_logs.proofs.tree.Tree.replace.Given as given
 
-pub returns-then-word-eq0-clause-none : goal.returns-then-word-eq0-clause-none
-returns-then-word-eq0-clause-none g c = λ _. (sym (ap (λ (w : LogValue). get w.words c.args.number) c.self.view_is) ∙ no_word _ _ _ (c.find-word.ensures.none c.if-word-eq0.true), refl)
+pub returns-then-word-eq0-clause-absent : goal.returns-then-word-eq0-clause-absent
+returns-then-word-eq0-clause-absent g c = λ _. sym (ap (λ (w : LogValue). get w.words c.args.number) c.self.view_is) ∙ no_word _ _ _ (c.find-word.ensures.none c.if-word-eq0.true)
 
 list_is : (g : given.Over) (c : goal.After-put g) → c.put.new.self.list ≡ set c.self.inside.nodes.list c.find-word.result (with_value (at c.self.inside.nodes.list c.find-word.result) c.args.value)
 list_is g c = ap (λ b. b.list) c.put.ensures ∙ ap (λ (x : Node). set c.self.inside.nodes.list c.find-word.result (with_value x c.args.value)) c.get-node.ensures

@@ -42,11 +42,11 @@ first_word g c tree new none empty is =
 pub invariant_of-self-2 : goal.invariant_of-self-2
 invariant_of-self-2 g c = elim c.match-self.branch [
   | in-Some+else-replace+in_ok-insert-in-Some w ↦ (
-      let none = w.replace.ensures.none w.if-replace.false in
+      let same = w.replace.ensures.same w.if-replace.false in
       let words = c.self.invariant ∙ ap (λ (o : Option LogValue). len (held_value o).words) w.in-Some.is in
       rw w.self-inside-is
-      (one_more w.replace.new.self _ c.self.inside.len c.args.addr.0 c.args.lock c.args.value (words ∙ sym (ap (λ (x : LogValue). len x.words) none.1))
-      (ap (λ (x : LogValue). get x.words c.args.addr.0) none.1 ∙ none.0) w.in_ok-insert-in-Some.ensures.answer))
+      (one_more w.replace.new.self _ c.self.inside.len c.args.addr.0 c.args.lock c.args.value (words ∙ sym (ap (λ (x : LogValue). len x.words) same))
+      (ap (λ (x : LogValue). get x.words c.args.addr.0) same ∙ w.replace.ensures.absent w.if-replace.false) w.in_ok-insert-in-Some.ensures.answer))
   | in-None+in_ok-tree-in-None+in_ok-insert-in-None+in-Some-1 w ↦
       rw w.self-inside-is (first_word g c w.in_ok-tree-in-None.tree _ w.in-None.is w.in_ok-tree-in-None.ensures w.in_ok-insert-in-None.ensures.answer)
   | in-None+in_ok-tree-in-None+in_ok-insert-in-None+in-None-1 w ↦

@@ -59,10 +59,10 @@ use Rattle.core.proofs.slots.Bodies.{after, head, arm_body}
 use Rattle.core.proofs.slots.Places.{sz, of_room}
 use Rattle.stm_logs.proofs.Opens.{Sr, el_d, places, row_val, row_made}
 use Rattle.stm_logs.proofs.Leases.{uncapped, lease_val, block_ty, block_size, block_align, args, P, Lr, made, lease_made}
-use Rattle.stm_logs.specs.contracts.row.reserve as F
-use Rattle.stm_logs.specs.contracts.row.reserve.Key.{name as #self}
-use Rattle.stm_logs.proofs.row.reserve.Statement as stated
-use Rattle.stm_logs.proofs.row.reserve.Code as code
+use Rattle.stm_logs.specs.contracts.row.Row.reserve as F
+use Rattle.stm_logs.specs.contracts.row.Row.reserve.Key.{name as #self}
+use Rattle.stm_logs.proofs.row.Row.reserve.Statement as stated
+use Rattle.stm_logs.proofs.row.Row.reserve.Code as code
 
 module _ {M : Type 1} {𝓤 : Ura M} (𝓛 : Logic 𝓤) (X : RattleType) where
   ok_of : (x : X.Denot) (v : Val) → ent 𝓤 (sem 𝓛 (X.own_val x (v ∷ []))) (sem 𝓛 ((RS.the_row X AE.the_row).own_val (Ok x) (live 0 (of_list (v ∷ [])) ∷ [])))
