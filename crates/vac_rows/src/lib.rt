@@ -9,15 +9,23 @@ mod caller;
 #[cfg(test)]
 mod clients;
 #[cfg(test)]
+mod draws;
+#[cfg(test)]
 mod meetings;
 #[cfg(test)]
 mod openings;
 #[cfg(test)]
 mod outcome;
 #[cfg(test)]
+mod plain;
+#[cfg(test)]
 mod random;
 #[cfg(test)]
 mod ranges;
+#[cfg(test)]
+mod refused;
+#[cfg(test)]
+mod renewals;
 #[cfg(test)]
 mod rules;
 #[cfg(test)]

@@ -1,0 +1,268 @@
+//! Memory that is refused to a call: the state is as before, and the call that is made again
+//! answers as it should. The script `tests/refused_calls` runs this test with each allocation
+//! refused in turn, and reads the lines that it prints; run otherwise, it is refused none.
+ghost use Rattle.std.specs.Prelude.{◌≡◌, ◌*◌, IfOk};
+
+use crate::caller::{Answer, Caller, LAST};
+use crate::scripts::{
+    Line, add, add_command, audit, cancel, free, new_customer, number, pick, report, reserve,
+    task_of, trip,
+};
+use std::alloc::Global;
+use std::process::Abort;
+use stm_region::RegionFault;
+use vac_check::{AuditFault, audit_words};
+use vac_manager::{Client, Fault, Manager, RenewFault};
+use vac_model::Kind::{Car, Room};
+use vac_model::Reply::Done;
+use vac_model::Why::Exists;
+use vac_model::{Command, Joined, Reply, Report, Task, UpdateReply};
+
+/// Room for all entries of the script, and no more.
+const BLOCKS: u32 = 102;
+
+const AUDIT: Task = Task::One(Command::Audit);
+
+/// Says which call was refused memory.
+fn note(rt: &(impl Abort + Print), call: &str) {
+    println!(rt; "refused: {call}").expect(rt, "the line is written");
+}
+
+fn open(rt: &(impl Abort + Print), alloc: Global) -> (Manager, Client)
+    ensures { result.1.table ≡ result.0.table }
+{
+    match Manager::new(alloc, BLOCKS, LAST) {
+        Ok(opened) => opened,
+        Err(fault) => {
+            assert_eq!(rt; fault, Fault::Memory);
+            note(rt, "new");
+            Manager::new(alloc, BLOCKS, LAST).expect(rt, "it opens")
+        }
+    }
+}
+
+fn make(rt: &(impl Abort + Print), alloc: Global, line: &Line<'_>) -> Task {
+    if let Ok(task) = task_of(alloc, line) {
+        return task;
+    }
+    note(rt, "task");
+    task_of(alloc, line).expect(rt, "there is memory")
+}
+
+/// The answer to a task. The report is as before where memory was refused to it.
+fn answer(rt: &(impl Abort + Print), caller: &mut Caller<'_>, task: &Task) -> Answer
+    ensures { caller.new.client.table ≡ caller.old.client.table }
+{
+    let before = caller.call(&AUDIT, 1);
+    let answer = caller.call(task, 1);
+    if answer != Err(Fault::Memory) {
+        return answer;
+    }
+    note(rt, "call");
+    assert_eq!(rt; caller.call(&AUDIT, 1), before);
+    caller.call(task, 1)
+}
+
+fn expect(
+    rt: &(impl Abort + Print),
+    alloc: Global,
+    caller: &mut Caller<'_>,
+    script: &[(Line<'_>, Reply)],
+)
+    ensures { caller.new.client.table ≡ caller.old.client.table }
+{
+    for (at, (line, want)) in script.iter().enumerate() {
+        let task = make(rt, alloc, line);
+        assert_eq!(rt; answer(rt, caller, &task), Ok(*want), "at line {at}");
+    }
+}
+
+/// An update of 32 rooms, from this one on, with the prices 1 to 32.
+fn thirty_two_rooms(first: u32) -> [Command; 32] {
+    let mut changes = [Command::Audit; 32];
+    for (at, change) in changes.iter_mut().enumerate() {
+        let price = 1 + at as u32;
+        *change = add_command(Room, first.wrapping_add(price), 1, Some(price));
+    }
+    changes
+}
+
+/// The reply to an update of 32 changes of which none was refused.
+const ALL_DONE: Reply = Reply::Update(UpdateReply {
+    len: 32,
+    refused: [None; 32],
+});
+
+/// Enters 32 rooms, from this one on.
+fn enter_rooms(rt: &(impl Abort + Print), alloc: Global, caller: &mut Caller<'_>, first: u32)
+    ensures { caller.new.client.table ≡ caller.old.client.table }
+{
+    let changes = thirty_two_rooms(first);
+    let script = [(Line::Update(&changes), ALL_DONE)];
+    expect(rt, alloc, caller, &script);
+}
+
+/// A trip to the first 32 rooms.
+fn ask_for_rooms(rt: &(impl Abort + Print), alloc: Global, caller: &mut Caller<'_>)
+    ensures { caller.new.client.table ≡ caller.old.client.table }
+{
+    let mut asks = [(Room, 1); 32];
+    for (at, ask) in asks.iter_mut().enumerate() {
+        *ask = (Room, 1 + at as u32);
+    }
+    let picks = [None, None, pick(32, 32, None)];
+    let script = [(Line::Trip(3, &asks), trip(Joined::Refused(Exists), picks))];
+    expect(rt, alloc, caller, &script);
+}
+
+/// Enters rooms and a car, and reserves some.
+fn fill(rt: &(impl Abort + Print), alloc: Global, caller: &mut Caller<'_>)
+    ensures { caller.new.client.table ≡ caller.old.client.table }
+{
+    let script = [
+        (add(Car, 1, 5, Some(10)), Done),
+        (new_customer(3), Done),
+        (reserve(3, Car, 1, 2), Done),
+        (free(Car, 1), number(3)),
+    ];
+    expect(rt, alloc, caller, &script);
+    enter_rooms(rt, alloc, caller, 0);
+    enter_rooms(rt, alloc, caller, 32);
+    enter_rooms(rt, alloc, caller, 64);
+    ask_for_rooms(rt, alloc, caller);
+    expect(rt, alloc, caller, &[(audit(), counts())]);
+}
+
+/// The report of what was entered.
+fn counts() -> Reply {
+    report([1, 0, 96, 1], 3, 98, 52)
+}
+
+/// Another client reserves and cancels, and enters a customer who leaves.
+fn come_and_go(rt: &(impl Abort + Print), alloc: Global, caller: &mut Caller<'_>)
+    ensures { caller.new.client.table ≡ caller.old.client.table }
+{
+    let script = [
+        (new_customer(4), Done),
+        (reserve(4, Room, 96, 1), Done),
+        (cancel(4, Room, 96), Done),
+        (Line::Leave(4), number(0)),
+        (audit(), counts()),
+    ];
+    expect(rt, alloc, caller, &script);
+}
+
+/// A first client fills the manager, and a second one comes and goes.
+fn two_clients(
+    rt: &(impl Abort + Print),
+    alloc: Global,
+    manager: &Manager,
+    client: Client,
+) -> Client
+    requires { client.table ≡ manager.now.table }
+    ensures { result.table ≡ manager.now.table }
+{
+    let mut a = Caller { manager, client };
+    fill(rt, alloc, &mut a);
+    let mut b = a.split().expect(rt, "there are grants");
+    come_and_go(rt, alloc, &mut b);
+    a.gather(b);
+    a.client
+}
+
+/// A new customer comes and goes after the renewal.
+fn after_renewal(
+    rt: &(impl Abort + Print),
+    alloc: Global,
+    manager: &Manager,
+    client: Client,
+) -> Client
+    requires { client.table ≡ manager.now.table }
+    ensures { result.table ≡ manager.now.table }
+{
+    let mut caller = Caller { manager, client };
+    come_and_go(rt, alloc, &mut caller);
+    caller.client
+}
+
+/// Nothing has changed.
+fn unchanged(rt: &impl Abort, manager: &Manager, client: Client) -> Client
+    requires { client.table ≡ manager.now.table }
+    ensures { result.table ≡ manager.now.table }
+{
+    let mut caller = Caller { manager, client };
+    assert_eq!(rt; caller.call(&AUDIT, 1), Ok(counts()));
+    caller.client
+}
+
+/// Renews the manager. Where the memory of the new words is refused, it is closed, and these are
+/// its words.
+fn renew(
+    rt: &(impl Abort + Print),
+    manager: Manager,
+    client: Client,
+) -> Result<(Manager, Client), Vec<u64>>
+    requires { client.table ≡ manager.table }
+    ensures { IfOk result (λ renewed. renewed.1.table ≡ renewed.0.table) }
+{
+    match manager.renew(client, LAST) {
+        Ok(renewed) => Ok(renewed),
+        Err(RenewFault::Closed(words, _)) => {
+            note(rt, "renew, closed");
+            Err(words)
+        }
+        Err(RenewFault::Kept(manager, client, fault)) => {
+            assert_eq!(rt; fault, RegionFault::Memory);
+            note(rt, "renew, kept");
+            let client = unchanged(rt, &manager, client);
+            let Ok(renewed) = manager.renew(client, LAST) else {
+                panic!(rt; "it was not renewed")
+            };
+            Ok(renewed)
+        }
+    }
+}
+
+/// Closes the manager. Answers its words.
+fn close(rt: &(impl Abort + Print), manager: Manager, client: Client) -> Vec<u64>
+    requires { client.table ≡ manager.table }
+{
+    match manager.close(client) {
+        Ok((words, _)) => words,
+        Err((manager, client, fault)) => {
+            assert_eq!(rt; fault, RegionFault::Memory);
+            note(rt, "close");
+            let client = unchanged(rt, &manager, client);
+            let Ok((words, _)) = manager.close(client) else {
+                panic!(rt; "it stayed open")
+            };
+            words
+        }
+    }
+}
+
+/// The report of words.
+fn audited(rt: &(impl Abort + Print), alloc: Global, words: &[u64]) -> Result<Report, AuditFault> {
+    let found = audit_words(alloc, words);
+    if found != Err(AuditFault::Memory) {
+        return found;
+    }
+    note(rt, "audit");
+    audit_words(alloc, words)
+}
+
+#[test]
+fn refused_calls_are_made_again(rt: HostRuntime) {
+    let alloc = rt.alloc();
+    let (manager, client) = open(&rt, alloc);
+    let client = two_clients(&rt, alloc, &manager, client);
+    let words = match renew(&rt, manager, client) {
+        Err(words) => words,
+        Ok((manager, client)) => {
+            let client = after_renewal(&rt, alloc, &manager, client);
+            close(&rt, manager, client)
+        }
+    };
+    let found = audited(&rt, alloc, words.as_slice());
+    assert!(rt; found.is_ok_and(|found| Reply::Report(found) == counts()));
+}

@@ -1,0 +1,94 @@
+//! A manager that goes on with its entries on a new clock.
+ghost use Rattle.std.specs.Prelude.{◌≡◌, ◌*◌};
+
+use crate::caller::Caller;
+use crate::outcome::Outcome;
+use crate::scripts::{add, cancel, free, new_customer, number, report, reserve, reserve_command};
+use std::alloc::Global;
+use std::process::Abort;
+use stm_region::RegionFault;
+use vac_check::audit_words;
+use vac_manager::{Client, Manager, RenewFault};
+use vac_model::Kind::Car;
+use vac_model::Reply::Done;
+use vac_model::{Reply, Task};
+
+/// The clock is at its end, and no version is left for a reservation.
+fn expect_spent(rt: &impl Abort, caller: &mut Caller<'_>)
+    ensures { caller.new.client.table ≡ caller.old.client.table }
+{
+    let task = Task::One(reserve_command(3, Car, 1, 1));
+    assert_eq!(rt; Outcome::of(caller.call(&task, 1)), Outcome::Spent(2));
+}
+
+/// Two calls take both versions of the clock.
+fn spend(rt: &impl Abort, alloc: Global, manager: &Manager, client: Client) -> Client
+    requires { client.table ≡ manager.now.table }
+    ensures { result.table ≡ manager.now.table }
+{
+    let mut caller = Caller { manager, client };
+    let script = [
+        (add(Car, 1, 1, Some(10)), Ok(Done)),
+        (new_customer(3), Ok(Done)),
+    ];
+    caller.expect(rt, alloc, 1, &script);
+    expect_spent(rt, &mut caller);
+    caller.client
+}
+
+/// Two more calls on the entries of before take both versions of the new clock.
+fn go_on(rt: &impl Abort, alloc: Global, manager: &Manager, client: Client) -> Client
+    requires { client.table ≡ manager.now.table }
+    ensures { result.table ≡ manager.now.table }
+{
+    let mut caller = Caller { manager, client };
+    let script = [
+        (reserve(3, Car, 1, 1), Ok(Done)),
+        (free(Car, 1), Ok(number(0))),
+        (cancel(3, Car, 1), Ok(Done)),
+    ];
+    caller.expect(rt, alloc, 1, &script);
+    expect_spent(rt, &mut caller);
+    caller.client
+}
+
+/// A renewal that is refused. Answers why.
+fn refused(
+    rt: &impl Abort,
+    manager: Manager,
+    client: Client,
+    last: u64,
+) -> (Manager, Client, RegionFault)
+    requires { client.table ≡ manager.table }
+    ensures { (result.0 ≡ manager) × (result.1 ≡ client) }
+{
+    match manager.renew(client, last) {
+        Err(RenewFault::Kept(manager, client, fault)) => (manager, client, fault),
+        _ => panic!(rt; "it was renewed, or closed"),
+    }
+}
+
+#[test]
+fn a_spent_clock_is_renewed(rt: HostRuntime) {
+    let alloc = rt.alloc();
+    let (manager, client) = Manager::new(alloc, 8, 2).expect(&rt, "the numbers are in range");
+    let client = spend(&rt, alloc, &manager, client);
+    let (manager, mut client, fault) = refused(&rt, manager, client, 0);
+    assert_eq!(rt; fault, RegionFault::Last);
+    let other = manager.split(&mut client).expect(&rt, "there are grants");
+    let (manager, mut client, fault) = refused(&rt, manager, client, 2);
+    assert_eq!(rt; fault, RegionFault::StillOut { out: 1 });
+    manager.gather(&mut client, other);
+    let Ok((manager, client)) = manager.renew(client, 2) else {
+        panic!(rt; "it was not renewed")
+    };
+    let client = go_on(&rt, alloc, &manager, client);
+    let Ok((words, version)) = manager.close(client) else {
+        panic!(rt; "it stayed open")
+    };
+    assert_eq!(rt; version.get(), 2);
+    let Ok(found) = audit_words(alloc, words.as_slice()) else {
+        panic!(rt; "the words have a flaw")
+    };
+    assert_eq!(rt; Reply::Report(found), report([1, 0, 0, 1], 0, 1, 0));
+}
