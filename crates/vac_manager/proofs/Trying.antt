@@ -22,8 +22,8 @@ pub record Trying (v v' : Client) (left tries : ℕ) : Type 0 where
   pub records : v'.records ≡ v.records
 
 -- an attempt that was answered is the same whatever it might have stopped for
-pub tried_as : {E F : Type 0} (t : Task) (r : Reply) (v v' : Client) → Tried {E = E} t v v' (Ok r) → Tried {E = F} t v v' (Ok r)
-tried_as t r v v' h = record { attempt = h.attempt; grants = h.grants; floor = h.floor; records = h.records }
+pub tried_as : {E F : Type 0} (region : RegionShown) (t : Task) (r : Reply) (v v' : Client) → Tried {E = E} region t v v' (Ok r) → Tried {E = F} region t v v' (Ok r)
+tried_as region t r v v' h = record { attempt = h.attempt; grants = h.grants; floor = h.floor; records = h.records }
 
 -- a value that is none of the values there may be
 pub none_of : {A : Type 0} (o : Option A) → ((x : A) → o ≡ Some x → ⊥) → o ≡ None

@@ -23,7 +23,7 @@ returns-clause-legal g c =
 
 pub returns-clause-tried : goal.returns-clause-tried
 returns-clause-tried g c =
-    tried_as _ _ _ _ (finished c.args.region.now c.read_task-answer.new.memory.region.now _ _ _ _ _ _ c.read_task-answer.new.memory.client.now _ _ (ap (λ (o : Origin). o.region.renewal) c.in-Ok.ensures.origin ∙ ap (λ (r : RegionShown). r.renewal) c.begin-attempt.ensures.region) c.begin-attempt.ensures.earlier c.requires.unplaced c.begin-attempt.ensures.value
+    tried_as _ _ _ _ _ (finished c.args.region.now c.read_task-answer.new.memory.region.now _ _ _ _ _ _ c.read_task-answer.new.memory.client.now _ _ (ap (λ (o : Origin). o.region.renewal) c.in-Ok.ensures.origin ∙ ap (λ (r : RegionShown). r.renewal) c.begin-attempt.ensures.region) c.begin-attempt.ensures.earlier c.requires.unplaced c.begin-attempt.ensures.value
     (ap (λ (o : Origin). o.client.value) c.in-Ok.ensures.origin) c.begin-attempt.ensures.version c.finish.ensures.client.1 c.finish.ensures.free_handed.1 (search rules)).tried
 
 pub returns-clause-unplaced : goal.returns-clause-unplaced
