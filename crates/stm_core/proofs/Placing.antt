@@ -9,7 +9,7 @@ use Rattle.stm_core.specs.Core.{Core}
 use Rattle.stm_core.specs.History.{ByPoint}
 use Rattle.stm_core.specs.Theorem.{IsHistory}
 use Rattle.stm_core.specs.Seat.{blank}
-use Rattle.stm_core.specs.Placing.{Placed, place_in}
+use Rattle.stm_core.specs.Placing.{Placed, place_in, put_in}
 use Rattle.stm_core.specs.Running.{Running, decision, entry_of, entered}
 use Rattle.stm_core.proofs.Lists.{nothing_in, by_bool}
 use Rattle.stm_core.proofs.Orders.{in_cons}
@@ -81,10 +81,7 @@ entered_order kept rs same s h by o = subst (λ l. (entered l s).order ≡ order
   where
     go : (l : List Record) → (entered (map as_kept l) s).order ≡ order_of (filed l h)
     go [] = o
-    go (r ∷ l) = ap (λ (p : Placed). put_in p r) o ∙ (λ i. record { entries = sym (placed_map entry_of r h by) i; points = sym (placed_map (λ (x : Record). x.point) r h by) i })
-      where
-        put_in : Placed → Record → Placed
-        put_in p x = record { entries = insert p.entries (place_in p.points x.point) (entry_of x); points = insert p.points (place_in p.points x.point) x.point }
+    go (r ∷ l) = ap (put_in (entry_of r) r.point) o ∙ (λ i. record { entries = sym (placed_map entry_of r h by) i; points = sym (placed_map (λ (x : Record). x.point) r h by) i })
 
 -- the same records stand behind the first ones of two lists by point steps
 behind_first : (x y : Record) (h g : List Record) → x ≡ y → ByPoint (x ∷ h) → ((r : Record) → In r (x ∷ h) → In r (y ∷ g)) → (r : Record) → In r h → In r g

@@ -1,7 +1,9 @@
--- What one client is, as plain data: its running attempt, what it holds, and the records of its committed calls.
+-- What one client is, as plain data: its running attempt, what it holds, and the records of its
+-- committed calls.
 use Rattle.std.specs.Prelude.{◌≡◌, ℕ, ◌+◌, ◌*◌, ◌-◌, ◌/◌, Bool, true, false, cond, eqb, ltb, ◌||◌, ◌&&◌, List, [], ◌∷◌, Option, Some, None}
 
--- one committed call: what it read and wrote, and where it stands. A writer's version is its write version, a reader's its read version
+-- one committed call: what it read and wrote, and where it stands. A writer's version is its write
+-- version, a reader's its read version
 pub record Record : Type 0 where
   pub tag : List ℕ
   pub reads : List (ℕ × ℕ)
@@ -85,7 +87,8 @@ pub record Client : Type 0 where
   pub ticked_at : ℕ
   pub records : List Record
 
--- who makes a step, and when: the client's number, the step's place in the list of events, and the renewals before it
+-- who makes a step, and when: the client's number, the step's place in the list of events, and the
+-- renewals before it
 pub record Stamp : Type 0 where
   pub client : ℕ
   pub place : ℕ
@@ -149,13 +152,18 @@ word_found (ended n) = Some n
 abbrev pub found_by : Client → Option ℕ
 found_by c = cond c.gave_back None (word_found c.last)
 
--- where a record stands among those of its renewal: by version, the writer of a version before its readers
+-- where a record stands among those of its renewal: by version, the writer of a version before its
+-- readers
 abbrev pub rank : Record → ℕ
 rank r = 2 * r.version + cond r.writer 0 1
 
--- r stands before x: by renewal, version, the writer of a version before its readers, and then the point step
+-- r stands before x: by renewal, version, the writer of a version before its readers, and then the
+-- point step
 abbrev pub before : Record → Record → Bool
-before r x = ltb r.renewal x.renewal || (eqb r.renewal x.renewal && (ltb (rank r) (rank x) || (eqb (rank r) (rank x) && ltb r.point x.point)))
+before r x =
+    ltb r.renewal x.renewal
+    || (eqb r.renewal x.renewal
+    && (ltb (rank r) (rank x) || (eqb (rank r) (rank x) && ltb r.point x.point)))
 
 -- the record put behind its equals
 abbrev pub inserted : Record → List Record → List Record

@@ -4,6 +4,7 @@ use mathlib.Core.Option.{some}
 use lib.ListN.{get_elem?}
 use Rattle.stm_core.specs.Client.{Client, Record, Stamp, word_before, old_version}
 use Rattle.stm_core.specs.Event.{Action, begin, probe, fetch, check, lock, tick, validate, put, release, give_back, finish, Bounds, May, after, giving, fresh, taking, renewing, gone, opener}
+use Rattle.stm_core.specs.declared.limits.TheConstants.{MOST_CLIENTS, MOST_RENEWALS, VERSION_LIMIT}
 
 -- the words and the clients' values, with what the region was opened on
 pub record Core : Type 0 where
@@ -61,17 +62,33 @@ written _ m c = c
 abbrev pub stepped : Stamp → (ℕ → ℕ) → Action → ℕ → Client → Core → Core
 stepped t lk e i v c =
     let n = found lk c e in
-    let d = written e (left e n v) c in record d { clients = slice_set c.clients i (after t lk e n v); events = c.events + 1 }
+    let d = written e (left e n v) c in
+    record d { clients = slice_set c.clients i (after t lk e n v); events = c.events + 1 }
 
 abbrev pub divided : ℕ → Client → Core → Core
-divided i v c = record c { clients = slice_set c.clients i (giving v) ++ fresh v ∷ []; events = c.events + 1 }
+divided i v c = record c {
+  clients = slice_set c.clients i (giving v) ++ fresh v ∷ [];
+  events = c.events + 1;
+}
 
 abbrev pub gathered : ℕ → Client → ℕ → Client → Core → Core
-gathered i v j w c = record c { clients = slice_set (slice_set c.clients i (taking v w)) j gone; events = c.events + 1 }
+gathered i v j w c = record c {
+  clients = slice_set (slice_set c.clients i (taking v w)) j gone;
+  events = c.events + 1;
+}
 
 -- the clock anew, on the same data words: all records there are are of earlier renewals now
 abbrev pub renewed : ℕ → ℕ → Client → Core → Core
-renewed i last v c = record c { past = v.records; last = last; opening = c.cells; renewal = c.renewal + 1; events = c.events + 1; clock = 0; locks = replicate (length c.locks) 0; clients = slice_set c.clients i (renewing v) }
+renewed i last v c = record c {
+  past = v.records;
+  last = last;
+  opening = c.cells;
+  renewal = c.renewal + 1;
+  events = c.events + 1;
+  clock = 0;
+  locks = replicate (length c.locks) 0;
+  clients = slice_set c.clients i (renewing v);
+}
 
 -- an event names its clients by their numbers, from 1 on
 pub data Event : Type 0 where
@@ -95,29 +112,61 @@ IsAlone c i = (j : ℕ) (w : Client) → get_elem? c.clients j ≡ some w → j 
 module _ (lawful : List ℕ → List (ℕ × ℕ) → List (ℕ × ℕ) → Type 0) (lk : ℕ → ℕ) where
   abbrev pub Allowed : Event → Core → Type 0
   Allowed (acts k e) c = (v : Client) × IsClient c k v × May lawful lk (bounds_of c) e v
-  Allowed (splits k) c = (v : Client) × IsClient c k v × IsFreeHanded v × (0 < v.grants) × (length c.clients < 2 ^ 32 - 1)
-  Allowed (gathers k j) c = (v : Client) × (w : Client) × IsClient c k v × IsClient c j w × (k ≢ j) × IsFreeHanded v × IsFreeHanded w
-  Allowed (renews k last) c = (v : Client) × IsClient c k v × IsFreeHanded v × IsAlone c (k - 1) × (1 ≤ last) × (last < 2 ^ 62) × (c.renewal < 65535)
+  Allowed (splits k) c =
+      (v : Client) × IsClient c k v × IsFreeHanded v × (0 < v.grants)
+      × (length c.clients < MOST_CLIENTS)
+  Allowed (gathers k j) c =
+      (v : Client) × (w : Client) × IsClient c k v × IsClient c j w × (k ≢ j) × IsFreeHanded v
+      × IsFreeHanded w
+  Allowed (renews k last) c =
+      (v : Client) × IsClient c k v × IsFreeHanded v × IsAlone c (k - 1) × (1 ≤ last)
+      × (last < VERSION_LIMIT) × (c.renewal < MOST_RENEWALS)
 
 abbrev pub client_of : Core → ℕ → Client
 client_of c k = get_or c.clients (k - 1) gone
 
 -- the core after an event
 abbrev pub played : (ℕ → ℕ) → Event → Core → Core
-played lk (acts k e) c = stepped (record { client = k; place = c.events; renewal = c.renewal }) lk e (k - 1) (client_of c k) c
+played lk (acts k e) c =
+    let t : Stamp = record { client = k; place = c.events; renewal = c.renewal } in
+    stepped t lk e (k - 1) (client_of c k) c
 played lk (splits k) c = divided (k - 1) (client_of c k) c
 played lk (gathers k j) c = gathered (k - 1) (client_of c k) (j - 1) (client_of c j) c
 played lk (renews k last) c = renewed (k - 1) last (client_of c k) c
 
 -- the list of events is allowed one by one from the first core on, and leads to the second
-abbrev pub Leads : (List ℕ → List (ℕ × ℕ) → List (ℕ × ℕ) → Type 0) → (ℕ → ℕ) → Core → List Event → Core → Type 0
+abbrev pub Leads : (List ℕ → List (ℕ × ℕ) → List (ℕ × ℕ) → Type 0) → (ℕ → ℕ) → Core → List Event
+    → Core → Type 0
 Leads lawful lk c [] d = c ≡ d
 Leads lawful lk c (e ∷ es) d = Allowed lawful lk e c × Leads lawful lk (played lk e c) es d
 
 -- a core just opened on an image
 abbrev pub opened : List ℕ → ℕ → ℕ → Core
-opened image last stripes = record { first = image; past = []; last = last; opening = image; renewal = 0; events = 0; clock = 0; locks = replicate stripes 0; cells = image; clients = opener ∷ [] }
+opened image last stripes = record {
+  first = image;
+  past = [];
+  last = last;
+  opening = image;
+  renewal = 0;
+  events = 0;
+  clock = 0;
+  locks = replicate stripes 0;
+  cells = image;
+  clients = opener ∷ [];
+}
 
--- a core on an image after renewals that began on a first one, with one client, which has all records
+-- a core on an image after renewals that began on a first one, with one client, which has all
+-- records
 abbrev pub begun_on : List ℕ → List ℕ → ℕ → ℕ → ℕ → Client → Core
-begun_on first image renewal last stripes v = record { first = first; past = v.records; last = last; opening = image; renewal = renewal; events = 0; clock = 0; locks = replicate stripes 0; cells = image; clients = v ∷ [] }
+begun_on first image renewal last stripes v = record {
+  first = first;
+  past = v.records;
+  last = last;
+  opening = image;
+  renewal = renewal;
+  events = 0;
+  clock = 0;
+  locks = replicate stripes 0;
+  cells = image;
+  clients = v ∷ [];
+}

@@ -4,6 +4,7 @@ use Rattle.stm_words.specs.Image.{In}
 use mathlib.Core.Option.{some}
 use lib.ListN.{get_elem?}
 use Rattle.stm_core.specs.Client.{Client, Record, idle, running, ending, committed, finished, Step, nothing, began, probed, fetched, checked, locked, ticked, looked, ended, Stamp, version_of, IsFree, is_free, writes_to, without, word_before, value_fetched, inserted, merged}
+use Rattle.stm_core.specs.declared.limits.TheConstants.{MOST_GRANTS, MOST_TICKS}
 
 -- one step of one client: an atomic load, store or exchange of one word
 pub data Action : Type 0 where
@@ -19,7 +20,8 @@ pub data Action : Type 0 where
   give_back : (lock : ℕ) → Action
   finish : (tag : List ℕ) → Action
 
--- the numbers of a region that bound its events: the last version, how many locks it has and how many words. The lock of an address and the law of records are parameters beside them
+-- the numbers of a region that bound its events: the last version, how many locks it has and how
+-- many words. The lock of an address and the law of records are parameters beside them
 pub record Bounds : Type 0 where
   pub last : ℕ
   pub stripes : ℕ
@@ -35,7 +37,8 @@ abbrev pub HasFoundFree : ℕ → Step → Type 0
 HasFoundFree k (probed j n) = (j ≡ k) × IsFree n
 HasFoundFree k _ = ⊥
 
--- the last step was a fetch of this address, after a probe that found its lock free with a version of at most rv
+-- the last step was a fetch of this address, after a probe that found its lock free with a version
+-- of at most rv
 abbrev pub HasFetched : ℕ → ℕ → Step → Type 0
 HasFetched a rv (fetched b n x) = (b ≡ a) × IsFree n × (version_of n ≤ rv)
 HasFetched a rv _ = ⊥
@@ -76,11 +79,18 @@ module _ (lawful : List ℕ → List (ℕ × ℕ) → List (ℕ × ℕ) → Type
   MayAct (probe k) c = IsReading c × (k < b.stripes)
   MayAct (fetch a) c = IsReading c × (a < b.size) × (c.held ≡ []) × HasProbed (lk a) c.rv c.last
   MayAct (check a) c = IsReading c × (a < b.size) × (c.held ≡ []) × HasFetched a c.rv c.last
-  MayAct (lock k) c = IsReading c × (k < b.stripes) × HasFoundFree k c.last × ((j u : ℕ) → In (j, u) c.held → j < k)
-  MayAct (tick from tag writes) c = IsReading c × (from ≡ c.next_from) × (from < b.last) × (c.ticks < 16) × MayWrite lk b.size c.held writes × lawful tag c.reads writes
+  MayAct (lock k) c =
+      IsReading c × (k < b.stripes) × HasFoundFree k c.last
+      × ((j u : ℕ) → In (j, u) c.held → j < k)
+  MayAct (tick from tag writes) c =
+      IsReading c × (from ≡ c.next_from) × (from < b.last) × (c.ticks < MOST_TICKS)
+      × MayWrite lk b.size c.held writes × lawful tag c.reads writes
   MayAct (validate k) c = (c.phase ≡ running) × (0 < c.wv) × IsNext lk k c
-  MayAct (put a x) c = (c.phase ≡ committed) × In (a, x) c.writes × Holds c.held (lk a) × (In a c.stored → ⊥)
-  MayAct (release k) c = (c.phase ≡ committed) × Holds c.held k × ((a : ℕ) → lk a ≡ k → writes_to c.writes a ≡ true → In a c.stored)
+  MayAct (put a x) c =
+      (c.phase ≡ committed) × In (a, x) c.writes × Holds c.held (lk a) × (In a c.stored → ⊥)
+  MayAct (release k) c =
+      (c.phase ≡ committed) × Holds c.held k
+      × ((a : ℕ) → lk a ≡ k → writes_to c.writes a ≡ true → In a c.stored)
   MayAct (give_back k) c = ((c.phase ≡ running) ⊎ (c.phase ≡ ending)) × Holds c.held k
   MayAct (finish tag) c = IsReading c × (c.held ≡ []) × lawful tag c.reads []
 
@@ -116,7 +126,11 @@ reader_record t tag c = record {
 
 -- a decided writer, with its record
 abbrev pub committed_by : Stamp → Client → Client
-committed_by t c = record c { phase = committed; stored = []; records = inserted (writer_record t c) c.records }
+committed_by t c = record c {
+  phase = committed;
+  stored = [];
+  records = inserted (writer_record t c) c.records;
+}
 
 -- a new attempt, with the clock's value as its read version
 abbrev pub begun : Stamp → ℕ → Client → Client
@@ -135,7 +149,7 @@ begun t n c = record c {
   stored = [];
   ticks = 0;
   next_from = n;
-  lone = eqb c.grants 63;
+  lone = eqb c.grants MOST_GRANTS;
   steps = 1;
   floor = n;
   began_at = t.place;
@@ -158,38 +172,67 @@ holding k u c = record c { held = c.held ++ (k, u) ∷ [] }
 
 -- a won tick, before it is decided
 abbrev pub versioned : Stamp → ℕ → List ℕ → List (ℕ × ℕ) → Client → Client
-versioned t n tag writes c = record c { wv = n; tag = tag; writes = writes; passed = 0; stored = []; floor = n; ticked_at = t.place }
+versioned t n tag writes c = record c {
+  wv = n;
+  tag = tag;
+  writes = writes;
+  passed = 0;
+  stored = [];
+  floor = n;
+  ticked_at = t.place;
+}
 
 abbrev pub is_empty : List (ℕ × ℕ) → Bool
 is_empty [] = true
 is_empty (p ∷ ps) = false
 
--- a won tick decides where nothing was read, or where the version is the next after the read version
+-- a won tick decides where nothing was read, or where the version is the next after the read
+-- version
 abbrev pub decides_at_once : Client → Bool
 decides_at_once c = is_empty c.reads || eqb c.wv (c.rv + 1)
 
 abbrev pub won : Stamp → ℕ → List ℕ → List (ℕ × ℕ) → Client → Client
-won t n tag writes c = let w = versioned t n tag writes c in cond (decides_at_once w) (committed_by t w) w
+won t n tag writes c =
+    let w = versioned t n tag writes c in cond (decides_at_once w) (committed_by t w) w
 
 -- a look passes where the lock is free or its own, with a version of at most rv
 abbrev pub passes : ℕ → ℕ → Client → Bool
 passes k n c = (is_free n || writes_to c.held k) && leb (version_of n) c.rv
 
 abbrev pub passing : Stamp → Client → Client
-passing t c = let w = record c { passed = c.passed + 1 } in cond (eqb w.passed (length c.reads)) (committed_by t w) w
+passing t c =
+    let w = record c { passed = c.passed + 1 } in
+    cond (eqb w.passed (length c.reads)) (committed_by t w) w
 
 -- what the client is after a step that found this word
 abbrev pub after : Stamp → (ℕ → ℕ) → Action → ℕ → Client → Client
 after t lk begin n c = begun t n c
 after t lk (probe k) n c = record (stepping (probed k n) c) { mine = writes_to c.held k }
 after t lk (fetch a) n c = stepping (fetched a (word_before c.last) n) c
-after t lk (check a) n c = stepping (checked a (word_before c.last) n) (cond (eqb n (word_before c.last)) (read_too a (value_fetched c.last) c) (failing c))
-after t lk (lock k) n c = stepping (locked k (word_before c.last) n) (cond (eqb n (word_before c.last)) (holding k (version_of n) c) (failing c))
-after t lk (tick from tag writes) n c = record (stepping (ticked from n) (cond (eqb n from) (won t (from + 1) tag writes c) c)) { ticks = c.ticks + 1; next_from = n }
-after t lk (validate k) n c = record (stepping (looked k n) (cond (passes k n c) (passing t c) (failing c))) { mine = writes_to c.held k }
+after t lk (check a) n c =
+    stepping (checked a (word_before c.last) n)
+    (cond (eqb n (word_before c.last)) (read_too a (value_fetched c.last) c) (failing c))
+after t lk (lock k) n c =
+    stepping (locked k (word_before c.last) n)
+    (cond (eqb n (word_before c.last)) (holding k (version_of n) c) (failing c))
+after t lk (tick from tag writes) n c =
+    let w = cond (eqb n from) (won t (from + 1) tag writes c) c in
+    record (stepping (ticked from n) w) { ticks = c.ticks + 1; next_from = n }
+after t lk (validate k) n c =
+    let w = cond (passes k n c) (passing t c) (failing c) in
+    record (stepping (looked k n) w) { mine = writes_to c.held k }
 after t lk (put a x) n c = record (stepping nothing c) { stored = c.stored ++ a ∷ [] }
 after t lk (release k) n c = record (stepping nothing c) { held = without c.held k }
-after t lk (give_back k) n c = record c { held = without c.held k; wv = 0; tag = []; writes = []; passed = 0; phase = ending; gave_back = true; steps = c.steps + 1 }
+after t lk (give_back k) n c = record c {
+  held = without c.held k;
+  wv = 0;
+  tag = [];
+  writes = [];
+  passed = 0;
+  phase = ending;
+  gave_back = true;
+  steps = c.steps + 1;
+}
 after t lk (finish tag) n c = record (stepping (ended n) c) {
   phase = finished;
   records = inserted (reader_record t tag c) c.records;
@@ -197,12 +240,18 @@ after t lk (finish tag) n c = record (stepping (ended n) c) {
 
 -- a grant goes to a new client
 abbrev pub giving : Client → Client
-giving c = record c { grants = c.grants - 1; lone = false; last = nothing; gave_back = false; mine = false }
+giving c = record c {
+  grants = c.grants - 1;
+  lone = false;
+  last = nothing;
+  gave_back = false;
+  mine = false;
+}
 
 -- the client of a region just opened
 abbrev pub opener : Client
 opener = record {
-  grants = 63;
+  grants = MOST_GRANTS;
   spent = false;
   phase = idle;
   attempt = 0;
@@ -233,9 +282,17 @@ fresh c = record opener { grants = 0; floor = c.floor }
 
 -- the other's records and grants, and one grant more
 abbrev pub taking : Client → Client → Client
-taking c d = record c { grants = c.grants + d.grants + 1; floor = max c.floor d.floor; records = merged c.records d.records; last = nothing; gave_back = false; mine = false }
+taking c d = record c {
+  grants = c.grants + d.grants + 1;
+  floor = max c.floor d.floor;
+  records = merged c.records d.records;
+  last = nothing;
+  gave_back = false;
+  mine = false;
+}
 
--- a client after a renewal of the clock: it has no attempt, and keeps its grants, its attempt's number and its records
+-- a client after a renewal of the clock: it has no attempt, and keeps its grants, its attempt's
+-- number and its records
 abbrev pub renewing : Client → Client
 renewing c = record opener { grants = c.grants; attempt = c.attempt; records = c.records }
 

@@ -1,10 +1,11 @@
 -- The running core follows the core, and its order is the core's history.
 use Rattle.std.specs.Prelude.{◌≡◌, ℕ, ◌<◌, ◌^◌, ◌↔◌, true, List, map}
 use Rattle.stm_core.specs.Client.{Record}
-use Rattle.stm_core.specs.Core.{Core, Event, Allowed, Leads, opened}
-use Rattle.stm_core.specs.Theorem.{stripe_of, free_law, IsHistory}
+use Rattle.stm_core.specs.Core.{Core, Event, Allowed}
+use Rattle.stm_core.specs.Theorem.{stripe_of, free_law, Reaches, IsHistory}
 use Rattle.stm_core.specs.Running.{Running, entry_of, may_play, shown, run_opened, found_of, ran}
 use Rattle.stm_core.specs.declared.event.Entry.{Entry}
+use Rattle.stm_core.specs.declared.limits.TheConstants.{VERSION_LIMIT}
 
 -- the core has one history, and these are the entries and the points of its records, in its order
 pub record IsOrderOf (c : Core) (entries : List Entry) (points : List ℕ) : Type 0 where
@@ -14,15 +15,16 @@ pub record IsOrderOf (c : Core) (entries : List Entry) (points : List ℕ) : Typ
   pub listed : entries ≡ map entry_of history
   pub dated : points ≡ map (λ r. r.point) history
 
--- a list of allowed events leads from an opening to a core, and the running core is what the same list makes of the running core just opened
+-- a list of allowed events leads from an opening to a core, and the running core is what the same
+-- list makes of the running core just opened
 pub record IsReached (s : Running) : Type 0 where
   pub image : List ℕ
   pub last : ℕ
   pub stripes : ℕ
   pub events : List Event
   pub core : Core
-  pub leads : Leads free_law (stripe_of stripes) (opened image last stripes) events core
-  pub versions : last < 2 ^ 62
+  pub leads : Reaches free_law image last stripes events core
+  pub versions : last < VERSION_LIMIT
   pub locks : 0 < stripes
   pub plays : s ≡ ran events (run_opened image last stripes)
 
@@ -37,4 +39,6 @@ pub record FollowsCore (lk : ℕ → ℕ) (s : Running) (c : Core) : Type 0 wher
 
 -- whatever allowed events are played, the running core follows the core that they lead to
 abbrev pub RunningFollows : Type 0
-RunningFollows = (image : List ℕ) (last stripes : ℕ) (events : List Event) (c : Core) → Leads free_law (stripe_of stripes) (opened image last stripes) events c → FollowsCore (stripe_of stripes) (ran events (run_opened image last stripes)) c
+RunningFollows = (image : List ℕ) (last stripes : ℕ) (events : List Event) (c : Core)
+    → Reaches free_law image last stripes events c
+    → FollowsCore (stripe_of stripes) (ran events (run_opened image last stripes)) c

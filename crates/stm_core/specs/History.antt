@@ -13,7 +13,8 @@ abbrev pub image_after : List ℕ → List Record → List ℕ
 image_after image [] = image
 image_after image (r ∷ rs) = image_after (laid image r.writes) rs
 
--- the image of a version: the opening image with the writes of the records of at most that version laid over it, in the order of the list
+-- the image of a version: the opening image with the writes of the records of at most that version
+-- laid over it, in the order of the list
 abbrev pub image_at : List ℕ → ℕ → List Record → List ℕ
 image_at image v [] = image
 image_at image v (r ∷ rs) = image_at (cond (leb r.version v) (laid image r.writes) image) v rs
@@ -29,15 +30,19 @@ abbrev pub all_records : List Client → List Record
 all_records [] = []
 all_records (v ∷ vs) = merged v.records (all_records vs)
 
--- all records are serial from the image and lawful, and a client's own stand among them, each once and in its order
-pub record IsShared (lawful : List ℕ → List (ℕ × ℕ) → List (ℕ × ℕ) → Type 0) (image : List ℕ) (own all : List Record) : Type 0 where
+-- all records are serial from the image and lawful, and a client's own stand among them, each once
+-- and in its order
+pub record IsShared
+    (lawful : List ℕ → List (ℕ × ℕ) → List (ℕ × ℕ) → Type 0) (image : List ℕ)
+    (own all : List Record) : Type 0 where
   pub serial : Serial image all
   pub abides : (r : Record) → In r all → lawful r.tag r.reads r.writes
   pub among : Sub own all
 
 -- some fitting image of the size agrees with the reads
 abbrev pub SomeFits : (List ℕ → Type 0) → ℕ → List (ℕ × ℕ) → Type 0
-SomeFits fits size reads = (image : List ℕ) × fits image × (length image ≡ size) × Agrees image reads
+SomeFits fits size reads =
+    (image : List ℕ) × fits image × (length image ≡ size) × Agrees image reads
 
 -- the point steps come one after the other
 abbrev pub ByPoint : List Record → Type 0

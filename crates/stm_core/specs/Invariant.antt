@@ -7,21 +7,31 @@ use Rattle.stm_core.specs.Core.{Core, bounds_of}
 use Rattle.stm_core.specs.Version.{World, At, Version, Books}
 use Rattle.stm_core.specs.Records.{value_of, wrote_in, Filed}
 use Rattle.stm_core.specs.History.{Serial, image_after}
+use Rattle.stm_core.specs.declared.limits.TheConstants.{MOST_GRANTS}
 
 -- the words of a core with a story
 abbrev pub world : Core → List (List (ℕ × ℕ)) → World
-world c story = record { clock = c.clock; lock = λ k. slice_index c.locks k; cell = λ a. slice_index c.cells a; val = value_of c.opening story; wrote = wrote_in story }
+world c story = record {
+  clock = c.clock;
+  lock = λ k. slice_index c.locks k;
+  cell = λ a. slice_index c.cells a;
+  val = value_of c.opening story;
+  wrote = wrote_in story;
+}
 
 -- a client's share of the seats: its grants and its own, none once it is spent
 abbrev pub share : Client → ℕ
 share v = cond v.spent 0 (v.grants + 1)
 
--- the rule within one renewal, of a core that has no records of earlier ones. The law says which records are lawful, lk which lock an address has
-pub record Inv (lawful : List ℕ → List (ℕ × ℕ) → List (ℕ × ℕ) → Type 0) (lk : ℕ → ℕ) (c : Core) : Type 0 where
+-- the rule within one renewal, of a core that has no records of earlier ones. The law says which
+-- records are lawful, lk which lock an address has
+pub record Inv
+    (lawful : List ℕ → List (ℕ × ℕ) → List (ℕ × ℕ) → Type 0) (lk : ℕ → ℕ) (c : Core)
+    : Type 0 where
   -- the clock is at most the last version
   pub bounded : c.clock ≤ c.last
   -- the grants of all clients that are out, and the number of these clients, add up to 64
-  pub grants : sum_by share c.clients ≡ 64
+  pub grants : sum_by share c.clients ≡ MOST_GRANTS + 1
   -- the writes of the decided writer of each version
   pub story : List (List (ℕ × ℕ))
   -- versions, locks, words and reads
@@ -45,7 +55,7 @@ Unmoved lk locks _ = Unit {0}
 pub record IsLone (lk : ℕ → ℕ) (clock : ℕ) (locks : List ℕ) (v : Client) : Type 0 where
   -- it is out with all grants, so no other is out
   pub out : v.spent ≡ false
-  pub all : v.grants ≡ 63
+  pub all : v.grants ≡ MOST_GRANTS
   -- undecided, it has no write version, and the clock is its read version, from which it will tick
   pub still : decided v ≡ false → (v.wv ≡ 0) × (v.rv ≡ clock) × (v.next_from ≡ clock)
   -- while it runs, the lock word that it probed stays as it is
@@ -59,32 +69,49 @@ abbrev pub Sorted : List Record → Type 0
 Sorted [] = Unit {0}
 Sorted (x ∷ xs) = ((r : Record) → In r xs → before r x ≡ false) × Sorted xs
 
--- the records of earlier renewals: lawful, in order, and serial from the first opening image to the present one
-pub record Past (lawful : List ℕ → List (ℕ × ℕ) → List (ℕ × ℕ) → Type 0) (first opening : List ℕ) (past : List Record) (renewal : ℕ) (cs : List Client) : Type 0 where
+-- the records of earlier renewals: lawful, in order, and serial from the first opening image to
+-- the present one
+pub record Past
+    (lawful : List ℕ → List (ℕ × ℕ) → List (ℕ × ℕ) → Type 0) (first opening : List ℕ)
+    (past : List Record) (renewal : ℕ) (cs : List Client) : Type 0 where
   pub serial : Serial first past
   pub leads : image_after first past ≡ opening
   pub abides : (r : Record) → In r past → lawful r.tag r.reads r.writes
   pub earlier : (r : Record) → In r past → r.renewal < renewal
   pub sorted : Sorted past
-  -- one client has them all, before its records of the present renewal; the others have none of them
+  -- one client has them all, before its records of the present renewal; the others have none of
+  -- them
   pub keeper : ℕ
   pub member : keeper < length cs
-  pub kept : (i : ℕ) (v : Client) → At cs i v → v.records ≡ cond (eqb i keeper) past [] ++ of_renewal renewal v.records
+  pub kept : (i : ℕ) (v : Client) → At cs i v
+      → v.records ≡ cond (eqb i keeper) past [] ++ of_renewal renewal v.records
   -- a client that was gathered has nothing left
   pub spent : (i : ℕ) (v : Client) → At cs i v → v.spent ≡ true → v ≡ gone
 
--- the whole rule: the invariant of the present renewal, lone attempts, and the records of earlier renewals
-pub record Rule (lawful : List ℕ → List (ℕ × ℕ) → List (ℕ × ℕ) → Type 0) (lk : ℕ → ℕ) (c : Core) : Type 0 where
+-- the whole rule: the invariant of the present renewal, lone attempts, and the records of earlier
+-- renewals
+pub record Rule
+    (lawful : List ℕ → List (ℕ × ℕ) → List (ℕ × ℕ) → Type 0) (lk : ℕ → ℕ) (c : Core)
+    : Type 0 where
   pub inv : Inv lawful lk (now c)
   pub lone : Lone lk c.clock c.locks c.clients
   pub past : Past lawful c.first c.opening c.past c.renewal c.clients
 
 -- what a lone attempt that is not decided finds: nothing that could fail it
-pub record GoesOn (lawful : List ℕ → List (ℕ × ℕ) → List (ℕ × ℕ) → Type 0) (lk : ℕ → ℕ) (c : Core) (v : Client) : Type 0 where
+pub record GoesOn
+    (lawful : List ℕ → List (ℕ × ℕ) → List (ℕ × ℕ) → Type 0) (lk : ℕ → ℕ) (c : Core)
+    (v : Client) : Type 0 where
   -- each lock word is free or held by itself, with a version of at most its read version
-  pub probes : (k : ℕ) → (IsFree (slice_index c.locks k) ⊎ Holds v.held k) × (version_of (slice_index c.locks k) ≤ v.rv)
+  pub probes : (k : ℕ)
+      → (IsFree (slice_index c.locks k) ⊎ Holds v.held k)
+      × (version_of (slice_index c.locks k) ≤ v.rv)
   -- a check finds the word of the probe, and a lock is won
-  pub checks : (a : ℕ) → MayAct lawful lk (bounds_of c) (check a) v → slice_index c.locks (lk a) ≡ word_before v.last
-  pub locks : (k : ℕ) → MayAct lawful lk (bounds_of c) (lock k) v → slice_index c.locks k ≡ word_before v.last
+  pub checks : (a : ℕ) → MayAct lawful lk (bounds_of c) (check a) v
+      → slice_index c.locks (lk a) ≡ word_before v.last
+  pub locks : (k : ℕ) → MayAct lawful lk (bounds_of c) (lock k) v
+      → slice_index c.locks k ≡ word_before v.last
   -- a tick is won and decides at once
-  pub ticks : (from : ℕ) (tag : List ℕ) (writes : List (ℕ × ℕ)) → MayAct lawful lk (bounds_of c) (tick from tag writes) v → (c.clock ≡ from) × ((t : Stamp) → decided (after t lk (tick from tag writes) c.clock v) ≡ true)
+  pub ticks : (from : ℕ) (tag : List ℕ) (writes : List (ℕ × ℕ))
+      → MayAct lawful lk (bounds_of c) (tick from tag writes) v
+      → (c.clock ≡ from)
+      × ((t : Stamp) → decided (after t lk (tick from tag writes) c.clock v) ≡ true)

@@ -1,12 +1,13 @@
--- Lists of events, and the cores that they lead to, with a number in the place of each tag. No rule but the law looks at a tag.
+-- Lists of events, and the cores that they lead to, with a number in the place of each tag. No
+-- rule but the law looks at a tag.
 use Rattle.std.specs.Prelude.{◌≡◌, ℕ, ◌<◌, cond, eqb, true, List, [], ◌∷◌, length, map}
 use Rattle.stm_words.specs.Image.{In}
 use Rattle.stm_core.specs.Client.{Client, Record}
 use Rattle.stm_core.specs.Event.{Action, tick, finish}
-use Rattle.stm_core.specs.Core.{Core, Event, acts, Leads, opened}
+use Rattle.stm_core.specs.Core.{Core, Event, acts}
 use Rattle.stm_core.specs.Version.{At}
 use Rattle.stm_core.specs.History.{Serial}
-use Rattle.stm_core.specs.Theorem.{stripe_of, free_law, IsHistory}
+use Rattle.stm_core.specs.Theorem.{free_law, Reaches, IsHistory}
 use Rattle.stm_core.specs.Running.{Running, may_play, run_played, run_opened, ran, shown}
 use Rattle.stm_core.specs.Played.{event_of}
 use Rattle.stm_core.specs.declared.event.Event as declared
@@ -27,13 +28,20 @@ module _ (number : List ℕ → ℕ) where
   abbrev pub numbered_record : Record → Record
   numbered_record r = record r { tag = number r.tag ∷ [] }
 
-  -- the same client but for the tags of its records, and of its won tick where it has a write version
+  -- the same client but for the tags of its records, and of its won tick where it has a write
+  -- version
   abbrev pub numbered_client : Client → Client
-  numbered_client v = record v { tag = cond (eqb v.wv 0) [] (number v.tag ∷ []); records = map numbered_record v.records }
+  numbered_client v = record v {
+    tag = cond (eqb v.wv 0) [] (number v.tag ∷ []);
+    records = map numbered_record v.records;
+  }
 
   -- the same core but for the tags of its clients
   abbrev pub numbered_core : Core → Core
-  numbered_core c = record c { past = map numbered_record c.past; clients = map numbered_client c.clients }
+  numbered_core c = record c {
+    past = map numbered_record c.past;
+    clients = map numbered_client c.clients;
+  }
 
 -- the tags that a list of events carries
 abbrev pub tags_of : List Event → List (List ℕ)
@@ -48,11 +56,15 @@ TellsApart number tags = (s t : List ℕ) → In s tags → In t tags → number
 
 -- the tags of every list of events have such numbers, each below the number of events
 abbrev pub EveryListHasNumbers : Type 0
-EveryListHasNumbers = (events : List Event) → (number : List ℕ → ℕ) × TellsApart number (tags_of events) × ((t : List ℕ) → In t (tags_of events) → number t < length events)
+EveryListHasNumbers = (events : List Event)
+    → (number : List ℕ → ℕ) × TellsApart number (tags_of events)
+    × ((t : List ℕ) → In t (tags_of events) → number t < length events)
 
 -- an event with a number for its tag is an event of the running core
 abbrev pub EveryEventIsPlayable : Type 0
-EveryEventIsPlayable = (number : List ℕ → ℕ) (e : Event) → (d : declared.Event) × (event_of d ≡ numbered_event number e)
+EveryEventIsPlayable =
+    (number : List ℕ → ℕ) (e : Event)
+    → (d : declared.Event) × (event_of d ≡ numbered_event number e)
 
 -- each event may be played in its turn
 abbrev pub MayRun : List Event → Running → Type 0
@@ -60,29 +72,48 @@ MayRun [] s = Unit {0}
 MayRun (e ∷ es) s = (may_play e s.core ≡ true) × MayRun es (run_played e s)
 
 module _ (lawful : List ℕ → List (ℕ × ℕ) → List (ℕ × ℕ) → Type 0) where
-  -- a list of events that the law allows is allowed with any numbers for its tags where every record is lawful, and leads to the same core but for the tags
+  -- a list of events that the law allows is allowed with any numbers for its tags where every
+  -- record is lawful, and leads to the same core but for the tags
   abbrev pub AllowedWithNumbers : Type 0
-  AllowedWithNumbers = (number : List ℕ → ℕ) (image : List ℕ) (last stripes : ℕ) (events : List Event) (c : Core) → Leads lawful (stripe_of stripes) (opened image last stripes) events c
-      → Leads free_law (stripe_of stripes) (opened image last stripes) (map (numbered_event number) events) (numbered_core number c)
+  AllowedWithNumbers =
+      (number : List ℕ → ℕ) (image : List ℕ) (last stripes : ℕ) (events : List Event) (c : Core)
+      → Reaches lawful image last stripes events c
+      → Reaches free_law image last stripes (map (numbered_event number) events)
+      (numbered_core number c)
 
   -- the running core plays it and shows that core
   abbrev pub PlayedWithNumbers : Type 0
-  PlayedWithNumbers = (number : List ℕ → ℕ) (image : List ℕ) (last stripes : ℕ) (events : List Event) (c : Core) → Leads lawful (stripe_of stripes) (opened image last stripes) events c
-      → MayRun (map (numbered_event number) events) (run_opened image last stripes) × ((ran (map (numbered_event number) events) (run_opened image last stripes)).core ≡ shown (numbered_core number c))
+  PlayedWithNumbers =
+      (number : List ℕ → ℕ) (image : List ℕ) (last stripes : ℕ) (events : List Event) (c : Core)
+      → Reaches lawful image last stripes events c
+      → MayRun (map (numbered_event number) events) (run_opened image last stripes)
+      × ((ran (map (numbered_event number) events) (run_opened image last stripes)).core
+      ≡ shown (numbered_core number c))
 
   -- in the core that it leads to each client has the same records but for their tags
   abbrev pub SameButTags : Type 0
-  SameButTags = (number : List ℕ → ℕ) (image : List ℕ) (last stripes : ℕ) (events : List Event) (c d : Core) → Leads lawful (stripe_of stripes) (opened image last stripes) events c → Leads free_law (stripe_of stripes) (opened image last stripes) (map (numbered_event number) events) d
-      → (i : ℕ) (v : Client) → At c.clients i v → (w : Client) × At d.clients i w × (w.records ≡ map (numbered_record number) v.records)
+  SameButTags =
+      (number : List ℕ → ℕ) (image : List ℕ) (last stripes : ℕ) (events : List Event) (c d : Core)
+      → Reaches lawful image last stripes events c
+      → Reaches free_law image last stripes (map (numbered_event number) events) d
+      → (i : ℕ) (v : Client) → At c.clients i v
+      → (w : Client) × At d.clients i w × (w.records ≡ map (numbered_record number) v.records)
 
-  -- the records are the core's history, serial from the image, and each is lawful and has one of the tags
-  pub record IsLegal (image : List ℕ) (tags : List (List ℕ)) (c : Core) (rs : List Record) : Type 0 where
+  -- the records are the core's history, serial from the image, and each is lawful and has one of
+  -- the tags
+  pub record IsLegal
+      (image : List ℕ) (tags : List (List ℕ)) (c : Core) (rs : List Record) : Type 0 where
     pub is_history : IsHistory c rs
     pub serial : Serial image rs
     pub abides : (r : Record) → In r rs → lawful r.tag r.reads r.writes
     pub tagged : (r : Record) → In r rs → In r.tag tags
 
-  -- a list of events that the law allows leads to a core with a serial history of lawful records, each with a tag of the list; with numbers for their tags they are the history of the core with numbers
+  -- a list of events that the law allows leads to a core with a serial history of lawful records,
+  -- each with a tag of the list; with numbers for their tags they are the history of the core with
+  -- numbers
   abbrev pub LegalHistories : Type 0
-  LegalHistories = (image : List ℕ) (last stripes : ℕ) (events : List Event) (c : Core) → Leads lawful (stripe_of stripes) (opened image last stripes) events c
-      → (rs : List Record) × IsLegal image (tags_of events) c rs × ((number : List ℕ → ℕ) → IsHistory (numbered_core number c) (map (numbered_record number) rs))
+  LegalHistories = (image : List ℕ) (last stripes : ℕ) (events : List Event) (c : Core)
+      → Reaches lawful image last stripes events c
+      → (rs : List Record) × IsLegal image (tags_of events) c rs
+      × ((number : List ℕ → ℕ)
+      → IsHistory (numbered_core number c) (map (numbered_record number) rs))

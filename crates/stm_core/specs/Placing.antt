@@ -1,6 +1,6 @@
 -- Decided records in the order of their point steps.
 use Rattle.std.specs.Prelude.{ℕ, ◌+◌, cond, ltb, List, [], ◌∷◌}
-use Rattle.std.specs.List.{list_all}
+use Rattle.std.specs.List.{list_all, insert}
 use Rattle.stm_core.specs.declared.event.Entry.{Entry}
 
 pub record Placed : Type 0 where
@@ -11,3 +11,9 @@ pub record Placed : Type 0 where
 abbrev pub place_in : List ℕ → ℕ → ℕ
 place_in [] p = 0
 place_in (x ∷ xs) p = cond (list_all (ltb p) (x ∷ xs)) 0 (place_in xs p + 1)
+
+-- the order with one more record at its place
+abbrev pub put_in : Entry → ℕ → Placed → Placed
+put_in entry point o =
+    let place = place_in o.points point in
+    record { entries = insert o.entries place entry; points = insert o.points place point }

@@ -1,4 +1,5 @@
--- The records of all clients beside the story, which is the list of the writes of the decided writer of each version from 1 on, none where there is none yet.
+-- The records of all clients beside the story, which is the list of the writes of the decided
+-- writer of each version from 1 on, none where there is none yet.
 use Rattle.std.specs.Prelude.{◌≡◌, ◌≢◌, ℕ, zero, suc, ◌-◌, ◌<◌, Bool, true, false, cond, eqb, List, [], ◌∷◌, length, slice_index}
 use Rattle.stm_words.specs.Image.{In}
 use mathlib.Core.Option.{some}
@@ -43,9 +44,13 @@ AllInside size pairs = (a x : ℕ) → In (a, x) pairs → a < size
 
 -- some client has a record of a writer of this version
 abbrev pub HasWriter : List Client → ℕ → Type 0
-HasWriter cs u = (i : ℕ) × (v : Client) × (r : Record) × At cs i v × In r v.records × (r.writer ≡ true) × (r.version ≡ u)
+HasWriter cs u =
+    (i : ℕ) × (v : Client) × (r : Record) × At cs i v × In r v.records × (r.writer ≡ true)
+    × (r.version ≡ u)
 
-module _ (lawful : List ℕ → List (ℕ × ℕ) → List (ℕ × ℕ) → Type 0) (size renewal : ℕ) (story : List (List (ℕ × ℕ))) where
+module _
+    (lawful : List ℕ → List (ℕ × ℕ) → List (ℕ × ℕ) → Type 0) (size renewal : ℕ)
+    (story : List (List (ℕ × ℕ))) where
   -- one record beside the story
   pub record IsTold (r : Record) : Type 0 where
     -- it is lawful, and of the present renewal
@@ -56,7 +61,8 @@ module _ (lawful : List ℕ → List (ℕ × ℕ) → List (ℕ × ℕ) → Type
     pub writes : AllInside size r.writes
     pub once : IsMap r.writes
     -- a writer's writes are the story's at its version, and a reader writes nothing
-    pub writer : r.writer ≡ true → (0 < r.version) × (get_elem? story (r.version - 1) ≡ some r.writes)
+    pub writer : r.writer ≡ true
+        → (0 < r.version) × (get_elem? story (r.version - 1) ≡ some r.writes)
     pub reader : r.writer ≡ false → r.writes ≡ []
 
   -- one client beside the story
@@ -66,7 +72,8 @@ module _ (lawful : List ℕ → List (ℕ × ℕ) → List (ℕ × ℕ) → Type
     pub told : (r : Record) → In r v.records → IsTold r
     -- what its attempt read is in the region
     pub reads : AllInside size v.reads
-    -- with a write version, what it is to write is in the region, no address twice; undecided it is lawful, decided it is the story's at its version
+    -- with a write version, what it is to write is in the region, no address twice; undecided it
+    -- is lawful, decided it is the story's at its version
     pub writes : 0 < v.wv → AllInside size v.writes × IsMap v.writes
     pub abides : IsOpen v → lawful v.tag v.reads v.writes
     pub commits : decided v ≡ true → get_elem? story (v.wv - 1) ≡ some v.writes
@@ -79,10 +86,14 @@ module _ (lawful : List ℕ → List (ℕ × ℕ) → List (ℕ × ℕ) → Type
     -- the story has a place for each version
     pub versions : length story ≡ clock
     -- a version of an undecided client is no record's
-    pub unwritten : (i j : ℕ) (v w : Client) (r : Record) → At cs i v → At cs j w → In r v.records → r.writer ≡ true → IsOpen w → r.version ≢ w.wv
+    pub unwritten : (i j : ℕ) (v w : Client) (r : Record) → At cs i v → At cs j w → In r v.records
+        → r.writer ≡ true → IsOpen w → r.version ≢ w.wv
     -- and has written nothing yet
     pub empty : (i : ℕ) (v : Client) → At cs i v → IsOpen v → get_elem? story (v.wv - 1) ≡ some []
     -- two clients have no writer of one version
-    pub once : (i j : ℕ) (v w : Client) (r x : Record) → At cs i v → At cs j w → i ≢ j → In r v.records → In x w.records → r.writer ≡ true → x.writer ≡ true → r.version ≢ x.version
+    pub once : (i j : ℕ) (v w : Client) (r x : Record) → At cs i v → At cs j w → i ≢ j
+        → In r v.records → In x w.records → r.writer ≡ true → x.writer ≡ true
+        → r.version ≢ x.version
     -- what the story has was written by a record
-    pub complete : (u : ℕ) (ws : List (ℕ × ℕ)) → get_elem? story u ≡ some ws → ws ≢ [] → HasWriter cs (suc u)
+    pub complete : (u : ℕ) (ws : List (ℕ × ℕ)) → get_elem? story u ≡ some ws → ws ≢ []
+        → HasWriter cs (suc u)

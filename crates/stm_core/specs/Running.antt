@@ -1,6 +1,5 @@
 -- The running core: its state as far as it is kept, and its decided records.
 use Rattle.std.specs.Prelude.{◌≡◌, ℕ, ◌+◌, ◌-◌, ◌^◌, ◌<◌, Bool, true, not, ◌&&◌, ◌==◌, nat_lt, nat_le, zero, suc, cond, eqb, List, [], ◌∷◌, ◌++◌, length, map, slice_set, replicate, ◌≢◌, ◌≤◌, Option, None}
-use Rattle.std.specs.List.{insert}
 use Rattle.stm_words.specs.Image.{In}
 use Rattle.stm_core.specs.Client.{Client, Record, Stamp, found_by, old_version, writes_to, is_committed}
 use Rattle.stm_core.specs.Event.{Action, tick, validate, finish, is_empty, versioned, decides_at_once, passes, writer_record, reader_record, giving, fresh, taking, renewing, gone, opener}
@@ -8,10 +7,12 @@ use Rattle.stm_core.specs.Core.{Core, bounds_of, found, left, written, client_of
 use Rattle.stm_core.specs.Theorem.{stripe_of}
 use Rattle.stm_core.specs.Seat.{blank, seat_after, tag_number}
 use Rattle.stm_core.specs.Tests.{may_act}
-use Rattle.stm_core.specs.Placing.{Placed, place_in}
+use Rattle.stm_core.specs.Placing.{Placed, put_in}
 use Rattle.stm_core.specs.declared.event.Entry.{Entry}
+use Rattle.stm_core.specs.declared.limits.TheConstants.{MOST_CLIENTS, MOST_GRANTS, MOST_RENEWALS, VERSION_LIMIT}
 
--- the core with its clients' values as far as they are kept, the decided records in the order of their point steps, and these steps' places
+-- the core with its clients' values as far as they are kept, the decided records in the order of
+-- their point steps, and these steps' places
 pub record Running : Type 0 where
   pub core : Core
   pub order : Placed
@@ -35,9 +36,15 @@ others_spent (v ∷ vs) (suc i) = v.spent && others_spent vs i
 
 abbrev pub may_play : Event → Core → Bool
 may_play (acts k e) c = is_out c k && may_act (bounds_of c) e (client_of c k)
-may_play (splits k) c = is_out c k && is_empty (client_of c k).held && nat_lt 0 (client_of c k).grants && nat_lt (length c.clients) (2 ^ 32 - 1)
-may_play (gathers k j) c = is_out c k && is_out c j && not (k == j) && is_empty (client_of c k).held && is_empty (client_of c j).held
-may_play (renews k last) c = is_out c k && is_empty (client_of c k).held && others_spent c.clients (k - 1) && nat_le 1 last && nat_lt last (2 ^ 62) && nat_lt c.renewal 65535
+may_play (splits k) c =
+    is_out c k && is_empty (client_of c k).held && nat_lt 0 (client_of c k).grants
+    && nat_lt (length c.clients) MOST_CLIENTS
+may_play (gathers k j) c =
+    is_out c k && is_out c j && not (k == j) && is_empty (client_of c k).held
+    && is_empty (client_of c j).held
+may_play (renews k last) c =
+    is_out c k && is_empty (client_of c k).held && others_spent c.clients (k - 1) && nat_le 1 last
+    && nat_lt last VERSION_LIMIT && nat_lt c.renewal MOST_RENEWALS
 
 -- the record that a step decides
 abbrev pub decision : Stamp → Action → ℕ → Client → List Record
@@ -50,11 +57,17 @@ decision t (finish tag) n v = reader_record t tag v ∷ []
 decision t _ n v = []
 
 abbrev pub entry_of : Record → Entry
-entry_of r = record { client = r.client; tag = tag_number r.tag; version = r.version; writer = r.writer; renewal = r.renewal }
+entry_of r = record {
+  client = r.client;
+  tag = tag_number r.tag;
+  version = r.version;
+  writer = r.writer;
+  renewal = r.renewal;
+}
 
 abbrev pub entered : List Record → Running → Running
 entered [] s = s
-entered (r ∷ rs) s = record s { order = record { entries = insert s.order.entries (place_in s.order.points r.point) (entry_of r); points = insert s.order.points (place_in s.order.points r.point) r.point } }
+entered (r ∷ rs) s = record s { order = put_in (entry_of r) r.point s.order }
 
 -- the stamp of a client's next step
 abbrev pub stamp_of : Core → ℕ → Stamp
@@ -67,31 +80,69 @@ run_acts k e s =
     let v = client_of c k in
     let n = found (stripes_of c) c e in
     let d = written e (left e n v) c in
-    entered (decision (stamp_of c k) e n v) (record s { core = record d { clients = slice_set c.clients (k - 1) (seat_after c.events e n v); events = c.events + 1 } })
+    let seats = slice_set c.clients (k - 1) (seat_after c.events e n v) in
+    entered (decision (stamp_of c k) e n v)
+    (record s { core = record d { clients = seats; events = c.events + 1 } })
 
 abbrev pub run_played : Event → Running → Running
 run_played (acts k e) s = run_acts k e s
-run_played (splits k) s = let c = s.core in record s { core = record c { clients = slice_set c.clients (k - 1) (blank (giving (client_of c k))) ++ blank (fresh (client_of c k)) ∷ []; events = c.events + 1 } }
-run_played (gathers k j) s = let c = s.core in record s { core = record c { clients = slice_set (slice_set c.clients (k - 1) (blank (taking (client_of c k) (client_of c j)))) (j - 1) gone; events = c.events + 1 } }
-run_played (renews k last) s = let c = s.core in record s { core = record c { last = last; renewal = c.renewal + 1; events = c.events + 1; clock = 0; locks = replicate (length c.locks) 0; clients = slice_set c.clients (k - 1) (blank (renewing (client_of c k))) } }
+run_played (splits k) s =
+    let c = s.core in
+    let v = client_of c k in
+    let seats = slice_set c.clients (k - 1) (blank (giving v)) ++ blank (fresh v) ∷ [] in
+    record s { core = record c { clients = seats; events = c.events + 1 } }
+run_played (gathers k j) s =
+    let c = s.core in
+    let v = blank (taking (client_of c k) (client_of c j)) in
+    let seats = slice_set (slice_set c.clients (k - 1) v) (j - 1) gone in
+    record s { core = record c { clients = seats; events = c.events + 1 } }
+run_played (renews k last) s =
+    let c = s.core in
+    record s {
+      core = record c {
+        last = last;
+        renewal = c.renewal + 1;
+        events = c.events + 1;
+        clock = 0;
+        locks = replicate (length c.locks) 0;
+        clients = slice_set c.clients (k - 1) (blank (renewing (client_of c k)));
+      };
+    }
 
 -- the running core just opened
 abbrev pub run_opened : List ℕ → ℕ → ℕ → Running
-run_opened image last stripes = record { core = record { first = []; past = []; last = last; opening = []; renewal = 0; events = 0; clock = 0; locks = replicate stripes 0; cells = image; clients = opener ∷ [] }; order = record { entries = []; points = [] } }
+run_opened image last stripes = record {
+  core = record {
+    first = [];
+    past = [];
+    last = last;
+    opening = [];
+    renewal = 0;
+    events = 0;
+    clock = 0;
+    locks = replicate stripes 0;
+    cells = image;
+    clients = opener ∷ [];
+  };
+  order = record { entries = []; points = [] };
+}
 
 -- the word that the last step of the client with this number found, none where no client has it
 abbrev pub found_of : Core → ℕ → Option ℕ
-found_of c k = cond (nat_lt 0 k && nat_lt (k - 1) (length c.clients)) (found_by (client_of c k)) None
+found_of c k =
+    cond (nat_lt 0 k && nat_lt (k - 1) (length c.clients)) (found_by (client_of c k)) None
 
 -- the numbers that a step counts on
 pub record IsSane (c : Core) : Type 0 where
-  pub last : c.last < 2 ^ 62
+  pub last : c.last < VERSION_LIMIT
   pub some : 0 < length c.locks
   pub held : (k j : ℕ) → writes_to (client_of c k).held j ≡ true → j < length c.locks
-  pub written : (k a x : ℕ) → is_committed (client_of c k).phase ≡ true → In (a, x) (client_of c k).writes → a < length c.cells
-  pub versions : (k : ℕ) → (client_of c k).wv < 2 ^ 62
-  pub old : (k j : ℕ) → old_version (client_of c k).held j < 2 ^ 62
-  pub grants : (k j : ℕ) → k ≢ j → is_out c k ≡ true → is_out c j ≡ true → (client_of c k).grants + (client_of c j).grants + 1 ≤ 63
+  pub written : (k a x : ℕ) → is_committed (client_of c k).phase ≡ true
+      → In (a, x) (client_of c k).writes → a < length c.cells
+  pub versions : (k : ℕ) → (client_of c k).wv < VERSION_LIMIT
+  pub old : (k j : ℕ) → old_version (client_of c k).held j < VERSION_LIMIT
+  pub grants : (k j : ℕ) → k ≢ j → is_out c k ≡ true → is_out c j ≡ true
+      → (client_of c k).grants + (client_of c j).grants + 1 ≤ MOST_GRANTS
 
 -- a core as far as it is kept
 abbrev pub shown : Core → Core

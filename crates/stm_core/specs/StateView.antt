@@ -5,7 +5,18 @@ use Rattle.stm_core.specs.declared.state.State.TheInside.{Inside}
 
 abbrev pub running_of : Inside → Running
 running_of s = record {
-  core = record { first = []; past = []; last = s.last; opening = []; renewal = s.renewal; events = s.events; clock = s.clock; locks = s.locks.items; cells = s.cells.items; clients = s.seats.items };
+  core = record {
+    first = [];
+    past = [];
+    last = s.last;
+    opening = [];
+    renewal = s.renewal;
+    events = s.events;
+    clock = s.clock;
+    locks = s.locks.items;
+    cells = s.cells.items;
+    clients = s.seats.items;
+  };
   order = s.order;
 }
 

@@ -15,13 +15,15 @@ stripe_of stripes a = a % stripes
 abbrev pub free_law : List ℕ → List (ℕ × ℕ) → List (ℕ × ℕ) → Type 0
 free_law tag reads writes = Unit {0}
 
--- the client has no attempt that could still be decided: its last one was decided, as a writer or as a reader, or it has none
+-- the client has no attempt that could still be decided: its last one was decided, as a writer or
+-- as a reader, or it has none
 abbrev pub is_settled : Phase → Bool
 is_settled running = false
 is_settled ending = false
 is_settled _ = true
 
--- the history of a core: the decided records of all clients, each once, in the order of their point steps
+-- the history of a core: the decided records of all clients, each once, in the order of their
+-- point steps
 pub record IsHistory (c : Core) (rs : List Record) : Type 0 where
   pub ascending : ByPoint rs
   pub every : (i : ℕ) (v : Client) (r : Record) → At c.clients i v → In r v.records → In r rs
@@ -43,15 +45,30 @@ pub record Stands (lk : ℕ → ℕ) (image : List ℕ) (c : Core) : Type 0 wher
   pub opening : image_after image earlier ≡ c.opening
   -- the newest image is what laying all its writes gives
   pub newest : image_at c.opening c.clock present ≡ image_after image (earlier ++ present)
-  -- every attempt, finished or not, has read one version: what it has read is in the image of its read version
-  pub one_version : (i : ℕ) (v : Client) → At c.clients i v → Agrees (image_at c.opening v.rv present) v.reads
+  -- every attempt, finished or not, has read one version: what it has read is in the image of its
+  -- read version
+  pub one_version : (i : ℕ) (v : Client) → At c.clients i v
+      → Agrees (image_at c.opening v.rv present) v.reads
   -- nothing fails a lone attempt that is not decided
-  pub lone : (i : ℕ) (v : Client) → At c.clients i v → v.lone ≡ true → decided v ≡ false → GoesOn free_law lk c v
+  pub lone : (i : ℕ) (v : Client) → At c.clients i v → v.lone ≡ true → decided v ≡ false
+      → GoesOn free_law lk c v
   -- when no lock is held the data words are the newest image
-  pub words : ((i : ℕ) (v : Client) → At c.clients i v → v.held ≡ []) → c.cells ≡ image_after image (earlier ++ present)
+  pub words : ((i : ℕ) (v : Client) → At c.clients i v → v.held ≡ [])
+      → c.cells ≡ image_after image (earlier ++ present)
   -- an attempt that is not decided is in no history, and so in no image
-  pub no_trace : (i : ℕ) (v : Client) (r : Record) → At c.clients i v → v.spent ≡ false → is_settled v.phase ≡ false → In r (earlier ++ present) → r.client ≡ suc i → r.attempt ≢ v.attempt
+  pub no_trace : (i : ℕ) (v : Client) (r : Record) → At c.clients i v → v.spent ≡ false
+      → is_settled v.phase ≡ false → In r (earlier ++ present) → r.client ≡ suc i
+      → r.attempt ≢ v.attempt
 
--- every list of allowed events, in any interleaving of any number of clients, leads to a core of which all this holds
+-- the list of events is allowed from an opening on an image on, and leads to the core
+abbrev pub Reaches
+    : (List ℕ → List (ℕ × ℕ) → List (ℕ × ℕ) → Type 0) → List ℕ → ℕ → ℕ → List Event → Core → Type 0
+Reaches lawful image last stripes events c =
+    Leads lawful (stripe_of stripes) (opened image last stripes) events c
+
+-- every list of allowed events, in any interleaving of any number of clients, leads to a core of
+-- which all this holds
 abbrev pub EveryListStands : Type 0
-EveryListStands = (image : List ℕ) (last stripes : ℕ) (events : List Event) (c : Core) → Leads free_law (stripe_of stripes) (opened image last stripes) events c → Stands (stripe_of stripes) image c
+EveryListStands = (image : List ℕ) (last stripes : ℕ) (events : List Event) (c : Core)
+    → Reaches free_law image last stripes events c
+    → Stands (stripe_of stripes) image c

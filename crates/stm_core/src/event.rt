@@ -46,8 +46,8 @@ impl Writes {
     }
 }
 
-/// One atomic step of one client, a client split off or gathered, or the clock renewed. Clients are numbered from 1 in the order of
-/// opening and splitting, and no number is used again.
+/// One atomic step of one client, a client split off or gathered, or the clock renewed. Clients
+/// are numbered from 1 in the order of opening and splitting, and no number is used again.
 #[derive(Drop)]
 pub enum Event {
     /// Loads the clock: a new attempt, with the value found as its read version.
@@ -116,16 +116,16 @@ pub enum Event {
         client: u32,
         other: u32,
     },
-    /// The clock begins anew at 0, on the same data words and with every lock free at version 0; the client is the only
-    /// one that is out, and its attempt has ended.
+    /// The clock begins anew at 0, on the same data words and with every lock free at version 0;
+    /// the client is the only one that is out, and its attempt has ended.
     Renew {
         client: u32,
         last: u64,
     },
 }
 
-/// A decided record: who decided it, its tag, its version, whether it is a writer's, and how many renewals of the clock
-/// came before.
+/// A decided record: who decided it, its tag, its version, whether it is a writer's, and how many
+/// renewals of the clock came before.
 #[derive(Clone, Copy, Debug, PartialEq, Eq)]
 pub struct Entry {
     pub client: u32,
@@ -140,6 +140,6 @@ pub struct Entry {
 pub enum NotAllowed {
     /// It is not allowed in this state.
     Event = 1,
-    /// The memory that it needs was refused.
+    /// The memory that it needs was refused, or no more events can be counted.
     Memory = 2,
 }

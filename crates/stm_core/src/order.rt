@@ -1,12 +1,13 @@
 ghost use Rattle.std.specs.Prelude.{◌≡◌, ◌<◌, ◌≤◌, [], length, vec_len, vec_capacity, OnOk, OnErr};
 ghost use Rattle.std.specs.List.{insert};
-ghost use Rattle.stm_core.specs.Placing.{place_in};
+ghost use Rattle.stm_core.specs.Placing.{place_in, put_in};
 
 use crate::event::Entry;
 use std::alloc::{AllocError, Global};
 use std::marker::Model;
 
-/// The decided records in the order of their point steps, with the places of these steps in the list of events.
+/// The decided records in the order of their point steps, with the places of these steps in the
+/// list of events.
 #[derive(Drop)]
 pub(crate) struct Order {
     entries: Vec<Entry>,
@@ -44,7 +45,7 @@ impl Order {
 
     /// Puts a record at its place.
     pub(crate) fn enter(&mut self, entry: Entry, point: usize) -> Result<(), AllocError>
-        ensures done { OnOk result (self.new ≡ record { entries = insert self.old.entries (place_in self.old.points point) entry; points = insert self.old.points (place_in self.old.points point) point }) }
+        ensures done { OnOk result (self.new ≡ put_in entry point self.old) }
         ensures kept { OnErr result (self.new ≡ self.old) }
     {
         self.entries.reserve(1)?;

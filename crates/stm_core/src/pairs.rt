@@ -94,7 +94,8 @@ pub(crate) fn is_next(reads: &[(u32, u64)], place: usize, lock: u32, stripes: u3
     }
 }
 
-/// Whether a tick may have these writes: some, no address twice, all in the region, their stripes exactly those held.
+/// Whether a tick may have these writes: some, no address twice, all in the region, their stripes
+/// exactly those held.
 pub(crate) fn may_write(
     writes: &[(u32, u64)],
     held: &[(u32, u64)],

@@ -3,14 +3,15 @@ ghost use Rattle.stm_core.specs.Played.{event_of};
 ghost use Rattle.stm_core.specs.Running.{may_play, run_played, run_opened, found_of};
 ghost use Rattle.stm_core.specs.Refusals.{IsRefusal};
 ghost use Rattle.stm_core.specs.Follows.{IsReached, IsOrderOf};
+ghost use Rattle.stm_core.specs.declared.limits.TheConstants.{VERSION_LIMIT};
 
 use crate::event::{Entry, Event, NotAllowed};
 use crate::state::State;
 use std::alloc::{AllocError, Global};
 use std::marker::Model;
 
-/// A region as running code on one thread, for tests and for replaying a list of events: it plays one event after
-/// another, and refuses those that are not allowed.
+/// A region as running code on one thread, for tests and for replaying a list of events: it plays
+/// one event after another, and refuses those that are not allowed.
 #[derive(Drop)]
 pub struct Core {
     alloc: Global,
@@ -30,14 +31,15 @@ impl Model for Core {
 }
 
 impl Core {
-    /// A region just opened on an image: clock 0, every lock free with version 0, and client 1 with 63 grants.
+    /// A region just opened on an image: clock 0, every lock free with version 0, and client 1
+    /// with all grants but its own.
     ///
     /// # Errors
     ///
     /// Where the memory for it is refused.
     pub fn start(alloc: Global, image: &[u64], last: u64, stripes: u32) -> Result<Core, AllocError>
         requires words { (1 ≤ length image.now) × (length image.now ≤ 4_194_304) }
-        requires versions { (1 ≤ last) × (last < 2 ^ 62) }
+        requires versions { (1 ≤ last) × (last < VERSION_LIMIT) }
         requires locks { (1 ≤ stripes) × (stripes ≤ 1_048_576) }
         ensures { IfOk result (λ c. c ≡ run_opened image.now last stripes) }
     {
@@ -49,11 +51,14 @@ impl Core {
     ///
     /// # Errors
     ///
-    /// `Event` exactly where the event is not allowed, and `Memory` where it is but memory was refused. The core comes
-    /// back as it was.
+    /// `Event` exactly where the event is not allowed, and `Memory` where it is but memory was
+    /// refused, or no more events can be counted. The core comes back as it was.
     pub fn play(mut self, event: Event) -> Result<Core, (Core, NotAllowed)>
-        ensures played { IfOk result (λ c. (may_play (event_of event) self.core ≡ true) × (c ≡ run_played (event_of event) self)) }
-        ensures refused { IfErr result (λ e. (e.0 ≡ self) × IsRefusal (may_play (event_of event) self.core) e.1) }
+        ensures played { IfOk result (λ c.
+            (may_play (event_of event) self.core ≡ true)
+            × (c ≡ run_played (event_of event) self)) }
+        ensures refused { IfErr result (λ e.
+            (e.0 ≡ self) × IsRefusal (may_play (event_of event) self.core) e.1) }
     {
         if !self.state.allows(&event) {
             return Err((self, NotAllowed::Event));
@@ -64,19 +69,21 @@ impl Core {
         }
     }
 
-    /// The word that a client's last step found: none before its first step, and after a put, a release, a give back,
-    /// a split, a gather and a renewal.
+    /// The word that a client's last step found: none before its first step, and after a put, a
+    /// release, a give back, a split, a gather and a renewal.
     pub fn found(&self, client: u32) -> Option<u64>
         ensures { result ≡ found_of self.now.core client }
     {
         self.state.found(client)
     }
 
-    /// The decided records in the order of their point steps: a writer's won tick, a reader's begin.
+    /// The decided records in the order of their point steps: a writer's won tick, a reader's
+    /// begin.
     pub fn order(&self) -> &[Entry]
         ensures entries { result.now ≡ self.now.order.entries }
         ensures reached { IsReached self.now }
-        ensures history { (r : IsReached self.now) → IsOrderOf r.core result.now self.now.order.points }
+        ensures history { (r : IsReached self.now)
+            → IsOrderOf r.core result.now self.now.order.points }
     {
         self.state.entries()
     }

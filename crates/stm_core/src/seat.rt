@@ -5,7 +5,9 @@ ghost use Rattle.stm_core.specs.Client.{nothing, word_before, value_fetched, fou
 ghost use Rattle.stm_core.specs.Tests.{is_reading, has_probed, has_found_free, has_fetched, may_act};
 ghost use Rattle.stm_core.specs.Event.{is_empty, passes, begin, probe, fetch, check, lock, tick, validate, put, release, give_back, finish, giving, taking, renewing, opener, fresh, gone};
 ghost use Rattle.stm_core.specs.Running.{are_spent, others_spent};
+ghost use Rattle.stm_core.specs.declared.limits.TheConstants.{MOST_GRANTS, MOST_TICKS, VERSION_LIMIT};
 
+use crate::limits::{MOST_GRANTS, MOST_TICKS};
 use crate::pairs::{
     all_below, all_stored, behind, has, has_pair, is_next, may_write, names, none, says_free,
     take_out,
@@ -160,8 +162,8 @@ impl Seat {
         Ok(())
     }
 
-    /// The exchange of the clock found this value. A won tick gives the write version, and decides at once where
-    /// nothing was read or the version is the next after the read version.
+    /// The exchange of the clock found this value. A won tick gives the write version, and decides
+    /// at once where nothing was read or the version is the next after the read version.
     pub(crate) fn tick(
         &mut self,
         from: u64,
@@ -170,8 +172,8 @@ impl Seat {
         now: u64,
         place: usize,
     )
-        requires room { self.old.ticks < 16 }
-        requires below { from < 2 ^ 62 }
+        requires room { self.old.ticks < MOST_TICKS }
+        requires below { from < VERSION_LIMIT }
         ensures { self.new ≡ seat_after place (tick from (tag ∷ []) writes.items) now self.old }
     {
         if now == from {
@@ -244,7 +246,7 @@ impl Seat {
     pub(crate) fn opener(alloc: Global) -> Seat
         ensures { result ≡ opener }
     {
-        Seat::with_grants(alloc, 63)
+        Seat::with_grants(alloc, MOST_GRANTS)
     }
 
     /// A client split off, without grants.
@@ -290,8 +292,12 @@ impl Seat {
 
     /// Another client's grants, and one more.
     pub(crate) fn take(&mut self, grants: u32)
-        requires { self.old.grants + grants + 1 ≤ 63 }
-        ensures { self.new ≡ blank (record self.old { grants = self.old.grants + grants + 1; last = nothing; gave_back = false }) }
+        requires { self.old.grants + grants + 1 ≤ MOST_GRANTS }
+        ensures { self.new ≡ blank (record self.old {
+          grants = self.old.grants + grants + 1;
+          last = nothing;
+          gave_back = false;
+        }) }
     {
         self.grants += grants + 1;
         self.last = Step::Nothing;
@@ -345,9 +351,8 @@ impl Seat {
             Step::Began { version } | Step::Ended { version } => Some(version),
             Step::Probed { word, .. } | Step::Looked { word, .. } => Some(word),
             Step::Fetched { value, .. } => Some(value),
-            Step::Checked { now, .. } | Step::Locked { now, .. } | Step::Ticked { now, .. } => Some(
-                now,
-            ),
+            Step::Checked { now, .. } | Step::Locked { now, .. } => Some(now),
+            Step::Ticked { now, .. } => Some(now),
         }
     }
 
@@ -358,7 +363,8 @@ impl Seat {
         matches!(self.phase, Phase::Running) && self.wv == 0
     }
 
-    /// Whether the last step was a probe of this lock that found it free, with a version of at most the read version.
+    /// Whether the last step was a probe of this lock that found it free, with a version of at
+    /// most the read version.
     pub(crate) fn has_probed(&self, lock: u32) -> bool
         ensures { result ≡ has_probed lock self.now.rv self.now.last }
     {
@@ -380,7 +386,8 @@ impl Seat {
         }
     }
 
-    /// Whether the last step was a fetch of this address, on a probe that found its lock free and old enough.
+    /// Whether the last step was a fetch of this address, on a probe that found its lock free and
+    /// old enough.
     pub(crate) fn has_fetched(&self, address: u32) -> bool
         ensures { result ≡ has_fetched address self.now.rv self.now.last }
     {
@@ -403,7 +410,8 @@ impl Seat {
 
     /// Whether it may load the word of a lock.
     pub(crate) fn may_probe(&self, lock: u32, stripes: u32) -> bool
-        ensures { result ≡ may_act (record { last = 0; stripes = stripes; size = 0 }) (probe lock) self.now }
+        ensures { result ≡ may_act
+            (record { last = 0; stripes = stripes; size = 0 }) (probe lock) self.now }
     {
         self.is_reading() && lock < stripes
     }
@@ -411,7 +419,8 @@ impl Seat {
     /// Whether it may load the value of an address.
     pub(crate) fn may_fetch(&self, address: u32, stripes: u32, size: usize) -> bool
         requires { 0 < stripes }
-        ensures { result ≡ may_act (record { last = 0; stripes = stripes; size = size }) (fetch address) self.now }
+        ensures { result ≡ may_act
+            (record { last = 0; stripes = stripes; size = size }) (fetch address) self.now }
     {
         self.is_reading()
             && (address as usize) < size
@@ -421,7 +430,8 @@ impl Seat {
 
     /// Whether it may look at the lock of a fetched address again.
     pub(crate) fn may_check(&self, address: u32, stripes: u32, size: usize) -> bool
-        ensures { result ≡ may_act (record { last = 0; stripes = stripes; size = size }) (check address) self.now }
+        ensures { result ≡ may_act
+            (record { last = 0; stripes = stripes; size = size }) (check address) self.now }
     {
         let _ = stripes;
         self.is_reading()
@@ -432,7 +442,8 @@ impl Seat {
 
     /// Whether it may try to take a lock.
     pub(crate) fn may_lock(&self, stripe: u32, stripes: u32) -> bool
-        ensures { result ≡ may_act (record { last = 0; stripes = stripes; size = 0 }) (lock stripe) self.now }
+        ensures { result ≡ may_act
+            (record { last = 0; stripes = stripes; size = 0 }) (lock stripe) self.now }
     {
         self.is_reading()
             && stripe < stripes
@@ -450,19 +461,22 @@ impl Seat {
         size: usize,
     ) -> bool
         requires { 0 < stripes }
-        ensures { result ≡ may_act (record { last = last; stripes = stripes; size = size }) (tick from [] writes.now) self.now }
+        ensures { result ≡ may_act
+            (record { last = last; stripes = stripes; size = size })
+            (tick from [] writes.now) self.now }
     {
         self.is_reading()
             && from == self.next_from
             && from < last
-            && self.ticks < 16
+            && self.ticks < MOST_TICKS
             && may_write(writes, &self.held, stripes, size)
     }
 
     /// Whether its next look is at this lock.
     pub(crate) fn may_validate(&self, stripe: u32, stripes: u32) -> bool
         requires { 0 < stripes }
-        ensures { result ≡ may_act (record { last = 0; stripes = stripes; size = 0 }) (validate stripe) self.now }
+        ensures { result ≡ may_act
+            (record { last = 0; stripes = stripes; size = 0 }) (validate stripe) self.now }
     {
         matches!(self.phase, Phase::Running)
             && 0 < self.wv
@@ -472,7 +486,8 @@ impl Seat {
     /// Whether it may store this value.
     pub(crate) fn may_put(&self, address: u32, value: u64, stripes: u32) -> bool
         requires { 0 < stripes }
-        ensures { result ≡ may_act (record { last = 0; stripes = stripes; size = 0 }) (put address value) self.now }
+        ensures { result ≡ may_act
+            (record { last = 0; stripes = stripes; size = 0 }) (put address value) self.now }
     {
         self.is_committed()
             && has_pair(&self.writes, address, value)
@@ -483,7 +498,8 @@ impl Seat {
     /// Whether it may release this lock.
     pub(crate) fn may_release(&self, lock: u32, stripes: u32) -> bool
         requires { 0 < stripes }
-        ensures { result ≡ may_act (record { last = 0; stripes = stripes; size = 0 }) (release lock) self.now }
+        ensures { result ≡ may_act
+            (record { last = 0; stripes = stripes; size = 0 }) (release lock) self.now }
     {
         self.is_committed()
             && names(&self.held, lock)
@@ -492,14 +508,16 @@ impl Seat {
 
     /// Whether it may give this lock back.
     pub(crate) fn may_give_back(&self, lock: u32) -> bool
-        ensures { result ≡ may_act (record { last = 0; stripes = 0; size = 0 }) (give_back lock) self.now }
+        ensures { result ≡ may_act
+            (record { last = 0; stripes = 0; size = 0 }) (give_back lock) self.now }
     {
         matches!(self.phase, Phase::Running | Phase::Ending) && names(&self.held, lock)
     }
 
     /// Whether it may end as a reader.
-    pub(crate) fn may_finish(&self) -> bool
-        ensures { result ≡ may_act (record { last = 0; stripes = 0; size = 0 }) (finish []) self.now }
+    pub(crate) fn may_end(&self) -> bool
+        ensures { result ≡ may_act
+            (record { last = 0; stripes = 0; size = 0 }) (finish []) self.now }
     {
         self.is_reading() && none(&self.held)
     }
@@ -577,7 +595,8 @@ impl Seat {
     /// Whether a look at this lock that finds this word decides.
     pub(crate) fn decides_by(&self, stripe: u32, word: u64) -> bool
         requires { self.now.passed < length self.now.reads }
-        ensures { result ≡ (passes stripe word self.now && eqb (self.now.passed + 1) (length self.now.reads)) }
+        ensures { result
+            ≡ (passes stripe word self.now && eqb (self.now.passed + 1) (length self.now.reads)) }
     {
         (says_free(word) || names(&self.held, stripe))
             && word / 2 <= self.rv

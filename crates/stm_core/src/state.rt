@@ -4,8 +4,10 @@ ghost use Rattle.stm_core.specs.Event.{begin, probe, fetch, check, lock, tick, v
 ghost use Rattle.stm_core.specs.Client.{old_version, word_before, IsFree};
 ghost use Rattle.stm_core.specs.Played.{event_of};
 ghost use Rattle.stm_core.specs.Running.{Running, IsSane, is_out, may_play, run_acts, run_played, run_opened, found_of};
+ghost use Rattle.stm_core.specs.declared.limits.TheConstants.{MOST_GRANTS, MOST_RENEWALS, MOST_TICKS, VERSION_LIMIT};
 
 use crate::event::{Entry, Event, Writes};
+use crate::limits::{MOST_CLIENTS, MOST_RENEWALS, VERSION_LIMIT};
 use crate::order::Order;
 use crate::seat::{Seat, others_spent};
 use std::alloc::{AllocError, Global};
@@ -159,7 +161,7 @@ impl State {
     fn release(&mut self, client: u32, stripe: u32) -> Result<(), AllocError>
         requires out { is_out self.old.core client ≡ true }
         requires inside { stripe < length self.old.core.locks }
-        requires small { (client_of self.old.core client).wv < 2 ^ 62 }
+        requires small { (client_of self.old.core client).wv < VERSION_LIMIT }
         ensures done { OnOk result (self.new ≡ run_acts client (release stripe) self.old) }
         ensures kept { OnErr result (self.new ≡ self.old) }
     {
@@ -176,7 +178,7 @@ impl State {
     fn give_back(&mut self, client: u32, stripe: u32) -> Result<(), AllocError>
         requires out { is_out self.old.core client ≡ true }
         requires inside { stripe < length self.old.core.locks }
-        requires small { old_version (client_of self.old.core client).held stripe < 2 ^ 62 }
+        requires small { old_version (client_of self.old.core client).held stripe < VERSION_LIMIT }
         ensures done { OnOk result (self.new ≡ run_acts client (give_back stripe) self.old) }
         ensures kept { OnErr result (self.new ≡ self.old) }
     {
@@ -214,7 +216,8 @@ impl State {
     fn validate(&mut self, client: u32, stripe: u32) -> Result<(), AllocError>
         requires out { is_out self.old.core client ≡ true }
         requires inside { stripe < length self.old.core.locks }
-        requires next { (client_of self.old.core client).passed < length (client_of self.old.core client).reads }
+        requires next { (client_of self.old.core client).passed
+            < length (client_of self.old.core client).reads }
         ensures done { OnOk result (self.new ≡ run_acts client (validate stripe) self.old) }
         ensures kept { OnErr result (self.new ≡ self.old) }
     {
@@ -239,9 +242,10 @@ impl State {
     /// Exchanges the clock.
     fn tick(&mut self, client: u32, from: u64, tag: u64, writes: Writes) -> Result<(), AllocError>
         requires out { is_out self.old.core client ≡ true }
-        requires room { (client_of self.old.core client).ticks < 16 }
-        requires below { from < 2 ^ 62 }
-        ensures done { OnOk result (self.new ≡ run_acts client (tick from (tag ∷ []) writes) self.old) }
+        requires room { (client_of self.old.core client).ticks < MOST_TICKS }
+        requires below { from < VERSION_LIMIT }
+        ensures done { OnOk result
+            (self.new ≡ run_acts client (tick from (tag ∷ []) writes) self.old) }
         ensures kept { OnErr result (self.new ≡ self.old) }
     {
         let events = self.one_more()?;
@@ -287,7 +291,8 @@ impl State {
         requires out { is_out self.old.core client ≡ true }
         requires there { is_out self.old.core other ≡ true }
         requires apart { client ≢ other }
-        requires grants { (client_of self.old.core client).grants + (client_of self.old.core other).grants + 1 ≤ 63 }
+        requires grants { (client_of self.old.core client).grants
+            + (client_of self.old.core other).grants + 1 ≤ MOST_GRANTS }
         ensures done { OnOk result (self.new ≡ run_played (gathers client other) self.old) }
         ensures kept { OnErr result (self.new ≡ self.old) }
     {
@@ -304,7 +309,7 @@ impl State {
     /// Renews the clock.
     fn renew(&mut self, alloc: Global, client: u32, last: u64) -> Result<(), AllocError>
         requires out { is_out self.old.core client ≡ true }
-        requires few { self.old.core.renewal < 65535 }
+        requires few { self.old.core.renewal < MOST_RENEWALS }
         ensures done { OnOk result (self.new ≡ run_played (renews client last) self.old) }
         ensures kept { OnErr result (self.new ≡ self.old) }
     {
@@ -362,7 +367,7 @@ impl State {
                 && self.seat(*client).may_release(*lock, self.stripes),
             Event::GiveBack { client, lock } => self.is_out(*client)
                 && self.seat(*client).may_give_back(*lock),
-            Event::Finish { client, .. } => self.is_out(*client) && self.seat(*client).may_finish(),
+            Event::Finish { client, .. } => self.is_out(*client) && self.seat(*client).may_end(),
             Event::Split { client } => self.may_split(*client),
             Event::Gather { client, other } => self.may_gather(*client, *other),
             Event::Renew { client, last } => self.may_renew(*client, *last),
@@ -376,7 +381,7 @@ impl State {
         self.is_out(client)
             && self.seat(client).holds_none()
             && 0 < self.seat(client).grants()
-            && self.seats.len() < u32::MAX as usize
+            && self.seats.len() < MOST_CLIENTS as usize
     }
 
     /// Whether a client may gather another.
@@ -398,8 +403,8 @@ impl State {
             && self.seat(client).holds_none()
             && others_spent(&self.seats, client as usize - 1)
             && 1 <= last
-            && last < 1 << 62
-            && self.renewal < 65535
+            && last < VERSION_LIMIT
+            && self.renewal < MOST_RENEWALS
     }
 
     /// Plays an event that is allowed.

@@ -5,7 +5,10 @@ mod moves;
 mod player;
 mod random;
 
-use super::{Core, Entry, Event, NotAllowed, Writes, core_theorem, law_theorem, running_theorem};
+use super::{
+    Core, Entry, Event, NotAllowed, VERSION_LIMIT, Writes, core_theorem, law_theorem,
+    running_theorem,
+};
 use std::alloc::Global;
 use std::process::Abort;
 use stm_words::FreeLaw;
@@ -359,7 +362,7 @@ fn a_renewal_is_refused(rt: HostRuntime) {
         core,
         Event::Renew {
             client: 1,
-            last: 1 << 62,
+            last: VERSION_LIMIT,
         },
     );
     let core = played(&rt, core, Event::Split { client: 1 }, 1, None);

@@ -1,13 +1,15 @@
-//! The history of a random list, worked out anew from who was allowed what, and held against what the core shows.
+//! The history of a random list, worked out anew from who was allowed what, and held against what
+//! the core shows.
 
 use super::moves::{Kind, Move, Shape, below};
 use super::player::{Player, Stage};
-use crate::{Core, Entry, Event};
+use crate::{Core, Entry, Event, MOST_GRANTS};
 use rand_pcg::Pcg32;
 use std::alloc::{AllocError, Global};
 use std::process::Abort;
 
-/// A decided attempt: its point is the place of a writer's won tick, or of a reader's begin, among the events.
+/// A decided attempt: its point is the place of a writer's won tick, or of a reader's begin, among
+/// the events.
 #[derive(Drop)]
 struct Decided {
     entry: Entry,
@@ -37,7 +39,7 @@ impl History {
         opening: Vec<u64>,
     ) -> Result<History, AllocError> {
         let mut players = Vec::new(alloc);
-        players.push(Player::new(alloc, 63))?;
+        players.push(Player::new(alloc, MOST_GRANTS))?;
         Ok(History {
             shape,
             first: Vec::from_slice(alloc, &opening)?,
@@ -114,14 +116,16 @@ impl History {
         value
     }
 
-    /// The data word of an address: the newest value, but for one that a decided writer has not stored yet.
+    /// The data word of an address: the newest value, but for one that a decided writer has not
+    /// stored yet.
     fn cell(&self, addr: u32) -> u64 {
         let owed = self.players.iter().find(|player| player.owes(addr));
         let version = owed.map_or(u64::MAX, |player| player.wv.wrapping_sub(1));
         self.value_at(version, addr)
     }
 
-    /// The word of a lock: held or not, with the version of the newest decided writer that does not hold it still.
+    /// The word of a lock: held or not, with the version of the newest decided writer that does
+    /// not hold it still.
     fn lock_word(&self, lock: u32) -> u64 {
         let mut version = 0;
         for attempt in self.decided.iter() {
@@ -222,7 +226,8 @@ impl History {
         Ok(())
     }
 
-    /// A client that is split off comes, and one that is gathered goes and leaves its grants and one more.
+    /// A client that is split off comes, and one that is gathered goes and leaves its grants and
+    /// one more.
     fn comes_and_goes(&mut self, alloc: Global, turn: &Move) -> Result<u32, AllocError> {
         if turn.kind == Kind::Split {
             self.players.push(Player::new(alloc, 0))?;
@@ -248,8 +253,9 @@ impl History {
         }
     }
 
-    /// Plans what a client reads and writes in the attempt that it begins, and what it reads next. Now and then the
-    /// writes are none that can be ticked, an address twice or one outside, or the locks come in the wrong order.
+    /// Plans what a client reads and writes in the attempt that it begins, and what it reads next.
+    /// Now and then the writes are none that can be ticked, an address twice or one outside, or
+    /// the locks come in the wrong order.
     pub(super) fn plans(&mut self, rng: &mut Pcg32, turn: &Move) -> Result<(), AllocError> {
         let words = self.shape.words;
         let aim = below(rng, words);
@@ -317,15 +323,20 @@ impl History {
         }
     }
 
-    /// Played one by one in the order, from the first image on, each decided attempt reads what stands there, and the
-    /// last leaves the newest image. The points rise, so that no attempt is there twice, and so do the versions of a
-    /// renewal.
-    fn is_serial(&self, rt: &impl Abort, alloc: Global, order: &[Entry]) -> Result<(), AllocError> {
+    /// Played one by one in the order, from the first image on, each decided attempt reads what
+    /// stands there, and the last leaves the newest image. The points rise, so that no attempt is
+    /// there twice, and so do the versions of a renewal.
+    fn is_serial(
+        &self,
+        rt: &impl Abort,
+        alloc: Global,
+        entries: &[Entry],
+    ) -> Result<(), AllocError> {
         let mut image = Vec::from_slice(alloc, &self.first)?;
         let mut renewal = 0;
         let mut version = 0;
         let mut point = None;
-        for entry in order {
+        for entry in entries {
             let Some(attempt) = self.decided.iter().find(|attempt| attempt.entry == *entry) else {
                 panic!(rt; "an entry of no attempt");
             };

@@ -1,8 +1,9 @@
 //! What a client of a random list may ask for next, as plain numbers.
 
-ghost use Rattle.std.specs.Prelude.{◌<◌, ◌≤◌, ◌^◌};
+ghost use Rattle.std.specs.Prelude.{◌<◌, ◌≤◌};
+ghost use Rattle.stm_core.specs.declared.limits.TheConstants.{VERSION_LIMIT};
 
-use crate::{Event, Writes};
+use crate::{Event, VERSION_LIMIT, Writes};
 use rand_core::utils::NextWord;
 use rand_pcg::Pcg32;
 use std::alloc::{AllocError, Global};
@@ -14,7 +15,7 @@ pub(super) struct Shape {
     pub stripes: u32,
     pub last: u64,
     ghost small: { (1 ≤ words) × (words ≤ 8) × (1 ≤ stripes) × (stripes ≤ 8) },
-    ghost versions: { (1 ≤ last) × (last < 2 ^ 62) },
+    ghost versions: { (1 ≤ last) × (last < VERSION_LIMIT) },
 }
 
 impl Shape {
@@ -29,7 +30,7 @@ impl Shape {
 
     /// The same with another last version, where a region may have it.
     pub(super) fn renewed(self, last: u64) -> Option<Shape> {
-        if 1 <= last && last < 1 << 62 {
+        if 1 <= last && last < VERSION_LIMIT {
             Some(Shape {
                 words: self.words,
                 stripes: self.stripes,

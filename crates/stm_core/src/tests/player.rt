@@ -1,4 +1,5 @@
-//! A client of a random list, by what it was allowed to do and what it found: nothing here is known from the core.
+//! A client of a random list, by what it was allowed to do and what it found: nothing here is
+//! known from the core.
 
 use super::moves::{Kind, Move, Shape};
 use std::alloc::{AllocError, Global};
@@ -35,8 +36,8 @@ pub(super) struct Player {
     pub writes: Vec<(u32, u64)>,
     pub stored: Vec<u32>,
     pub passed: usize,
-    /// How much it is going to read, which address next, what it is going to write, and whether it tries to take the
-    /// greatest lock first, which the rules forbid.
+    /// How much it is going to read, which address next, what it is going to write, and whether it
+    /// tries to take the greatest lock first, which the rules forbid.
     pub wanted: usize,
     pub aim: u32,
     pub falls: bool,
@@ -100,7 +101,8 @@ impl Player {
         self.probed.is_some_and(|probe| probe.1 / 2 <= self.rv)
     }
 
-    /// Whether its plan may be ticked: some writes in the region, no address twice, their locks just those held.
+    /// Whether its plan may be ticked: some writes in the region, no address twice, their locks
+    /// just those held.
     fn is_ready(&self, shape: &Shape) -> bool {
         let twice = match self.goal.as_slice() {
             [first, second] => first.0 == second.0,
@@ -360,7 +362,8 @@ impl Player {
         }
     }
 
-    /// Probes the lock of the address that it is going to read, then fetches; a lock held or too new is a conflict.
+    /// Probes the lock of the address that it is going to read, then fetches; a lock held or too
+    /// new is a conflict.
     fn next_look(&self, shape: &Shape) -> (Kind, u32, u64) {
         let lock = shape.lock_of(self.aim);
         match self.probed {

@@ -3,7 +3,7 @@
 use super::history::History;
 use super::moves::{Kind, Move, Shape, below};
 use super::player::Stage;
-use crate::{Core, NotAllowed};
+use crate::{Core, MOST_GRANTS, NotAllowed, VERSION_LIMIT};
 use rand_pcg::Pcg32;
 use std::alloc::{AllocError, Global};
 use std::process::Abort;
@@ -271,15 +271,15 @@ impl Trial {
         Ok(core)
     }
 
-    /// Renews the clock by a client that is left alone, after tries while others are out, with a last version that no
-    /// region has, and in the midst of what it does.
+    /// Renews the clock by a client that is left alone, after tries while others are out, with a
+    /// last version that no region has, and in the midst of what it does.
     fn renews(&mut self, rt: &impl Abort, core: Core) -> Result<Core, AllocError> {
         let last = 1 + u64::from(below(&mut self.rng, 16));
         let client = self.history.out_after(below(&mut self.rng, 4));
         let core = self.plays(rt, core, Move::renewal(client, last))?;
         let core = self.joins(rt, core, client)?;
         let core = self.plays(rt, core, Move::renewal(client, 0))?;
-        let core = self.plays(rt, core, Move::renewal(client, 1 << 62))?;
+        let core = self.plays(rt, core, Move::renewal(client, VERSION_LIMIT))?;
         let core = self.goes_on(rt, core, EVENTS[1])?;
         let core = self.plays(rt, core, Move::renewal(client, last))?;
         let client = self.history.out_after(0);
@@ -303,14 +303,15 @@ impl Trial {
     }
 }
 
-/// Plays one list, with a renewal in its midst. In some of them the first client splits off as many as it may.
+/// Plays one list, with a renewal in its midst. In some of them the first client splits off as
+/// many as it may.
 fn one_list(rt: &impl Abort, alloc: Global, list: u64, tally: Tally) -> Result<Tally, AllocError> {
     let mut rng = Pcg32::new(list, 54);
     let shape = Shape::drawn(&mut rng);
     let image = opening(&mut rng, alloc, &shape)?;
     let core = started(rt, alloc, &image, &shape);
     let many = if list % 32 == 0 {
-        63
+        MOST_GRANTS
     } else {
         1 + below(&mut rng, 4)
     };
