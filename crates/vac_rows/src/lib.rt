@@ -5,6 +5,8 @@
 #![tactic(auto)]
 
 #[cfg(test)]
+mod audits;
+#[cfg(test)]
 mod caller;
 #[cfg(test)]
 mod clients;
@@ -12,6 +14,7 @@ mod clients;
 mod draws;
 #[cfg(test)]
 mod meetings;
+mod opened;
 #[cfg(test)]
 mod openings;
 #[cfg(test)]
@@ -36,3 +39,5 @@ mod spent;
 mod tasks;
 #[cfg(test)]
 mod threads;
+
+pub use opened::Opened;

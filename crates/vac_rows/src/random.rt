@@ -3,6 +3,7 @@ ghost use Rattle.std.specs.Prelude.{◌≡◌};
 
 use crate::caller::{Caller, LAST};
 use crate::draws::{BLOCKS, TASKS, draw_task};
+use crate::opened::Opened;
 use rand_core::Rng;
 use rand_pcg::Pcg32;
 use std::alloc::Global;
@@ -38,7 +39,7 @@ impl Plain {
 #[test]
 fn random_tasks_of_one_client(rt: HostRuntime) {
     let alloc = rt.alloc();
-    let (manager, client) = Manager::new(alloc, BLOCKS, LAST).expect(&rt, "it opens");
+    let Opened { manager, client } = Opened::new(alloc, BLOCKS, LAST).expect(&rt, "it opens");
     let mut caller = Caller {
         manager: &manager,
         client,

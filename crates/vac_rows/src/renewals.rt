@@ -2,6 +2,7 @@
 ghost use Rattle.std.specs.Prelude.{◌≡◌, ◌*◌};
 
 use crate::caller::Caller;
+use crate::opened::Opened;
 use crate::outcome::Outcome;
 use crate::scripts::{add, cancel, free, new_customer, number, report, reserve, reserve_command};
 use std::alloc::Global;
@@ -71,7 +72,7 @@ fn refused(
 #[test]
 fn a_spent_clock_is_renewed(rt: HostRuntime) {
     let alloc = rt.alloc();
-    let (manager, client) = Manager::new(alloc, 8, 2).expect(&rt, "the numbers are in range");
+    let Opened { manager, client } = Opened::new(alloc, 8, 2).expect(&rt, "it opens");
     let client = spend(&rt, alloc, &manager, client);
     let (manager, mut client, fault) = refused(&rt, manager, client, 0);
     assert_eq!(rt; fault, RegionFault::Last);

@@ -1,0 +1,176 @@
+//! Clients in threads, and one that audits meanwhile.
+ghost use Rattle.std.specs.Prelude.{◌≡◌, ◌*◌};
+
+use crate::caller::{Caller, LAST};
+use crate::draws::{BLOCKS, draw_task};
+use rand_pcg::Pcg32;
+use std::alloc::Global;
+use std::process::Abort;
+use std::thread;
+use std::thread::Threads;
+use vac_check::audit_words;
+use vac_manager::{Client, Manager};
+use vac_model::{Command, Reply, Report, Task};
+
+/// How many random tasks each client runs, and how many reports the other one asks for.
+const TASKS: u32 = 2_000;
+
+/// By how many tries each call is made.
+const TRIES: u32 = 1_000;
+
+/// The reports that were answered.
+#[derive(Clone, Copy, Debug, PartialEq, Eq)]
+struct Reports {
+    /// Those in which the units used are those booked, and used and free units are all.
+    sound: u32,
+    others: u32,
+}
+
+fn is_sound(report: &Report) -> bool {
+    report.used == report.bookings && report.used.wrapping_add(report.free) == report.total
+}
+
+/// Runs random tasks.
+fn run_tasks(alloc: Global, manager: &Manager, client: Client, seed: u64) -> Client
+    requires { client.table ≡ manager.now.table }
+    ensures { result.table ≡ manager.now.table }
+{
+    let mut caller = Caller { manager, client };
+    let mut draws = Pcg32::new(seed, 5);
+    for _ in 0..TASKS {
+        if let Ok(task) = draw_task(alloc, &mut draws) {
+            let _ = caller.call(&task, TRIES);
+        }
+    }
+    caller.client
+}
+
+/// Asks for reports.
+fn audit(manager: &Manager, client: Client) -> (Client, Reports)
+    requires { client.table ≡ manager.now.table }
+    ensures { result.0.table ≡ manager.now.table }
+{
+    let mut caller = Caller { manager, client };
+    let mut reports = Reports {
+        sound: 0,
+        others: 0,
+    };
+    for _ in 0..TASKS {
+        if let Ok(Reply::Report(report)) = caller.call(&Task::One(Command::Audit), TRIES) {
+            if is_sound(&report) {
+                reports.sound = reports.sound.wrapping_add(1);
+            } else {
+                reports.others = reports.others.wrapping_add(1);
+            }
+        }
+    }
+    (caller.client, reports)
+}
+
+/// Two clients run random tasks.
+fn two_clients<R: Threads + Sync>(
+    rt: &R,
+    alloc: Global,
+    manager: &Manager,
+    first: Client,
+    second: Client,
+    seed: u64,
+) -> (Client, Client)
+    requires { (first.table ≡ manager.now.table) × (second.table ≡ manager.now.table) }
+    ensures { (result.0.table ≡ manager.now.table) × (result.1.table ≡ manager.now.table) }
+{
+    let next = seed.wrapping_add(1);
+    thread::join(
+        rt,
+        move || -> Client
+            requires { first.table ≡ manager.now.table }
+            ensures { result.table ≡ manager.entry.now.table }
+        { run_tasks(alloc, manager, first, seed) },
+        move || -> Client
+            requires { second.table ≡ manager.now.table }
+            ensures { result.table ≡ manager.entry.now.table }
+        { run_tasks(alloc, manager, second, next) },
+    )
+}
+
+/// Two clients run random tasks, while another one asks for reports.
+fn two_and_another<R: Threads + Sync>(
+    rt: &R,
+    alloc: Global,
+    manager: &Manager,
+    clients: (Client, Client),
+    other: Client,
+) -> ((Client, Client), (Client, Reports))
+    requires clients { (clients.0.table ≡ manager.now.table)
+        × (clients.1.table ≡ manager.now.table) }
+    requires other { other.table ≡ manager.now.table }
+    ensures clients { (result.0.0.table ≡ manager.now.table)
+        × (result.0.1.table ≡ manager.now.table) }
+    ensures other { result.1.0.table ≡ manager.now.table }
+{
+    let (first, second) = clients;
+    thread::join(
+        rt,
+        move || -> (Client, Client)
+            requires { (first.table ≡ manager.now.table) × (second.table ≡ manager.now.table) }
+            ensures { (result.0.table ≡ manager.entry.now.table)
+                × (result.1.table ≡ manager.entry.now.table) }
+        { two_clients(rt, alloc, manager, first, second, 3) },
+        move || -> (Client, Reports)
+            requires { other.table ≡ manager.now.table }
+            ensures { result.0.table ≡ manager.entry.now.table }
+        { audit(manager, other) },
+    )
+}
+
+/// Four clients run random tasks, while a fifth one asks for reports. Answers the first one, which
+/// took in the others, and the reports.
+fn four_and_another<R: Threads + Sync + Abort>(
+    rt: &R,
+    alloc: Global,
+    manager: &Manager,
+    a: Client,
+) -> (Client, Reports)
+    requires { a.table ≡ manager.now.table }
+    ensures { result.0.table ≡ manager.now.table }
+{
+    let mut a = a;
+    let b = manager.split(&mut a).expect(rt, "there are grants");
+    let c = manager.split(&mut a).expect(rt, "there are grants");
+    let d = manager.split(&mut a).expect(rt, "there are grants");
+    let e = manager.split(&mut a).expect(rt, "there are grants");
+    let ((mut a, b), ((c, d), (e, reports))) = thread::join(
+        rt,
+        move || -> (Client, Client)
+            requires { (a.table ≡ manager.now.table) × (b.table ≡ manager.now.table) }
+            ensures { (result.0.table ≡ manager.entry.now.table)
+                × (result.1.table ≡ manager.entry.now.table) }
+        { two_clients(rt, alloc, manager, a, b, 1) },
+        move || -> ((Client, Client), (Client, Reports))
+            requires { (c.table ≡ manager.now.table) × (d.table ≡ manager.now.table)
+                × (e.table ≡ manager.now.table) }
+            ensures { (result.0.0.table ≡ manager.entry.now.table)
+                × (result.0.1.table ≡ manager.entry.now.table)
+                × (result.1.0.table ≡ manager.entry.now.table) }
+        { two_and_another(rt, alloc, manager, (c, d), e) },
+    );
+    manager.gather(&mut a, b);
+    manager.gather(&mut a, c);
+    manager.gather(&mut a, d);
+    manager.gather(&mut a, e);
+    (a, reports)
+}
+
+// A report that took one number from before a reservation and one from after it would not be sound.
+#[test]
+fn reports_amid_random_tasks(rt: HostRuntime) {
+    let alloc = rt.alloc();
+    let (manager, client) = Manager::new(alloc, BLOCKS, LAST).expect(&rt, "it opens");
+    let (client, reports) = four_and_another(&rt, alloc, &manager, client);
+    let Ok((words, _)) = manager.close(client) else {
+        panic!(rt; "it stayed open")
+    };
+    assert!(rt; reports.sound > 0);
+    assert_eq!(rt; reports.others, 0);
+    assert!(rt; audit_words(alloc, words.as_slice()).is_ok());
+}
