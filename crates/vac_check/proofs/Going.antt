@@ -1,5 +1,6 @@
 -- The code's walk of a table, beside the definition's.
 use Rattle.std.proofs.Common.{◌≡◌, ◌≢◌, ◌⊎◌, inl, inr, ℕ, ◌+◌, ◌%◌, ◌<◌, ◌≤◌, Bool, true, false, cond, List, [], ◌∷◌, ◌++◌, length, zero, suc, refl, sym, ap, ◌∙◌, subst, arith, nat_eq, length-append}
+use Rattle.std.specs.Result.{IsErrAnd}
 use Rattle.std.specs.Prelude.{Result, Ok, Err, Some, None, slice_index, not}
 use Rattle.std.proofs.lemmas.List.{append_assoc}
 use Rattle.std.proofs.lemmas.Bool.Decides.{nat_tests}
@@ -640,3 +641,9 @@ pub small_sum : (a : ℕ) → a < 4294967290 → (a % 4294967296 + 3) % 42949672
 small_sum a l =
     let e : a % 4294967296 ≡ a = omega arith in
     rw e (omega arith)
+
+-- a fault that was handed on
+pub handed_table : (words : List ℕ) (marks marks' : List Bool) (notes notes' : Notes) (table : Table) (root : ℕ) (r : Result ℕ Fault) (fault : Fault) → IsErrAnd r (λ f. f ≡ fault)
+    → TableRan words marks marks' notes notes' table root (Err fault) → TableRan words marks marks' notes notes' table root r
+handed_table words marks marks' notes notes' table root (Ok n) fault h ran = absurd h
+handed_table words marks marks' notes notes' table root (Err f) fault h ran = subst (λ (e : Fault). TableRan words marks marks' notes notes' table root (Err e)) (sym h) ran

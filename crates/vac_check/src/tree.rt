@@ -1,6 +1,7 @@
 //! Tables: red-black trees by key.
 
-ghost use Rattle.std.specs.Prelude.{◌≡◌, ◌+◌, ◌<◌, ◌≤◌, IfOk, OnOk, length, slice_index};
+ghost use Rattle.std.specs.Prelude.{◌≡◌, ◌+◌, ◌<◌, ◌≤◌, [], ◌∷◌, ◌++◌, IfErr, IfOk, OnOk, length, slice_index};
+ghost use Rattle.vac_check.specs.declared.tree.Fault.TheVariants.{Memory};
 ghost use Rattle.vac_check.specs.Marks.{IsMarked, unmarked};
 ghost use Rattle.vac_check.specs.TreeRan.{ItemLooked, ColourLooked, LookRan, TableRan};
 ghost use Rattle.vac_check.specs.TreeRan.{Ready, HasRoom, Pushed};
@@ -53,6 +54,12 @@ pub struct Side {
     pub blacks: u32,
     pub red: bool,
 }
+
+/// What is known of an empty tree.
+const LEAF: Side = Side {
+    blacks: 0,
+    red: false,
+};
 
 /// A node on the path from the root, and where the walk of it stands: in its left tree, or, its
 /// left tree and itself done, in its right one.
@@ -157,6 +164,17 @@ fn look_at_colour(words: &[u64], node: usize, left: Side, right: Side) -> Result
     Ok(Side { blacks, red })
 }
 
+/// Goes one step down from the end of a path.
+fn go_down(path: &mut Vec<Step>, step: Step) -> Result<(), Fault>
+    ensures down { OnOk result (path.new.items ≡ path.old.items ++ step ∷ []) }
+    ensures memory { IfErr result (λ fault. fault ≡ Memory) }
+{
+    match path.push(step) {
+        Err(_) => Err(Fault::Memory),
+        Ok(()) => Ok(()),
+    }
+}
+
 /// Walks a table, and answers how many nodes it has.
 pub fn walk_table(
     alloc: Global,
@@ -188,18 +206,9 @@ pub fn walk_table(
                 }
                 match follow(words, reached, at) {
                     Err(flaw) => return Err(Fault::Found(flaw)),
-                    Ok(None) => {
-                        let done = Side {
-                            blacks: 0,
-                            red: false,
-                        };
-                        turn = Turn::Up { done };
-                    }
+                    Ok(None) => turn = Turn::Up { done: LEAF },
                     Ok(Some(node)) => {
-                        match path.push(Step::Left { node }) {
-                            Err(_) => return Err(Fault::Memory),
-                            Ok(()) => {}
-                        }
+                        go_down(&mut path, Step::Left { node })?;
                         turn = Turn::Down { at: node + LEFT };
                     }
                 }
@@ -217,16 +226,10 @@ pub fn walk_table(
                     if key < above || key > LAST_KEY {
                         return Err(Fault::Found(Flaw::Order(node as u32)));
                     }
-                    match look_at_node(words, reached, notes, table, node) {
-                        Err(fault) => return Err(fault),
-                        Ok(()) => {}
-                    }
+                    look_at_node(words, reached, notes, table, node)?;
                     above = key + 1;
                     nodes += 1;
-                    match path.push(Step::Right { node, left: done }) {
-                        Err(_) => return Err(Fault::Memory),
-                        Ok(()) => {}
-                    }
+                    go_down(&mut path, Step::Right { node, left: done })?;
                     turn = Turn::Down { at: node + RIGHT };
                 }
                 Some(Step::Right { node, left }) => match look_at_colour(words, node, left, done) {

@@ -2,7 +2,7 @@ use Rattle.std.proofs.Common.{refl, arith, ap, inl, inr, [], length}
 use Rattle.vac_check.specs.declared.tree.Step.TheVariants.{Left, Right}
 use Rattle.vac_check.specs.declared.tree.Turn.TheVariants.{Down, Up}
 use Rattle.vac_check.proofs.Running.{found_as, lands_as, fewer_as}
-use Rattle.vac_check.proofs.Going.{tree_start, goes_end, goes_block, as_pushed, turn_as, weight_pushed, turn_weight, goes_flaw, goes_out, goes_order, goes_fault, goes_right, goes_up, goes_colour, goes_done, goes_red, popped, blocks_split, popped_weight, empty_of, small_sum, room_less, lefts_append}
+use Rattle.vac_check.proofs.Going.{tree_start, goes_end, goes_block, as_pushed, turn_as, weight_pushed, turn_weight, goes_flaw, goes_out, goes_order, goes_fault, goes_right, goes_up, goes_colour, goes_done, goes_red, popped, blocks_split, popped_weight, empty_of, small_sum, room_less, lefts_append, handed_table}
 use Rattle.vac_check.proofs.tree.walk_table.Goals as goal
 use Rattle.vac_check.proofs.tree.walk_table.Goals.{then-key-above-via-then-key-above, then-key-above-via-else-key-above+then-key-gt-LAST_KEY}
 
@@ -20,10 +20,10 @@ walk-preserved-in-Ok-None c = goes_end c.args.words.now c.args.reached.now.items
     (fewer_as _ _ _ _ c.in-Ok-None.field-0-is c.in-Ok-None.ensures.fewer) (found_as c.args.words.now c.walk.reached.items c.follow.new.reached.items c.in-Down.at _ _ c.in-Ok-None.field-0-is c.in-Ok-None.ensures.followed) refl refl
 
 pub walk-smaller-in-Ok-Some : goal.walk-smaller-in-Ok-Some
-walk-smaller-in-Ok-Some c = omega (arith, weight_pushed _ _ _ c.in-Ok.ensures.items, fewer_as _ _ _ _ c.in-Ok-Some.field-0-is c.in-Ok-Some.ensures.fewer, ap turn_weight c.in-Down.is)
+walk-smaller-in-Ok-Some c = omega (arith, weight_pushed _ _ _ c.in_ok-go_down-in-Ok-Some.ensures.down, fewer_as _ _ _ _ c.in-Ok-Some.field-0-is c.in-Ok-Some.ensures.fewer, ap turn_weight c.in-Down.is)
 
 pub walk-preserved-in-Ok-Some : goal.walk-preserved-in-Ok-Some
-walk-preserved-in-Ok-Some c = as_pushed c.args.words.now c.args.reached.now.items c.args.notes.now c.args.table c.args.root c.follow.new.reached.items c.walk.notes _ _ _ _ _ c.in-Ok.ensures.items (goes_block c.args.words.now c.args.reached.now.items c.args.notes.now c.args.table c.args.root c.walk.reached.items c.follow.new.reached.items c.walk.notes c.walk.path.items c.in-Down.at _ c.walk.above c.walk.nodes (turn_as c.args.words.now c.args.reached.now.items c.args.notes.now c.args.table c.args.root c.walk.reached.items c.walk.notes c.walk.path.items c.walk.turn (Down c.in-Down.at) c.walk.above c.walk.nodes c.in-Down.is c.walk.invariant) (omega arith) c.follow.ensures.size
+walk-preserved-in-Ok-Some c = as_pushed c.args.words.now c.args.reached.now.items c.args.notes.now c.args.table c.args.root c.follow.new.reached.items c.walk.notes _ _ _ _ _ c.in_ok-go_down-in-Ok-Some.ensures.down (goes_block c.args.words.now c.args.reached.now.items c.args.notes.now c.args.table c.args.root c.walk.reached.items c.follow.new.reached.items c.walk.notes c.walk.path.items c.in-Down.at _ c.walk.above c.walk.nodes (turn_as c.args.words.now c.args.reached.now.items c.args.notes.now c.args.table c.args.root c.walk.reached.items c.walk.notes c.walk.path.items c.walk.turn (Down c.in-Down.at) c.walk.above c.walk.nodes c.in-Down.is c.walk.invariant) (omega arith) c.follow.ensures.size
     (fewer_as _ _ _ _ c.in-Ok-Some.field-0-is c.in-Ok-Some.ensures.fewer) (found_as c.args.words.now c.walk.reached.items c.follow.new.reached.items c.in-Down.at _ _ c.in-Ok-Some.field-0-is c.in-Ok-Some.ensures.followed) (lands_as c.args.words.now _ _ c.in-Ok-Some.field-0-is c.in-Ok-Some.ensures.lands))
 
 pub returns-then-done-clause-ran : goal.returns-then-done-clause-ran
@@ -53,17 +53,19 @@ look_at_node-requires-clause-inside c = let h = (popped c.args.words.now c.args.
 pub look_at_node-requires-clause-room : goal.look_at_node-requires-clause-room
 look_at_node-requires-clause-room c = let h = (popped c.args.words.now c.args.reached.now.items c.args.notes.now c.args.table c.args.root c.walk.reached.items c.walk.notes c.walk.path.items c.pop.new.self.items c.in-Some-Left.field-0 _ c.walk.turn c.in-Up.done c.walk.above c.walk.nodes c.in-Some-Left.ensures.items c.in-Some-Left.field-0-is c.in-Up.is c.walk.invariant) in let b = blocks_split (length c.args.words.now) c.pop.new.self.items (Left c.in-Some-Left.node) h.in_blocks in room_less c.args.table c.walk.notes _ 1 (omega (arith, lefts_append c.pop.new.self.items (Left c.in-Some-Left.node))) h.room
 
-pub returns-in-Err-look_at_node-clause-ran : goal.returns-in-Err-look_at_node-clause-ran
-returns-in-Err-look_at_node-clause-ran c = goes_fault c.args.words.now c.args.reached.now.items c.args.notes.now c.args.table c.args.root c.walk.reached.items c.look_at_node.new.reached.items c.walk.notes c.look_at_node.new.notes c.pop.new.self.items c.in-Some-Left.node c.walk.above c.walk.nodes c.in-Up.done c.in-Err-look_at_node.fault (popped c.args.words.now c.args.reached.now.items c.args.notes.now c.args.table c.args.root c.walk.reached.items c.walk.notes c.walk.path.items c.pop.new.self.items c.in-Some-Left.field-0 _ c.walk.turn c.in-Up.done c.walk.above c.walk.nodes c.in-Some-Left.ensures.items c.in-Some-Left.field-0-is c.in-Up.is c.walk.invariant) (omega arith) (omega arith) c.in-Err-look_at_node.ensures.ran
+pub returns-in_err-look_at_node-in-Some-Left-clause-ran : goal.returns-in_err-look_at_node-in-Some-Left-clause-ran
+returns-in_err-look_at_node-in-Some-Left-clause-ran c =
+    handed_table c.args.words.now c.args.reached.now.items c.look_at_node.new.reached.items c.args.notes.now c.look_at_node.new.notes c.args.table c.args.root c.from_residual-in_err-look_at_node-in-Some-Left.result c.in_err-look_at_node-in-Some-Left.field-0.0 c.from_residual-in_err-look_at_node-in-Some-Left.ensures.1
+    (goes_fault c.args.words.now c.args.reached.now.items c.args.notes.now c.args.table c.args.root c.walk.reached.items c.look_at_node.new.reached.items c.walk.notes c.look_at_node.new.notes c.pop.new.self.items c.in-Some-Left.node c.walk.above c.walk.nodes c.in-Up.done c.in_err-look_at_node-in-Some-Left.field-0.0 (popped c.args.words.now c.args.reached.now.items c.args.notes.now c.args.table c.args.root c.walk.reached.items c.walk.notes c.walk.path.items c.pop.new.self.items c.in-Some-Left.field-0 _ c.walk.turn c.in-Up.done c.walk.above c.walk.nodes c.in-Some-Left.ensures.items c.in-Some-Left.field-0-is c.in-Up.is c.walk.invariant) (omega arith) (omega arith) c.in_err-look_at_node-in-Some-Left.ensures.ran)
 
 pub overflow_add-turn-in-Some-Left : goal.overflow_add-turn-in-Some-Left
 overflow_add-turn-in-Some-Left c = let h = (popped c.args.words.now c.args.reached.now.items c.args.notes.now c.args.table c.args.root c.walk.reached.items c.walk.notes c.walk.path.items c.pop.new.self.items c.in-Some-Left.field-0 _ c.walk.turn c.in-Up.done c.walk.above c.walk.nodes c.in-Some-Left.ensures.items c.in-Some-Left.field-0-is c.in-Up.is c.walk.invariant) in let b = blocks_split (length c.args.words.now) c.pop.new.self.items (Left c.in-Some-Left.node) h.in_blocks in omega (arith, b.1.1.0, c.requires.marked.size, c.requires.marked.few)
 
 pub walk-smaller-in-Some-Left : goal.walk-smaller-in-Some-Left
-walk-smaller-in-Some-Left c = omega (arith, c.in-Ok-look_at_node.ensures.fewer, weight_pushed _ _ _ c.in-Ok-push.ensures.items, popped_weight _ _ _ _ c.in-Some-Left.ensures.items c.in-Some-Left.field-0-is, ap turn_weight c.in-Up.is)
+walk-smaller-in-Some-Left c = omega (arith, c.in_ok-look_at_node-in-Some-Left.ensures.fewer, weight_pushed _ _ _ c.in_ok-go_down-in-Some-Left.ensures.down, popped_weight _ _ _ _ c.in-Some-Left.ensures.items c.in-Some-Left.field-0-is, ap turn_weight c.in-Up.is)
 
 pub walk-preserved-in-Some-Left : goal.walk-preserved-in-Some-Left
-walk-preserved-in-Some-Left c = let h = (popped c.args.words.now c.args.reached.now.items c.args.notes.now c.args.table c.args.root c.walk.reached.items c.walk.notes c.walk.path.items c.pop.new.self.items c.in-Some-Left.field-0 _ c.walk.turn c.in-Up.done c.walk.above c.walk.nodes c.in-Some-Left.ensures.items c.in-Some-Left.field-0-is c.in-Up.is c.walk.invariant) in let b = blocks_split (length c.args.words.now) c.pop.new.self.items (Left c.in-Some-Left.node) h.in_blocks in as_pushed c.args.words.now c.args.reached.now.items c.args.notes.now c.args.table c.args.root c.look_at_node.new.reached.items c.look_at_node.new.notes _ _ _ _ _ c.in-Ok-push.ensures.items (goes_right c.args.words.now c.args.reached.now.items c.args.notes.now c.args.table c.args.root c.walk.reached.items c.look_at_node.new.reached.items c.walk.notes c.look_at_node.new.notes c.pop.new.self.items c.in-Some-Left.node c.walk.above c.walk.nodes c.in-Up.done h b.1 b.0 (omega arith) (omega arith) c.look_at_node.ensures.size c.in-Ok-look_at_node.ensures.fewer c.in-Ok-look_at_node.ensures.ready c.in-Ok-look_at_node.ensures.pushed c.in-Ok-look_at_node.ensures.ran)
+walk-preserved-in-Some-Left c = let h = (popped c.args.words.now c.args.reached.now.items c.args.notes.now c.args.table c.args.root c.walk.reached.items c.walk.notes c.walk.path.items c.pop.new.self.items c.in-Some-Left.field-0 _ c.walk.turn c.in-Up.done c.walk.above c.walk.nodes c.in-Some-Left.ensures.items c.in-Some-Left.field-0-is c.in-Up.is c.walk.invariant) in let b = blocks_split (length c.args.words.now) c.pop.new.self.items (Left c.in-Some-Left.node) h.in_blocks in as_pushed c.args.words.now c.args.reached.now.items c.args.notes.now c.args.table c.args.root c.look_at_node.new.reached.items c.look_at_node.new.notes _ _ _ _ _ c.in_ok-go_down-in-Some-Left.ensures.down (goes_right c.args.words.now c.args.reached.now.items c.args.notes.now c.args.table c.args.root c.walk.reached.items c.look_at_node.new.reached.items c.walk.notes c.look_at_node.new.notes c.pop.new.self.items c.in-Some-Left.node c.walk.above c.walk.nodes c.in-Up.done h b.1 b.0 (omega arith) (omega arith) c.look_at_node.ensures.size c.in_ok-look_at_node-in-Some-Left.ensures.fewer c.in_ok-look_at_node-in-Some-Left.ensures.ready c.in_ok-look_at_node-in-Some-Left.ensures.pushed c.in_ok-look_at_node-in-Some-Left.ensures.ran)
 
 pub look_at_colour-requires-clause-inside : goal.look_at_colour-requires-clause-inside
 look_at_colour-requires-clause-inside c = let h = (popped c.args.words.now c.args.reached.now.items c.args.notes.now c.args.table c.args.root c.walk.reached.items c.walk.notes c.walk.path.items c.pop.new.self.items c.in-Some-Right.field-0 _ c.walk.turn c.in-Up.done c.walk.above c.walk.nodes c.in-Some-Right.ensures.items c.in-Some-Right.field-0-is c.in-Up.is c.walk.invariant) in let b = blocks_split (length c.args.words.now) c.pop.new.self.items (Right c.in-Some-Right.node c.in-Some-Right.left) h.in_blocks in b.1.1.0
@@ -75,4 +77,4 @@ pub walk-smaller : goal.walk-smaller
 walk-smaller c = omega (arith, popped_weight _ _ _ _ c.in-Some-Right.ensures.items c.in-Some-Right.field-0-is, ap turn_weight c.in-Up.is)
 
 pub walk-preserved : goal.walk-preserved
-walk-preserved c = let h = (popped c.args.words.now c.args.reached.now.items c.args.notes.now c.args.table c.args.root c.walk.reached.items c.walk.notes c.walk.path.items c.pop.new.self.items c.in-Some-Right.field-0 _ c.walk.turn c.in-Up.done c.walk.above c.walk.nodes c.in-Some-Right.ensures.items c.in-Some-Right.field-0-is c.in-Up.is c.walk.invariant) in let b = blocks_split (length c.args.words.now) c.pop.new.self.items (Right c.in-Some-Right.node c.in-Some-Right.left) h.in_blocks in goes_up c.args.words.now c.args.reached.now.items c.args.notes.now c.args.table c.args.root c.walk.reached.items c.walk.notes c.pop.new.self.items c.in-Some-Right.node c.walk.above c.walk.nodes c.in-Some-Right.left c.in-Up.done _ h b.0 c.in-Ok-look_at_colour.ensures.low c.in-Ok-look_at_colour.ensures.looked
+walk-preserved c = let h = (popped c.args.words.now c.args.reached.now.items c.args.notes.now c.args.table c.args.root c.walk.reached.items c.walk.notes c.walk.path.items c.pop.new.self.items c.in-Some-Right.field-0 _ c.walk.turn c.in-Up.done c.walk.above c.walk.nodes c.in-Some-Right.ensures.items c.in-Some-Right.field-0-is c.in-Up.is c.walk.invariant) in let b = blocks_split (length c.args.words.now) c.pop.new.self.items (Right c.in-Some-Right.node c.in-Some-Right.left) h.in_blocks in goes_up c.args.words.now c.args.reached.now.items c.args.notes.now c.args.table c.args.root c.walk.reached.items c.walk.notes c.pop.new.self.items c.in-Some-Right.node c.walk.above c.walk.nodes c.in-Some-Right.left c.in-Up.done _ h b.0 c.in-Ok.ensures.low c.in-Ok.ensures.looked
