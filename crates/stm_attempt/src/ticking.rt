@@ -2,6 +2,7 @@
 ghost use Rattle.std.specs.Prelude.{◌≡◌, ◌+◌, ◌<◌, ◌≤◌, ◌^◌, true, IfOk, IfErr, MatchResult};
 ghost use Rattle.stm_core.specs.Client.{decided};
 ghost use Rattle.stm_core.specs.Event.{MayWrite};
+ghost use Rattle.stm_words.specs.declared.version.TheConstants.{VERSION_LIMIT};
 ghost use Rattle.stm_logs.specs.Log.{log_pairs};
 ghost use Rattle.stm_region.specs.Shown.{stripe_of};
 ghost use Rattle.stm_region.specs.Told.{Decides};
@@ -20,7 +21,7 @@ const TICKS: u32 = 16;
 
 #[inline]
 fn as_version(number: u64) -> Version
-    requires { number < 2 ^ 62 }
+    requires { number < VERSION_LIMIT }
     ensures { result ≡ number }
 {
     let Some(version) = Version::new(number) else {

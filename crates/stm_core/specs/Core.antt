@@ -4,7 +4,8 @@ use mathlib.Core.Option.{some}
 use lib.ListN.{get_elem?}
 use Rattle.stm_core.specs.Client.{Client, Record, Stamp, word_before, old_version}
 use Rattle.stm_core.specs.Event.{Action, begin, probe, fetch, check, lock, tick, validate, put, release, give_back, finish, Bounds, May, after, giving, fresh, taking, renewing, gone, opener}
-use Rattle.stm_core.specs.declared.limits.TheConstants.{MOST_CLIENTS, MOST_RENEWALS, VERSION_LIMIT}
+use Rattle.stm_core.specs.declared.limits.TheConstants.{MOST_CLIENTS, MOST_RENEWALS}
+use Rattle.stm_words.specs.declared.version.TheConstants.{VERSION_LIMIT}
 
 -- the words and the clients' values, with what the region was opened on
 pub record Core : Type 0 where

@@ -5,7 +5,7 @@ use Rattle.stm_core.specs.Core.{Core, Event, Allowed}
 use Rattle.stm_core.specs.Theorem.{stripe_of, free_law, Reaches, IsHistory}
 use Rattle.stm_core.specs.Running.{Running, entry_of, may_play, shown, run_opened, found_of, ran}
 use Rattle.stm_core.specs.declared.event.Entry.{Entry}
-use Rattle.stm_core.specs.declared.limits.TheConstants.{VERSION_LIMIT}
+use Rattle.stm_words.specs.declared.version.TheConstants.{VERSION_LIMIT}
 
 -- the core has one history, and these are the entries and the points of its records, in its order
 pub record IsOrderOf (c : Core) (entries : List Entry) (points : List ℕ) : Type 0 where

@@ -9,7 +9,8 @@ use Rattle.stm_core.specs.Seat.{blank, seat_after, tag_number}
 use Rattle.stm_core.specs.Tests.{may_act}
 use Rattle.stm_core.specs.Placing.{Placed, put_in}
 use Rattle.stm_core.specs.declared.event.Entry.{Entry}
-use Rattle.stm_core.specs.declared.limits.TheConstants.{MOST_CLIENTS, MOST_GRANTS, MOST_RENEWALS, VERSION_LIMIT}
+use Rattle.stm_core.specs.declared.limits.TheConstants.{MOST_CLIENTS, MOST_GRANTS, MOST_RENEWALS}
+use Rattle.stm_words.specs.declared.version.TheConstants.{VERSION_LIMIT}
 
 -- the core with its clients' values as far as they are kept, the decided records in the order of
 -- their point steps, and these steps' places

@@ -6,8 +6,11 @@ pub const MOST_GRANTS: u32 = 63;
 /// How many clients a region has at most, those that were gathered among them.
 pub const MOST_CLIENTS: u32 = 4_294_967_295;
 
-/// Every version is below this one: a lock word has room for a version and for whether it is held.
-pub const VERSION_LIMIT: u64 = 4_611_686_018_427_387_904;
+/// A region has at most so many data words.
+pub const MOST_WORDS: usize = 4_194_304;
+
+/// A region has at most so many lock words.
+pub const MOST_STRIPES: u32 = 1_048_576;
 
 /// How many renewals of its clock a region has at most.
 pub const MOST_RENEWALS: u32 = 65_535;

@@ -3,7 +3,8 @@ ghost use Rattle.stm_core.specs.Played.{event_of};
 ghost use Rattle.stm_core.specs.Running.{may_play, run_played, run_opened, found_of};
 ghost use Rattle.stm_core.specs.Refusals.{IsRefusal};
 ghost use Rattle.stm_core.specs.Follows.{IsReached, IsOrderOf};
-ghost use Rattle.stm_core.specs.declared.limits.TheConstants.{VERSION_LIMIT};
+ghost use Rattle.stm_core.specs.declared.limits.TheConstants.{MOST_WORDS, MOST_STRIPES};
+ghost use Rattle.stm_words.specs.declared.version.TheConstants.{VERSION_LIMIT};
 
 use crate::event::{Entry, Event, NotAllowed};
 use crate::state::State;
@@ -38,9 +39,9 @@ impl Core {
     ///
     /// Where the memory for it is refused.
     pub fn start(alloc: Global, image: &[u64], last: u64, stripes: u32) -> Result<Core, AllocError>
-        requires words { (1 ≤ length image.now) × (length image.now ≤ 4_194_304) }
+        requires words { (1 ≤ length image.now) × (length image.now ≤ MOST_WORDS) }
         requires versions { (1 ≤ last) × (last < VERSION_LIMIT) }
-        requires locks { (1 ≤ stripes) × (stripes ≤ 1_048_576) }
+        requires locks { (1 ≤ stripes) × (stripes ≤ MOST_STRIPES) }
         ensures { IfOk result (λ c. c ≡ run_opened image.now last stripes) }
     {
         let state = State::open(alloc, image, last, stripes)?;

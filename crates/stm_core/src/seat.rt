@@ -5,7 +5,8 @@ ghost use Rattle.stm_core.specs.Client.{nothing, word_before, value_fetched, fou
 ghost use Rattle.stm_core.specs.Tests.{is_reading, has_probed, has_found_free, has_fetched, may_act};
 ghost use Rattle.stm_core.specs.Event.{is_empty, passes, begin, probe, fetch, check, lock, tick, validate, put, release, give_back, finish, giving, taking, renewing, opener, fresh, gone};
 ghost use Rattle.stm_core.specs.Running.{are_spent, others_spent};
-ghost use Rattle.stm_core.specs.declared.limits.TheConstants.{MOST_GRANTS, MOST_TICKS, VERSION_LIMIT};
+ghost use Rattle.stm_core.specs.declared.limits.TheConstants.{MOST_GRANTS, MOST_TICKS};
+ghost use Rattle.stm_words.specs.declared.version.TheConstants.{VERSION_LIMIT};
 
 use crate::limits::{MOST_GRANTS, MOST_TICKS};
 use crate::pairs::{

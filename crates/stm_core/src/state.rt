@@ -4,10 +4,12 @@ ghost use Rattle.stm_core.specs.Event.{begin, probe, fetch, check, lock, tick, v
 ghost use Rattle.stm_core.specs.Client.{old_version, word_before, IsFree};
 ghost use Rattle.stm_core.specs.Played.{event_of};
 ghost use Rattle.stm_core.specs.Running.{Running, IsSane, is_out, may_play, run_acts, run_played, run_opened, found_of};
-ghost use Rattle.stm_core.specs.declared.limits.TheConstants.{MOST_GRANTS, MOST_RENEWALS, MOST_TICKS, VERSION_LIMIT};
+ghost use Rattle.stm_core.specs.declared.limits.TheConstants.{MOST_GRANTS, MOST_RENEWALS, MOST_TICKS};
+ghost use Rattle.stm_words.specs.declared.version.TheConstants.{VERSION_LIMIT};
 
 use crate::event::{Entry, Event, Writes};
-use crate::limits::{MOST_CLIENTS, MOST_RENEWALS, VERSION_LIMIT};
+use crate::limits::{MOST_CLIENTS, MOST_RENEWALS};
+use stm_words::VERSION_LIMIT;
 use crate::order::Order;
 use crate::seat::{Seat, others_spent};
 use std::alloc::{AllocError, Global};

@@ -6,12 +6,11 @@ mod player;
 mod random;
 
 use super::{
-    Core, Entry, Event, NotAllowed, VERSION_LIMIT, Writes, core_theorem, law_theorem,
-    running_theorem,
+    Core, Entry, Event, NotAllowed, Writes, core_theorem, law_theorem, running_theorem,
 };
 use std::alloc::Global;
 use std::process::Abort;
-use stm_words::FreeLaw;
+use stm_words::{FreeLaw, VERSION_LIMIT};
 
 const LAST: u64 = 100;
 

@@ -6,7 +6,8 @@ use Rattle.stm_core.specs.Core.{left}
 use Rattle.stm_core.specs.Event.{Action, begin, probe, fetch, check, lock, tick, validate, put, release, give_back, finish}
 use Rattle.stm_region.specs.Shown.{Opened, stripe_of}
 use Rattle.stm_region.specs.declared.lay.TheConstants.{CLOCK, FIRST_LOCK, LINE_WORDS, LINE_START}
-use Rattle.stm_region.specs.declared.limits.TheConstants.{MOST_WORDS, MOST_STRIPES, VERSION_LIMIT}
+use Rattle.stm_words.specs.declared.version.TheConstants.{VERSION_LIMIT}
+use Rattle.stm_core.specs.declared.limits.TheConstants.{MOST_WORDS, MOST_STRIPES}
 
 -- how many words stand between the lock words and the data words: the rest of a line, and so many
 -- more as the data words begin behind the next

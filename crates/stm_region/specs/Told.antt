@@ -10,7 +10,7 @@ use Rattle.stm_core.specs.Invariant.{Rule, now}
 use Rattle.stm_core.specs.Event.{Action, begin, probe, fetch, check, lock, tick, validate, put, release, give_back, finish, Holds}
 use Rattle.stm_core.specs.History.{Serial, Sub, all_records, image_at}
 use Rattle.stm_region.specs.Shown.{RegionShown, value_after, stripe_of}
-use Rattle.stm_region.specs.declared.limits.TheConstants.{VERSION_LIMIT}
+use Rattle.stm_words.specs.declared.version.TheConstants.{VERSION_LIMIT}
 
 -- a version of the clock is at most the last one
 pub record IsVersion (last version : ℕ) : Type 0 where

@@ -24,7 +24,8 @@ impl<L: Law> Model for Client<L> {
     ghost use Rattle.std.specs.Prelude.{◌≡◌, ◌≤◌, ◌<◌, []};
     ghost use Rattle.stm_core.specs.Invariant.{Sorted};
     ghost use Rattle.stm_region.specs.Shown.{ClientShown, KeepsProbe};
-    ghost use Rattle.stm_region.specs.declared.limits.TheConstants.{MOST_GRANTS, VERSION_LIMIT};
+    ghost use Rattle.stm_words.specs.declared.version.TheConstants.{VERSION_LIMIT};
+    ghost use Rattle.stm_region.specs.declared.limits.TheConstants.{MOST_GRANTS};
 
     ghost Value = { ClientShown };
 

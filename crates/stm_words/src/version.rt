@@ -3,6 +3,10 @@ ghost use Rattle.stm_words.specs.LockWord.{free_word, held_word};
 
 use std::marker::Model;
 
+/// Every version is below this, so that a lock word has room for a version and for whether it is
+/// held.
+pub const VERSION_LIMIT: u64 = 1 << 62;
+
 /// A version of the version clock, at most 2^62 - 1.
 #[derive(Clone, Copy, Debug, PartialEq, Eq, PartialOrd, Ord)]
 pub struct Version {
@@ -10,11 +14,14 @@ pub struct Version {
 }
 
 impl Model for Version {
+    ghost use Rattle.std.specs.Prelude.{ℕ, ◌<◌};
+    ghost use Rattle.stm_words.specs.declared.version.TheConstants.{VERSION_LIMIT};
+
     ghost Value = { ℕ };
 
     ghost view = { λ v. v.number };
 
-    ghost invariant = { λ v. v.number < 2 ^ 62 };
+    ghost invariant = { λ v. v.number < VERSION_LIMIT };
 
     ghost inverse = { λ n. record { number = n } };
 }
@@ -23,10 +30,10 @@ impl Version {
     /// The version of a number, or `None` above 2^62 - 1.
     #[inline]
     pub fn new(number: u64) -> Option<Version>
-        ensures none { IsNone result ↔ (2 ^ 62 ≤ number) }
+        ensures none { IsNone result ↔ (VERSION_LIMIT ≤ number) }
         ensures some { IfSome result (λ v. v ≡ number) }
     {
-        if number < 1 << 62 {
+        if number < VERSION_LIMIT {
             Some(Version { number })
         } else {
             None
@@ -37,7 +44,7 @@ impl Version {
     #[inline]
     pub fn get(self) -> u64
         ensures number { result ≡ self }
-        ensures small { result < 2 ^ 62 }
+        ensures small { result < VERSION_LIMIT }
     {
         self.number
     }

@@ -12,11 +12,12 @@ ghost use Rattle.vac_cli.specs.System.{StandsAt};
 use crate::script::RunFault;
 use std::alloc::Global;
 use std::marker::Model;
+use stm_region::VERSION_LIMIT;
 use vac_manager::{Client, Fault, Manager};
 use vac_model::{Reply, Task};
 
 /// The version that the clock ends at: the last one that there is.
-pub(crate) const LAST_VERSION: u64 = (1 << 62) - 1;
+pub(crate) const LAST_VERSION: u64 = VERSION_LIMIT - 1;
 
 /// A manager and its one client, which runs each task as a transaction and commits it. Contracts
 /// see both.

@@ -6,7 +6,8 @@ use Rattle.stm_region.specs.Shown.{RegionShown}
 use Rattle.stm_region.specs.Closed.{Ends}
 use Rattle.vac_model.specs.declared.limits.TheConstants.{MOST_BLOCKS}
 use Rattle.vac_model.specs.State.{State, empty_state}
-use Rattle.vac_manager.specs.declared.manager.TheConstants.{MOST_STRIPES}
+use Rattle.stm_core.specs.declared.limits.TheConstants.{MOST_STRIPES}
+use Rattle.stm_words.specs.declared.version.TheConstants.{VERSION_LIMIT}
 use Rattle.vac_manager.specs.Law.{Shows, IsLawful}
 use Rattle.vac_manager.specs.Legal.{IsLegal, capacity_of}
 use Rattle.vac_manager.specs.Called.{CallerShown}
@@ -17,7 +18,7 @@ is_block_count n = nat_le 1 n && nat_le n MOST_BLOCKS
 
 -- the clock may end at this version
 abbrev pub is_last : ℕ → Bool
-is_last last = nat_le 1 last && nat_lt last (2 ^ 62)
+is_last last = nat_le 1 last && nat_lt last VERSION_LIMIT
 
 -- there may be so many lock words
 abbrev pub is_stripe_count : ℕ → Bool

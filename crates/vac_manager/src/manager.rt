@@ -2,6 +2,7 @@
 
 ghost use Rattle.std.specs.Prelude.{◌≡◌, ◌↔◌, ◌≤◌, ◌+◌, ◌*◌, ◌⊎◌, min, false, IfOk, IfErr, IsErrOf};
 ghost use Rattle.stm_core.specs.Core.{IsFreeHanded};
+ghost use Rattle.stm_core.specs.declared.limits.TheConstants.{MOST_STRIPES};
 ghost use Rattle.stm_core.specs.History.{Sub};
 ghost use Rattle.stm_region.specs.Shown.{joined};
 ghost use Rattle.stm_region.specs.Refused.{ClosesNot};
@@ -17,17 +18,11 @@ use crate::law::ManagerLaw;
 use std::alloc::Global;
 use std::marker::Model;
 use stm_attempt::{Gate, Logs, NoGate};
-use stm_region::{Region, RegionFault};
-use stm_words::Version;
+use stm_region::{MOST_STRIPES, Region, RegionFault};
+use stm_words::{VERSION_LIMIT, Version};
 use tx_alloc::fresh_words;
 use vac_model::limits::MOST_BLOCKS;
 use vac_model::{Reply, Task};
-
-/// The first version that is none.
-const VERSION_LIMIT: u64 = 1 << 62;
-
-/// The most lock words that a region has.
-pub const MOST_STRIPES: u32 = 1_048_576;
 
 /// The most tries that a call may be given.
 pub const MOST_TRIES: u32 = 1_048_576;

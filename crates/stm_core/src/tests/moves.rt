@@ -1,9 +1,10 @@
 //! What a client of a random list may ask for next, as plain numbers.
 
 ghost use Rattle.std.specs.Prelude.{◌<◌, ◌≤◌};
-ghost use Rattle.stm_core.specs.declared.limits.TheConstants.{VERSION_LIMIT};
+ghost use Rattle.stm_words.specs.declared.version.TheConstants.{VERSION_LIMIT};
 
-use crate::{Event, VERSION_LIMIT, Writes};
+use crate::{Event, Writes};
+use stm_words::VERSION_LIMIT;
 use rand_core::utils::NextWord;
 use rand_pcg::Pcg32;
 use std::alloc::{AllocError, Global};

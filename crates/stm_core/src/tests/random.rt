@@ -3,7 +3,8 @@
 use super::history::History;
 use super::moves::{Kind, Move, Shape, below};
 use super::player::Stage;
-use crate::{Core, MOST_GRANTS, NotAllowed, VERSION_LIMIT};
+use crate::{Core, MOST_GRANTS, NotAllowed};
+use stm_words::VERSION_LIMIT;
 use rand_pcg::Pcg32;
 use std::alloc::{AllocError, Global};
 use std::process::Abort;
