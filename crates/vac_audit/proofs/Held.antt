@@ -1,51 +1,27 @@
 -- What a memory that holds a state has, before and after reads.
-use Rattle.std.proofs.Common.{◌≡◌, ℕ, ◌+◌, ◌<◌, ◌≤◌, List, [], ◌∷◌, length, Option, refl, sym, ◌∙◌, subst, arith}
+use Rattle.std.proofs.Common.{◌≡◌, ℕ, ◌+◌, ◌<◌, ◌≤◌, List, [], ◌∷◌, length, Option, refl, sym, subst, arith}
 use Rattle.stm_words.specs.View.{View, Sees}
 use Rattle.vac_model.specs.State.{State}
 use Rattle.vac_model.specs.declared.items.Kind.{Kind}
-use Rattle.vac_model.specs.declared.items.Kind.TheVariants.{Car, Flight, Room}
 use Rattle.vac_model.specs.State.{kind_number}
 use Rattle.tx_alloc.specs.Rows.{Rows}
 use Rattle.tx_tree.specs.declared.search.Entry.{Entry}
-use Rattle.tx_tree.specs.Table.{Table, HasTable, NextFound, row_of, row_above}
+use Rattle.tx_tree.specs.Table.{Table, NextFound, row_of, row_above}
 use Rattle.vac_records.specs.Items.{mem}
 use Rattle.vac_records.specs.Represents.{IsState}
-use Rattle.vac_records.specs.Holds.{HoldsState, OnlyRead}
-use Rattle.vac_records.specs.Steps.{kept_none, kept_both}
+use Rattle.vac_records.specs.Holds.{OnlyRead}
+use Rattle.vac_records.proofs.Shifts.{kind_small}
 use Rattle.vac_records.proofs.Bridges.{table_there}
-
-pub read_none : (s : View) → OnlyRead s s
-read_none s = record { kept = kept_none s; writes = refl }
-
-pub read_both : (s s' s'' : View) → OnlyRead s s' → OnlyRead s' s'' → OnlyRead s s''
-read_both s s' s'' h k = record { kept = kept_both s s' s'' h.kept k.kept; writes = k.writes ∙ h.writes }
-
--- a state stays where only reads are made
-pub state_read : (s s' : View) → OnlyRead s s' → HoldsState s → HoldsState s'
-state_read s s' r h = record {
-  inside = omega (arith, h.inside, r.kept.size);
-  small = omega (arith, h.small, r.kept.size);
-  under = λ image i. let t = h.under image (r.kept.seen image i) in (t.0, rw r.writes t.1);
-}
+pub use Rattle.vac_records.proofs.AfterReads.{read_none, read_both, held_on}
 
 pub kind_low : (kind : Kind) → kind_number kind < 4
-kind_low Car = omega arith
-kind_low Flight = omega arith
-kind_low Room = omega arith
+kind_low kind = omega (arith, kind_small kind)
 
 -- the table that a root word leads to
 pub table_at : (s : View) (image : List ℕ) (state : State) (i root : ℕ) → root ≡ 1 + i → i < 4 → (h : IsState (mem s image) (length image) state) → Table (mem s image) (length image) root (h.represents.parts.tables i)
 table_at s image state i root e l h =
     subst (λ (x : ℕ). Table (mem s image) (length image) x (h.represents.parts.tables i)) (sym e)
     (table_there (mem s image) (length image) [] state i h.represents (omega (arith, h.small.small)) l)
-
-pub has_table : (s : View) (i root : ℕ) → root ≡ 1 + i → i < 4 → HoldsState s → HasTable s root
-has_table s i root e l h = record {
-  small = h.small;
-  room = h.inside;
-  low = omega (arith, e, l);
-  under = λ image j. let t = h.under image j in record { entries = t.1.represents.parts.tables i; is = table_at s image t.0 i root e l t.1 };
-}
 
 -- the rows of the i-th table
 abbrev pub rows_of : (m : ℕ → ℕ) (n : ℕ) (state : State) → IsState m n state → ℕ → Rows

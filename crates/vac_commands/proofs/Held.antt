@@ -1,20 +1,19 @@
 -- Memories that hold a state: what reads leave, what the calls on blocks, tables and lists ask for,
 -- and how a command's outcome is shown.
-use Rattle.std.proofs.Common.{◌≡◌, ◌≢◌, ℕ, ◌+◌, ◌<◌, ◌≤◌, ◌^◌, List, [], length, Option, Some, None, true, refl, sym, ap, ◌∙◌, subst, arith}
+use Rattle.std.proofs.Common.{◌≡◌, ℕ, ◌+◌, ◌<◌, List, [], length, Some, None, true, refl, sym, ap, ◌∙◌, subst, arith}
 use Rattle.stm_words.specs.View.{View, Words, Sees, Kept, memory}
 use Rattle.vac_model.specs.declared.items.Kind.{Kind}
 use Rattle.vac_model.specs.declared.commands.Command.{Command}
 use Rattle.vac_model.specs.declared.replies.Reply.{Reply}
 use Rattle.vac_model.specs.State.{State, kind_number, item_of, bookings_of}
 use Rattle.vac_model.specs.Step.{Outcome, step}
-use Rattle.vac_model.specs.Fits.{IsSmall}
 use Rattle.vac_model.specs.Ranges.{is_command}
 use Rattle.vac_model.proofs.Kept.{small_after}
 use Rattle.tx_alloc.specs.Pool.{HasPool}
 use Rattle.tx_alloc.specs.Rows.{Rows, block_at}
 use Rattle.tx_tree.specs.Table.{HasTable}
 use Rattle.vac_records.specs.Items.{mem, item_in, IsNode}
-use Rattle.vac_records.specs.Steps.{kept_none, kept_both}
+use Rattle.vac_records.specs.Steps.{kept_both}
 use Rattle.vac_records.specs.Represents.{Represents, IsState}
 use Rattle.vac_records.specs.Holds.{HoldsState, OnlyRead}
 use Rattle.vac_records.specs.Laws.{HasBookings}
@@ -23,34 +22,11 @@ use Rattle.vac_records.proofs.Items.{item_found, item_missing}
 use Rattle.vac_records.proofs.Customers.{customer_found, customer_missing}
 use Rattle.vac_records.proofs.Single.{one_shape}
 use Rattle.vac_records.proofs.Bridges.{pool_there, table_there}
+pub use Rattle.vac_records.proofs.AfterReads.{read_none, read_both, state_on, state_back, held_on}
 use Rattle.vac_commands.specs.Entries.{item_block, customer_block, LacksItem, HasItemAt, LacksCustomer, HasCustomerAt, ItemsStay, CustomersStay}
 use Rattle.vac_model.specs.declared.replies.Reply.TheVariants as reply
 use Rattle.vac_model.specs.declared.commands.Command.TheVariants as command
 use Rattle.vac_commands.specs.Ran.{IsOutcome, Ran, Asked, Untouched, Idle}
-
--- reads, one after the other
-pub read_none : (s : View) → OnlyRead s s
-read_none s = record { kept = kept_none s; writes = refl }
-
-pub read_both : (s s' s'' : View) → OnlyRead s s' → OnlyRead s' s'' → OnlyRead s s''
-read_both s s' s'' h k = record {
-  kept = kept_both s s' s'' h.kept k.kept;
-  writes = k.writes ∙ h.writes;
-}
-
--- the state of a memory after reads is the one before
-pub state_on : (s s' : View) (image : List ℕ) (state : State) → s'.writes ≡ s.writes → IsState (mem s image) (length image) state → IsState (mem s' image) (length image) state
-state_on s s' image state w h = rw w h
-
-pub state_back : (s s' : View) (image : List ℕ) (state : State) → s'.writes ≡ s.writes → IsState (mem s' image) (length image) state → IsState (mem s image) (length image) state
-state_back s s' image state w h = rw (sym w) h
-
-pub held_on : (s s' : View) → OnlyRead s s' → HoldsState s → HoldsState s'
-held_on s s' r h = record {
-  inside = omega (arith, h.inside, r.kept.size);
-  small = omega (arith, h.small, r.kept.size);
-  under = λ image i. (let t = h.under image (r.kept.seen image i) in (t.0, state_on s s' image t.0 r.writes t.1));
-}
 
 -- the memory after a command holds a state
 pub held_ran : (s s' : View) (c : Command) (r : Reply) → Ran s s' c r → HoldsState s → HoldsState s'

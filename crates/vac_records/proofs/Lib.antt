@@ -22,3 +22,4 @@ pub mod Written
 pub mod Hanging
 pub mod Billing
 pub mod Bridges
+pub mod AfterReads

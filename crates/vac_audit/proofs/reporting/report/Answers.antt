@@ -1,18 +1,18 @@
-use Rattle.vac_audit.proofs.Held.{state_read}
+use Rattle.vac_audit.proofs.Held.{held_on}
 use Rattle.vac_audit.proofs.Reports.{reported}
 use Rattle.vac_audit.proofs.reporting.report.Goals as goal
 
 pub sum_items-requires-2 : goal.sum_items-requires-2
-sum_items-requires-2 g c = state_read _ _ c.in_ok-cars.ensures.answer.reads c.requires
+sum_items-requires-2 g c = held_on _ _ c.in_ok-cars.ensures.answer.reads c.requires
 
 pub sum_items-requires-3 : goal.sum_items-requires-3
 sum_items-requires-3 g c =
-    state_read _ _ c.in_ok-flights.ensures.answer.reads (state_read _ _ c.in_ok-cars.ensures.answer.reads c.requires)
+    held_on _ _ c.in_ok-flights.ensures.answer.reads (held_on _ _ c.in_ok-cars.ensures.answer.reads c.requires)
 
 pub sum_customers-requires : goal.sum_customers-requires
 sum_customers-requires g c =
-    state_read _ _ c.in_ok-rooms.ensures.answer.reads
-    (state_read _ _ c.in_ok-flights.ensures.answer.reads (state_read _ _ c.in_ok-cars.ensures.answer.reads c.requires))
+    held_on _ _ c.in_ok-rooms.ensures.answer.reads
+    (held_on _ _ c.in_ok-flights.ensures.answer.reads (held_on _ _ c.in_ok-cars.ensures.answer.reads c.requires))
 
 pub returns-clause-answer : goal.returns-clause-answer
 returns-clause-answer g c =
