@@ -1,9 +1,9 @@
 -- Readers over drawn words, put together.
-use Rattle.std.proofs.Common.{◌≡◌, refl, arith, ℕ, suc, ◌+◌, ◌%◌, ◌==◌, nat_lt, true, false, List, [], ◌∷◌, ◌++◌, Result, Ok, append_assoc}
+use Rattle.std.proofs.Common.{◌≡◌, ◌∙◌, refl, sym, ap, arith, Option, Some, None, ℕ, zero, suc, ◌+◌, ◌%◌, ◌==◌, nat_lt, true, false, List, [], ◌∷◌, ◌++◌, Result, Ok, append_assoc, append-nil}
 use Rattle.vac_model.specs.declared.tasks.Task.{Task}
 use Rattle.vac_load.specs.declared.settings.Settings.{Settings}
 use Rattle.vac_load.specs.declared.settings.TheConstants.{PERCENT}
-use Rattle.vac_load.specs.Draws.{Drew, Reader, always, below, after, joined, one, for_each, times, Reads, Drawn}
+use Rattle.vac_load.specs.Draws.{Drew, Reader, always, below, going_on, after, joined, one, for_each, times, Reads, Drawn}
 use Rattle.vac_load.specs.Tasks.{trip, leave, update, task_at, task_of, DrawnTask}
 
 drew_both : {D : Type 0} (leads : D → ℕ → D → Type 0) (a : D) (ws : List ℕ) (b : D) (us : List ℕ) (c : D) →
@@ -77,3 +77,45 @@ task_leave leads s r a t b e o q = rw e (rw o (record { task = t; drawn = q; bui
 pub task_update : {D E : Type 0} (leads : D → ℕ → D → Type 0) (s : Settings) (r : ℕ) (a : D) (result : Result Task E) (b : D) →
     nat_lt r s.user ≡ false → (r % 2 == 1) ≡ false → DrawnTask leads (update s) a result b → DrawnTask leads (task_at s r) a result b
 task_update leads s r a result b e o q = rw e (rw o q)
+
+-- of three readers in a row it does not matter which two are taken together
+third_of : {X : Type 0} (xs ys : List X) (o : Option (List X × List ℕ)) →
+    going_on o (λ zs. always ((xs ++ ys) ++ zs)) ≡ going_on (going_on o (λ zs. always (ys ++ zs))) (λ us. always (xs ++ us))
+third_of xs ys None = refl
+third_of xs ys (Some r) = ap (λ (l : List _). Some (l, r.1)) (append_assoc xs ys r.0)
+
+second_of : {X : Type 0} (c : Reader (List X)) (xs : List X) (o : Option (List X × List ℕ)) →
+    going_on (going_on o (λ ys. always (xs ++ ys))) (λ us. after c (λ zs. always (us ++ zs)))
+    ≡ going_on (going_on o (λ ys. after c (λ zs. always (ys ++ zs)))) (λ us. always (xs ++ us))
+second_of c xs None = refl
+second_of c xs (Some r) = third_of xs r.0 (c r.1)
+
+first_of : {X : Type 0} (b c : Reader (List X)) (o : Option (List X × List ℕ)) →
+    going_on (going_on o (λ xs. after b (λ ys. always (xs ++ ys)))) (λ us. after c (λ zs. always (us ++ zs)))
+    ≡ going_on o (λ xs. after (joined b c) (λ us. always (xs ++ us)))
+first_of b c None = refl
+first_of b c (Some r) = second_of c r.0 (b r.1)
+
+joined_assoc : {X : Type 0} (a b c : Reader (List X)) (ws : List ℕ) → joined (joined a b) c ws ≡ joined a (joined b c) ws
+joined_assoc a b c ws = first_of b c (a ws)
+
+none_after : {X : Type 0} (o : Option (List X × List ℕ)) → o ≡ going_on o (λ xs. after (always []) (λ ys. always (xs ++ ys)))
+none_after None = refl
+none_after (Some r) = ap (λ (l : List _). Some (l, r.1)) (sym (append-nil r.0))
+
+-- so many of them, and then so many more
+times_both : {X : Type 0} (n m : ℕ) (reader : Reader X) (ws : List ℕ) → times (n + m) reader ws ≡ joined (times n reader) (times m reader) ws
+times_both n zero reader ws =
+    let e : n + 0 ≡ n = omega arith in
+    ap (λ (k : ℕ). times k reader ws) e ∙ none_after (times n reader ws)
+times_both n (suc m) reader ws =
+    let e : n + suc m ≡ suc (n + m) = omega arith in
+    ap (λ (k : ℕ). times k reader ws) e
+    ∙ (ap (λ (o : Option (List _ × List ℕ)). going_on o (λ xs. after (one reader) (λ ys. always (xs ++ ys)))) (times_both n m reader ws)
+    ∙ joined_assoc (times n reader) (times m reader) (one reader) ws)
+
+pub drawn_both : {D X : Type 0} (leads : D → ℕ → D → Type 0) (n m : ℕ) (reader : Reader X) (a : D) (xs : List X) (b : D) (ys : List X) (c : D) →
+    Drawn leads (times n reader) a xs b → Drawn leads (times m reader) b ys c → Drawn leads (times (n + m) reader) a (xs ++ ys) c
+drawn_both leads n m reader a xs b ys c p q =
+    let d = drawn_joined leads (times n reader) (times m reader) a xs b ys c p q in
+    record { words = d.words; drew = d.drew; reads = λ rest. times_both n m reader (d.words ++ rest) ∙ d.reads rest }

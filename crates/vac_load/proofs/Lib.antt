@@ -1,9 +1,12 @@
+mod Order
 mod Answering
 mod Drawing
+mod Ranges
 mod Opened
 mod Turning
 mod Pairs
 mod Words
 mod Gatherings
 mod Shares
+mod Joining
 mod Loads

@@ -1,5 +1,6 @@
 -- A load as a whole: the opening, the clients, and the report.
-use Rattle.std.proofs.Common.{◌≡◌, ◌∙◌, ℕ, suc, ◌+◌, ◌*◌, List, [], ◌∷◌, ◌++◌, length, map, refl, sym, ap, subst, arith}
+use Rattle.std.proofs.Common.{◌≡◌, ◌∙◌, ℕ, suc, ◌+◌, ◌*◌, ◌-◌, ◌/◌, List, [], ◌∷◌, ◌++◌, length, map, ap, subst, arith}
+use Rattle.stm_words.specs.Image.{In}
 use Rattle.stm_core.specs.Client.{Client, Record}
 use Rattle.stm_region.specs.Shown.{RegionShown}
 use Rattle.vac_model.specs.declared.replies.Report.{Report}
@@ -12,54 +13,57 @@ use Rattle.vac_load.specs.declared.settings.Settings.{Settings}
 use Rattle.vac_load.specs.declared.tally.Tally.{Tally}
 use Rattle.vac_load.specs.Tasks.{opening}
 use Rattle.vac_load.specs.Opening.{Ran}
-use Rattle.vac_load.specs.Looping.{total}
-use Rattle.vac_load.specs.Sums.{sum_of, added_up}
+use Rattle.vac_load.specs.Draws.{Reader}
+use Rattle.vac_model.specs.declared.commands.Command.{Command}
 use Rattle.std.specs.Prelude.{Result, Ok, Err, IfOk}
 use Rattle.rand_pcg.specs.Lcg.{Lcg}
 use Rattle.vac_load.specs.declared.load.LoadReport.{LoadReport}
 use Rattle.vac_load.specs.declared.load.LoadFault.{LoadFault}
 use Rattle.vac_load.specs.Streams.{stream_of, streams_of, gives, LoadedBySeed}
-use Rattle.vac_load.specs.Load.{Paired, none, both, Share, HasShare, AmongAll, RanAll, Loaded}
+use Rattle.vac_load.specs.Load.{Paired, none, both, AreKnown, HasShare, RanAll, Loaded}
+use Rattle.vac_load.proofs.Order.{added_known}
+use Rattle.vac_load.proofs.Joining.{ran_total}
 
--- tallies of so many tasks each
-total_of : {D P : Type 0} (leads : D → ℕ → D → Type 0) (s : Settings) (floor : ℕ) (draws_of : P → D) (pairs : List P) (shares : List Share) →
-    Paired (λ p x. HasShare leads s floor (draws_of p) x) pairs shares → total (added_up (λ x. x.tally) shares) ≡ length pairs * s.tasks
-total_of leads s floor draws_of [] [] none = omega arith
-total_of leads s floor draws_of (p ∷ pairs) (x ∷ shares) (both h hs) = counts (total_of leads s floor draws_of pairs shares hs) h.all
-  where
-    counts : total (added_up (λ y. y.tally) shares) ≡ length pairs * s.tasks → total x.tally ≡ s.tasks → total (added_up (λ y. y.tally) (x ∷ shares)) ≡ suc (length pairs) * s.tasks
-    counts e f = omega (arith, e, f)
-total_of leads s floor draws_of [] (x ∷ shares) hs = elim hs [ ]
-total_of leads s floor draws_of (p ∷ pairs) [] hs = elim hs [ ]
+-- what an opening added is known to its client
+pub opened_known : {D : Type 0} (leads : D → ℕ → D → Type 0) (renewal : ℕ) (reader : Reader (List Command)) (v v' : Client) (state last : D) → v.records ≡ [] → Ran leads renewal reader v v' state last → AreKnown renewal v'.floor v'.records
+opened_known leads renewal reader v v' state last empty ran = λ r i.
+    (let a = ran.answered in
+    let all : v'.records ≡ a.added = a.records ∙ ap (λ (l : List Record). l ++ a.added) empty in
+    added_known renewal v.floor v'.floor r (a.each r (subst (λ (l : List Record). In r l) all i)))
 
-pub loaded : {D P : Type 0} (leads : D → ℕ → D → Type 0) (s : Settings) (draws_of : P → D) (state last : D) (pairs : List P) (stripes : ℕ) (region : RegionShown) (opener : CallerShown) (ready after : Client) (t : Tally) (words : List ℕ) (version : ℕ) (r : Report) →
+pub loaded : {D P : Type 0} (leads : D → ℕ → D → Type 0) (s : Settings) (draws_of : P → D) (state last : D) (pairs left : List P) (stripes : ℕ) (region region' : RegionShown) (opener : CallerShown) (ready after : Client) (t : Tally) (words : List ℕ) (version : ℕ) (r : Report) →
     length pairs ≡ s.clients →
     Opens s.blocks s.last stripes region opener →
-    Ran leads (opening s) opener.value ready state last →
-    RanAll leads s draws_of ready pairs after t →
-    Closes region after words version →
+    Ran leads region.renewal (opening s) opener.value ready state last →
+    RanAll leads s draws_of (s.rounds * s.tasks) ready.records pairs after.records left t →
+    region'.size ≡ region.size →
+    Closes region' after words version →
     ((x : State) → Shows words x → report x ≡ r) →
     Loaded leads s draws_of state pairs t r
-loaded leads s draws_of state last pairs stripes region opener ready after t words version r n opens ran all closes shows =
+loaded leads s draws_of state last pairs left stripes region region' opener ready after t words version r n opens ran all size closes shows =
     let added = ran.answered.added in
     let records : ready.records ≡ added = ran.answered.records ∙ ap (λ (c : CallerShown). c.value.records ++ added) opens.client_is in
+    let capacity : capacity_of region' ≡ s.blocks = ap (λ (k : ℕ). (k - 16) / 8) size ∙ opens.capacity in
+    let count : s.clients * (s.rounds * s.tasks) ≡ s.rounds * s.clients * s.tasks = grind arith in
     record {
       history = after.records;
       last = closes.last;
-      legal = subst (λ (k : ℕ). IsLegal (empty_state k) after.records closes.last) opens.capacity closes.legal;
+      legal = subst (λ (k : ℕ). IsLegal (empty_state k) after.records closes.last) capacity closes.legal;
       shown = shows closes.last closes.shown;
+      opened = added;
+      rest = all.rest;
+      opening_first = all.behind ∙ ap (λ (l : List Record). l ++ all.rest) records;
+      rounds_in_order = closes.ends.sorted;
       commands = ran.commands;
       drawn = last;
       opening_is = ran.drawn;
-      opened = added;
       opened_are = ran.answered.are_of;
-      floor = ready.floor;
       shares = all.shares;
       each = all.each;
-      among = subst (λ (l : List Record). AmongAll l all.shares after.records) records all.among;
-      number = all.number ∙ ap (λ (l : List Record). length l + sum_of (λ x. length x.records) all.shares) records;
+      among = all.among;
+      number = all.number;
       tallies = all.tallies;
-      all = ap (λ (u : Tally). total u) all.tallies ∙ (total_of leads s ready.floor draws_of pairs all.shares all.each ∙ ap (λ (k : ℕ). k * s.tasks) n);
+      all = ran_total leads s draws_of (s.rounds * s.tasks) ready.records after.records pairs left t all ∙ (ap (λ (k : ℕ). k * (s.rounds * s.tasks)) n ∙ count);
     }
 
 -- what holds between images and elements holds between the list of images and the elements
@@ -77,14 +81,16 @@ loaded_by leads s draws_of state pairs states t r e h = record {
   last = h.last;
   legal = h.legal;
   shown = h.shown;
+  opened = h.opened;
+  rest = h.rest;
+  opening_first = h.opening_first;
+  rounds_in_order = h.rounds_in_order;
   commands = h.commands;
   drawn = h.drawn;
   opening_is = h.opening_is;
-  opened = h.opened;
   opened_are = h.opened_are;
-  floor = h.floor;
   shares = h.shares;
-  each = subst (λ ds. Paired (λ d x. HasShare leads s h.floor d x) ds h.shares) e (paired_map draws_of (λ d x. HasShare leads s h.floor d x) pairs h.shares h.each);
+  each = subst (λ ds. Paired (λ d x. HasShare leads s (s.rounds * s.tasks) d x) ds h.shares) e (paired_map draws_of (λ d x. HasShare leads s (s.rounds * s.tasks) d x) pairs h.shares h.each);
   among = h.among;
   number = h.number;
   tallies = h.tallies;

@@ -13,59 +13,59 @@ use Rattle.vac_load.specs.Opening.{as_tasks, Ran}
 use Rattle.vac_load.proofs.Drawing.{plus_one, drawn_always, drawn_then_always, drawn_joined}
 use Rattle.vac_load.proofs.Answering.{answered_quiet, answered_both}
 
-pub ran_none : {D : Type 0} (leads : D → ℕ → D → Type 0) (f : ℕ → Reader (List Command)) (v : Client) (a : D) → Ran leads (for_each 0 f) v v a a
-ran_none leads f v a = record {
+pub ran_none : {D : Type 0} (leads : D → ℕ → D → Type 0) (renewal : ℕ) (f : ℕ → Reader (List Command)) (v : Client) (a : D) → Ran leads renewal (for_each 0 f) v v a a
+ran_none leads renewal f v a = record {
   commands = [];
   drawn = drawn_always leads a [];
-  answered = answered_quiet v v refl (omega arith) refl;
+  answered = answered_quiet renewal v v refl (omega arith) refl;
 }
 
-pub ran_joined : {D : Type 0} (leads : D → ℕ → D → Type 0) (first second : Reader (List Command)) (v w u : Client) (a b c : D) →
-    Ran leads first v w a b → Ran leads second w u b c → Ran leads (joined first second) v u a c
-ran_joined leads first second v w u a b c p q = record {
+pub ran_joined : {D : Type 0} (leads : D → ℕ → D → Type 0) (renewal : ℕ) (first second : Reader (List Command)) (v w u : Client) (a b c : D) →
+    Ran leads renewal first v w a b → Ran leads renewal second w u b c → Ran leads renewal (joined first second) v u a c
+ran_joined leads renewal first second v w u a b c p q = record {
   commands = p.commands ++ q.commands;
   drawn = drawn_joined leads first second a p.commands b q.commands c p.drawn q.drawn;
   answered = rw (map-append (λ c. One c) p.commands q.commands)
-      (answered_both (as_tasks p.commands) (as_tasks q.commands) v w u p.answered q.answered);
+      (answered_both renewal (as_tasks p.commands) (as_tasks q.commands) v w u p.answered q.answered);
 }
 
-pub ran_more : {D : Type 0} (leads : D → ℕ → D → Type 0) (n : ℕ) (f : ℕ → Reader (List Command)) (v w u : Client) (a b c : D) →
-    Ran leads (for_each n f) v w a b → Ran leads (f (n + 1)) w u b c → Ran leads (for_each (n + 1) f) v u a c
-ran_more leads n f v w u a b c =
-    rw (plus_one n) (λ p q. ran_joined leads (for_each n f) (f (suc n)) v w u a b c p q)
+pub ran_more : {D : Type 0} (leads : D → ℕ → D → Type 0) (renewal : ℕ) (n : ℕ) (f : ℕ → Reader (List Command)) (v w u : Client) (a b c : D) →
+    Ran leads renewal (for_each n f) v w a b → Ran leads renewal (f (n + 1)) w u b c → Ran leads renewal (for_each (n + 1) f) v u a c
+ran_more leads renewal n f v w u a b c =
+    rw (plus_one n) (λ p q. ran_joined leads renewal (for_each n f) (f (suc n)) v w u a b c p q)
 
 -- where a call was answered, its commands were run
-pub ran_if_ok : {D E : Type 0} (leads : D → ℕ → D → Type 0) (reader : Reader (List Command)) (command : Command) (v v' : Client) (a b : D) (result : Result (Unit {0}) E) →
-    Drawn leads reader a (command ∷ []) b → IfOk result (λ _. Answered (One command ∷ []) v v') → IfOk result (λ _. Ran leads reader v v' a b)
-ran_if_ok leads reader command v v' a b (Ok x) p q = record { commands = command ∷ []; drawn = p; answered = q }
-ran_if_ok leads reader command v v' a b (Err e) p q = tt
+pub ran_if_ok : {D E : Type 0} (leads : D → ℕ → D → Type 0) (renewal : ℕ) (reader : Reader (List Command)) (command : Command) (v v' : Client) (a b : D) (result : Result (Unit {0}) E) →
+    Drawn leads reader a (command ∷ []) b → IfOk result (λ _. Answered renewal (One command ∷ []) v v') → IfOk result (λ _. Ran leads renewal reader v v' a b)
+ran_if_ok leads renewal reader command v v' a b (Ok x) p q = record { commands = command ∷ []; drawn = p; answered = q }
+ran_if_ok leads renewal reader command v v' a b (Err e) p q = tt
 
 -- where the last of two was answered, both were run
-pub ran_both : {D E : Type 0} (leads : D → ℕ → D → Type 0) (first second : Reader (List Command)) (v w u : Client) (a b c : D) (result : Result (Unit {0}) E) →
-    Ran leads first v w a b → IfOk result (λ _. Ran leads second w u b c) → IfOk result (λ _. Ran leads (joined first second) v u a c)
-ran_both leads first second v w u a b c (Ok x) p q = ran_joined leads first second v w u a b c p q
-ran_both leads first second v w u a b c (Err e) p q = tt
+pub ran_both : {D E : Type 0} (leads : D → ℕ → D → Type 0) (renewal : ℕ) (first second : Reader (List Command)) (v w u : Client) (a b c : D) (result : Result (Unit {0}) E) →
+    Ran leads renewal first v w a b → IfOk result (λ _. Ran leads renewal second w u b c) → IfOk result (λ _. Ran leads renewal (joined first second) v u a c)
+ran_both leads renewal first second v w u a b c (Ok x) p q = ran_joined leads renewal first second v w u a b c p q
+ran_both leads renewal first second v w u a b c (Err e) p q = tt
 
-pub customers_more : (n : ℕ) (v w u : Client) → Answered (as_tasks (customers n)) v w → Answered (One (NewCustomer (n + 1)) ∷ []) w u → Answered (as_tasks (customers (n + 1))) v u
-customers_more n v w u = rw (plus_one n) (λ p q. rw (map-append (λ c. One c) (customers n) (NewCustomer (suc n) ∷ []))
-    (answered_both (as_tasks (customers n)) (One (NewCustomer (suc n)) ∷ []) v w u p q))
+pub customers_more : (renewal n : ℕ) (v w u : Client) → Answered renewal (as_tasks (customers n)) v w → Answered renewal (One (NewCustomer (n + 1)) ∷ []) w u → Answered renewal (as_tasks (customers (n + 1))) v u
+customers_more renewal n v w u = rw (plus_one n) (λ p q. rw (map-append (λ c. One c) (customers n) (NewCustomer (suc n) ∷ []))
+    (answered_both renewal (as_tasks (customers n)) (One (NewCustomer (suc n)) ∷ []) v w u p q))
 
 -- the items were added, and then the first n customers were made
-pub record Opening {D : Type 0} (leads : D → ℕ → D → Type 0) (m n : ℕ) (v u : Client) (a b : D) : Type 0 where
+pub record Opening {D : Type 0} (leads : D → ℕ → D → Type 0) (renewal : ℕ) (m n : ℕ) (v u : Client) (a b : D) : Type 0 where
   pub between : Client
-  pub items : Ran leads (for_each m stocks) v between a b
-  pub made : Answered (as_tasks (customers n)) between u
+  pub items : Ran leads renewal (for_each m stocks) v between a b
+  pub made : Answered renewal (as_tasks (customers n)) between u
 
-pub opening_none : {D : Type 0} (leads : D → ℕ → D → Type 0) (m : ℕ) (v w : Client) (a b : D) → Ran leads (for_each m stocks) v w a b → Opening leads m 0 v w a b
-opening_none leads m v w a b p = record { between = w; items = p; made = answered_quiet w w refl (omega arith) refl }
+pub opening_none : {D : Type 0} (leads : D → ℕ → D → Type 0) (renewal : ℕ) (m : ℕ) (v w : Client) (a b : D) → Ran leads renewal (for_each m stocks) v w a b → Opening leads renewal m 0 v w a b
+opening_none leads renewal m v w a b p = record { between = w; items = p; made = answered_quiet renewal w w refl (omega arith) refl }
 
-pub opening_more : {D : Type 0} (leads : D → ℕ → D → Type 0) (m n : ℕ) (v w u : Client) (a b : D) → Opening leads m n v w a b → Answered (One (NewCustomer (n + 1)) ∷ []) w u → Opening leads m (n + 1) v u a b
-opening_more leads m n v w u a b p q = record { between = p.between; items = p.items; made = customers_more n p.between w u p.made q }
+pub opening_more : {D : Type 0} (leads : D → ℕ → D → Type 0) (renewal : ℕ) (m n : ℕ) (v w u : Client) (a b : D) → Opening leads renewal m n v w a b → Answered renewal (One (NewCustomer (n + 1)) ∷ []) w u → Opening leads renewal m (n + 1) v u a b
+opening_more leads renewal m n v w u a b p q = record { between = p.between; items = p.items; made = customers_more renewal n p.between w u p.made q }
 
-pub opening_all : {D : Type 0} (leads : D → ℕ → D → Type 0) (s : Settings) (v u : Client) (a b : D) → Opening leads s.items s.items v u a b → Ran leads (opening s) v u a b
-opening_all leads s v u a b p = record {
+pub opening_all : {D : Type 0} (leads : D → ℕ → D → Type 0) (renewal : ℕ) (s : Settings) (v u : Client) (a b : D) → Opening leads renewal s.items s.items v u a b → Ran leads renewal (opening s) v u a b
+opening_all leads renewal s v u a b p = record {
   commands = p.items.commands ++ customers s.items;
   drawn = drawn_then_always leads (for_each s.items stocks) (λ items. items ++ customers s.items) a p.items.commands b p.items.drawn;
   answered = rw (map-append (λ c. One c) p.items.commands (customers s.items))
-      (answered_both (as_tasks p.items.commands) (as_tasks (customers s.items)) v p.between u p.items.answered p.made);
+      (answered_both renewal (as_tasks p.items.commands) (as_tasks (customers s.items)) v p.between u p.items.answered p.made);
 }

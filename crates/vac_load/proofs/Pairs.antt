@@ -39,6 +39,10 @@ no_more (x ∷ xs) e = absurd (omega arith)
 pub paired_all : {A B : Type 0} (related : A → B → Type 0) (all xs rest : List A) (ys : List B) → all ≡ xs ++ rest → length rest ≡ 0 → Paired related xs ys → Paired related all ys
 paired_all related all xs rest ys e n p = subst (λ (l : List _). Paired related l ys) (sym (e ∙ (ap (λ (r : List _). xs ++ r) (no_more rest n) ∙ append-nil xs))) p
 
+-- all of them were met
+pub all_met : {A : Type 0} (all xs rest : List A) → all ≡ xs ++ rest → length rest ≡ 0 → xs ≡ all
+all_met all xs rest e n = sym (e ∙ (ap (λ (r : List _). xs ++ r) (no_more rest n) ∙ append-nil xs))
+
 -- the first of what is left goes over
 pub one_on : {A : Type 0} (all xs rest rest' : List A) (x : A) → all ≡ xs ++ rest → rest ≡ x ∷ rest' → all ≡ (xs ++ (x ∷ [])) ++ rest'
 one_on all xs rest rest' x e f = e ∙ (ap (λ (l : List _). xs ++ l) f ∙ sym (append_assoc xs (x ∷ []) rest'))
@@ -50,14 +54,15 @@ pub all_but_first : {A : Type 0} (P : A → Type 0) (xs ys : List A) (x : A) →
 all_but_first P xs ys x e h = let g : All P (x ∷ ys) = subst (λ (l : List _). All P l) e h in λ k d less. g (suc k) d (omega (arith, less))
 
 -- promises of work that were kept
-pub worked_through : {D W H R : Type 0} (leads : D → ℕ → D → Type 0) (s : Settings) (client : W → CallerShown) (draws : W → D) (promise : H → WorkOf D) (after : R → CallerShown) (last : R → D) (tally : R → Tally) (ws : List W) (hs : List H) (rs : List R) →
-    Paired (λ w h. IsPromise s (client w) (draws w) (promise h)) ws hs →
-    Paired (λ h r. HasWorked leads (promise h).settings (promise h).client.value (after r) (promise h).draws.value (last r) (tally r)) hs rs →
-    Paired (λ w r. HasWorked leads s (client w) (after r) (draws w) (last r) (tally r)) ws rs
-worked_through leads s client draws promise after last tally ws hs rs = paired_through _ _ _ (λ w h r p k.
-    subst (λ (x : Settings). HasWorked leads x (client w) (after r) (draws w) (last r) (tally r)) p.settings_is
-    (subst (λ (x : CallerShown). HasWorked leads (promise h).settings x (after r) (draws w) (last r) (tally r)) p.client_is
-    (subst (λ (x : _). HasWorked leads (promise h).settings (promise h).client.value (after r) x (last r) (tally r)) p.draws_is k))) ws hs rs
+pub worked_through : {D W H R : Type 0} (leads : D → ℕ → D → Type 0) (s : Settings) (renewal : ℕ) (client : W → CallerShown) (draws : W → D) (promise : H → WorkOf D) (after : R → CallerShown) (last : R → D) (tally : R → Tally) (ws : List W) (hs : List H) (rs : List R) →
+    Paired (λ w h. IsPromise s renewal (client w) (draws w) (promise h)) ws hs →
+    Paired (λ h r. HasWorked leads (promise h).settings (promise h).manager.value.renewal (promise h).client.value (after r) (promise h).draws.value (last r) (tally r)) hs rs →
+    Paired (λ w r. HasWorked leads s renewal (client w) (after r) (draws w) (last r) (tally r)) ws rs
+worked_through leads s renewal client draws promise after last tally ws hs rs = paired_through _ _ _ (λ w h r p k.
+    subst (λ (x : Settings). HasWorked leads x renewal (client w) (after r) (draws w) (last r) (tally r)) p.settings_is
+    (subst (λ (n : ℕ). HasWorked leads (promise h).settings n (client w) (after r) (draws w) (last r) (tally r)) p.renewal_is
+    (subst (λ (x : CallerShown). HasWorked leads (promise h).settings (promise h).manager.value.renewal x (after r) (draws w) (last r) (tally r)) p.client_is
+    (subst (λ (x : _). HasWorked leads (promise h).settings (promise h).manager.value.renewal (promise h).client.value (after r) x (last r) (tally r)) p.draws_is k)))) ws hs rs
 
 pub all_first : {A : Type 0} (P : A → Type 0) (xs ys : List A) (x : A) → xs ≡ x ∷ ys → All P xs → P x
 all_first P xs ys x e h = let g : All P (x ∷ ys) = subst (λ (l : List _). All P l) e h in g 0 x (omega arith)

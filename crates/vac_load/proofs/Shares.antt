@@ -1,8 +1,12 @@
 -- What each client did, from its client before and after.
-use Rattle.std.proofs.Common.{◌≡◌, ◌∙◌, ◌<◌, ℕ, zero, suc, ◌+◌, ◌-◌, ◌*◌, ◌≤◌, List, [], ◌∷◌, ◌++◌, length, length-append, slice_index_or, All, refl, sym, ap, subst, arith}
+use Rattle.std.proofs.Common.{◌≡◌, ◌∙◌, ◌<◌, ℕ, zero, suc, ◌+◌, ◌-◌, ◌≤◌, List, [], ◌∷◌, ◌++◌, length, slice_index_or, All, refl, sym, ap, subst, arith}
 use Rattle.atomic_table.specs.Seated.{TableId}
-use Rattle.stm_core.specs.Client.{Client, Record}
+use Rattle.stm_words.specs.Image.{In}
+use Rattle.stm_core.specs.Client.{Client, Record, merged}
 use Rattle.stm_core.specs.History.{Sub}
+use Rattle.stm_core.specs.Invariant.{Sorted}
+use Rattle.stm_core.proofs.Merging.{sub_same, sub_trans, sub_left}
+use Rattle.stm_core.proofs.Whole.{merged_sorted, sorted_right}
 use Rattle.vac_manager.specs.Called.{CallerShown, Splits}
 use Rattle.vac_load.specs.declared.settings.Settings.{Settings}
 use Rattle.vac_load.specs.declared.tally.Tally.{Tally}
@@ -10,7 +14,10 @@ use Rattle.vac_load.specs.Looping.{total}
 use Rattle.vac_load.specs.Draws.{Drawn, times}
 use Rattle.vac_load.specs.Tasks.{task_of}
 use Rattle.vac_load.specs.Sums.{sum_of, plus, added_up}
-use Rattle.vac_load.specs.Load.{Paired, none, both, SubEach, Gathered, HasWorked, IsHired, Hired, Share, HasShare, AmongAll, RanAll}
+use Rattle.vac_load.specs.Load.{Paired, none, both, SubEach, all_merged, Gathered, HasWorked, IsHired, Hired, AreKnown, Share, HasShare, RanAll}
+use Rattle.vac_load.proofs.Order.{IsLater, added_later, known_first, merged_behind}
+use Rattle.vac_load.proofs.Gatherings.{length_merged}
+use Rattle.vac_load.proofs.Pairs.{paired_through}
 
 -- a client that was split off
 pub split_hired : {D : Type 0} (c before after other : CallerShown) (state : D) → Splits before after other → before.table ≡ c.table → before.value.floor ≡ c.value.floor →
@@ -62,88 +69,128 @@ paired_both related P Q f [] (y ∷ ys) h p = elim p [ ]
 paired_both related P Q f (x ∷ xs) [] h p = elim p [ ]
 
 -- the records that a client added, and that they stand behind those that it had
-pub record Did {D : Type 0} (leads : D → ℕ → D → Type 0) (s : Settings) (before : List Record) (floor : ℕ) (state : D) (after : CallerShown) (t : Tally) : Type 0 where
+pub record Did {D : Type 0} (leads : D → ℕ → D → Type 0) (s : Settings) (renewal floor : ℕ) (before : List Record) (state left : D) (after : CallerShown) (t : Tally) : Type 0 where
   pub added : List Record
-  pub behind : after.value.records ≡ before ++ added
-  pub has : HasShare leads s floor state (record { records = added; tally = t })
+  pub records_are : after.value.records ≡ before ++ added
+  pub sorted : Sorted added
+  pub later : (r : Record) → In r added → IsLater renewal floor r
+  pub has : HasShare leads s s.tasks state (record { records = added; tally = t; left = left })
 
-pub did : {D : Type 0} (leads : D → ℕ → D → Type 0) (s : Settings) (table : TableId) (before : List Record) (floor : ℕ) (state draws last : D) (c c' : CallerShown) (t : Tally) →
-    IsHired table before floor state c draws → HasWorked leads s c c' draws last t → Did leads s before floor state c' t
-did leads s table before floor state draws last c c' t h w =
+pub did : {D : Type 0} (leads : D → ℕ → D → Type 0) (s : Settings) (renewal floor : ℕ) (table : TableId) (before : List Record) (state draws left : D) (c c' : CallerShown) (t : Tally) →
+    IsHired table before floor state c draws → HasWorked leads s renewal c c' draws left t → Did leads s renewal floor before state left c' t
+did leads s renewal floor table before state draws left c c' t h w =
     let l = w.looped in
     let a = l.answered in
     record {
       added = a.added;
-      behind = a.records ∙ ap (λ (rs : List Record). rs ++ a.added) h.records_are;
+      records_are = a.records ∙ ap (λ (rs : List Record). rs ++ a.added) h.records_are;
+      sorted = a.sorted;
+      later = λ r i. added_later renewal floor c.value.floor c'.value.floor r h.knows (a.each r i);
       has = record {
         tasks = l.tasks;
-        last = last;
-        drawn = subst (λ (x : _). Drawn leads (times s.tasks (task_of s)) x l.tasks last) h.draws_are l.drawn;
+        drawn = subst (λ (x : _). Drawn leads (times s.tasks (task_of s)) x l.tasks left) h.draws_are l.drawn;
         answered = l.done;
         among = l.among;
         number = l.number;
         are_of = a.are_of;
-        later = λ r i. (let q = a.later r i in let k = h.knows in omega (arith, q, k));
         all = l.all;
       };
     }
 
-module _ {D P W R : Type 0} (leads : D → ℕ → D → Type 0) (s : Settings) (draws_of : P → D) (client_of : W → CallerShown) (drawing : W → D) (after_of : R → CallerShown) (last_of : R → D) (tally_of : R → Tally) where
-  records_of : R → List Record
-  records_of r = (after_of r).value.records
+-- each share's records stand in order, behind all that is known
+abbrev AreLater : {D : Type 0} → ℕ → ℕ → List (Share D) → Type 0
+AreLater renewal floor [] = Unit {0}
+AreLater renewal floor (x ∷ xs) = (Sorted x.records × ((r : Record) → In r x.records → IsLater renewal floor r)) × AreLater renewal floor xs
 
+-- they are merged behind all that is known
+merged_front : {D : Type 0} (renewal floor : ℕ) (o l : List Record) (xs : List (Share D)) → AreKnown renewal floor o → AreLater renewal floor xs →
+    all_merged (λ (x : Share D). x.records) (o ++ l) xs ≡ o ++ all_merged (λ (x : Share D). x.records) l xs
+merged_front renewal floor o l [] k h = refl
+merged_front {D} renewal floor o l (x ∷ xs) k h =
+    ap (λ (m : List Record). all_merged (λ (y : Share D). y.records) m xs) (merged_behind o l x.records (λ a b i j. known_first renewal floor a b (k a i) (h.0.1 b j)))
+    ∙ merged_front renewal floor o (merged l x.records) xs k h.1
+
+-- merged lists stand in the merge in their order, and it has no others
+record Within {D : Type 0} (l : List Record) (xs : List (Share D)) : Type 0 where
+  first : Sub l (all_merged (λ (x : Share D). x.records) l xs)
+  each : SubEach (λ (x : Share D). x.records) xs (all_merged (λ (x : Share D). x.records) l xs)
+  number : length (all_merged (λ (x : Share D). x.records) l xs) ≡ length l + sum_of (λ (x : Share D). length x.records) xs
+
+within : {D : Type 0} (renewal floor : ℕ) (l : List Record) (xs : List (Share D)) → Sorted l → AreLater renewal floor xs → Within l xs
+within renewal floor l [] s h = record { first = sub_same l; each = tt; number = omega arith }
+within renewal floor l (x ∷ xs) s h =
+    let m = within renewal floor (merged l x.records) xs (merged_sorted l x.records s) h.1 in
+    let long = length_merged l x.records in
+    record {
+      first = sub_trans (sub_left l x.records) m.first;
+      each = (sub_trans (sorted_right l x.records s h.0.0) m.first, m.each);
+      number = omega (arith, long, m.number);
+    }
+
+module _ {D P W R : Type 0} (leads : D → ℕ → D → Type 0) (s : Settings) (renewal : ℕ) (draws_of : P → D) (client_of : W → CallerShown) (drawing : W → D) (after_of : R → CallerShown) (last_of : R → D) (tally_of : R → Tally) where
   -- the shares of the clients that began without records
-  record Shared (floor : ℕ) (ps : List P) (rs : List R) (all : List Record) : Type 0 where
-    shares : List Share
-    each : Paired (λ p x. HasShare leads s floor (draws_of p) x) ps shares
-    among : SubEach (λ x. x.records) shares all
-    number : sum_of (λ r. length ((after_of r).value.records)) rs ≡ sum_of (λ x. length x.records) shares
-    tallies : added_up tally_of rs ≡ added_up (λ x. x.tally) shares
+  record Shared (floor : ℕ) (ps : List P) (rs : List R) : Type 0 where
+    shares : List (Share D)
+    each : Paired (λ p x. HasShare leads s s.tasks (draws_of p) x) ps shares
+    left_are : Paired (λ x r. last_of r ≡ x.left) shares rs
+    later : AreLater renewal floor shares
+    merges : (l : List Record) → all_merged (λ r. (after_of r).value.records) l rs ≡ all_merged (λ (x : Share D). x.records) l shares
+    tallies : added_up tally_of rs ≡ added_up (λ (x : Share D). x.tally) shares
 
-  shared : (table : TableId) (floor : ℕ) (ps : List P) (ws : List W) (rs : List R) (all : List Record) →
+  shared : (table : TableId) (floor : ℕ) (ps : List P) (ws : List W) (rs : List R) →
       Paired (λ p w. IsHired table [] floor (draws_of p) (client_of w) (drawing w)) ps ws →
-      Paired (λ w r. HasWorked leads s (client_of w) (after_of r) (drawing w) (last_of r) (tally_of r)) ws rs →
-      SubEach (λ r. (after_of r).value.records) rs all → Shared floor ps rs all
-  shared table floor [] [] [] all none none sub = record { shares = []; each = none; among = tt; number = refl; tallies = refl }
-  shared table floor (p ∷ ps) (w ∷ ws) (r ∷ rs) all (both h hs) (both k ks) sub =
-      let d = did leads s table [] floor (draws_of p) (drawing w) (last_of r) (client_of w) (after_of r) (tally_of r) h k in
-      let more = shared table floor ps ws rs all hs ks sub.1 in
-      let long : length ((after_of r).value.records) ≡ length d.added = ap length d.behind in
+      Paired (λ w r. HasWorked leads s renewal (client_of w) (after_of r) (drawing w) (last_of r) (tally_of r)) ws rs →
+      Shared floor ps rs
+  shared table floor [] [] [] none none = record { shares = []; each = none; left_are = none; later = tt; merges = λ l. refl; tallies = refl }
+  shared table floor (p ∷ ps) (w ∷ ws) (r ∷ rs) (both h hs) (both k ks) =
+      let d = did leads s renewal floor table [] (draws_of p) (drawing w) (last_of r) (client_of w) (after_of r) (tally_of r) h k in
+      let more = shared table floor ps ws rs hs ks in
       record {
-        shares = record { records = d.added; tally = tally_of r } ∷ more.shares;
+        shares = record { records = d.added; tally = tally_of r; left = last_of r } ∷ more.shares;
         each = both d.has more.each;
-        among = (subst (λ (l : List Record). Sub l all) d.behind sub.0, more.among);
-        number = omega (arith, long, more.number);
+        left_are = both refl more.left_are;
+        later = ((d.sorted, d.later), more.later);
+        merges = λ l. ap (λ (m : List Record). all_merged (λ r. (after_of r).value.records) (merged l m) rs) d.records_are ∙ more.merges (merged l d.added);
         tallies = ap (λ (t : Tally). plus (tally_of r) t) more.tallies;
       }
-  shared table floor [] [] (r ∷ rs) all hs ks sub = elim ks [ ]
-  shared table floor [] (w ∷ ws) rs all hs ks sub = elim hs [ ]
-  shared table floor (p ∷ ps) [] rs all hs ks sub = elim hs [ ]
-  shared table floor (p ∷ ps) (w ∷ ws) [] all hs ks sub = elim ks [ ]
+  shared table floor [] [] (r ∷ rs) hs ks = elim ks [ ]
+  shared table floor [] (w ∷ ws) rs hs ks = elim hs [ ]
+  shared table floor (p ∷ ps) [] rs hs ks = elim hs [ ]
+  shared table floor (p ∷ ps) (w ∷ ws) [] hs ks = elim ks [ ]
 
-  pub ran_all : (opener : CallerShown) (pairs : List P) (first : W) (others : List W) (first' : R) (others' : List R) (after : Client) (t : Tally) →
+  pub ran_all : (opener : CallerShown) (pairs left : List P) (first : W) (others : List W) (first' : R) (others' : List R) (after : Client) (t : Tally) →
+      AreKnown renewal opener.value.floor opener.value.records →
       Hired draws_of opener pairs client_of drawing first others →
-      HasWorked leads s (client_of first) (after_of first') (drawing first) (last_of first') (tally_of first') →
-      Paired (λ w r. HasWorked leads s (client_of w) (after_of r) (drawing w) (last_of r) (tally_of r)) others others' →
-      Gathered (λ r. (after_of r).value.records) tally_of (first' ∷ others') after.records t →
-      RanAll leads s draws_of opener.value pairs after t
-  ran_all opener pairs first others first' others' after t h k ks g =
-      let d = did leads s opener.table opener.value.records opener.value.floor (draws_of h.pair) (drawing first) (last_of first') (client_of first) (after_of first') (tally_of first') h.opening k in
-      let more = shared opener.table opener.value.floor h.rest others others' after.records h.others_are ks g.each.1 in
-      let long : length ((after_of first').value.records) ≡ length opener.value.records + length d.added = ap length d.behind ∙ length-append opener.value.records d.added in
+      HasWorked leads s renewal (client_of first) (after_of first') (drawing first) (last_of first') (tally_of first') →
+      Paired (λ w r. HasWorked leads s renewal (client_of w) (after_of r) (drawing w) (last_of r) (tally_of r)) others others' →
+      Gathered (λ r. (after_of r).value.records) tally_of first' others' after.records t →
+      Paired (λ r p. draws_of p ≡ last_of r) (first' ∷ others') left →
+      RanAll leads s draws_of s.tasks opener.value.records pairs after.records left t
+  ran_all opener pairs left first others first' others' after t known h k ks g lefts =
+      let floor = opener.value.floor in
+      let d = did leads s renewal floor opener.table opener.value.records (draws_of h.pair) (drawing first) (last_of first') (client_of first) (after_of first') (tally_of first') h.opening k in
+      let more = shared opener.table floor h.rest others others' h.others_are ks in
+      let inside = within renewal floor d.added more.shares d.sorted more.later in
+      let mine : Share D = record { records = d.added; tally = tally_of first'; left = last_of first' } in
       record {
-        shares = record { records = d.added; tally = tally_of first' } ∷ more.shares;
-        each = subst (λ (l : List P). Paired (λ p x. HasShare leads s opener.value.floor (draws_of p) x) l (record { records = d.added; tally = tally_of first' } ∷ more.shares)) (sym h.pairs_are) (both d.has more.each);
-        among = (subst (λ (l : List Record). Sub l after.records) d.behind g.each.0, more.among);
-        number = omega (arith, long, g.number, more.number);
+        shares = mine ∷ more.shares;
+        each = subst (λ (l : List P). Paired (λ p x. HasShare leads s s.tasks (draws_of p) x) l (mine ∷ more.shares)) (sym h.pairs_are) (both d.has more.each);
+        left_are = paired_through (λ x r. last_of r ≡ x.left) (λ r p. draws_of p ≡ last_of r) (λ x p. draws_of p ≡ x.left) (λ x r p e f. f ∙ e) (mine ∷ more.shares) (first' ∷ others') left (both refl more.left_are) lefts;
+        rest = all_merged (λ (x : Share D). x.records) d.added more.shares;
+        behind = g.records_are
+            ∙ (ap (λ (m : List Record). all_merged (λ r. (after_of r).value.records) m others') d.records_are
+            ∙ (more.merges (opener.value.records ++ d.added)
+            ∙ merged_front renewal floor opener.value.records d.added more.shares known more.later));
+        among = (inside.first, inside.each);
+        number = inside.number;
         tallies = g.tallies ∙ ap (λ (u : Tally). plus (tally_of first') u) more.tallies;
       }
 
-module _ {D W R : Type 0} (leads : D → ℕ → D → Type 0) (s : Settings) (client_of : W → CallerShown) (drawing : W → D) (after_of : R → CallerShown) (last_of : R → D) (tally_of : R → Tally) where
+module _ {D W R : Type 0} (leads : D → ℕ → D → Type 0) (s : Settings) (renewal : ℕ) (client_of : W → CallerShown) (drawing : W → D) (after_of : R → CallerShown) (last_of : R → D) (tally_of : R → Tally) where
   pub worked_own : (table : TableId) (ws : List W) (rs : List R) → All (λ w. (client_of w).table ≡ table) ws →
-      Paired (λ w r. HasWorked leads s (client_of w) (after_of r) (drawing w) (last_of r) (tally_of r)) ws rs → All (λ r. (after_of r).table ≡ table) rs
+      Paired (λ w r. HasWorked leads s renewal (client_of w) (after_of r) (drawing w) (last_of r) (tally_of r)) ws rs → All (λ r. (after_of r).table ≡ table) rs
   worked_own table ws rs h p = paired_both _ (λ w. (client_of w).table ≡ table) (λ r. (after_of r).table ≡ table) (λ w r e k. ap (λ (x : CallerShown). x.table) k.client ∙ e) ws rs h p
 
   pub worked_tasks : (n : ℕ) (ws : List W) (rs : List R) → s.tasks ≤ n →
-      Paired (λ w r. HasWorked leads s (client_of w) (after_of r) (drawing w) (last_of r) (tally_of r)) ws rs → All (λ r. total (tally_of r) ≤ n) rs
+      Paired (λ w r. HasWorked leads s renewal (client_of w) (after_of r) (drawing w) (last_of r) (tally_of r)) ws rs → All (λ r. total (tally_of r) ≤ n) rs
   worked_tasks n ws rs few p = paired_each _ (λ r. total (tally_of r) ≤ n) (λ w r k. (let q = k.looped.all in omega (arith, q, few))) ws rs p

@@ -1,6 +1,6 @@
 -- Plain memory of words that represent a state, and its report.
-use Rattle.std.proofs.Common.{◌≡◌, inl, inr, ℕ, ◌≤◌, List, Option, Some, None, length, slice_index, unwrap_or, refl, sym, ap, ◌∙◌, subst, arith}
-use Rattle.std.specs.FinMap.{empty, get, get-empty}
+use Rattle.std.proofs.Common.{◌≡◌, inl, inr, ℕ, List, Option, Some, None, length, slice_index, unwrap_or, refl, sym, ap, ◌∙◌, subst, arith}
+use Rattle.std.specs.FinMap.{get-empty}
 use Rattle.std.specs.Ordering.{nat_cmp}
 use Rattle.std.proofs.lemmas.List.{get_or_past}
 use Rattle.std.proofs.lemmas.Bool.{cases_lt}
@@ -10,7 +10,6 @@ use Rattle.stm_words.specs.PlainSeen.{get_at, get_behind}
 use Rattle.vac_model.specs.declared.replies.Report.{Report}
 use Rattle.vac_model.specs.State.{State, report}
 use Rattle.vac_records.specs.Items.{mem}
-use Rattle.vac_records.specs.Represents.{IsState}
 use Rattle.vac_records.specs.Holds.{HoldsState}
 use Rattle.vac_audit.specs.Reported.{Reported}
 use Rattle.vac_manager.specs.Law.{Shows, IsFitting, words_of}

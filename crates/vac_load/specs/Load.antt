@@ -1,11 +1,11 @@
 -- What a load promises.
-use Rattle.std.specs.Prelude.{◌≡◌, ◌≤◌, ◌+◌, ◌*◌, ◌++◌, ◌&&◌, nat_eq, Bool, true, ℕ, List, [], ◌∷◌, length}
-use Rattle.stm_region.specs.Shown.{RegionShown}
+use Rattle.std.specs.Prelude.{◌≡◌, ◌≤◌, ◌*◌, ◌++◌, ◌&&◌, nat_eq, Bool, ℕ, List, [], ◌∷◌, length}
 use Rattle.atomic_table.specs.Seated.{TableId}
 use Rattle.stm_words.specs.Image.{In}
 use Rattle.vac_model.specs.declared.tasks.Task.{Task}
-use Rattle.stm_core.specs.Client.{Client, Record}
+use Rattle.stm_core.specs.Client.{Record, merged}
 use Rattle.stm_core.specs.History.{Sub}
+use Rattle.stm_core.specs.Invariant.{Sorted}
 use Rattle.vac_manager.specs.Called.{CallerShown}
 use Rattle.vac_load.specs.declared.settings.Settings.{Settings}
 use Rattle.vac_load.specs.declared.tally.Tally.{Tally}
@@ -21,7 +21,7 @@ use Rattle.vac_model.specs.State.{State, empty_state, report}
 use Rattle.vac_manager.specs.Legal.{IsLegal}
 use Rattle.vac_load.specs.Draws.{Drawn, times}
 use Rattle.vac_load.specs.Tasks.{task_of, opening}
-use Rattle.vac_load.specs.Sums.{sum_of, added_up}
+use Rattle.vac_load.specs.Sums.{sum_of, plus, added_up}
 
 -- the lists are equally long, and the relation holds between the elements at each place
 pub data Paired {A B : Type 0} (related : A → B → Type 0) : List A → List B → Type 0 where
@@ -29,17 +29,19 @@ pub data Paired {A B : Type 0} (related : A → B → Type 0) : List A → List 
   both : {x : A} {y : B} {xs : List A} {ys : List B} → related x y → Paired related xs ys →
       Paired related (x ∷ xs) (y ∷ ys)
 
--- a client of some manager ran its tasks: it is the client that it was, and its value has what its
--- loop made of it
-pub record HasWorked {D : Type 0} (leads : D → ℕ → D → Type 0) (s : Settings)
+-- a client of some manager ran its tasks of a round, in this renewal: it is the client that it
+-- was, and its value has what its loop made of it
+pub record HasWorked {D : Type 0} (leads : D → ℕ → D → Type 0) (s : Settings) (renewal : ℕ)
     (c c' : CallerShown) (state last : D) (t : Tally) : Type 0 where
   pub client : c' ≡ record c { value = c'.value }
-  pub looped : Looped leads s s.tasks c.value c'.value state last t
+  pub looped : Looped leads s renewal s.tasks c.value c'.value state last t
 
--- the promise is of the tasks of this client, by these settings and from this state of its draws
-pub record IsPromise {D : Type 0} (s : Settings) (c : CallerShown) (state : D) (p : WorkOf D) :
-    Type 0 where
+-- the promise is of the tasks of this client, by these settings, in this renewal, and from this
+-- state of its draws
+pub record IsPromise {D : Type 0} (s : Settings) (renewal : ℕ) (c : CallerShown) (state : D)
+    (p : WorkOf D) : Type 0 where
   pub settings_is : p.settings ≡ s
+  pub renewal_is : p.manager.value.renewal ≡ renewal
   pub client_is : p.client.value ≡ c
   pub draws_is : p.draws.value ≡ state
 
@@ -48,13 +50,16 @@ abbrev pub SubEach : {X : Type 0} → (X → List Record) → List X → List Re
 SubEach records_of [] all = Unit {0}
 SubEach records_of (x ∷ xs) all = Sub (records_of x) all × SubEach records_of xs all
 
--- clients were gathered: the records of each stand among all records in their order, and these are
--- as many as theirs together; and their tallies were added up
+-- the records of all these merged into the first ones, one after the other
+abbrev pub all_merged : {X : Type 0} → (X → List Record) → List Record → List X → List Record
+all_merged records_of first [] = first
+all_merged records_of first (x ∷ xs) = all_merged records_of (merged first (records_of x)) xs
+
+-- clients were gathered: their records were merged, and their tallies added up
 pub record Gathered {X : Type 0} (records_of : X → List Record) (tally_of : X → Tally)
-    (xs : List X) (all : List Record) (t : Tally) : Type 0 where
-  pub each : SubEach records_of xs all
-  pub number : length all ≡ sum_of (λ x. length (records_of x)) xs
-  pub tallies : t ≡ added_up tally_of xs
+    (first : X) (others : List X) (all : List Record) (t : Tally) : Type 0 where
+  pub records_are : all ≡ all_merged records_of (records_of first) others
+  pub tallies : t ≡ added_up tally_of (first ∷ others)
 
 -- a client is of this table, and begins with these records, a floor of at least this one, and this
 -- state of its draws
@@ -77,39 +82,57 @@ pub record Hired {D P W : Type 0} (draws_of : P → D) (opener : CallerShown) (p
   pub others_are : Paired (λ p w. IsHired opener.table [] opener.value.floor
       (draws_of p) (client_of w) (drawing w)) rest others
 
--- what one client did: the records of its answered tasks, and how its tasks ended
-pub record Share : Type 0 where
+-- the record stands behind none that is added in this renewal by a client that knows this version
+pub record IsKnown (renewal version : ℕ) (r : Record) : Type 0 where
+  pub present : r.renewal ≤ renewal
+  pub known : r.renewal ≡ renewal → r.version ≤ version
+  pub unplaced : r.renewal ≡ renewal → r.point ≡ 0
+
+-- so is each of these records
+abbrev pub AreKnown : ℕ → ℕ → List Record → Type 0
+AreKnown renewal version records = (r : Record) → In r records → IsKnown renewal version r
+
+-- what one client did, in one round or in several: the records of its answered tasks, how its
+-- tasks ended, and the state that its draws were left in
+pub record Share (D : Type 0) : Type 0 where
   pub records : List Record
   pub tally : Tally
+  pub left : D
 
--- a client drew its tasks from this state on. Those that were answered are a part of them, in their
--- order, and each has its record
-pub record HasShare {D : Type 0} (leads : D → ℕ → D → Type 0) (s : Settings) (floor : ℕ)
-    (state : D) (x : Share) : Type 0 where
+-- a client drew n tasks, one behind the other, from this state on. Those that were answered are a
+-- part of them, in their order, and each has its record
+pub record HasShare {D : Type 0} (leads : D → ℕ → D → Type 0) (s : Settings) (n : ℕ)
+    (state : D) (x : Share D) : Type 0 where
   pub tasks : List Task
-  pub last : D
-  pub drawn : Drawn leads (times s.tasks (task_of s)) state tasks last
+  pub drawn : Drawn leads (times n (task_of s)) state tasks x.left
   pub answered : List Task
   pub among : Sub answered tasks
   pub number : length answered ≡ x.tally.answered
   pub are_of : AreOf answered x.records
-  pub later : (r : Record) → In r x.records → floor ≤ r.version
-  pub all : total x.tally ≡ s.tasks
+  pub all : total x.tally ≡ n
 
--- the first client's records stand among all behind those from before, the other clients' as they
--- are
-abbrev pub AmongAll : List Record → List Share → List Record → Type 0
-AmongAll before [] all = Unit {0}
-AmongAll before (x ∷ xs) all = Sub (before ++ x.records) all × SubEach (λ y. y.records) xs all
-
--- all clients ran their tasks and were gathered
+-- all clients ran n tasks each, in one round or in several, and were gathered: the records of
+-- their answered tasks, and no others, stand behind those from before, each client's in their
+-- order. The draws of each client are left as its tasks left them
 pub record RanAll {D P : Type 0} (leads : D → ℕ → D → Type 0) (s : Settings) (draws_of : P → D)
-    (before : Client) (pairs : List P) (after : Client) (t : Tally) : Type 0 where
-  pub shares : List Share
-  pub each : Paired (λ p x. HasShare leads s before.floor (draws_of p) x) pairs shares
-  pub among : AmongAll before.records shares after.records
-  pub number : length after.records ≡ length before.records + sum_of (λ x. length x.records) shares
+    (n : ℕ) (before : List Record) (pairs : List P) (after : List Record) (left : List P)
+    (t : Tally) : Type 0 where
+  pub shares : List (Share D)
+  pub each : Paired (λ p x. HasShare leads s n (draws_of p) x) pairs shares
+  pub left_are : Paired (λ x p. draws_of p ≡ x.left) shares left
+  pub rest : List Record
+  pub behind : after ≡ before ++ rest
+  pub among : SubEach (λ x. x.records) shares rest
+  pub number : length rest ≡ sum_of (λ x. length x.records) shares
   pub tallies : t ≡ added_up (λ x. x.tally) shares
+
+-- one round more was run, from these records, draws and tally on
+pub record RanMore {D P : Type 0} (leads : D → ℕ → D → Type 0) (s : Settings) (draws_of : P → D)
+    (before : List Record) (pairs : List P) (t : Tally)
+    (after : List Record) (left : List P) (t' : Tally) : Type 0 where
+  pub more : Tally
+  pub ran : RanAll leads s draws_of s.tasks before pairs after left more
+  pub tally_is : t' ≡ plus t more
 
 -- a load can be run with these settings and so many clients
 abbrev pub is_load : Settings → ℕ → Bool
@@ -130,24 +153,27 @@ IsLoadFault load.Spawn = Unit {0}
 IsLoadFault (load.Opening fault) = IsOpeningFault fault
 
 -- what a load did: there is a history, legal from the empty state on, whose last state has the
--- report. It has a record for each command of the opening, and one for each task that was answered,
--- and no others: those of the opening and then of the first client, and those of each other client,
--- stand in it in their order. The tally counts all tasks of all clients
+-- report. First come the commands of the opening, and then the tasks that were answered, and no
+-- others, one round behind the other. A client's tasks are drawn one behind the other over all
+-- rounds, and those of them that were answered stand in the history in their order. The tally
+-- counts all tasks of all clients in all rounds
 pub record Loaded {D P : Type 0} (leads : D → ℕ → D → Type 0) (s : Settings) (draws_of : P → D)
     (state : D) (pairs : List P) (t : Tally) (r : Report) : Type 0 where
   pub history : List Record
   pub last : State
   pub legal : IsLegal (empty_state s.blocks) history last
   pub shown : report last ≡ r
+  pub opened : List Record
+  pub rest : List Record
+  pub opening_first : history ≡ opened ++ rest
+  pub rounds_in_order : Sorted history
   pub commands : List Command
   pub drawn : D
   pub opening_is : Drawn leads (opening s) state commands drawn
-  pub opened : List Record
   pub opened_are : AreOf (as_tasks commands) opened
-  pub floor : ℕ
-  pub shares : List Share
-  pub each : Paired (λ p x. HasShare leads s floor (draws_of p) x) pairs shares
-  pub among : AmongAll opened shares history
-  pub number : length history ≡ length opened + sum_of (λ x. length x.records) shares
+  pub shares : List (Share D)
+  pub each : Paired (λ p x. HasShare leads s (s.rounds * s.tasks) (draws_of p) x) pairs shares
+  pub among : SubEach (λ x. x.records) shares rest
+  pub number : length rest ≡ sum_of (λ x. length x.records) shares
   pub tallies : t ≡ added_up (λ x. x.tally) shares
-  pub all : total t ≡ s.clients * s.tasks
+  pub all : total t ≡ s.rounds * s.clients * s.tasks

@@ -1,9 +1,10 @@
 -- What a client's loop over its tasks does.
-use Rattle.std.specs.Prelude.{◌≡◌, ℕ, ◌+◌, ◌*◌, ◌≤◌}
+use Rattle.std.specs.Prelude.{◌≡◌, ℕ, ◌+◌, ◌*◌, ◌<◌, ◌≤◌}
 use Rattle.std.specs.Prelude.{List, [], ◌∷◌, ◌++◌, length, Result, Ok, Err}
 use Rattle.stm_words.specs.Image.{In}
-use Rattle.stm_core.specs.Client.{Client, Record}
+use Rattle.stm_core.specs.Client.{Client, Record, rank}
 use Rattle.stm_core.specs.History.{Sub}
+use Rattle.stm_core.specs.Invariant.{Sorted}
 use Rattle.vac_model.specs.declared.tasks.Task.{Task}
 use Rattle.vac_model.specs.declared.replies.Reply.{Reply}
 use Rattle.vac_model.specs.Code.{code}
@@ -21,13 +22,24 @@ AreOf [] (r ∷ rs) = ⊥
 AreOf (t ∷ ts) [] = ⊥
 AreOf (t ∷ ts) (r ∷ rs) = ((reply : Reply) × (r.tag ≡ code t reply)) × AreOf ts rs
 
--- exactly one record for each of these tasks was added behind the others, in their order, each of
--- no version below the floor
-pub record Answered (tasks : List Task) (v v' : Client) : Type 0 where
+-- a record was added in this renewal by a client that knew the first version before and the second
+-- one after it: it is of no version below the first, stands behind the writer of that version, and
+-- is of no version above the second
+pub record IsAdded (renewal before after : ℕ) (r : Record) : Type 0 where
+  pub renewal_is : r.renewal ≡ renewal
+  pub unplaced : r.point ≡ 0
+  pub later : before ≤ r.version
+  pub behind : 2 * before < rank r
+  pub known : r.version ≤ after
+
+-- exactly one record for each of these tasks was added behind the others, in their order, which is
+-- that of the versions, all in this renewal
+pub record Answered (renewal : ℕ) (tasks : List Task) (v v' : Client) : Type 0 where
   pub added : List Record
   pub records : v'.records ≡ v.records ++ added
   pub are_of : AreOf tasks added
-  pub later : (r : Record) → In r added → v.floor ≤ r.version
+  pub each : (r : Record) → In r added → IsAdded renewal v.floor v'.floor r
+  pub sorted : Sorted added
   pub floor : v.floor ≤ v'.floor
   pub grants : v'.grants ≡ v.grants
 
@@ -53,14 +65,14 @@ least_attempts tries t = t.answered + t.spent + t.busy * tries
 
 -- a client asked for the first n of its tasks: those that were answered are a part of the tasks
 -- drawn, in their order, and each of them added its record
-pub record Looped {D : Type 0} (leads : D → ℕ → D → Type 0) (s : Settings) (n : ℕ)
+pub record Looped {D : Type 0} (leads : D → ℕ → D → Type 0) (s : Settings) (renewal n : ℕ)
     (v v' : Client) (state last : D) (t : Tally) : Type 0 where
   pub tasks : List Task
   pub drawn : Drawn leads (times n (task_of s)) state tasks last
   pub done : List Task
   pub among : Sub done tasks
   pub number : length done ≡ t.answered
-  pub answered : Answered done v v'
+  pub answered : Answered renewal done v v'
   pub all : total t ≡ n
   pub attempts : v.attempt + least_attempts s.tries t ≤ v'.attempt
 
@@ -75,7 +87,8 @@ answered_by t (Err e) = []
 
 -- a task that was built was asked for, and ended so; one that was not built ended for want of
 -- memory
-abbrev pub RanOne : {R E : Type 0} → Result Task E → ℕ → Result R Fault → Client → Client → Type 0
-RanOne (Ok t) tries end v v' = Answered (answered_by t end) v v'
+abbrev pub RanOne : {R E : Type 0} → ℕ → Result Task E → ℕ → Result R Fault → Client → Client
+    → Type 0
+RanOne renewal (Ok t) tries end v v' = Answered renewal (answered_by t end) v v'
     × (v.attempt + attempts_of tries end ≤ v'.attempt)
-RanOne (Err e) tries end v v' = (end ≡ Err fault.Memory) × (v' ≡ v)
+RanOne renewal (Err e) tries end v v' = (end ≡ Err fault.Memory) × (v' ≡ v)

@@ -14,11 +14,11 @@ abbrev pub as_tasks : List Command → List Task
 as_tasks commands = map (λ c. task.One c) commands
 
 -- commands were read from drawn words, and each of them was asked for and answered, in their order
-pub record Ran {D : Type 0} (leads : D → ℕ → D → Type 0) (reader : Reader (List Command))
-    (v v' : Client) (state last : D) : Type 0 where
+pub record Ran {D : Type 0} (leads : D → ℕ → D → Type 0) (renewal : ℕ)
+    (reader : Reader (List Command)) (v v' : Client) (state last : D) : Type 0 where
   pub commands : List Command
   pub drawn : Drawn leads reader state commands last
-  pub answered : Answered (as_tasks commands) v v'
+  pub answered : Answered renewal (as_tasks commands) v v'
 
 -- why an opening may stop: want of memory, or a spent clock
 abbrev pub IsOpeningFault : Fault → Type 0

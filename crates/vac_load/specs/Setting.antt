@@ -4,15 +4,24 @@ use Rattle.vac_manager.specs.Called.{is_try_count}
 use Rattle.vac_manager.specs.Opening.{is_block_count, is_last}
 use Rattle.vac_load.specs.declared.settings.Settings.{Settings}
 use Rattle.vac_load.specs.declared.settings.TheConstants.{MOST_CLIENTS, MOST_TASKS, MOST_ITEMS}
-use Rattle.vac_load.specs.declared.settings.TheConstants.{PERCENT}
+use Rattle.vac_load.specs.declared.settings.TheConstants.{PERCENT, MOST_ROUNDS}
 use Rattle.vac_model.specs.Amounts.{is_list_length}
 
--- each number is in its range, and there is a block for each item of the three kinds and each
--- customer that the opening makes
-abbrev pub is_settings : Settings → Bool
-is_settings s =
+-- the numbers of clients, rounds and tasks are in their ranges
+abbrev pub is_work : Settings → Bool
+is_work s =
     nat_le 1 s.clients && nat_le s.clients MOST_CLIENTS
     && nat_le 1 s.tasks && nat_le s.tasks MOST_TASKS
-    && nat_le 1 s.items && nat_le s.items MOST_ITEMS && nat_le (4 * s.items) s.blocks
+    && nat_le 1 s.rounds && nat_le s.rounds MOST_ROUNDS
+
+-- what the tasks are drawn by, and the numbers of the manager, are in their ranges, and there is a
+-- block for each item of the three kinds and each customer that the opening makes
+abbrev pub is_system : Settings → Bool
+is_system s =
+    nat_le 1 s.items && nat_le s.items MOST_ITEMS && nat_le (4 * s.items) s.blocks
     && is_list_length s.asks && nat_le s.user PERCENT
     && is_block_count s.blocks && is_try_count s.tries && is_last s.last
+
+-- a load can be run with these settings
+abbrev pub is_settings : Settings → Bool
+is_settings s = is_work s && is_system s

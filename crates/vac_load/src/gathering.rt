@@ -1,10 +1,10 @@
-//! Clients that are split off for a load, and gathered after it.
+//! Clients that are split off for a round, and gathered after it.
 
-ghost use Rattle.std.specs.Prelude.{◌≡◌, ◌≤◌, ◌<◌, ◌+◌, ◌⊎◌, ◌∷◌, [], true, All, vec_len, IfOk, IfErr};
+ghost use Rattle.std.specs.Prelude.{◌≡◌, ◌≤◌, ◌<◌, ◌+◌, ◌⊎◌, ◌∷◌, [], true, All, vec_len, vec_capacity, IfOk, IfErr};
 ghost use Rattle.vac_load.specs.Looping.{total};
 ghost use Rattle.vac_load.specs.Setting.{is_settings};
 ghost use Rattle.vac_load.specs.declared.settings.TheConstants.{MOST_TASKS, MOST_CLIENTS};
-ghost use Rattle.vac_load.specs.Load.{Gathered, Hired, RanAll};
+ghost use Rattle.vac_load.specs.Load.{Paired, Gathered, Hired, AreKnown, RanAll};
 
 use crate::draws::Draws;
 use crate::load::LoadFault;
@@ -17,32 +17,66 @@ use std::thread::Threads;
 use stm_attempt::Gate;
 use vac_manager::{Client, Manager};
 
-/// Gathers the clients into the first one, in their order, and adds up how their tasks ended.
-pub(crate) fn gather_all<D: Drop, G: Drop>(
+/// What a round leaves: the client that took in all others, the draws and the gates of the clients
+/// in their order, and how the tasks ended.
+#[derive(Drop)]
+pub(crate) struct Round<D, G> {
+    pub(crate) client: Client,
+    pub(crate) pairs: Vec<(D, G)>,
+    pub(crate) tally: Tally,
+}
+
+/// Gathers the clients into the first one, in their order, hands their draws and gates back, and
+/// adds up how their tasks ended.
+fn gather_all<D: Drop, G: Drop>(
     manager: &Manager,
     crew: Crew<Worked<D, G>>,
-) -> (Client, Tally)
+    mut pairs: Vec<(D, G)>,
+) -> Round<D, G>
     requires own { crew.first.worker.client.table ≡ manager.now.table }
     requires others_own { All (λ w. w.worker.client.table ≡ manager.now.table) crew.others.items }
-    requires few { vec_len crew.others ≤ MOST_CLIENTS }
+    requires few { vec_len crew.others < MOST_CLIENTS }
+    requires room { vec_len crew.others < vec_capacity pairs }
+    requires empty { pairs.items ≡ [] }
     requires tasks { total crew.first.tally ≤ MOST_TASKS }
     requires others_tasks { All (λ w. total w.tally ≤ MOST_TASKS) crew.others.items }
-    ensures own { result.0.table ≡ manager.now.table }
+    ensures own { result.client.table ≡ manager.now.table }
     ensures gathered { Gathered (λ w. w.worker.client.value.records) (λ w. w.tally)
-        (crew.first ∷ crew.others.items) result.0.value.records result.1 }
+        crew.first crew.others.items result.client.value.records result.tally }
+    ensures pairs { Paired (λ w p. p.0 ≡ w.worker.draws)
+        (crew.first ∷ crew.others.items) result.pairs.items }
 {
     let Crew { first, others } = crew;
     let Worked { worker, mut tally } = first;
-    let mut client = worker.client;
+    let Worker {
+        mut client,
+        draws,
+        gate,
+    } = worker;
+    let Ok(()) = pairs.push((draws, gate)) else {
+        unreachable!()
+    };
     for worked in others {
         let Worked {
             worker,
             tally: more,
         } = worked;
-        manager.gather(&mut client, worker.client);
+        let Worker {
+            client: other,
+            draws,
+            gate,
+        } = worker;
+        manager.gather(&mut client, other);
+        let Ok(()) = pairs.push((draws, gate)) else {
+            unreachable!()
+        };
         tally = tally.plus(more);
     }
-    (client, tally)
+    Round {
+        client,
+        pairs,
+        tally,
+    }
 }
 
 /// Splits off a client for each but the first pair of draws and gate, which the opening client
@@ -61,7 +95,7 @@ fn hire<D: Drop, G: Drop>(
         (λ w. w.client) (λ w. w.draws) crew.first crew.others.items) }
     ensures own { IfOk result (λ crew.
         All (λ w. w.client.table ≡ manager.now.table) crew.others.items) }
-    ensures number { IfOk result (λ crew. vec_len crew.others ≤ MOST_CLIENTS) }
+    ensures number { IfOk result (λ crew. vec_len crew.others + 1 ≡ vec_len pairs) }
     ensures refused { IfErr result (λ fault. fault ≡ LoadFault.Memory) }
 {
     let Ok(mut others) = Vec::with_capacity(alloc, pairs.len()) else {
@@ -92,8 +126,8 @@ fn hire<D: Drop, G: Drop>(
     Ok(Crew { first, others })
 }
 
-/// Splits off a client for each pair of draws and gate, lets them all run their tasks in threads
-/// of their own, and gathers them into the first.
+/// One round: splits off a client for each pair of draws and gate, lets them all run their tasks
+/// in threads of their own, and gathers them into the first.
 pub(crate) fn run_clients<R: Threads + Wait, D: Draws + Send + Drop, G: Gate + Send + Drop>(
     rt: &R,
     alloc: Global,
@@ -101,18 +135,23 @@ pub(crate) fn run_clients<R: Threads + Wait, D: Draws + Send + Drop, G: Gate + S
     settings: &Settings,
     client: Client,
     pairs: Vec<(D, G)>,
-) -> Result<(Client, Tally), LoadFault>
+) -> Result<Round<D, G>, LoadFault>
     requires own { client.table ≡ manager.now.table }
     requires alone { client.value.grants ≡ 63 }
     requires settings { is_settings settings.now ≡ true }
     requires number { vec_len pairs ≡ settings.now.clients }
-    ensures own { IfOk result (λ r. r.0.table ≡ manager.now.table) }
-    ensures ran { IfOk result (λ r. RanAll D.leads settings.now (λ p. p.0) client.value
-        pairs.items r.0.value r.1) }
+    requires known { AreKnown manager.now.renewal client.value.floor client.value.records }
+    ensures own { IfOk result (λ r. r.client.table ≡ manager.now.table) }
+    ensures ran { IfOk result (λ r. RanAll D.leads settings.now (λ p. p.0) settings.now.tasks
+        client.value.records pairs.items r.client.value.records r.pairs.items r.tally) }
+    ensures number { IfOk result (λ r. vec_len r.pairs ≡ settings.now.clients) }
     ensures refused { IfErr result (λ fault.
         (fault ≡ LoadFault.Memory) ⊎ (fault ≡ LoadFault.Spawn)) }
 {
+    let Ok(left) = Vec::with_capacity(alloc, pairs.len()) else {
+        return Err(LoadFault::Memory);
+    };
     let crew = hire(alloc, manager, client, pairs)?;
     let crew = run_all(rt, alloc, manager, *settings, crew)?;
-    Ok(gather_all(manager, crew))
+    Ok(gather_all(manager, crew, left))
 }

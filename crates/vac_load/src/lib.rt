@@ -10,6 +10,7 @@ mod load;
 mod looping;
 mod opening;
 mod report;
+mod rounds;
 mod settings;
 mod tally;
 mod tasks;
@@ -19,7 +20,7 @@ pub use draws::{Draws, FixedDraws, PcgDraws};
 pub use load::{LoadFault, LoadReport, run_load, run_load_with};
 pub use looping::client_loop;
 pub use opening::open;
-pub use settings::{MOST_CLIENTS, MOST_ITEMS, MOST_TASKS, PERCENT, Settings};
+pub use settings::{MOST_CLIENTS, MOST_ITEMS, MOST_ROUNDS, MOST_TASKS, PERCENT, Settings};
 pub use tally::Tally;
 pub use tasks::{Tasks, tasks_of, turns_make_tasks};
 

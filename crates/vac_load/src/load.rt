@@ -6,9 +6,9 @@ ghost use Rattle.vac_load.specs.Load.{Loaded, is_load, IsLoadFault, IsStopOfLoad
 ghost use Rattle.vac_load.specs.Streams.{streams_of, LoadedBySeed};
 
 use crate::draws::{Draws, PcgDraws};
-use crate::gathering::run_clients;
 use crate::opening::open;
 use crate::report::report_of;
+use crate::rounds::{Progress, run_rounds};
 use crate::settings::Settings;
 use crate::tally::Tally;
 use std::alloc::{AllocError, Global};
@@ -18,8 +18,8 @@ use stm_attempt::{Gate, NoGate};
 use thiserror::Error;
 use vac_manager::{Fault, Manager, Report};
 
-/// What a load leaves: how its tasks ended, and the report of the words after all clients were
-/// gathered.
+/// What a load leaves: how its tasks ended, over all rounds, and the report of the words after all
+/// clients were gathered for the last time.
 #[derive(Clone, Copy, Debug, PartialEq, Eq)]
 pub struct LoadReport {
     pub tally: Tally,
@@ -63,17 +63,22 @@ fn run_in_range<R: Threads + Wait, D: Draws + Send + Drop, G: Gate + Send + Drop
     if let Err(fault) = open(&manager, &mut client, &mut opening, settings) {
         return Err(LoadFault::Opening(fault));
     }
-    let (client, tally) = run_clients(rt, alloc, &manager, settings, client, clients)?;
-    let Ok((words, _)) = manager.close(client) else {
+    let progress = run_rounds(rt, alloc, settings, manager, client, clients)?;
+    let Progress { manager, round } = progress;
+    let Ok((words, _)) = manager.close(round.client) else {
         return Err(LoadFault::Memory);
     };
     let report = report_of(words);
-    Ok(LoadReport { tally, report })
+    Ok(LoadReport {
+        tally: round.tally,
+        report,
+    })
 }
 
-/// Runs a load: the opening by the first client, with the words that are drawn for it; then all
-/// clients at once, each in a thread of its own with its draws and its gate. They are gathered
-/// into the first, and the manager is closed.
+/// Runs a load: the opening by the first client, with the words that are drawn for it; then, in
+/// each round, all clients at once, each in a thread of its own with its draws and its gate, which
+/// go on from round to round. They are gathered into the first after each round. Between two
+/// rounds the manager is renewed, and after the last one it is closed.
 pub fn run_load_with<
     R: Threads + Wait + AllocGlobal,
     D: Draws + Send + Drop,

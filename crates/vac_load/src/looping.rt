@@ -1,6 +1,8 @@
 //! The loop of one client over its tasks.
 
-ghost use Rattle.std.specs.Prelude.{◌≡◌, true};
+ghost use Rattle.std.specs.Prelude.{◌≡◌, ◌≢◌, true, IfErr, IfOk};
+ghost use Rattle.vac_model.specs.Ranges.{is_task};
+ghost use Rattle.vac_manager.specs.Called.{is_try_count};
 ghost use Rattle.vac_load.specs.Setting.{is_settings};
 ghost use Rattle.vac_load.specs.Looping.{Looped, RanOne};
 
@@ -22,8 +24,12 @@ fn ask_for<G: Gate>(
     gate: &mut G,
 ) -> Result<Reply, Fault>
     requires own { client.old.table ≡ manager.now.table }
+    requires range { IfOk task.now (λ t. is_task t ≡ true) }
+    requires tries { is_try_count tries ≡ true }
     ensures client { client.new ≡ record client.old { value = client.new.value } }
-    ensures one { RanOne task.now tries result client.old.value client.new.value }
+    ensures in_range { IfErr result (λ fault. fault ≢ Fault.Arguments) }
+    ensures one { RanOne manager.now.renewal task.now tries result
+        client.old.value client.new.value }
 {
     match task {
         Ok(task) => {
@@ -37,9 +43,9 @@ fn ask_for<G: Gate>(
     }
 }
 
-/// Asks for as many tasks as the settings say, one after the other, each as it is drawn, and
-/// counts how they ended. A task that was not built counts under memory. The gate is told
-/// `Answered` after each call that was answered.
+/// Asks for as many tasks as the settings say for a round, one after the other, each as it is
+/// drawn, and counts how they ended. A task that was not built counts under memory. The gate is
+/// told `Answered` after each call that was answered.
 pub fn client_loop<D: Draws, G: Gate>(
     alloc: Global,
     manager: &Manager,
@@ -51,7 +57,7 @@ pub fn client_loop<D: Draws, G: Gate>(
     requires own { client.old.table ≡ manager.now.table }
     requires settings { is_settings settings.now ≡ true }
     ensures client { client.new ≡ record client.old { value = client.new.value } }
-    ensures looped { Looped D.leads settings.now settings.now.tasks
+    ensures looped { Looped D.leads settings.now manager.now.renewal settings.now.tasks
         client.old.value client.new.value draws.old draws.new result }
 {
     let mut tally = Tally::new();

@@ -24,7 +24,7 @@ fn ask_for(manager: &Manager, client: &mut Client, command: Command) -> Result<(
     requires range { is_command command ≡ true }
     ensures client { client.new ≡ record client.old { value = client.new.value } }
     ensures grants { client.new.value.grants ≡ 63 }
-    ensures answered { IfOk result (λ _. Answered (Task.One command ∷ [])
+    ensures answered { IfOk result (λ _. Answered manager.now.renewal (Task.One command ∷ [])
         client.old.value client.new.value) }
     ensures refused { IfErr result (λ fault. IsOpeningFault fault) }
 {
@@ -47,7 +47,7 @@ fn add_item<D: Draws>(
     requires id { 1 ≤ id }
     ensures client { client.new ≡ record client.old { value = client.new.value } }
     ensures grants { client.new.value.grants ≡ 63 }
-    ensures ran { IfOk result (λ _. Ran D.leads (stock id kind)
+    ensures ran { IfOk result (λ _. Ran D.leads manager.now.renewal (stock id kind)
         client.old.value client.new.value draws.old draws.new) }
     ensures refused { IfErr result (λ fault. IsOpeningFault fault) }
 {
@@ -74,7 +74,7 @@ fn add_items<D: Draws>(
     requires id { 1 ≤ id }
     ensures client { client.new ≡ record client.old { value = client.new.value } }
     ensures grants { client.new.value.grants ≡ 63 }
-    ensures ran { IfOk result (λ _. Ran D.leads (stocks id)
+    ensures ran { IfOk result (λ _. Ran D.leads manager.now.renewal (stocks id)
         client.old.value client.new.value draws.old draws.new) }
     ensures refused { IfErr result (λ fault. IsOpeningFault fault) }
 {
@@ -95,7 +95,7 @@ fn add_all<D: Draws>(
     requires fits { items < 2 ^ 31 }
     ensures client { client.new ≡ record client.old { value = client.new.value } }
     ensures grants { client.new.value.grants ≡ 63 }
-    ensures ran { IfOk result (λ _. Ran D.leads (for_each items stocks)
+    ensures ran { IfOk result (λ _. Ran D.leads manager.now.renewal (for_each items stocks)
         client.old.value client.new.value draws.old draws.new) }
     ensures refused { IfErr result (λ fault. IsOpeningFault fault) }
 {
@@ -119,7 +119,7 @@ pub fn open<D: Draws>(
     requires settings { is_settings settings.now ≡ true }
     ensures client { client.new ≡ record client.old { value = client.new.value } }
     ensures grants { client.new.value.grants ≡ 63 }
-    ensures ran { IfOk result (λ _. Ran D.leads (opening settings.now)
+    ensures ran { IfOk result (λ _. Ran D.leads manager.now.renewal (opening settings.now)
         client.old.value client.new.value draws.old draws.new) }
     ensures refused { IfErr result (λ fault. IsOpeningFault fault) }
 {

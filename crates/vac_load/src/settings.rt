@@ -1,7 +1,7 @@
 //! The settings of a load.
 
 ghost use Rattle.std.specs.Prelude.{◌≡◌};
-ghost use Rattle.vac_load.specs.Setting.{is_settings};
+ghost use Rattle.vac_load.specs.Setting.{is_settings, is_system, is_work};
 
 use vac_manager::MOST_TRIES;
 use vac_model::limits::{MOST_BLOCKS, MOST_PARTS};
@@ -9,11 +9,14 @@ use vac_model::limits::{MOST_BLOCKS, MOST_PARTS};
 /// The most clients of a load.
 pub const MOST_CLIENTS: u32 = 64;
 
-/// The most tasks of a client.
+/// The most tasks of a client in a round.
 pub const MOST_TASKS: u32 = 1_000_000;
 
 /// The most items of a kind, and the most customers.
 pub const MOST_ITEMS: u32 = 65_536;
+
+/// The most rounds of a load.
+pub const MOST_ROUNDS: u32 = 100;
 
 /// A share of the whole is given in these.
 pub const PERCENT: u32 = 100;
@@ -38,7 +41,7 @@ const VERSION_LIMIT: u64 = 1 << 62;
 pub struct Settings {
     /// How many clients call at once, 1 to 64.
     pub clients: u32,
-    /// How many tasks each client asks for, 1 to 1,000,000.
+    /// How many tasks each client asks for in a round, 1 to 1,000,000.
     pub tasks: u32,
     /// How many items of each kind the opening makes, and how many customers, 1 to 65,536. All of
     /// them fit into the blocks.
@@ -53,20 +56,30 @@ pub struct Settings {
     pub blocks: u32,
     /// How many tries a task gets, 1 to 1,048,576.
     pub tries: u32,
-    /// The version that the clock ends at, 1 to 2^62 - 1.
+    /// The version that the clock of each round ends at, 1 to 2^62 - 1.
     pub last: u64,
+    /// How many rounds there are, 1 to 100. The clock is renewed between two of them.
+    pub rounds: u32,
 }
 
 impl Settings {
-    /// Whether a load can be run with these settings.
-    pub fn is_in_range(&self) -> bool
-        ensures { result ≡ is_settings self.now }
+    /// Whether the numbers of clients, rounds and tasks are in their ranges.
+    fn is_work_in_range(&self) -> bool
+        ensures { result ≡ is_work self.now }
     {
         1 <= self.clients
             && self.clients <= MOST_CLIENTS
             && 1 <= self.tasks
             && self.tasks <= MOST_TASKS
-            && 1 <= self.items
+            && 1 <= self.rounds
+            && self.rounds <= MOST_ROUNDS
+    }
+
+    /// Whether what the tasks are drawn by and the numbers of the manager are in their ranges.
+    fn is_system_in_range(&self) -> bool
+        ensures { result ≡ is_system self.now }
+    {
+        1 <= self.items
             && self.items <= MOST_ITEMS
             && 4 * self.items <= self.blocks
             && 1 <= self.asks
@@ -78,5 +91,12 @@ impl Settings {
             && self.tries <= MOST_TRIES
             && 1 <= self.last
             && self.last < VERSION_LIMIT
+    }
+
+    /// Whether a load can be run with these settings.
+    pub fn is_in_range(&self) -> bool
+        ensures { result ≡ is_settings self.now }
+    {
+        self.is_work_in_range() && self.is_system_in_range()
     }
 }

@@ -1,6 +1,6 @@
 //! How the tasks of a load ended.
 
-ghost use Rattle.std.specs.Prelude.{◌≡◌, ◌<◌, ◌^◌, ◌+◌};
+ghost use Rattle.std.specs.Prelude.{◌≡◌, ◌≢◌, ◌<◌, ◌^◌, ◌+◌, IfErr};
 ghost use Rattle.vac_load.specs.Looping.{nothing, counted, total};
 ghost use Rattle.vac_load.specs.Sums.{plus};
 
@@ -33,14 +33,16 @@ impl Tally {
         }
     }
 
-    /// Counts a task by how it ended.
+    /// Counts a task by how it ended. None is asked for whose numbers are out of their ranges.
     pub(crate) fn count(&mut self, end: &Result<Reply, Fault>)
-        requires { total self.old < 2 ^ 32 }
+        requires few { total self.old < 2 ^ 32 }
+        requires in_range { IfErr end.now (λ fault. fault ≢ Fault.Arguments) }
         ensures { self.new ≡ counted end.now self.old }
     {
         match end {
             Ok(_) => self.answered += 1,
-            Err(Fault::Arguments | Fault::Memory) => self.memory += 1,
+            Err(Fault::Arguments) => unreachable!(),
+            Err(Fault::Memory) => self.memory += 1,
             Err(Fault::Busy(_)) => self.busy += 1,
             Err(Fault::Spent { .. }) => self.spent += 1,
         }
@@ -48,7 +50,7 @@ impl Tally {
 
     /// Both tallies added up.
     pub(crate) fn plus(self, other: Tally) -> Tally
-        requires fits { total self + total other < 2 ^ 32 }
+        requires fits { total self + total other < 2 ^ 63 }
         ensures { result ≡ plus self other }
     {
         Tally {

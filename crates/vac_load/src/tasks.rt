@@ -1,7 +1,9 @@
 //! The tasks of a load, as they are drawn.
 
-ghost use Rattle.std.specs.Prelude.{◌≡◌, ◌<◌, ◌≤◌, true};
-ghost use Rattle.vac_model.specs.Amounts.{is_amount};
+ghost use Rattle.std.specs.Prelude.{◌≡◌, ◌<◌, ◌≤◌, ◌&&◌, true, length, IfOk};
+ghost use Rattle.std.specs.List.{list_all};
+ghost use Rattle.vac_model.specs.Amounts.{is_amount, is_id};
+ghost use Rattle.vac_model.specs.Ranges.{is_change, is_command, is_task};
 ghost use Rattle.vac_load.specs.Draws.{Drawn, below, times};
 ghost use Rattle.vac_load.specs.Setting.{is_settings};
 ghost use Rattle.vac_load.specs.Tasks.{up_to, kind_at, kind, price, ask, trip, leave, removal};
@@ -64,7 +66,8 @@ pub(crate) fn draw_price<D: Draws>(draws: &mut D) -> u32
 /// An ask of a trip.
 fn draw_ask<D: Draws>(draws: &mut D, settings: &Settings) -> (Kind, u32)
     requires { is_settings settings.now ≡ true }
-    ensures { Drawn D.leads (ask settings.now) draws.old result draws.new }
+    ensures drawn { Drawn D.leads (ask settings.now) draws.old result draws.new }
+    ensures range { is_id result.1 ≡ true }
 {
     let kind = draw_kind(draws);
     (kind, draw_up_to(draws, settings.items))
@@ -78,7 +81,10 @@ fn draw_asks<D: Draws>(
 ) -> ArrayVec<(Kind, u32), MOST_PARTS>
     requires settings { is_settings settings.now ≡ true }
     requires room { count ≤ MOST_PARTS }
-    ensures { Drawn D.leads (times count (ask settings.now)) draws.old result.items draws.new }
+    ensures drawn { Drawn D.leads (times count (ask settings.now))
+        draws.old result.items draws.new }
+    ensures number { length result.items ≡ count }
+    ensures range { list_all (λ a. is_id a.1) result.items ≡ true }
 {
     let mut asks = ArrayVec::new();
     'asks: for _ in 0..count {
@@ -94,7 +100,8 @@ fn draw_trip<D: Draws>(
     settings: &Settings,
 ) -> Result<Task, AllocError>
     requires { is_settings settings.now ≡ true }
-    ensures { DrawnTask D.leads (trip settings.now) draws.old result draws.new }
+    ensures drawn { DrawnTask D.leads (trip settings.now) draws.old result draws.new }
+    ensures range { IfOk result (λ task. is_task task ≡ true) }
 {
     let count = draw_up_to(draws, settings.asks);
     let customer = draw_up_to(draws, settings.items);
@@ -104,7 +111,8 @@ fn draw_trip<D: Draws>(
 
 fn draw_leave<D: Draws>(draws: &mut D, settings: &Settings) -> Task
     requires { is_settings settings.now ≡ true }
-    ensures { Drawn D.leads (leave settings.now) draws.old result draws.new }
+    ensures drawn { Drawn D.leads (leave settings.now) draws.old result draws.new }
+    ensures range { is_task result ≡ true }
 {
     Task::Leave {
         customer: draw_up_to(draws, settings.items),
@@ -113,7 +121,10 @@ fn draw_leave<D: Draws>(draws: &mut D, settings: &Settings) -> Task
 
 /// The command that takes an item away.
 fn removal_of(kind: Kind, id: u32) -> Command
-    ensures { result ≡ removal kind id }
+    requires { is_id id ≡ true }
+    ensures removal { result ≡ removal kind id }
+    ensures change { is_change result ≡ true }
+    ensures range { is_command result ≡ true }
 {
     match kind {
         Kind::Car | Kind::Room => Command::Delete {
@@ -127,7 +138,10 @@ fn removal_of(kind: Kind, id: u32) -> Command
 
 /// The change of this item that a number below 2 leads to.
 fn draw_change_of<D: Draws>(draws: &mut D, kind: Kind, id: u32, number: u32) -> Command
-    ensures { Drawn D.leads (change_of kind id number) draws.old result draws.new }
+    requires { is_id id ≡ true }
+    ensures drawn { Drawn D.leads (change_of kind id number) draws.old result draws.new }
+    ensures change { is_change result ≡ true }
+    ensures range { is_command result ≡ true }
 {
     if number == 1 {
         Command::Add {
@@ -144,7 +158,9 @@ fn draw_change_of<D: Draws>(draws: &mut D, kind: Kind, id: u32, number: u32) -> 
 /// A change of an update.
 fn draw_change<D: Draws>(draws: &mut D, settings: &Settings) -> Command
     requires { is_settings settings.now ≡ true }
-    ensures { Drawn D.leads (change settings.now) draws.old result draws.new }
+    ensures drawn { Drawn D.leads (change settings.now) draws.old result draws.new }
+    ensures change { is_change result ≡ true }
+    ensures range { is_command result ≡ true }
 {
     let kind = draw_kind(draws);
     let id = draw_up_to(draws, settings.items);
@@ -160,7 +176,10 @@ fn draw_changes<D: Draws>(
 ) -> ArrayVec<Command, MOST_PARTS>
     requires settings { is_settings settings.now ≡ true }
     requires room { count ≤ MOST_PARTS }
-    ensures { Drawn D.leads (times count (change settings.now)) draws.old result.items draws.new }
+    ensures drawn { Drawn D.leads (times count (change settings.now))
+        draws.old result.items draws.new }
+    ensures number { length result.items ≡ count }
+    ensures range { list_all (λ c. is_change c && is_command c) result.items ≡ true }
 {
     let mut changes = ArrayVec::new();
     'changes: for _ in 0..count {
@@ -176,7 +195,8 @@ fn draw_update<D: Draws>(
     settings: &Settings,
 ) -> Result<Task, AllocError>
     requires { is_settings settings.now ≡ true }
-    ensures { DrawnTask D.leads (update settings.now) draws.old result draws.new }
+    ensures drawn { DrawnTask D.leads (update settings.now) draws.old result draws.new }
+    ensures range { IfOk result (λ task. is_task task ≡ true) }
 {
     let count = draw_up_to(draws, settings.asks);
     let changes = draw_changes(draws, settings, count);
@@ -190,7 +210,8 @@ pub(crate) fn draw_task<D: Draws>(
     settings: &Settings,
 ) -> Result<Task, AllocError>
     requires { is_settings settings.now ≡ true }
-    ensures { DrawnTask D.leads (task_of settings.now) draws.old result draws.new }
+    ensures drawn { DrawnTask D.leads (task_of settings.now) draws.old result draws.new }
+    ensures range { IfOk result (λ task. is_task task ≡ true) }
 {
     let number = draw_below(draws, PERCENT);
     if number < settings.user {

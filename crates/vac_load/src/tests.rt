@@ -17,6 +17,7 @@ const SETTINGS: Settings = Settings {
     blocks: 1024,
     tries: 64,
     last: (1 << 62) - 1,
+    rounds: 1,
 };
 
 /// A gate that counts the answers that it is told of.

@@ -36,12 +36,13 @@ pub(crate) struct Worked<D, G> {
 #[derive(Drop)]
 struct WorkOf<D> {
     settings: Settings,
+    manager: Snapshot<Manager>,
     client: Snapshot<Client>,
     draws: Snapshot<D>,
 }
 
 impl<D: Draws, G> Promise<Worked<D, G>> for WorkOf<D> {
-    ghost kept_by = { λ p r. HasWorked D.leads p.settings
+    ghost kept_by = { λ p r. HasWorked D.leads p.settings p.manager.value.renewal
         p.client.value r.worker.client p.draws.value r.worker.draws r.tally };
 }
 
@@ -57,8 +58,8 @@ fn work<D: Draws, G: Gate>(
 ) -> Worked<D, G>
     requires own { worker.client.table ≡ manager.now.table }
     requires settings { is_settings settings.now ≡ true }
-    ensures { HasWorked D.leads settings.now worker.client result.worker.client
-        worker.draws result.worker.draws result.tally }
+    ensures { HasWorked D.leads settings.now manager.now.renewal
+        worker.client result.worker.client worker.draws result.worker.draws result.tally }
 {
     let Worker {
         mut client,
@@ -85,18 +86,19 @@ fn start<'s, E, D: Draws + Send + Drop + 's, G: Gate + Send + Drop + 's>(
     requires own { worker.client.table ≡ manager.now.table }
     requires settings { is_settings settings ≡ true }
     ensures promise { IfOk result (λ handle.
-        IsPromise settings worker.client worker.draws handle.promise) }
+        IsPromise settings manager.now.renewal worker.client worker.draws handle.promise) }
     ensures refused { IfErr result (λ fault. fault ≡ LoadFault.Spawn) }
 {
     let promise = WorkOf {
         settings,
+        manager: Snapshot::of(manager),
         client: Snapshot::of(&worker.client),
         draws: Snapshot::of(&worker.draws),
     };
     let run = move || -> Worked<D, G>
         requires { (worker.client.table ≡ manager.now.table) × (is_settings settings ≡ true) }
-        ensures { HasWorked D.leads settings worker.client result.worker.client
-            worker.draws result.worker.draws result.tally }
+        ensures { HasWorked D.leads settings manager.entry.now.renewal
+            worker.client result.worker.client worker.draws result.worker.draws result.tally }
     { work(alloc, manager, &settings, worker) };
     match scope.spawn_with(promise, run) {
         Ok(handle) => Ok(handle),
@@ -118,7 +120,7 @@ fn start_all<'s, E, D: Draws + Send + Drop + 's, G: Gate + Send + Drop + 's>(
     requires room { vec_len workers ≤ vec_capacity handles.old }
     requires empty { handles.old.items ≡ [] }
     ensures promises { IfOk result (λ _.
-        Paired (λ w h. IsPromise settings w.client w.draws h.promise)
+        Paired (λ w h. IsPromise settings manager.now.renewal w.client w.draws h.promise)
         workers.items handles.new.items) }
     ensures few { vec_len handles.new ≤ vec_len workers }
     ensures refused { IfErr result (λ fault. fault ≡ LoadFault.Spawn) }
@@ -140,7 +142,7 @@ fn join_all<R: Threads, D: Draws + Drop, G: Drop>(
 ) -> Vec<Worked<D, G>>
     requires room { vec_len handles ≤ vec_capacity done }
     requires empty { done.items ≡ [] }
-    ensures { Paired (λ h r. HasWorked D.leads h.promise.settings
+    ensures { Paired (λ h r. HasWorked D.leads h.promise.settings h.promise.manager.value.renewal
         h.promise.client.value r.worker.client h.promise.draws.value r.worker.draws r.tally)
         handles.items result.items }
 {
@@ -177,11 +179,11 @@ fn run_in<'s, E, R: Threads, D: Draws + Send + Drop + 's, G: Gate + Send + Drop 
     requires place { vec_len crew.others ≤ vec_capacity done }
     requires none_started { handles.items ≡ [] }
     requires none_done { done.items ≡ [] }
-    ensures first { IfOk result (λ r. HasWorked D.leads settings
+    ensures first { IfOk result (λ r. HasWorked D.leads settings manager.now.renewal
         crew.first.client r.first.worker.client
         crew.first.draws r.first.worker.draws r.first.tally) }
     ensures others { IfOk result (λ r.
-        Paired (λ w d. HasWorked D.leads settings
+        Paired (λ w d. HasWorked D.leads settings manager.now.renewal
         w.client d.worker.client w.draws d.worker.draws d.tally)
         crew.others.items r.others.items) }
     ensures refused { IfErr result (λ fault. fault ≡ LoadFault.Spawn) }
@@ -212,11 +214,11 @@ fn run_in_scope<R: Threads + Wait, D: Draws + Send + Drop, G: Gate + Send + Drop
     requires place { vec_len crew.others ≤ vec_capacity done }
     requires none_started { handles.items ≡ [] }
     requires none_done { done.items ≡ [] }
-    ensures first { IfOk result (λ r. HasWorked D.leads settings
+    ensures first { IfOk result (λ r. HasWorked D.leads settings manager.now.renewal
         crew.first.client r.first.worker.client
         crew.first.draws r.first.worker.draws r.first.tally) }
     ensures others { IfOk result (λ r.
-        Paired (λ w d. HasWorked D.leads settings
+        Paired (λ w d. HasWorked D.leads settings manager.now.renewal
         w.client d.worker.client w.draws d.worker.draws d.tally)
         crew.others.items r.others.items) }
     ensures refused { IfErr result (λ fault. fault ≡ LoadFault.Spawn) }
@@ -231,11 +233,11 @@ fn run_in_scope<R: Threads + Wait, D: Draws + Send + Drop, G: Gate + Send + Drop
                 × (vec_len crew.others ≤ vec_capacity handles)
                 × (vec_len crew.others ≤ vec_capacity done)
                 × (handles.items ≡ []) × (done.items ≡ []) }
-            ensures first { IfOk result (λ r. HasWorked D.leads settings
+            ensures first { IfOk result (λ r. HasWorked D.leads settings manager.entry.now.renewal
                 crew.first.client r.first.worker.client
                 crew.first.draws r.first.worker.draws r.first.tally) }
             ensures others { IfOk result (λ r.
-                Paired (λ w d. HasWorked D.leads settings
+                Paired (λ w d. HasWorked D.leads settings manager.entry.now.renewal
                 w.client d.worker.client w.draws d.worker.draws d.tally)
                 crew.others.items r.others.items) }
             ensures refused { IfErr result (λ fault. fault ≡ LoadFault.Spawn) }
@@ -255,11 +257,11 @@ pub(crate) fn run_all<R: Threads + Wait, D: Draws + Send + Drop, G: Gate + Send 
     requires first { crew.first.client.table ≡ manager.now.table }
     requires others { All (λ w. w.client.table ≡ manager.now.table) crew.others.items }
     requires settings { is_settings settings ≡ true }
-    ensures first { IfOk result (λ r. HasWorked D.leads settings
+    ensures first { IfOk result (λ r. HasWorked D.leads settings manager.now.renewal
         crew.first.client r.first.worker.client
         crew.first.draws r.first.worker.draws r.first.tally) }
     ensures others { IfOk result (λ r.
-        Paired (λ w d. HasWorked D.leads settings
+        Paired (λ w d. HasWorked D.leads settings manager.now.renewal
         w.client d.worker.client w.draws d.worker.draws d.tally)
         crew.others.items r.others.items) }
     ensures refused { IfErr result (λ fault.

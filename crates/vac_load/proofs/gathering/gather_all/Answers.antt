@@ -1,7 +1,8 @@
-use Rattle.std.proofs.Common.{rules, ◌≡◌, ◌≤◌, ◌+◌, ◌*◌, ◌++◌, [], ◌∷◌, All, length, arith}
+use Rattle.std.proofs.Common.{rules, ◌≡◌, ◌≤◌, ◌+◌, [], ◌∷◌, List, subst, refl, arith}
 use Rattle.std.specs.Vec.Iter.{into_iter_items, into_iter_len}
 use Rattle.vac_load.specs.Looping.{total}
-use Rattle.vac_load.proofs.Pairs.{one_on, all_same, all_but_first, all_first}
+use Rattle.vac_load.specs.Load.{Paired, Gathered}
+use Rattle.vac_load.proofs.Pairs.{all_met, paired_none, paired_step, one_on, all_same, all_but_first, all_first}
 use Rattle.vac_load.proofs.Gatherings.{gathered_one, gathered_more}
 use Rattle.vac_load.proofs.gathering.gather_all.Goals as goal
 
@@ -12,6 +13,8 @@ loop-worked-init g c = record {
   others = all_same (λ w. w.worker.client.table ≡ c.args.manager.now.table) _ _ (search rules) c.requires.others_own;
   tasks = all_same (λ w. total w.tally ≤ 1000000) _ _ (search rules) c.requires.others_tasks;
   gathered = gathered_one _ _ c.args.crew.first;
+  handed = paired_step (λ w p. p.0 ≡ w.worker.draws) [] c.args.pairs.items c.push.new.self.items c.args.crew.first (c.args.crew.first.worker.draws, c.args.crew.first.worker.gate) (search rules) (paired_none _ _ c.requires.empty) refl;
+  room = grind rules;
   bound = let n : into_iter_len c.into_iter-worked-iterator.result ≤ 64 = grind rules in omega (arith, n, c.requires.tasks);
 }
 
@@ -32,7 +35,19 @@ loop-worked-preserved g c =
       own = search rules;
       others = all_but_first (λ w. w.worker.client.table ≡ c.args.manager.now.table) (into_iter_items c.loop-worked.worked-iterator) (into_iter_items c.next.new.self) c.in-Some.worked (search rules) c.loop-worked.invariant.others;
       tasks = all_but_first (λ w. total w.tally ≤ 1000000) (into_iter_items c.loop-worked.worked-iterator) (into_iter_items c.next.new.self) c.in-Some.worked (search rules) c.loop-worked.invariant.tasks;
-      gathered = gathered_more (λ w. w.worker.client.value.records) (λ w. w.tally) _ c.in-Some.worked c.loop-worked.client.value c.gather.new.client.value c.loop-worked.tally c.plus-tally.result
-          c.loop-worked.invariant.gathered (search rules) c.gather.ensures.mine c.gather.ensures.theirs c.plus-tally.ensures;
+      gathered = gathered_more (λ w. w.worker.client.value.records) (λ w. w.tally) c.args.crew.first _ c.in-Some.worked c.loop-worked.client.value c.gather.new.client.value c.loop-worked.tally c.plus-tally.result
+          c.loop-worked.invariant.gathered (search rules) c.plus-tally.ensures;
+      handed = paired_step (λ w p. p.0 ≡ w.worker.draws) (c.args.crew.first ∷ _) c.loop-worked.pairs.items c.push-in-loop-worked.new.self.items c.in-Some.worked (c.in-Some.worked.worker.draws, c.in-Some.worked.worker.gate) (search rules) c.loop-worked.invariant.handed refl;
+      room = grind rules;
       bound = rw c.plus-tally.ensures (omega (arith, m, less, c.loop-worked.invariant.bound));
     }
+
+pub returns-clause-gathered : goal.returns-clause-gathered
+returns-clause-gathered g c =
+    subst (λ (l : List _). Gathered (λ w. w.worker.client.value.records) (λ w. w.tally) c.args.crew.first l c.loop-worked.client.value.records c.loop-worked.tally)
+    (all_met _ _ _ c.loop-worked.invariant.all (search rules)) c.loop-worked.invariant.gathered
+
+pub returns-clause-pairs : goal.returns-clause-pairs
+returns-clause-pairs g c =
+    subst (λ (l : List _). Paired (λ w p. p.0 ≡ w.worker.draws) (c.args.crew.first ∷ l) c.loop-worked.pairs.items)
+    (all_met _ _ _ c.loop-worked.invariant.all (search rules)) c.loop-worked.invariant.handed

@@ -1,7 +1,7 @@
-use Rattle.std.proofs.Common.{◌≡◌, ◌≤◌, ◌+◌, ◌*◌, ◌++◌, ◌∷◌, All, length}
+use Rattle.std.proofs.Common.{◌≡◌, ◌≤◌, ◌+◌, ◌*◌, ◌++◌, ◌∷◌, All, vec_len, vec_capacity}
 use Rattle.std.specs.Vec.Iter.{into_iter_items, into_iter_len}
 use Rattle.vac_load.specs.Looping.{total}
-use Rattle.vac_load.specs.Load.{Gathered}
+use Rattle.vac_load.specs.Load.{Paired, Gathered}
 use Rattle.vac_load.proofs.gathering.gather_all.Given as goal
 
 abbrev pub invariant-loop-worked : goal.invariant-loop-worked
@@ -10,6 +10,8 @@ invariant-loop-worked g l = record {
   own : l.client.table ≡ l.manager.table;
   others : All (λ w. w.worker.client.table ≡ l.manager.table) (into_iter_items l.worked-iterator);
   tasks : All (λ w. total w.tally ≤ 1000000) (into_iter_items l.worked-iterator);
-  gathered : Gathered (λ w. w.worker.client.value.records) (λ w. w.tally) (l.fn.crew.first ∷ l.yielded) l.client.value.records l.tally;
+  gathered : Gathered (λ w. w.worker.client.value.records) (λ w. w.tally) l.fn.crew.first l.yielded l.client.value.records l.tally;
+  handed : Paired (λ w p. p.0 ≡ w.worker.draws) (l.fn.crew.first ∷ l.yielded) l.pairs.items;
+  room : vec_len l.pairs + into_iter_len l.worked-iterator ≤ vec_capacity l.pairs;
   bound : total l.tally + into_iter_len l.worked-iterator * 1000000 ≤ 65000000;
 }

@@ -1,5 +1,5 @@
-use Rattle.std.proofs.Common.{rules, ◌≡◌, ◌∙◌, ◌≤◌, ◌+◌, ◌*◌, ◌++◌, [], ◌∷◌, All, length, refl, arith}
-use Rattle.std.specs.Vec.Iter.{into_iter_items, into_iter_len}
+use Rattle.std.proofs.Common.{rules, ◌≡◌, ◌∙◌, ◌+◌, length, refl, arith}
+use Rattle.std.specs.Vec.Iter.{into_iter_items}
 use Rattle.vac_load.proofs.Pairs.{paired_none, paired_step, paired_all, one_on}
 use Rattle.vac_load.proofs.Shares.{split_hired, split_keeps, paired_each}
 use Rattle.vac_load.proofs.gathering.hire.Goals as goal

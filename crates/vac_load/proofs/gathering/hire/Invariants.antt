@@ -1,4 +1,4 @@
-use Rattle.std.proofs.Common.{◌≡◌, ◌≤◌, ◌+◌, ◌*◌, ◌++◌, ◌∷◌, [], vec_len, vec_capacity}
+use Rattle.std.proofs.Common.{◌≡◌, ◌≤◌, ◌+◌, ◌++◌, [], vec_len, vec_capacity}
 use Rattle.std.specs.Vec.Iter.{into_iter_items, into_iter_len}
 use Rattle.vac_load.specs.Load.{Paired, IsHired}
 use Rattle.vac_load.proofs.gathering.hire.Given as goal
@@ -10,7 +10,7 @@ invariant-loop-draws g l = record {
   records : l.client.value.records ≡ l.fn.client.value.records;
   floor : l.client.value.floor ≡ l.fn.client.value.floor;
   grants : l.client.value.grants + vec_len l.others ≡ 63;
-  count : vec_len l.others + into_iter_len l.draws-iterator ≤ 63;
+  count : vec_len l.others + into_iter_len l.draws-iterator + 1 ≡ vec_len l.fn.pairs;
   room : vec_len l.others + into_iter_len l.draws-iterator ≤ vec_capacity l.others;
   hired : Paired (λ p w. IsHired l.fn.client.table [] l.fn.client.value.floor p.0 w.client w.draws) l.yielded l.others.items;
 }

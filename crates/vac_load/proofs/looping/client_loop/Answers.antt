@@ -5,13 +5,13 @@ use Rattle.vac_load.proofs.looping.client_loop.Goals as goal
 pub tasks-init : goal.tasks-init
 tasks-init g c = record {
   client = refl;
-  looped = rw c.new-tally.ensures (looped_none g.D.Draws.leads c.args.settings.now c.args.client.now.value c.args.draws.now);
+  looped = rw c.new-tally.ensures (looped_none g.D.Draws.leads c.args.settings.now c.args.manager.now.renewal c.args.client.now.value c.args.draws.now);
 }
 
 pub tasks-preserved : goal.tasks-preserved
 tasks-preserved g c = record {
   client = search rules;
-  looped = rw c.count.ensures (looped_more g.D.Draws.leads c.args.settings.now c.tasks.counter c.args.client.now.value c.tasks.client.value c.ask_for-end.new.client.value
+  looped = rw c.count.ensures (looped_more g.D.Draws.leads c.args.settings.now c.args.manager.now.renewal c.tasks.counter c.args.client.now.value c.tasks.client.value c.ask_for-end.new.client.value
       c.args.draws.now c.tasks.draws c.draw_task-task.new.draws c.tasks.tally c.draw_task-task.result c.ask_for-end.result
-      c.tasks.invariant.looped c.draw_task-task.ensures c.ask_for-end.ensures.one);
+      c.tasks.invariant.looped c.draw_task-task.ensures.drawn c.ask_for-end.ensures.one);
 }

@@ -5,5 +5,5 @@ use Rattle.vac_load.proofs.looping.client_loop.Given as goal
 abbrev pub invariant-tasks : goal.invariant-tasks
 invariant-tasks g l = record {
   client : l.client ≡ record l.fn.client { value = l.client.value };
-  looped : Looped g.D.Draws.leads l.fn.settings l.counter l.fn.client.value l.client.value l.fn.draws l.draws l.tally;
+  looped : Looped g.D.Draws.leads l.fn.settings l.manager.renewal l.counter l.fn.client.value l.client.value l.fn.draws l.draws l.tally;
 }

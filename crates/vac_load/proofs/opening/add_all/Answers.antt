@@ -7,5 +7,5 @@ pub items-preserved : goal.items-preserved
 items-preserved g c = record {
   client = search rules;
   grants = search rules;
-  ran = ran_more g.D.Draws.leads c.items.place stocks _ _ _ _ _ _ c.items.invariant.ran c.in_ok-add_items.ensures.ran;
+  ran = ran_more g.D.Draws.leads c.args.manager.now.renewal c.items.place stocks _ _ _ _ _ _ c.items.invariant.ran c.in_ok-add_items.ensures.ran;
 }

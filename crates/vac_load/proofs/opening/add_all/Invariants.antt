@@ -8,5 +8,5 @@ abbrev pub invariant-items : goal.invariant-items
 invariant-items g l = record {
   client : l.client ≡ record l.fn.client { value = l.client.value };
   grants : l.client.value.grants ≡ 63;
-  ran : Ran g.D.Draws.leads (for_each l.place stocks) l.fn.client.value l.client.value l.fn.draws l.draws;
+  ran : Ran g.D.Draws.leads l.manager.renewal (for_each l.place stocks) l.fn.client.value l.client.value l.fn.draws l.draws;
 }

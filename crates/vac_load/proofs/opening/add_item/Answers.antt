@@ -13,7 +13,7 @@ returns-clause-ran g c =
     let kind = c.args.kind in
     let id = c.args.id in
     let level = c.draw_below.result in
-    ran_if_ok leads (stock id kind) (Add kind id ((level + 1) * UNITS) (Some c.draw_price-price.result)) _ _ _ _ c.ask_for.result
+    ran_if_ok leads c.args.manager.now.renewal (stock id kind) (Add kind id ((level + 1) * UNITS) (Some c.draw_price-price.result)) _ _ _ _ c.ask_for.result
     (drawn_after leads (below LEVELS) (λ level. after price (λ p. always (Add kind id ((level + 1) * UNITS) (Some p) ∷ []))) _ _ _ _ _ c.draw_below.ensures.drawn
     (drawn_then_always leads price (λ p. Add kind id ((level + 1) * UNITS) (Some p) ∷ []) _ _ _ c.draw_price-price.ensures.drawn))
     c.ask_for.ensures.answered

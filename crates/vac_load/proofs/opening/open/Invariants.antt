@@ -6,5 +6,5 @@ abbrev pub invariant-customers : goal.invariant-customers
 invariant-customers g l = record {
   client : l.client ≡ record l.fn.client { value = l.client.value };
   grants : l.client.value.grants ≡ 63;
-  opening : Opening g.D.Draws.leads l.fn.settings.items l.place l.fn.client.value l.client.value l.fn.draws l.draws;
+  opening : Opening g.D.Draws.leads l.manager.renewal l.fn.settings.items l.place l.fn.client.value l.client.value l.fn.draws l.draws;
 }

@@ -1,4 +1,3 @@
-use Rattle.std.proofs.Common.{rules}
 use Rattle.vac_load.proofs.Words.{fitting_holds, reports}
 use Rattle.vac_load.proofs.report.report_of.Goals as goal
 

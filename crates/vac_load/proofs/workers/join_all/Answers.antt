@@ -1,5 +1,4 @@
-use Rattle.std.proofs.Common.{rules, ◌≡◌, ◌≤◌, ◌+◌, ◌++◌, [], ◌∷◌, length, arith}
-use Rattle.std.specs.Vec.Iter.{into_iter_items, into_iter_len}
+use Rattle.std.proofs.Common.{rules}
 use Rattle.vac_load.proofs.Pairs.{paired_none, paired_step, paired_all, one_on}
 use Rattle.vac_load.proofs.workers.join_all.Goals as goal
 

@@ -1,6 +1,5 @@
-use Rattle.std.proofs.Common.{rules}
 use Rattle.vac_load.proofs.Pairs.{worked_through}
 use Rattle.vac_load.proofs.workers.run_in.Goals as goal
 
 pub returns-clause-others : goal.returns-clause-others
-returns-clause-others g c = worked_through _ _ (λ w. w.client) (λ w. w.draws) (λ h. h.promise) (λ r. r.worker.client) (λ r. r.worker.draws) (λ r. r.tally) _ _ _ c.in_ok-started.ensures.promises c.join_all-others.ensures
+returns-clause-others g c = worked_through _ _ _ (λ w. w.client) (λ w. w.draws) (λ h. h.promise) (λ r. r.worker.client) (λ r. r.worker.draws) (λ r. r.tally) _ _ _ c.in_ok-started.ensures.promises c.join_all-others.ensures

@@ -1,0 +1,181 @@
+-- Rounds, one after the other.
+use Rattle.std.proofs.Common.{Bool, true, false, ◌&&◌, ◌≡◌, ◌∙◌, ℕ, suc, ◌+◌, ◌*◌, ◌≤◌, List, [], ◌∷◌, ◌++◌, length, length-append, append_assoc, refl, sym, ap, subst, arith}
+use Rattle.std.proofs.Math.Nat.{mul-le-mul}
+use Rattle.stm_words.specs.Image.{In}
+use Rattle.stm_core.specs.Client.{Record}
+use Rattle.stm_region.specs.Shown.{RegionShown}
+use Rattle.vac_manager.specs.Called.{CallerShown}
+use Rattle.vac_manager.specs.Renewed.{ClosesSomewhere}
+use Rattle.stm_core.specs.History.{Sub, done, keep, skip}
+use Rattle.vac_load.specs.declared.settings.Settings.{Settings}
+use Rattle.vac_load.specs.declared.tally.Tally.{Tally}
+use Rattle.std.proofs.lemmas.Bool.Decides.{nat_tests}
+use Rattle.vac_load.specs.Setting.{is_settings, is_work, is_system}
+use Rattle.vac_load.specs.Looping.{total}
+use Rattle.vac_load.specs.Sums.{sum_of, plus, added_up}
+use Rattle.vac_load.specs.Load.{Paired, none, both, SubEach, AreKnown, Share, HasShare, RanAll, RanMore}
+use Rattle.vac_load.proofs.Drawing.{drawn_both}
+use Rattle.vac_load.proofs.Answering.{are_of_both}
+use Rattle.vac_load.proofs.Pairs.{paired_through}
+
+sub_after : {A : Type 0} (us bs xs : List A) → Sub xs bs → Sub xs (us ++ bs)
+sub_after [] bs xs p = p
+sub_after (u ∷ us) bs xs p = skip u (sub_after us bs xs p)
+
+sub_both : {A : Type 0} {xs us : List A} (ys vs : List A) → Sub xs us → Sub ys vs → Sub (xs ++ ys) (us ++ vs)
+sub_both ys vs (done {ys = us}) q = sub_after us vs ys q
+sub_both ys vs (keep x p) q = keep x (sub_both ys vs p q)
+sub_both ys vs (skip y p) q = skip y (sub_both ys vs p q)
+
+-- what a client did in some rounds and then in others
+abbrev joined_share : {D : Type 0} → Share D → Share D → Share D
+joined_share x y = record { records = x.records ++ y.records; tally = plus x.tally y.tally; left = y.left }
+
+total_plus : (t u : Tally) → total (plus t u) ≡ total t + total u
+total_plus t u = omega arith
+
+share_both : {D : Type 0} (leads : D → ℕ → D → Type 0) (s : Settings) (n m : ℕ) (state : D) (x y : Share D) → HasShare leads s n state x → HasShare leads s m x.left y → HasShare leads s (n + m) state (joined_share x y)
+share_both leads s n m state x y h k = record {
+  tasks = h.tasks ++ k.tasks;
+  drawn = drawn_both leads n m _ state h.tasks x.left k.tasks y.left h.drawn k.drawn;
+  answered = h.answered ++ k.answered;
+  among = sub_both k.answered k.tasks h.among k.among;
+  number = omega (arith, length-append h.answered k.answered, h.number, k.number);
+  are_of = are_of_both h.answered k.answered x.records y.records h.are_of k.are_of;
+  all = omega (arith, h.all, k.all);
+}
+
+abbrev zipped : {D : Type 0} → List (Share D) → List (Share D) → List (Share D)
+zipped [] ys = []
+zipped (x ∷ xs) [] = []
+zipped (x ∷ xs) (y ∷ ys) = joined_share x y ∷ zipped xs ys
+
+module _ {D P : Type 0} (leads : D → ℕ → D → Type 0) (s : Settings) (draws_of : P → D) (n m : ℕ) where
+  zip_each : (ps : List P) (xs ys : List (Share D)) → Paired (λ p x. HasShare leads s n (draws_of p) x) ps xs → Paired (λ x y. HasShare leads s m x.left y) xs ys →
+      Paired (λ p x. HasShare leads s (n + m) (draws_of p) x) ps (zipped xs ys)
+  zip_each [] [] [] none none = none
+  zip_each (p ∷ ps) (x ∷ xs) (y ∷ ys) (both h hs) (both k ks) = both (share_both leads s n m (draws_of p) x y h k) (zip_each ps xs ys hs ks)
+  zip_each [] (x ∷ xs) ys hs ks = elim hs [ ]
+  zip_each (p ∷ ps) [] ys hs ks = elim hs [ ]
+  zip_each [] [] (y ∷ ys) hs ks = elim ks [ ]
+  zip_each (p ∷ ps) (x ∷ xs) [] hs ks = elim ks [ ]
+
+  zip_left : (xs ys : List (Share D)) (ps : List P) → Paired (λ x y. HasShare leads s m x.left y) xs ys → Paired (λ y p. draws_of p ≡ y.left) ys ps → Paired (λ x p. draws_of p ≡ x.left) (zipped xs ys) ps
+  zip_left [] [] [] none none = none
+  zip_left (x ∷ xs) (y ∷ ys) (p ∷ ps) (both h hs) (both k ks) = both k (zip_left xs ys ps hs ks)
+  zip_left [] (y ∷ ys) ps hs ks = elim hs [ ]
+  zip_left (x ∷ xs) [] ps hs ks = elim hs [ ]
+  zip_left [] [] (p ∷ ps) hs ks = elim ks [ ]
+  zip_left (x ∷ xs) (y ∷ ys) [] hs ks = elim ks [ ]
+
+  zip_among : (xs ys : List (Share D)) (k l : List Record) → Paired (λ x y. HasShare leads s m x.left y) xs ys → SubEach (λ (x : Share D). x.records) xs k → SubEach (λ (x : Share D). x.records) ys l →
+      SubEach (λ (x : Share D). x.records) (zipped xs ys) (k ++ l)
+  zip_among [] [] k l none a b = tt
+  zip_among (x ∷ xs) (y ∷ ys) k l (both h hs) a b = (sub_both y.records l a.0 b.0, zip_among xs ys k l hs a.1 b.1)
+  zip_among [] (y ∷ ys) k l hs a b = elim hs [ ]
+  zip_among (x ∷ xs) [] k l hs a b = elim hs [ ]
+
+  -- sums over shares of what adds up
+  zip_sum : (f : Share D → ℕ) → ((x y : Share D) → f (joined_share x y) ≡ f x + f y) → (xs ys : List (Share D)) → Paired (λ x y. HasShare leads s m x.left y) xs ys → sum_of f (zipped xs ys) ≡ sum_of f xs + sum_of f ys
+  zip_sum f adds [] [] none = refl
+  zip_sum f adds (x ∷ xs) (y ∷ ys) (both h hs) = omega (arith, adds x y, zip_sum f adds xs ys hs)
+  zip_sum f adds [] (y ∷ ys) hs = elim hs [ ]
+  zip_sum f adds (x ∷ xs) [] hs = elim hs [ ]
+
+  zip_tallies : (xs ys : List (Share D)) → Paired (λ x y. HasShare leads s m x.left y) xs ys → added_up (λ (x : Share D). x.tally) (zipped xs ys) ≡ plus (added_up (λ (x : Share D). x.tally) xs) (added_up (λ (x : Share D). x.tally) ys)
+  zip_tallies xs ys h = λ i. record {
+    answered = zip_sum (λ (x : Share D). x.tally.answered) (λ x y. refl) xs ys h i;
+    busy = zip_sum (λ (x : Share D). x.tally.busy) (λ x y. refl) xs ys h i;
+    memory = zip_sum (λ (x : Share D). x.tally.memory) (λ x y. refl) xs ys h i;
+    spent = zip_sum (λ (x : Share D). x.tally.spent) (λ x y. refl) xs ys h i;
+  }
+
+  pub ran_both : (before middle after : List Record) (pairs between left : List P) (t u : Tally) → RanAll leads s draws_of n before pairs middle between t → RanAll leads s draws_of m middle between after left u →
+      RanAll leads s draws_of (n + m) before pairs after left (plus t u)
+  ran_both before middle after pairs between left t u h k =
+      let goes : Paired (λ x y. HasShare leads s m x.left y) h.shares k.shares =
+      paired_through (λ (x : Share D) p. draws_of p ≡ x.left) (λ p (y : Share D). HasShare leads s m (draws_of p) y) (λ (x : Share D) y. HasShare leads s m x.left y)
+      (λ x p y e f. subst (λ (d : D). HasShare leads s m d y) e f) h.shares between k.shares h.left_are k.each in
+      let long = length-append h.rest k.rest in
+      let sums = zip_sum (λ (x : Share D). length x.records) (λ x y. length-append x.records y.records) h.shares k.shares goes in
+      record {
+        shares = zipped h.shares k.shares;
+        each = zip_each pairs h.shares k.shares h.each goes;
+        left_are = zip_left h.shares k.shares left goes k.left_are;
+        rest = h.rest ++ k.rest;
+        behind = k.behind ∙ (ap (λ (l : List Record). l ++ k.rest) h.behind ∙ append_assoc before h.rest k.rest);
+        among = zip_among h.shares k.shares h.rest k.rest goes h.among k.among;
+        number = omega (arith, long, sums, h.number, k.number);
+        tallies = ap (λ (x : Tally). plus x u) h.tallies ∙ (ap (λ (x : Tally). plus (added_up (λ (y : Share D). y.tally) h.shares) x) k.tallies ∙ sym (zip_tallies h.shares k.shares goes));
+      }
+
+-- one round more
+pub ran_more : {D P : Type 0} (leads : D → ℕ → D → Type 0) (s : Settings) (draws_of : P → D) (rounds : ℕ) (before middle after : List Record) (pairs between left : List P) (t t' : Tally) →
+    RanAll leads s draws_of (rounds * s.tasks) before pairs middle between t → RanMore leads s draws_of middle between t after left t' → RanAll leads s draws_of ((rounds + 1) * s.tasks) before pairs after left t'
+ran_more leads s draws_of rounds before middle after pairs between left t t' h k =
+    let n : rounds * s.tasks + s.tasks ≡ (rounds + 1) * s.tasks = grind arith in
+    subst (λ (j : ℕ). RanAll leads s draws_of j before pairs after left t') n
+    (subst (λ (u : Tally). RanAll leads s draws_of (rounds * s.tasks + s.tasks) before pairs after left u) (sym k.tally_is)
+    (ran_both leads s draws_of (rounds * s.tasks) s.tasks before middle after pairs between left t k.more h k.ran))
+
+-- tallies of so many tasks each
+total_of : {D P : Type 0} (leads : D → ℕ → D → Type 0) (s : Settings) (draws_of : P → D) (n : ℕ) (pairs : List P) (shares : List (Share D)) →
+    Paired (λ p x. HasShare leads s n (draws_of p) x) pairs shares → total (added_up (λ (x : Share D). x.tally) shares) ≡ length pairs * n
+total_of leads s draws_of n [] [] none = omega arith
+total_of leads s draws_of n (p ∷ pairs) (x ∷ shares) (both h hs) = counts (total_of leads s draws_of n pairs shares hs) h.all
+  where
+    counts : total (added_up (λ (y : Share _). y.tally) shares) ≡ length pairs * n → total x.tally ≡ n → total (added_up (λ (y : Share _). y.tally) (x ∷ shares)) ≡ suc (length pairs) * n
+    counts e f = omega (arith, e, f)
+total_of leads s draws_of n [] (x ∷ shares) hs = elim hs [ ]
+total_of leads s draws_of n (p ∷ pairs) [] hs = elim hs [ ]
+
+pub ran_total : {D P : Type 0} (leads : D → ℕ → D → Type 0) (s : Settings) (draws_of : P → D) (n : ℕ) (before after : List Record) (pairs left : List P) (t : Tally) →
+    RanAll leads s draws_of n before pairs after left t → total t ≡ length pairs * n
+ran_total leads s draws_of n before after pairs left t h = ap (λ (u : Tally). total u) h.tallies ∙ total_of leads s draws_of n pairs h.shares h.each
+
+-- the product of numbers below bounds
+below_both : (a b c d : ℕ) → a ≤ b → c ≤ d → a * c ≤ b * d
+below_both a b c d p q = mul-le-mul p q
+
+first_true : (a b : Bool) → (a && b) ≡ true → a ≡ true
+first_true true b e = refl
+first_true false b e = e
+
+-- what may be asked for
+pub record Few (s : Settings) : Type 0 where
+  pub some : 1 ≤ s.rounds
+  pub clients : s.clients ≤ 64
+  pub rounds : s.rounds ≤ 100
+  pub tasks : s.tasks ≤ 1000000
+
+pub few : (s : Settings) → is_settings s ≡ true → Few s
+few s e =
+    let w : is_work s ≡ true = first_true (is_work s) (is_system s) e in
+    record {
+      some = grind (arith, nat_tests, w);
+      clients = grind (arith, nat_tests, w);
+      rounds = grind (arith, nat_tests, w);
+      tasks = grind (arith, nat_tests, w);
+    }
+
+-- no more tasks than in the most rounds by the most clients
+pub few_tasks : (clients rounds tasks : ℕ) → clients ≤ 64 → rounds ≤ 100 → tasks ≤ 1000000 → clients * (rounds * tasks) ≤ 6400000000
+few_tasks clients rounds tasks a b c =
+    let p : rounds * tasks ≤ 100 * 1000000 = below_both rounds 100 tasks 1000000 b c in
+    below_both clients 64 (rounds * tasks) (100 * 1000000) a p
+
+pub few_each : (n pairs clients tasks : ℕ) → n ≡ pairs * tasks → pairs ≡ clients → clients ≤ 64 → tasks ≤ 1000000 → n ≤ 64000000
+few_each n pairs clients tasks e f a b = let p : pairs * tasks ≤ 64 * 1000000 = below_both pairs 64 tasks 1000000 (omega (arith, f, a)) b in omega (arith, e, p)
+
+pub few_all : (n pairs clients rounds tasks : ℕ) → n ≡ pairs * (rounds * tasks) → pairs ≡ clients → clients ≤ 64 → rounds ≤ 100 → tasks ≤ 1000000 → n ≤ 6400000000
+few_all n pairs clients rounds tasks e f a b c = let p = few_tasks pairs rounds tasks (omega (arith, f, a)) b c in omega (arith, e, p)
+
+-- after a renewal all records are of earlier ones
+pub renewed_known : (region region' : RegionShown) (c c' : CallerShown) (words : List ℕ) → ClosesSomewhere region c.value words → region'.renewal ≡ region.renewal + 1 → c'.value.records ≡ c.value.records → AreKnown region'.renewal c'.value.floor c'.value.records
+renewed_known region region' c c' words h e same = λ r i.
+    (let past = h.1.ends.eras r (subst (λ (l : List Record). In r l) same i) in
+    record {
+      present = omega (arith, e, past);
+      known = λ q. absurd (omega (arith, e, past, q));
+      unplaced = λ q. absurd (omega (arith, e, past, q));
+    })

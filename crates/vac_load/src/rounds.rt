@@ -1,0 +1,97 @@
+//! The rounds of a load, with a renewal of the clock between two of them.
+
+ghost use Rattle.std.specs.Prelude.{◌≡◌, ◌≤◌, ◌*◌, ◌⊎◌, true, vec_len, IfOk, IfErr};
+ghost use Rattle.vac_load.specs.Looping.{total};
+ghost use Rattle.vac_load.specs.Setting.{is_settings};
+ghost use Rattle.vac_load.specs.declared.settings.TheConstants.{MOST_CLIENTS, MOST_ROUNDS, MOST_TASKS};
+ghost use Rattle.vac_load.specs.Load.{AreKnown, RanAll, RanMore};
+
+use crate::draws::Draws;
+use crate::gathering::{Round, run_clients};
+use crate::load::LoadFault;
+use crate::settings::Settings;
+use std::alloc::Global;
+use std::sync::Wait;
+use std::thread::Threads;
+use stm_attempt::Gate;
+use vac_manager::{Client, Manager};
+
+/// A load after some of its rounds: its manager, and what the last round left, with the tasks of
+/// all rounds counted.
+#[derive(Drop)]
+pub(crate) struct Progress<D, G> {
+    pub(crate) manager: Manager,
+    pub(crate) round: Round<D, G>,
+}
+
+/// Renews the clock and runs one more round, in which draws and gates go on.
+fn go_on<R: Threads + Wait, D: Draws + Send + Drop, G: Gate + Send + Drop>(
+    rt: &R,
+    alloc: Global,
+    settings: &Settings,
+    progress: Progress<D, G>,
+) -> Result<Progress<D, G>, LoadFault>
+    requires own { progress.round.client.table ≡ progress.manager.table }
+    requires settings { is_settings settings.now ≡ true }
+    requires number { vec_len progress.round.pairs ≡ settings.now.clients }
+    requires few { total progress.round.tally ≤ MOST_CLIENTS * (MOST_ROUNDS * MOST_TASKS) }
+    ensures own { IfOk result (λ r. r.round.client.table ≡ r.manager.table) }
+    ensures number { IfOk result (λ r. vec_len r.round.pairs ≡ settings.now.clients) }
+    ensures size { IfOk result (λ r. r.manager.size ≡ progress.manager.size) }
+    ensures ran { IfOk result (λ r. RanMore D.leads settings.now (λ p. p.0)
+        progress.round.client.value.records progress.round.pairs.items progress.round.tally
+        r.round.client.value.records r.round.pairs.items r.round.tally) }
+    ensures refused { IfErr result (λ fault.
+        (fault ≡ LoadFault.Memory) ⊎ (fault ≡ LoadFault.Spawn)) }
+{
+    let Progress { manager, round } = progress;
+    let Round {
+        client,
+        pairs,
+        tally,
+    } = round;
+    let Ok((manager, client)) = manager.renew(client, settings.last) else {
+        return Err(LoadFault::Memory);
+    };
+    let Round {
+        client,
+        pairs,
+        tally: more,
+    } = run_clients(rt, alloc, &manager, settings, client, pairs)?;
+    let round = Round {
+        client,
+        pairs,
+        tally: tally.plus(more),
+    };
+    Ok(Progress { manager, round })
+}
+
+/// Runs all rounds of a load. Between two of them the manager is renewed.
+pub(crate) fn run_rounds<R: Threads + Wait, D: Draws + Send + Drop, G: Gate + Send + Drop>(
+    rt: &R,
+    alloc: Global,
+    settings: &Settings,
+    manager: Manager,
+    client: Client,
+    pairs: Vec<(D, G)>,
+) -> Result<Progress<D, G>, LoadFault>
+    requires own { client.table ≡ manager.table }
+    requires alone { client.value.grants ≡ 63 }
+    requires settings { is_settings settings.now ≡ true }
+    requires number { vec_len pairs ≡ settings.now.clients }
+    requires known { AreKnown manager.renewal client.value.floor client.value.records }
+    ensures own { IfOk result (λ r. r.round.client.table ≡ r.manager.table) }
+    ensures size { IfOk result (λ r. r.manager.size ≡ manager.size) }
+    ensures ran { IfOk result (λ r. RanAll D.leads settings.now (λ p. p.0)
+        (settings.now.rounds * settings.now.tasks) client.value.records pairs.items
+        r.round.client.value.records r.round.pairs.items r.round.tally) }
+    ensures refused { IfErr result (λ fault.
+        (fault ≡ LoadFault.Memory) ⊎ (fault ≡ LoadFault.Spawn)) }
+{
+    let round = run_clients(rt, alloc, &manager, settings, client, pairs)?;
+    let mut progress = Progress { manager, round };
+    'rounds: for done in 1..settings.rounds {
+        progress = go_on(rt, alloc, settings, progress)?;
+    }
+    Ok(progress)
+}
