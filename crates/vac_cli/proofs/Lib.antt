@@ -5,3 +5,5 @@ pub mod Closing
 pub mod Dumping
 pub mod WordLines
 pub mod Checking
+mod Streams
+mod Ending

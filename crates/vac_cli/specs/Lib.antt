@@ -5,3 +5,4 @@ pub mod CommandLine
 pub mod Load
 pub mod Check
 pub mod Reading
+pub mod Ending

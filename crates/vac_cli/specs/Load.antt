@@ -1,9 +1,15 @@
 -- The lines that a load writes.
-use Rattle.std.specs.Prelude.{ℕ, List, [], ◌∷◌, ◌++◌, codes, decimal}
+use Rattle.std.specs.Prelude.{◌≡◌, ℕ, ◌⊎◌, List, [], ◌∷◌, ◌++◌, Option, codes, decimal}
+use Rattle.std.specs.Io.KnownBytes.{Appends}
 use Rattle.vac_lines.specs.Script.{as_line}
 use Rattle.vac_lines.specs.Text.{report_text}
 use Rattle.vac_load.specs.declared.tally.Tally.{Tally}
 use Rattle.vac_load.specs.declared.load.LoadReport.{LoadReport}
+use Rattle.vac_load.specs.declared.load.LoadFault.{LoadFault}
+use Rattle.vac_load.specs.declared.settings.Settings.{Settings}
+use Rattle.vac_load.specs.Streams.{LoadedBySeed}
+use Rattle.vac_cli.specs.Script.{AppendsPrefix}
+use Rattle.vac_cli.specs.Ending.{load_fault_line}
 
 -- a name and how often it came
 abbrev pub count_text : List ℕ → ℕ → List ℕ
@@ -24,3 +30,24 @@ tally_text t = tried_text t ++ wanting_text t
 -- the two lines of a load
 abbrev pub load_text : LoadReport → List ℕ
 load_text load = as_line (tally_text load.tally) ++ as_line (report_text load.report)
+
+-- the load of these settings was run to its end, and its two lines were written and nothing else
+pub record WroteLoad (s : Settings) (held holds : Option (List ℕ)) : Type 0 where
+  pub load : LoadReport
+  pub loaded : LoadedBySeed s load.tally load.report
+  pub written : Appends held holds (load_text load)
+
+-- the load was run to its end, and a prefix of its two lines was written
+pub record WroteLoadInPart (s : Settings) (held holds : Option (List ℕ)) : Type 0 where
+  pub load : LoadReport
+  pub loaded : LoadedBySeed s load.tally load.report
+  pub written : AppendsPrefix held holds (load_text load)
+
+-- a prefix of the line that names a fault was written
+abbrev pub NamedFault : Option (List ℕ) → Option (List ℕ) → Type 0
+NamedFault held holds =
+    (fault : LoadFault) × AppendsPrefix held holds (load_fault_line fault)
+
+-- a load ended by a fault: nothing was written but a prefix of its line, or of those of the load
+abbrev pub LoadStopped : Settings → Option (List ℕ) → Option (List ℕ) → Type 0
+LoadStopped s held holds = NamedFault held holds ⊎ WroteLoadInPart s held holds

@@ -1,10 +1,11 @@
 //! The command line of the program.
 
-ghost use Rattle.std.specs.Prelude.{◌≡◌, ◌≤◌, IfOk, IfSome, true};
+ghost use Rattle.std.specs.Prelude.{◌≡◌, ◌≤◌, IfOk, IfSome, codes, true};
 ghost use Rattle.vac_manager.specs.Opening.{is_block_count};
-ghost use Rattle.vac_cli.specs.Script.{WroteAll};
-ghost use Rattle.vac_cli.specs.Dump.{Dumped};
-ghost use Rattle.vac_cli.specs.CommandLine.{IsInRange};
+ghost use Rattle.vac_cli.specs.Script.{WroteAll, WrotePrefix};
+ghost use Rattle.vac_cli.specs.Dump.{Dumped, DumpStopped};
+ghost use Rattle.vac_cli.specs.Ending.{NamedAfter};
+ghost use Rattle.vac_cli.specs.CommandLine.{IsInRange, Gives, AreGiven};
 
 use crate::check::check;
 use crate::dump::dump_script;
@@ -13,11 +14,12 @@ use crate::script::{RunFault, run_script};
 use crate::status::{DONE, FAULT, REFUSED, end_by};
 use crate::system::LAST_VERSION;
 use clap::error::ErrorKind;
-use clap::{Arg, ArgMatches, Command, Error, value_parser};
+use clap::{Arg, ArgAction, ArgMatches, Command, Error, value_parser};
 use std::alloc::{AllocError, Global};
 use std::io::{Read, Write};
 use std::sync::Wait;
 use std::thread::Threads;
+use std::time::Clock;
 use vac_load::{MOST_CLIENTS, MOST_ITEMS, MOST_TASKS, PERCENT, Settings};
 use vac_manager::MOST_TRIES;
 use vac_model::limits::{MOST_BLOCKS, MOST_PARTS};
@@ -33,8 +35,8 @@ enum Asked {
     Dump(u32),
     /// To audit the words of a memory.
     Check,
-    /// To run a load.
-    Load(Settings),
+    /// To run a load, and whether to tell how far it is.
+    Load(Settings, bool),
 }
 
 /// Runs the program on a command line, of which the first word is the program's name, and answers
@@ -42,8 +44,9 @@ enum Asked {
 /// no balanced state, 2 where the command line was refused.
 ///
 /// Help goes to `output`, the text of a refused command line to `errors`. A fault is the last line
-/// of `output`, unless `output` is what failed.
-pub fn run_words<T: Threads + Wait + AllocGlobal, R: Read, W: Write, E: Write>(
+/// of `output`, unless `output` is what failed. A load that is to tell how far it is tells that on
+/// `errors`, which changes neither `output` nor the status.
+pub fn run_words<T: Threads + Wait + Clock + Sync + AllocGlobal, R: Read, W: Write, E: Write>(
     rt: &T,
     words: &[String],
     input: &mut R,
@@ -57,7 +60,7 @@ pub fn run_words<T: Threads + Wait + AllocGlobal, R: Read, W: Write, E: Write>(
         Ok(Some(Asked::Run(blocks))) => run(alloc, blocks, input, output),
         Ok(Some(Asked::Dump(blocks))) => dump(alloc, blocks, input, output),
         Ok(Some(Asked::Check)) => check(alloc, input, output),
-        Ok(Some(Asked::Load(settings))) => load(rt, &settings, output),
+        Ok(Some(Asked::Load(settings, tells))) => load(rt, &settings, tells, output, errors),
         Ok(None) => REFUSED,
         Err(error) => show(&error, output, errors),
     }
@@ -97,12 +100,32 @@ fn command_line<'a>(alloc: Global) -> Result<Command<'a>, AllocError> {
 
 /// The subcommand that runs a load.
 fn load_command<'a>(alloc: Global) -> Result<Command<'a>, AllocError> {
+    let load = Command::new(alloc, "load").about(
+        "Lets clients call the system with tasks drawn at random, and reports what they left",
+    );
+    with_task_options(alloc, with_client_options(alloc, load)?)
+}
+
+/// Adds the options that say how many clients of a load ask how often.
+fn with_client_options<'a>(alloc: Global, load: Command<'a>) -> Result<Command<'a>, AllocError> {
     let clients = number_option(alloc, "clients", 1, MOST_CLIENTS, "4").help(
         "How many clients call the system, each in a thread of its own",
     );
     let tasks = number_option(alloc, "tasks", 1, MOST_TASKS, "100").help(
-        "How many tasks each client asks for",
+        "How many tasks each client asks for in each round",
     );
+    let tries = number_option(alloc, "tries", 1, MOST_TRIES, "64").help(
+        "How many attempts a task may take",
+    );
+    let progress = Arg::new(alloc, "progress")
+        .long("progress")
+        .help("Tells on standard error how many tasks were answered, at most twice a second")
+        .action(ArgAction::SetTrue);
+    load.arg(clients)?.arg(tasks)?.arg(tries)?.arg(progress)
+}
+
+/// Adds the options that say what the tasks of a load are.
+fn with_task_options<'a>(alloc: Global, load: Command<'a>) -> Result<Command<'a>, AllocError> {
     let items = number_option(alloc, "items", 1, MOST_ITEMS, "16").help(
         "How many items of each kind there are; the blocks must be four times as many",
     );
@@ -118,21 +141,11 @@ fn load_command<'a>(alloc: Global) -> Result<Command<'a>, AllocError> {
         .help("What the tasks are drawn from")
         .value_parser(value_parser!(u64))
         .default_value("1");
-    let tries = number_option(alloc, "tries", 1, MOST_TRIES, "64").help(
-        "How many attempts a task may take",
-    );
-    Command::new(alloc, "load")
-        .about(
-            "Lets clients call the system with tasks drawn at random, and reports what they left",
-        )
-        .arg(clients)?
-        .arg(tasks)?
-        .arg(items)?
+    load.arg(items)?
         .arg(asks)?
         .arg(user)?
         .arg(seed)?
-        .arg(blocks_option(alloc))?
-        .arg(tries)
+        .arg(blocks_option(alloc))
 }
 
 /// An option that takes a number in a range.
@@ -177,29 +190,47 @@ fn read_asked(alloc: Global, words: &[String]) -> Result<Option<Asked>, Error>
     let Some(load) = matches.subcommand_matches("load") else {
         return Ok(None);
     };
-    Ok(settings_of(load).map(Asked::Load))
+    let tells = load.get_flag("progress");
+    Ok(settings_of(load).map(|settings| Asked::Load(settings, tells)))
+}
+
+/// The number that an option gives, or its default.
+fn number_of(matches: &ArgMatches, option: &str) -> Option<u32>
+    ensures { IfSome result (λ number. Gives matches.now option.now number) }
+{
+    matches.get_one::<u32>(option)
+}
+
+/// The seed of a load that its option gives, or the default.
+fn seed_of(matches: &ArgMatches) -> Option<u64>
+    ensures { IfSome result (λ seed. Gives matches.now (codes "seed") seed) }
+{
+    matches.get_one::<u64>("seed")
 }
 
 /// The settings that the subcommand of a load names, or the defaults.
-fn settings_of(matches: &ArgMatches) -> Option<Settings> {
+fn settings_of(matches: &ArgMatches) -> Option<Settings>
+    ensures { IfSome result (λ settings. AreGiven matches.now settings) }
+{
     Some(Settings {
-        clients: matches.get_one::<u32>("clients")?,
-        tasks: matches.get_one::<u32>("tasks")?,
-        items: matches.get_one::<u32>("items")?,
-        asks: matches.get_one::<u32>("asks")?,
-        user: matches.get_one::<u32>("user")?,
-        seed: matches.get_one::<u64>("seed")?,
+        clients: number_of(matches, "clients")?,
+        tasks: number_of(matches, "tasks")?,
+        items: number_of(matches, "items")?,
+        asks: number_of(matches, "asks")?,
+        user: number_of(matches, "user")?,
+        seed: seed_of(matches)?,
         blocks: blocks_of(matches)?,
-        tries: matches.get_one::<u32>("tries")?,
+        tries: number_of(matches, "tries")?,
         last: LAST_VERSION,
     })
 }
 
 /// The number of blocks that a subcommand names, or the default.
 fn blocks_of(matches: &ArgMatches) -> Option<u32>
-    ensures { IfSome result (λ blocks. is_block_count blocks ≡ true) }
+    ensures range { IfSome result (λ blocks. is_block_count blocks ≡ true) }
+    ensures given { IfSome result (λ blocks. Gives matches.now (codes "blocks") blocks) }
 {
-    let blocks = matches.get_one::<u32>("blocks");
+    let blocks = number_of(matches, "blocks");
     blocks.filter(|blocks| 1 <= *blocks && *blocks <= MOST_BLOCKS)
 }
 
@@ -209,6 +240,9 @@ fn run<R: Read, W: Write>(alloc: Global, blocks: u32, input: &mut R, output: &mu
     ensures status { result ≤ 1 }
     ensures done { result ≡ 0 → WroteAll blocks (R.remaining input.old) (R.remaining input.new)
         (W.contents output.old) (W.contents output.new) }
+    ensures stopped { result ≡ 1 → NamedAfter (λ held. WrotePrefix blocks
+        (R.remaining input.old) (R.remaining input.new) (W.contents output.old) held)
+        (W.contents output.new) }
 {
     match run_script(alloc, blocks, input, output) {
         Ok(()) => DONE,
@@ -222,6 +256,9 @@ fn dump<R: Read, W: Write>(alloc: Global, blocks: u32, input: &mut R, output: &m
     ensures status { result ≤ 1 }
     ensures done { result ≡ 0 → Dumped blocks (R.remaining input.old) (R.remaining input.new)
         (W.contents output.old) (W.contents output.new) }
+    ensures stopped { result ≡ 1 → NamedAfter (λ held. DumpStopped blocks
+        (R.remaining input.old) (R.remaining input.new) (W.contents output.old) held)
+        (W.contents output.new) }
 {
     match dump_script(alloc, blocks, input, output) {
         Ok(()) => DONE,

@@ -9,11 +9,16 @@ mod memory;
 mod script;
 mod status;
 mod system;
+mod telling;
 
 pub use check::check_words;
 pub use command_line::{refuse_words, run_words};
 pub use dump::dump_script;
 pub use script::{RunFault, run_script};
 
+#[cfg(test)]
+mod stream_tests;
+#[cfg(test)]
+mod test_streams;
 #[cfg(test)]
 mod tests;

@@ -1,41 +1,72 @@
 //! A load from the command line, and the lines that it writes.
 
-ghost use Rattle.std.specs.Prelude.{◌≡◌, ◌≤◌, ◌++◌, OnOk};
+ghost use Rattle.std.specs.Prelude.{◌≡◌, ◌≤◌, ◌++◌, ◌↔◌, ◌⊎◌, false, OnOk};
+ghost use Rattle.vac_load.specs.Setting.{is_settings};
+ghost use Rattle.vac_load.specs.Streams.{LoadedBySeed};
 ghost use Rattle.vac_cli.specs.Load.{count_text, tried_text, wanting_text};
-ghost use Rattle.vac_cli.specs.Load.{tally_text, load_text};
+ghost use Rattle.vac_cli.specs.Load.{tally_text, load_text, WroteLoad, NamedFault, LoadStopped};
+ghost use Rattle.std.specs.Io.KnownBytes.{Appends};
+ghost use Rattle.vac_cli.specs.Ending.{load_fault_line};
 ghost use Rattle.vac_lines.specs.Script.{as_line};
+ghost use Rattle.vac_cli.specs.Script.{AppendsPrefix};
 ghost use Rattle.vac_lines.specs.Text.{report_text};
 
 use crate::script::RunFault;
-use crate::status::{DONE, FAULT, end_by, end_load_by};
-use std::alloc::AllocError;
+use crate::status::{DONE, FAULT, end_by, end_load_by, write_and_flush};
+use crate::telling::run_load_told;
+use std::alloc::{AllocError, Global};
 use std::io::Write;
 use std::sync::Wait;
 use std::thread::Threads;
+use std::time::Clock;
 use vac_lines::print_reply;
-use vac_load::{LoadReport, Settings, Tally, run_load};
+use vac_load::{LoadFault, LoadReport, Settings, Tally, run_load};
 use vac_model::{Reply, Report};
 
-/// Runs a load, writes its two lines, and answers the status.
-pub(crate) fn load<T: Threads + Wait + AllocGlobal, W: Write>(
+/// Runs a load, writes its two lines, and answers the status. Where that is asked for, tells on
+/// `errors` how far it is.
+pub(crate) fn load<T: Threads + Wait + Clock + Sync + AllocGlobal, W: Write, E: Write>(
     rt: &T,
     settings: &Settings,
+    tells: bool,
     output: &mut W,
+    errors: &mut E,
 ) -> u8
-    ensures { result ≤ 2 }
+    ensures status { result ≤ 2 }
+    ensures done { result ≡ 0 → WroteLoad settings.now
+        (W.contents output.old) (W.contents output.new) }
+    ensures stopped { result ≡ 1 → LoadStopped settings.now
+        (W.contents output.old) (W.contents output.new) }
+    ensures refused { (result ≡ 2) ↔ (is_settings settings.now ≡ false) }
+    ensures line { result ≡ 2 → AppendsPrefix (W.contents output.old) (W.contents output.new)
+        (load_fault_line LoadFault.Arguments) }
 {
-    let report = match run_load(rt, settings) {
-        Ok(report) => report,
-        Err(fault) => return end_load_by(fault, output),
+    let loaded = if tells {
+        run_load_told(rt, settings, errors)
+    } else {
+        run_load(rt, settings)
     };
-    let mut text = Vec::new(rt.alloc());
-    if append_load(&mut text, &report).is_err() {
+    match loaded {
+        Ok(report) => write_load(rt.alloc(), &report, output),
+        Err(fault) => end_load_by(fault, output),
+    }
+}
+
+/// Writes the two lines of a load, and answers the status.
+fn write_load<W: Write>(alloc: Global, report: &LoadReport, output: &mut W) -> u8
+    ensures status { result ≤ 1 }
+    ensures done { result ≡ 0 →
+        Appends (W.contents output.old) (W.contents output.new) (load_text report.now) }
+    ensures stopped { result ≡ 1 → NamedFault (W.contents output.old) (W.contents output.new)
+        ⊎ AppendsPrefix (W.contents output.old) (W.contents output.new) (load_text report.now) }
+{
+    let mut text = Vec::new(alloc);
+    if append_load(&mut text, report).is_err() {
         return end_by(RunFault::Memory, output);
     }
-    if output.write_all(text.as_slice()).is_ok() && output.flush().is_ok() {
-        DONE
-    } else {
-        FAULT
+    match write_and_flush(output, text.as_slice()) {
+        Ok(()) => DONE,
+        Err(_) => FAULT,
     }
 }
 

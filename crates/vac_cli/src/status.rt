@@ -1,8 +1,11 @@
 //! How the program ends.
 
-ghost use Rattle.std.specs.Prelude.{◌≡◌, ◌≤◌};
+ghost use Rattle.std.specs.Prelude.{◌≡◌, ◌≤◌, ◌↔◌, OnOk, OnErr};
+ghost use Rattle.std.specs.Io.KnownBytes.{Appends};
+ghost use Rattle.vac_cli.specs.Script.{AppendsPrefix};
+ghost use Rattle.vac_cli.specs.Ending.{fault_line, load_fault_line};
 
-use crate::script::RunFault;
+use crate::script::{RunFault, write_all};
 use std::io::Write;
 use vac_load::LoadFault;
 
@@ -15,44 +18,77 @@ pub(crate) const FAULT: u8 = 1;
 /// The status of a program whose command line was refused.
 pub(crate) const REFUSED: u8 = 2;
 
+/// Writes the text, and sees that it gets on its way.
+pub(crate) fn write_and_flush<W: Write>(output: &mut W, text: &[u8]) -> Result<(), RunFault>
+    ensures ok { OnOk result (Appends (W.contents output.old) (W.contents output.new) text.now) }
+    ensures err { OnErr result
+        (AppendsPrefix (W.contents output.old) (W.contents output.new) text.now) }
+{
+    write_all(output, text)?;
+    output.flush().map_err(|_| RunFault::Write)
+}
+
 /// Writes the last line of a program. A failed write changes nothing.
-fn write_last<W: Write>(line: &[u8], output: &mut W) {
-    if output.write_all(line).is_ok() {
-        let _ = output.flush();
+#[tactic(auto, using(crate::proofs::Ending::either_way))]
+fn write_last<W: Write>(line: &[u8], output: &mut W)
+    ensures { AppendsPrefix (W.contents output.old) (W.contents output.new) line.now }
+{
+    let _ = write_and_flush(output, line);
+}
+
+/// The last line of a program that met a fault. There is none where the output failed.
+fn fault_line(fault: RunFault) -> &'static [u8]
+    ensures { result.now ≡ fault_line fault }
+{
+    match fault {
+        RunFault::Read => b"fault read\n",
+        RunFault::Write => b"",
+        RunFault::Memory => b"fault memory\n",
+        RunFault::Spent => b"fault spent\n",
+        RunFault::Busy => b"fault busy\n",
+        RunFault::Bound => b"fault bound\n",
     }
 }
 
 /// Writes the last line of a program that met a fault, and answers its status. A failed write of
 /// that line changes nothing.
+#[tactic(auto, using(crate::proofs::Ending::nothing))]
 pub(crate) fn end_by<W: Write>(fault: RunFault, output: &mut W) -> u8
-    ensures { result ≡ 1 }
+    ensures status { result ≡ 1 }
+    ensures line { AppendsPrefix (W.contents output.old) (W.contents output.new)
+        (fault_line fault) }
 {
-    let line = match fault {
-        RunFault::Read => b"fault read\n".as_slice(),
-        RunFault::Write => return FAULT,
-        RunFault::Memory => b"fault memory\n",
-        RunFault::Spent => b"fault spent\n",
-        RunFault::Busy => b"fault busy\n",
-        RunFault::Bound => b"fault bound\n",
-    };
-    write_last(line, output);
+    let line = fault_line(fault);
+    if !line.is_empty() {
+        write_last(line, output);
+    }
     FAULT
+}
+
+/// The last line of a load that met a fault.
+fn load_fault_line(fault: LoadFault) -> &'static [u8]
+    ensures { result.now ≡ load_fault_line fault }
+{
+    match fault {
+        LoadFault::Arguments => b"fault arguments\n",
+        LoadFault::Memory => b"fault memory\n",
+        LoadFault::Spawn => b"fault spawn\n",
+        LoadFault::Opening(_) => b"fault opening\n",
+    }
 }
 
 /// The same for a load. Settings that do not fit each other are a refused command line.
 pub(crate) fn end_load_by<W: Write>(fault: LoadFault, output: &mut W) -> u8
     ensures low { 1 ≤ result }
     ensures high { result ≤ 2 }
+    ensures refused { (result ≡ 2) ↔ (fault ≡ LoadFault.Arguments) }
+    ensures line { AppendsPrefix (W.contents output.old) (W.contents output.new)
+        (load_fault_line fault) }
 {
-    let line = match fault {
-        LoadFault::Arguments => {
-            write_last(b"fault arguments\n", output);
-            return REFUSED;
-        }
-        LoadFault::Memory => b"fault memory\n".as_slice(),
-        LoadFault::Spawn => b"fault spawn\n",
-        LoadFault::Opening(_) => b"fault opening\n",
+    let status = match &fault {
+        LoadFault::Arguments => REFUSED,
+        LoadFault::Memory | LoadFault::Spawn | LoadFault::Opening(_) => FAULT,
     };
-    write_last(line, output);
-    FAULT
+    write_last(load_fault_line(fault), output);
+    status
 }

@@ -1,0 +1,15 @@
+use Rattle.std.proofs.Common.{rules, ◌∙◌, ap, ◌∷◌, [], ◌++◌, List, map}
+use Rattle.std.proofs.lemmas.List.{map-append}
+use Rattle.rand_pcg.specs.Lcg.{Lcg}
+use Rattle.vac_load.specs.Streams.{streams_of}
+use Rattle.vac_cli.proofs.Streams.{next_stream}
+use Rattle.vac_cli.proofs.telling.counters.Goals as goal
+
+pub loop-number-preserved : goal.loop-number-preserved
+loop-number-preserved c = (
+  search rules,
+  ap (map (λ pair. pair.0)) c.in_ok-push.ensures.items ∙ map-append (λ pair. pair.0) c.loop-number.pairs.items _
+      ∙ ap (λ (states : List Lcg). states ++ (c.new-draws.result ∷ [])) c.loop-number.invariant.1
+      ∙ ap (λ (state : Lcg). streams_of c.args.seed c.loop-number.number ++ (state ∷ [])) c.new-draws.ensures
+      ∙ next_stream c.args.seed c.loop-number.number c.from.result c.from.ensures,
+)

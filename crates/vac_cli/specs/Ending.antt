@@ -1,0 +1,29 @@
+-- How the program says that a fault ended it.
+use Rattle.std.specs.Prelude.{ℕ, Option, List, [], codes}
+use Rattle.vac_lines.specs.Script.{as_line}
+use Rattle.vac_cli.specs.Script.{AppendsPrefix}
+use Rattle.vac_cli.specs.declared.script.RunFault.{RunFault}
+use Rattle.vac_cli.specs.declared.script.RunFault.TheVariants as run
+use Rattle.vac_load.specs.declared.load.LoadFault.{LoadFault}
+use Rattle.vac_load.specs.declared.load.LoadFault.TheVariants as load
+
+-- the last line after a fault: none where the output is what failed
+abbrev pub fault_line : RunFault → List ℕ
+fault_line run.Read = as_line (codes "fault read")
+fault_line run.Write = []
+fault_line run.Memory = as_line (codes "fault memory")
+fault_line run.Spent = as_line (codes "fault spent")
+fault_line run.Busy = as_line (codes "fault busy")
+fault_line run.Bound = as_line (codes "fault bound")
+
+-- the same for a load
+abbrev pub load_fault_line : LoadFault → List ℕ
+load_fault_line load.Arguments = as_line (codes "fault arguments")
+load_fault_line load.Memory = as_line (codes "fault memory")
+load_fault_line load.Spawn = as_line (codes "fault spawn")
+load_fault_line (load.Opening fault) = as_line (codes "fault opening")
+
+-- behind what was written before a fault, a prefix of the line that names a fault was written
+abbrev pub NamedAfter : (Option (List ℕ) → Type 0) → Option (List ℕ) → Type 0
+NamedAfter before holds = (held : Option (List ℕ)) × before held
+    × ((fault : RunFault) × AppendsPrefix held holds (fault_line fault))

@@ -1,0 +1,176 @@
+//! Loads that tell how far they are while they run.
+
+ghost use Rattle.std.specs.Prelude.{◌≡◌, ◌↔◌, false, map, vec_len, IfOk, IsErrOf};
+ghost use Rattle.vac_load.specs.Setting.{is_settings};
+ghost use Rattle.vac_load.specs.Streams.{streams_of, LoadedBySeed};
+
+use std::alloc::{AllocError, Global};
+use std::io::Write;
+use std::sync::Wait;
+use std::sync::atomic::{AtomicBool, AtomicU64, Ordering};
+use std::thread;
+use std::thread::{Parker, Threads};
+use std::time::{Clock, Duration, Instant};
+use stm_attempt::{Gate, Point};
+use vac_load::{LoadFault, LoadReport, PcgDraws, Settings, run_load_with};
+
+/// The least time between two lines, in milliseconds.
+const PAUSE_MILLIS: u64 = 500;
+
+/// The gate of a client, which counts the tasks that are answered.
+#[derive(Drop)]
+struct Counter<'a> {
+    answered: &'a AtomicU64,
+}
+
+impl Gate for Counter<'_> {
+    fn at(&mut self, point: Point) {
+        if point == Point::Answered {
+            self.answered.fetch_add(1, Ordering::SeqCst);
+        }
+    }
+}
+
+/// The draws of each client, from a stream of its own, and a gate that counts for all of them.
+fn counters<'a>(
+    alloc: Global,
+    seed: u64,
+    clients: u32,
+    answered: &'a AtomicU64,
+) -> Result<Vec<(PcgDraws, Counter<'a>)>, AllocError>
+    ensures number { IfOk result (λ v. vec_len v ≡ clients) }
+    ensures streams { IfOk result (λ v.
+        map (λ pair. pair.0) v.items ≡ streams_of seed clients) }
+{
+    let mut pairs = Vec::with_capacity(alloc, clients as usize)?;
+    for number in 0..clients {
+        let draws = PcgDraws::new(seed, u64::from(number) + 1);
+        pairs.push((draws, Counter { answered }))?;
+    }
+    Ok(pairs)
+}
+
+/// Runs the load of a seed, and counts the tasks that are answered.
+fn run_counted<T: Threads + Wait + AllocGlobal>(
+    rt: &T,
+    settings: &Settings,
+    answered: &AtomicU64,
+) -> Result<LoadReport, LoadFault>
+    ensures arguments { IsErrOf result LoadFault.Arguments
+        ↔ (is_settings settings.now ≡ false) }
+    ensures loaded { IfOk result (λ r. LoadedBySeed settings.now r.tally r.report) }
+{
+    if !settings.is_in_range() {
+        return Err(LoadFault::Arguments);
+    }
+    let Ok(clients) = counters(rt.alloc(), settings.seed, settings.clients, answered) else {
+        return Err(LoadFault::Memory);
+    };
+    run_load_with(rt, settings, PcgDraws::new(settings.seed, 0), clients)
+}
+
+/// What a load shares with the thread that tells how far it is.
+#[derive(Drop)]
+struct Progress {
+    answered: AtomicU64,
+    has_ended: AtomicBool,
+    teller: Parker,
+}
+
+impl Progress {
+    fn new() -> Progress {
+        Progress {
+            answered: AtomicU64::new(0),
+            has_ended: AtomicBool::new(false),
+            teller: Parker::new(),
+        }
+    }
+
+    /// Runs the load, and then lets the teller end.
+    fn run<T: Threads + Wait + AllocGlobal>(
+        &self,
+        rt: &T,
+        settings: &Settings,
+    ) -> Result<LoadReport, LoadFault>
+        ensures arguments { IsErrOf result LoadFault.Arguments
+            ↔ (is_settings settings.now ≡ false) }
+        ensures loaded { IfOk result (λ r. LoadedBySeed settings.now r.tally r.report) }
+    {
+        let loaded = run_counted(rt, settings, &self.answered);
+        self.has_ended.store(true, Ordering::SeqCst);
+        self.teller.unpark();
+        loaded
+    }
+
+    /// Writes a line each time that the pause has passed, until the load has ended. Where the time
+    /// cannot be read, nothing is written.
+    fn tell<T: Wait + Clock + AllocGlobal, E: Write>(&self, rt: &T, all: u64, errors: &mut E) {
+        let mut last = Instant::now(rt).ok();
+        for _ in rt.forever() {
+            self.teller.park_timeout(rt, pause());
+            if self.has_ended.load(Ordering::SeqCst) {
+                return;
+            }
+            if has_passed(rt, last) {
+                let answered = self.answered.load(Ordering::SeqCst);
+                write_line(rt.alloc(), answered, all, errors);
+                last = Instant::now(rt).ok();
+            }
+        }
+    }
+}
+
+/// The least time between two lines.
+fn pause() -> Duration {
+    Duration::from_millis(PAUSE_MILLIS)
+}
+
+/// Whether the pause has passed since the last line. Not where the time cannot be read.
+fn has_passed<T: Clock>(rt: &T, last: Option<Instant>) -> bool {
+    let Some(last) = last else {
+        return false;
+    };
+    match last.elapsed(rt) {
+        Ok(since) => since >= pause(),
+        Err(_) => false,
+    }
+}
+
+/// Writes how many of all tasks were answered. Where memory or the write is refused, nothing is
+/// lost but the line.
+fn write_line<E: Write>(alloc: Global, answered: u64, all: u64, errors: &mut E) {
+    let Ok(line) = format!(in alloc; "answered {answered} of {all}\n") else {
+        return;
+    };
+    if errors.write_all(line.as_bytes()).is_ok() {
+        let _ = errors.flush();
+    }
+}
+
+/// How many tasks a load has.
+fn all_tasks(settings: &Settings) -> u64 {
+    u64::from(settings.tasks).saturating_mul(u64::from(settings.clients))
+}
+
+/// Runs the load of a seed as `run_load` does. While it runs, tells on `errors`, at most twice a
+/// second, how many of its tasks were answered.
+pub(crate) fn run_load_told<T: Threads + Wait + Clock + Sync + AllocGlobal, E: Write>(
+    rt: &T,
+    settings: &Settings,
+    errors: &mut E,
+) -> Result<LoadReport, LoadFault>
+    ensures arguments { IsErrOf result LoadFault.Arguments
+        ↔ (is_settings settings.now ≡ false) }
+    ensures loaded { IfOk result (λ r. LoadedBySeed settings.now r.tally r.report) }
+{
+    let progress = Progress::new();
+    let (shared, settings) = (&progress, *settings);
+    let all = all_tasks(&settings);
+    let run = move || -> Result<LoadReport, LoadFault>
+        ensures arguments { IsErrOf result LoadFault.Arguments
+            ↔ (is_settings settings ≡ false) }
+        ensures loaded { IfOk result (λ r. LoadedBySeed settings r.tally r.report) }
+    { shared.run(rt, &settings) };
+    let (loaded, ()) = thread::join(rt, run, || shared.tell(rt, all, errors));
+    loaded
+}
