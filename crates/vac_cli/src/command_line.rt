@@ -46,13 +46,12 @@ enum Asked {
 /// Help goes to `output`, the text of a refused command line to `errors`. A fault is the last line
 /// of `output`, unless `output` is what failed. A load that is to tell how far it is tells that on
 /// `errors`, which changes neither `output` nor the status.
-pub fn run_words<T: Threads + Wait + Clock + Sync + AllocGlobal, R: Read, W: Write, E: Write>(
-    rt: &T,
-    words: &[String],
-    input: &mut R,
-    output: &mut W,
-    errors: &mut E,
-) -> u8
+pub fn run_words<
+    T: Threads + Wait + Clock + Sync + AllocGlobal,
+    R: Read,
+    W: Write,
+    E: Write + Send,
+>(rt: &T, words: &[String], input: &mut R, output: &mut W, errors: &mut E) -> u8
     ensures { result ≤ 2 }
 {
     let alloc = rt.alloc();

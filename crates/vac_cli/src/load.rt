@@ -25,7 +25,7 @@ use vac_model::{Reply, Report};
 
 /// Runs a load, writes its two lines, and answers the status. Where that is asked for, tells on
 /// `errors` how far it is.
-pub(crate) fn load<T: Threads + Wait + Clock + Sync + AllocGlobal, W: Write, E: Write>(
+pub(crate) fn load<T: Threads + Wait + Clock + Sync + AllocGlobal, W: Write, E: Write + Send>(
     rt: &T,
     settings: &Settings,
     tells: bool,

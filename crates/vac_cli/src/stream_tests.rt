@@ -11,6 +11,7 @@ use std::thread::Threads;
 use std::time::Clock;
 
 /// A subcommand with its input, what it writes and its status.
+#[derive(Clone, Copy)]
 struct Row {
     words: &'static [&'static str],
     input: &'static [u8],

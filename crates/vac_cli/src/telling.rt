@@ -154,7 +154,10 @@ fn all_tasks(settings: &Settings) -> u64 {
 
 /// Runs the load of a seed as `run_load` does. While it runs, tells on `errors`, at most twice a
 /// second, how many of its tasks were answered.
-pub(crate) fn run_load_told<T: Threads + Wait + Clock + Sync + AllocGlobal, E: Write>(
+///
+/// Where no thread can be started to tell that, the load is run and nothing is told: a join then
+/// makes its second call first.
+pub(crate) fn run_load_told<T: Threads + Wait + Clock + Sync + AllocGlobal, E: Write + Send>(
     rt: &T,
     settings: &Settings,
     errors: &mut E,
@@ -166,11 +169,12 @@ pub(crate) fn run_load_told<T: Threads + Wait + Clock + Sync + AllocGlobal, E: W
     let progress = Progress::new();
     let (shared, settings) = (&progress, *settings);
     let all = all_tasks(&settings);
+    let tell = || shared.tell(rt, all, errors);
     let run = move || -> Result<LoadReport, LoadFault>
         ensures arguments { IsErrOf result LoadFault.Arguments
             ↔ (is_settings settings ≡ false) }
         ensures loaded { IfOk result (λ r. LoadedBySeed settings r.tally r.report) }
     { shared.run(rt, &settings) };
-    let (loaded, ()) = thread::join(rt, run, || shared.tell(rt, all, errors));
+    let ((), loaded) = thread::join(rt, tell, run);
     loaded
 }
