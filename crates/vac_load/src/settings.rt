@@ -3,6 +3,7 @@
 ghost use Rattle.std.specs.Prelude.{◌≡◌};
 ghost use Rattle.vac_load.specs.Setting.{is_settings, is_system, is_work};
 
+use stm_region::VERSION_LIMIT;
 use vac_manager::MOST_TRIES;
 use vac_model::limits::{MOST_BLOCKS, MOST_PARTS};
 
@@ -32,9 +33,6 @@ pub const PRICE_STEP: u32 = 10;
 
 /// The lowest price.
 pub const LOWEST_PRICE: u32 = 50;
-
-/// The first version that is none.
-const VERSION_LIMIT: u64 = 1 << 62;
 
 /// The settings of a load.
 #[derive(Clone, Copy, Debug, PartialEq, Eq)]
