@@ -17,8 +17,4 @@ pub use dump::dump_script;
 pub use script::{RunFault, run_script};
 
 #[cfg(test)]
-mod stream_tests;
-#[cfg(test)]
-mod test_streams;
-#[cfg(test)]
 mod tests;

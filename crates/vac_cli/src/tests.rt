@@ -1,16 +1,95 @@
 use super::*;
-use crate::test_streams::{NEVER, Pieces, Sink};
 use std::alloc::{AllocError, Global};
-use std::io::ErrorKind;
+use std::io;
+use std::io::{ErrorKind, Read, Write};
 use std::test::Fail;
 
-pub(crate) const SCRIPT: &[u8] = b"add car 7 100 50\nfree car 7\nfly\nprice car 7";
+/// The number of a call that is never made.
+const NEVER: usize = usize::MAX;
 
-pub(crate) const ANSWERS: &[u8] = b"true\n100\nfault bad-command\n50\n";
+const SCRIPT: &[u8] = b"add car 7 100 50\nfree car 7\nfly\nprice car 7";
+
+const ANSWERS: &[u8] = b"true\n100\nfault bad-command\n50\n";
 
 /// The words that the script leaves in the memory of a system of one block.
-pub(crate) const DUMP: &[u8] =
+const DUMP: &[u8] =
     b"0\n16\n0\n0\n0\n0\n0\n0\n0\n0\n0\n0\n0\n0\n0\n0\n7\n0\n0\n0\n0\n100\n100\n50\n";
+
+/// A reader that gives at most so many bytes at a call and fails at one.
+#[derive(Drop)]
+struct Pieces<'a> {
+    bytes: &'a [u8],
+    most: usize,
+    calls: usize,
+    fails_at: usize,
+}
+
+impl<'a> Pieces<'a> {
+    fn of(bytes: &'a [u8], most: usize, fails_at: usize) -> Pieces<'a> {
+        Pieces {
+            bytes,
+            most,
+            calls: 0,
+            fails_at,
+        }
+    }
+}
+
+impl Read for Pieces<'_> {
+    fn read(&mut self, buf: &mut [u8]) -> io::Result<usize> {
+        let fails = self.calls == self.fails_at;
+        self.calls = self.calls.saturating_add(1);
+        if fails {
+            return Err(io::Error::from(ErrorKind::Other));
+        }
+        let count = self.bytes.len().min(buf.len()).min(self.most);
+        buf[..count].copy_from_slice(&self.bytes[..count]);
+        self.bytes = &self.bytes[count..];
+        Ok(count)
+    }
+}
+
+/// A writer that takes at most so many bytes at a call, and takes none at one, with this answer.
+#[derive(Drop)]
+struct Sink {
+    taken: Vec<u8>,
+    most: usize,
+    calls: usize,
+    stops_at: usize,
+    stop: Option<ErrorKind>,
+}
+
+impl Sink {
+    fn new(alloc: Global, most: usize, stops_at: usize, stop: Option<ErrorKind>) -> Sink {
+        Sink {
+            taken: Vec::new(alloc),
+            most,
+            calls: 0,
+            stops_at,
+            stop,
+        }
+    }
+}
+
+impl Write for Sink {
+    fn write(&mut self, buf: &[u8]) -> io::Result<usize> {
+        let stops = self.calls == self.stops_at;
+        self.calls = self.calls.saturating_add(1);
+        if stops {
+            return match self.stop {
+                Some(kind) => Err(io::Error::from(kind)),
+                None => Ok(0),
+            };
+        }
+        let count = buf.len().min(self.most);
+        self.taken.extend_from_slice(&buf[..count])?;
+        Ok(count)
+    }
+
+    fn flush(&mut self) -> io::Result<()> {
+        Ok(())
+    }
+}
 
 #[test]
 fn readers_that_fail(rt: HostRuntime) -> Result<(), Fail> {
@@ -103,7 +182,7 @@ fn dump_of_many_chunks(rt: HostRuntime) -> Result<(), Fail> {
 }
 
 /// The words of a command line.
-pub(crate) fn words_of(alloc: Global, words: &[&str]) -> Result<Vec<String>, AllocError> {
+fn words_of(alloc: Global, words: &[&str]) -> Result<Vec<String>, AllocError> {
     let mut owned = Vec::new(alloc);
     for word in words {
         owned.push(String::from_str(alloc, word)?)?;
