@@ -1,5 +1,5 @@
 -- A load by the streams of a seed, of clients that have more beside their draws.
-use Rattle.std.proofs.Common.{◌≡◌, ◌∙◌, ℕ, suc, ◌+◌, List, [], ◌∷◌, ◌++◌, map, ap, subst, arith}
+use Rattle.std.proofs.Common.{◌≡◌, ◌∙◌, ℕ, suc, ◌+◌, ◌*◌, List, [], ◌∷◌, ◌++◌, map, ap, subst, arith}
 use Rattle.std.specs.Prelude.{Result, Ok, Err, IfOk}
 use Rattle.rand_pcg.specs.Lcg.{Lcg}
 use Rattle.vac_model.specs.declared.replies.Report.{Report}
@@ -25,14 +25,16 @@ loaded_by leads s draws_of state pairs states t r e h = record {
   last = h.last;
   legal = h.legal;
   shown = h.shown;
+  opened = h.opened;
+  rest = h.rest;
+  opening_first = h.opening_first;
+  rounds_in_order = h.rounds_in_order;
   commands = h.commands;
   drawn = h.drawn;
   opening_is = h.opening_is;
-  opened = h.opened;
   opened_are = h.opened_are;
-  floor = h.floor;
   shares = h.shares;
-  each = subst (λ ds. Paired (λ d x. HasShare leads s h.floor d x) ds h.shares) e (paired_map draws_of (λ d x. HasShare leads s h.floor d x) pairs h.shares h.each);
+  each = subst (λ ds. Paired (λ d x. HasShare leads s (s.rounds * s.tasks) d x) ds h.shares) e (paired_map draws_of (λ d x. HasShare leads s (s.rounds * s.tasks) d x) pairs h.shares h.each);
   among = h.among;
   number = h.number;
   tallies = h.tallies;

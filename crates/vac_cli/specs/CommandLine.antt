@@ -32,3 +32,4 @@ pub record AreGiven (m : ArgMatches) (s : Settings) : Type 0 where
   pub blocks : Gives m (codes "blocks") s.blocks
   pub tries : Gives m (codes "tries") s.tries
   pub last : s.last ≡ LAST_VERSION
+  pub rounds : Gives m (codes "rounds") s.rounds

@@ -20,7 +20,7 @@ use std::io::{Read, Write};
 use std::sync::Wait;
 use std::thread::Threads;
 use std::time::Clock;
-use vac_load::{MOST_CLIENTS, MOST_ITEMS, MOST_TASKS, PERCENT, Settings};
+use vac_load::{MOST_CLIENTS, MOST_ITEMS, MOST_ROUNDS, MOST_TASKS, PERCENT, Settings};
 use vac_manager::MOST_TRIES;
 use vac_model::limits::{MOST_BLOCKS, MOST_PARTS};
 
@@ -113,6 +113,9 @@ fn with_client_options<'a>(alloc: Global, load: Command<'a>) -> Result<Command<'
     let tasks = number_option(alloc, "tasks", 1, MOST_TASKS, "100").help(
         "How many tasks each client asks for in each round",
     );
+    let rounds = number_option(alloc, "rounds", 1, MOST_ROUNDS, "1").help(
+        "How many rounds there are, each on a new clock",
+    );
     let tries = number_option(alloc, "tries", 1, MOST_TRIES, "64").help(
         "How many attempts a task may take",
     );
@@ -120,7 +123,11 @@ fn with_client_options<'a>(alloc: Global, load: Command<'a>) -> Result<Command<'
         .long("progress")
         .help("Tells on standard error how many tasks were answered, at most twice a second")
         .action(ArgAction::SetTrue);
-    load.arg(clients)?.arg(tasks)?.arg(tries)?.arg(progress)
+    load.arg(clients)?
+        .arg(tasks)?
+        .arg(rounds)?
+        .arg(tries)?
+        .arg(progress)
 }
 
 /// Adds the options that say what the tasks of a load are.
@@ -221,6 +228,7 @@ fn settings_of(matches: &ArgMatches) -> Option<Settings>
         blocks: blocks_of(matches)?,
         tries: number_of(matches, "tries")?,
         last: LAST_VERSION,
+        rounds: number_of(matches, "rounds")?,
     })
 }
 

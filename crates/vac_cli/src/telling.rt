@@ -149,7 +149,8 @@ fn write_line<E: Write>(alloc: Global, answered: u64, all: u64, errors: &mut E) 
 
 /// How many tasks a load has.
 fn all_tasks(settings: &Settings) -> u64 {
-    u64::from(settings.tasks).saturating_mul(u64::from(settings.clients))
+    let of_one = u64::from(settings.rounds).saturating_mul(u64::from(settings.tasks));
+    of_one.saturating_mul(u64::from(settings.clients))
 }
 
 /// Runs the load of a seed as `run_load` does. While it runs, tells on `errors`, at most twice a
