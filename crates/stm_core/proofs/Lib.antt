@@ -1,6 +1,7 @@
 pub mod Lists
 pub mod Eras
 pub mod Lones
+pub mod Knowing
 pub mod Turns
 pub mod Orders
 pub mod Loading

@@ -11,6 +11,7 @@ use Rattle.stm_core.specs.Invariant.{Inv, now, Past, Rule}
 use Rattle.stm_core.proofs.Lists.{at_set, set_here, clash, nothing_in}
 use Rattle.stm_core.proofs.Eras.{AllOf, AllBefore, of_is, of_padded, pad, shed_pad, after_pad}
 use Rattle.stm_core.proofs.Lones.{at_map, act_lone}
+use Rattle.stm_core.proofs.Knowing.{act_known}
 use Rattle.stm_core.proofs.Steps.{by_case, step_keeps}
 
 -- the core with other clients
@@ -159,5 +160,6 @@ module _ (lawful : List ℕ → List (ℕ × ℕ) → List (ℕ × ℕ) → Type
   step_rules e may = record {
     inv = subst (Inv lawful lk) (sym (now_stepped e may)) (now_keeps lawful lk c h i v at live t era e may);
     lone = act_lone lawful lk c h.inv h.lone i v at live t e may;
+    known = act_known lk c h.known i v at live t e;
     past = past_stepped e may;
   }

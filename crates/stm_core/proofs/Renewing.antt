@@ -16,6 +16,7 @@ use Rattle.stm_core.specs.Invariant.{world, share, Inv, now, Sorted, Rule}
 use Rattle.stm_core.proofs.Lists.{at_set, in_range, clash, nothing_in}
 use Rattle.stm_core.proofs.Eras.{AllBefore, in_append, of_none, of_padded, not_before, merged_padded, merged_late, all_merged}
 use Rattle.stm_core.proofs.Lones.{at_map, at_unmap, split_lone, gather_lone}
+use Rattle.stm_core.proofs.Knowing.{turn_known, split_known, gather_known}
 use Rattle.stm_core.proofs.Renewals.{pre, own_of, map_append, eqb_no, eqb_yes}
 use Rattle.stm_core.proofs.Turns.{Heart}
 use Rattle.stm_core.proofs.Sums.{sum_set, share_of}
@@ -68,6 +69,7 @@ module _ (lawful : List ℕ → List (ℕ × ℕ) → List (ℕ × ℕ) → Type
     split_rules = record {
       inv = subst (Inv lawful lk) (sym now_divided) (split_keeps lawful lk (now c) i v' h.inv at' free z);
       lone = split_lone lawful lk c h.inv h.lone i v at free.0;
+      known = split_known lk c h.known i v at free.0;
       past = record {
         serial = h.past.serial;
         leads = h.past.leads;
@@ -141,6 +143,7 @@ module _ (lawful : List ℕ → List (ℕ × ℕ) → List (ℕ × ℕ) → Type
     gather_rules = record {
       inv = subst (Inv lawful lk) (sym now_gathered) (gather_keeps lawful lk (now c) i v' h.inv at' j w' (at_map (shed c.renewal) c.clients j w to) ne free free');
       lone = gather_lone lawful lk c h.inv h.lone i v at free.0 j w to ne free'.0;
+      known = gather_known lk c h.known i v at free.0 j w to ne (h.inv.version.sound i v' at').floor (h.inv.version.sound j (shed c.renewal w) (at_map (shed c.renewal) c.clients j w to)).floor;
       past = record {
         serial = h.past.serial;
         leads = h.past.leads;
@@ -253,6 +256,7 @@ module _ (lawful : List ℕ → List (ℕ × ℕ) → List (ℕ × ℕ) → Type
             size = refl;
           };
           lone = λ n o e y. ⊎_elim (λ p. clash y (ap (λ (x : Client). x.lone) (sym p.1))) (λ p. clash y (ap (λ (x : Client). x.lone) (is_gone n o p.1 p.0))) (at_set c.clients i n (renewing v) o e);
+          known = turn_known c i v at 0 (renewing v) refl refl;
           past = record {
             serial = past_serial;
             leads = past_leads;
@@ -273,6 +277,7 @@ pub opening_rules : (lawful : List ℕ → List (ℕ × ℕ) → List (ℕ × �
 opening_rules lawful lk image last stripes = record {
   inv = opening_keeps lawful lk image last stripes;
   lone = λ i v e y. clash y (ap (λ (x : Client). x.lone) (sym (only i v e)));
+  known = record { place = 0; knower = opener; member = refl; out = refl; floor = refl };
   past = record {
     serial = tt;
     leads = refl;
@@ -316,6 +321,7 @@ module _ (lawful : List ℕ → List (ℕ × ℕ) → List (ℕ × ℕ) → Type
           size = refl;
         };
         lone = λ i w e y. clash y (ap (λ (x : Client). x.lone) (sym (only i w e)) ∙ ap (λ (x : Client). x.lone) new);
+        known = record { place = 0; knower = v; member = refl; out = ap (λ (x : Client). x.spent) new; floor = ap (λ (x : Client). x.floor) new };
         past = record {
           serial = serial;
           leads = leads;

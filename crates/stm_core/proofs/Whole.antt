@@ -1,5 +1,7 @@
 -- What the whole rule says of the records of all renewals.
 use Rattle.std.proofs.Common.{◌+◌, append_assoc, append-nil, ◌≡◌, ℕ, zero, suc, ◌<◌, ⊎_elim, Bool, true, false, cond, eqb, List, [], ◌∷◌, ◌++◌, length, map, refl, sym, ap, ◌∙◌, subst, arith}
+use mathlib.Core.Logic.{dite}
+use native.Mathlib.Decide.{ℕ_discrete}
 use Rattle.std.proofs.lemmas.Bool.Decides.{nat_tests}
 use Rattle.stm_words.specs.Image.{In, Agrees, laid}
 use Rattle.stm_core.specs.Client.{Client, Record, before, inserted, merged, of_renewal, shed}
@@ -17,6 +19,7 @@ use Rattle.stm_core.proofs.Histories.{laid_length}
 use Rattle.stm_core.proofs.Facts.{all_serial, all_lawful, all_shared, others_spent}
 use Rattle.stm_core.proofs.Eras.{AllOf, AllBefore, in_append, of_is, not_before, merged_padded, merged_late}
 use Rattle.stm_core.proofs.Lones.{at_map}
+use Rattle.stm_core.proofs.Knowing.{its_floor}
 use Rattle.stm_core.proofs.Renewals.{pre, pre_before, own_of, eqb_no, eqb_yes}
 use Rattle.stm_core.proofs.Renewing.{serial_append, past_serial, past_leads, past_lawful, sorted_of, sorted_append}
 
@@ -148,6 +151,13 @@ module _ (lawful : List ℕ → List (ℕ × ℕ) → List (ℕ × ℕ) → Type
   -- a client with all grants is the only one out
   pub all_grants : (i : ℕ) (v : Client) → At c.clients i v → v.spent ≡ false → v.grants ≡ 63 → IsAlone c i
   all_grants i v at live all j w to ne = others_spent lawful lk (now c) h.inv i (shed c.renewal v) (at_map (shed c.renewal) c.clients i v at) live all j (shed c.renewal w) (at_map (shed c.renewal) c.clients j w to) ne
+
+  -- so the clock is its floor
+  pub knows : (i : ℕ) (v : Client) → At c.clients i v → v.grants ≡ 63 → c.clock ≡ v.floor
+  knows i v at all =
+      let k = h.known in
+      let live : v.spent ≡ false = by_bool v.spent (λ y. absurd (let e : v.grants ≡ 0 = ap (λ (x : Client). x.grants) (h.past.spent i v at y) in omega arith)) (λ n. n) in
+      dite (ℕ_discrete k.place i) (λ e. sym (its_floor lk c k i v at live e)) (λ n. clash (all_grants i v at live all k.place k.knower k.member n) k.out)
 
 -- a client's records stay sorted through its steps, and where two clients' come together
 pub after_sorted : (t : Stamp) (lk : ℕ → ℕ) (e : Action) (n : ℕ) (v : Client) → Sorted v.records → Sorted (after t lk e n v).records

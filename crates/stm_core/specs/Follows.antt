@@ -1,5 +1,5 @@
 -- The running core follows the core, and its order is the core's history.
-use Rattle.std.specs.Prelude.{◌≡◌, ℕ, ◌<◌, ◌^◌, ◌↔◌, true, List, map}
+use Rattle.std.specs.Prelude.{◌≡◌, ℕ, ◌<◌, ◌↔◌, true, List, map}
 use Rattle.stm_core.specs.Client.{Record}
 use Rattle.stm_core.specs.Core.{Core, Event, Allowed}
 use Rattle.stm_core.specs.Theorem.{stripe_of, free_law, Reaches, IsHistory}

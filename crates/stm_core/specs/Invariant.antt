@@ -64,6 +64,14 @@ pub record IsLone (lk : ℕ → ℕ) (clock : ℕ) (locks : List ℕ) (v : Clien
 abbrev pub Lone : (ℕ → ℕ) → ℕ → List ℕ → List Client → Type 0
 Lone lk clock locks cs = (i : ℕ) (v : Client) → At cs i v → v.lone ≡ true → IsLone lk clock locks v
 
+-- a client that is out knows the clock: its floor is what the clock says
+pub record IsKnown (clock : ℕ) (cs : List Client) : Type 0 where
+  pub place : ℕ
+  pub knower : Client
+  pub member : At cs place knower
+  pub out : knower.spent ≡ false
+  pub floor : knower.floor ≡ clock
+
 -- none stands before one that comes earlier
 abbrev pub Sorted : List Record → Type 0
 Sorted [] = Unit {0}
@@ -88,13 +96,14 @@ pub record Past
   -- a client that was gathered has nothing left
   pub spent : (i : ℕ) (v : Client) → At cs i v → v.spent ≡ true → v ≡ gone
 
--- the whole rule: the invariant of the present renewal, lone attempts, and the records of earlier
--- renewals
+-- the whole rule: the invariant of the present renewal, lone attempts, the clock, and the records
+-- of earlier renewals
 pub record Rule
     (lawful : List ℕ → List (ℕ × ℕ) → List (ℕ × ℕ) → Type 0) (lk : ℕ → ℕ) (c : Core)
     : Type 0 where
   pub inv : Inv lawful lk (now c)
   pub lone : Lone lk c.clock c.locks c.clients
+  pub known : IsKnown c.clock c.clients
   pub past : Past lawful c.first c.opening c.past c.renewal c.clients
 
 -- what a lone attempt that is not decided finds: nothing that could fail it

@@ -1,5 +1,4 @@
 use Rattle.std.proofs.Common.{arith}
-use Rattle.std.proofs.lemmas.Bool.Decides.{nat_tests}
 use Rattle.stm_core.proofs.Placing.{place_found}
 use Rattle.stm_core.proofs.order.place_in.Goals as goal
 
