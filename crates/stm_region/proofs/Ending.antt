@@ -9,7 +9,7 @@ use Rattle.stm_core.specs.Core.{Core, opened, begun_on, IsFreeHanded}
 use Rattle.stm_core.specs.Event.{opener, renewing}
 use Rattle.stm_core.specs.History.{Serial, image_after}
 use Rattle.stm_core.proofs.Renewing.{opening_rules, begins_rules, past_before}
-use Rattle.stm_core.proofs.Whole.{closes, all_grants, own_sorted}
+use Rattle.stm_core.proofs.Whole.{closes, all_grants, knows, own_sorted}
 use Rattle.stm_region.specs.Shown.{Opened, RegionShown, opened_with, stripe_of}
 use Rattle.stm_region.specs.Layout.{padding, first_cell}
 use Rattle.stm_region.specs.Rule.{listed, Holds}
@@ -91,6 +91,7 @@ module _ (fits : List ℕ → Type 0) (lawful : List ℕ → List (ℕ × ℕ) �
         number = id;
         member = at';
         clock = sym (ap (λ ws. slice_index ws 0) h.words);
+        floor = ap (λ ws. slice_index ws 0) h.words ∙ knows lawful (stripe_of r.stripes) c h.rule id v at' all;
         cells = cells;
         abides = known.2;
         sorted = own_sorted lawful (stripe_of r.stripes) c h.rule id v at';

@@ -19,7 +19,7 @@ use Rattle.stm_core.proofs.Eras.{in_append, of_is}
 use Rattle.stm_core.proofs.Lones.{at_map, goes_on}
 use Rattle.stm_core.proofs.Renewals.{step_rules}
 use Rattle.stm_core.proofs.Renewing.{split_rules, gather_rules}
-use Rattle.stm_core.proofs.Whole.{whole_shared, opening_fits}
+use Rattle.stm_core.proofs.Whole.{whole_shared, opening_fits, knows}
 use Rattle.stm_core.proofs.Histories.{image_fits}
 use Rattle.stm_core.proofs.Facts.{some_fits, grants_of_two, ahead, all_lawful, one_version}
 use Rattle.stm_region.specs.Shown.{Opened, RegionShown, joined, opened_with, bounds, unplaced, stripe_of}
@@ -171,7 +171,7 @@ module _ (fits : List ℕ → Type 0) (lawful : List ℕ → List (ℕ × ℕ) �
   -- what a step tells, of the core before it and of the one after it
   told_of : (c d : Core) → Matches o c → Matches o d → length r.opening ≡ r.size → r.last < 2 ^ 62 → fits r.first → Rule lawful lk c → Rule lawful lk d → (i : ℕ) (v : Client) (e : Action) → get_elem? c.clients i ≡ some v
       → get_elem? d.clients i ≡ some (after (unplaced r.renewal) lk e (found lk c e) v) → MayAct lawful lk (bounds_of c) e v → Told fits lawful r e (found lk c e) v (after (unplaced r.renewal) lk e (found lk c e) v)
-  told_of c d m m' z top f h h' i v begin was at may = (clock c m top h, (h.inv.version.sound i (shed c.renewal v) (at_map (shed c.renewal) c.clients i v was)).floor, opening_stands c m z f h, subst (λ n. AreEarlier n c.clock v.records) m.renewal (earlier lawful lk c h i v was))
+  told_of c d m m' z top f h h' i v begin was at may = (clock c m top h, (h.inv.version.sound i (shed c.renewal v) (at_map (shed c.renewal) c.clients i v was)).floor, opening_stands c m z f h, subst (λ n. AreEarlier n c.clock v.records) m.renewal (earlier lawful lk c h i v was), λ all. knows lawful lk c h i v was all)
   told_of c d m m' z top f h h' i v (probe k) was at may = (lock_word c m top h k, λ y. (goes_on lawful lk c h.inv h.lone i v was y.0 y.1).probes k)
   told_of c d m m' z top f h h' i v (fetch a) was at may = tt
   told_of c d m m' z top f h h' i v (check a) was at may = (lock_word c m top h (lk a), stands_of d m' z f h' i (after (unplaced r.renewal) lk (check a) (found lk c (check a)) v) at, (λ y. (goes_on lawful lk c h.inv h.lone i v was y.0 y.1).checks a may), version_of_reads d m' z f h' i (after (unplaced r.renewal) lk (check a) (found lk c (check a)) v) at)

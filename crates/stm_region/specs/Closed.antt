@@ -23,6 +23,8 @@ pub record Ends (lawful : List ℕ → List (ℕ × ℕ) → List (ℕ × ℕ) �
   pub number : ℕ
   pub member : get_elem? core.clients number ≡ some v
   pub clock : core.clock ≡ version
+  -- the closing client knew the clock
+  pub floor : version ≡ v.floor
   pub cells : core.cells ≡ words
   pub abides : (r : Record) → In r v.records → lawful r.tag r.reads r.writes
   pub serial : Serial region.first v.records

@@ -10,6 +10,7 @@ use Rattle.stm_core.specs.Invariant.{Rule, now}
 use Rattle.stm_core.specs.Event.{Action, begin, probe, fetch, check, lock, tick, validate, put, release, give_back, finish, Holds}
 use Rattle.stm_core.specs.History.{Serial, Sub, all_records, image_at}
 use Rattle.stm_region.specs.Shown.{RegionShown, value_after, stripe_of}
+use Rattle.stm_region.specs.declared.limits.TheConstants.{MOST_GRANTS}
 use Rattle.stm_words.specs.declared.version.TheConstants.{VERSION_LIMIT}
 
 -- a version of the clock is at most the last one
@@ -106,7 +107,7 @@ module _ (fits : List ℕ → Type 0) (lawful : List ℕ → List (ℕ × ℕ) �
   abbrev pub Told : Action → ℕ → Client → Client → Type 0
   Told begin n v w =
       IsVersion r.last n × (v.floor ≤ n) × StandsOn fits r.size []
-      × AreEarlier r.renewal n v.records
+      × AreEarlier r.renewal n v.records × (v.grants ≡ MOST_GRANTS → n ≡ v.floor)
   Told (probe k) n v w = IsLockWord r.last n × (IsLoneOpen v → LoneTold (probe k) n v w)
   Told (fetch a) n v w = Unit {0}
   Told (check a) n v w =

@@ -4,6 +4,7 @@ ghost use Rattle.stm_core.specs.Client.{word_before, decided};
 ghost use Rattle.stm_core.specs.Event.{begin as begins, probe as probes, fetch as fetches, check as checks, lock as locks, tick as ticks, validate as validates, put as puts, release as releases, give_back as gives_back, finish as finishes};
 ghost use Rattle.stm_logs.specs.Log.{log_pairs};
 ghost use Rattle.stm_region.specs.Shown.{Exchanged, IsAllowed, acted};
+ghost use Rattle.stm_region.specs.declared.limits.TheConstants.{MOST_GRANTS};
 ghost use Rattle.stm_region.specs.Told.{IsLockWord, IsLoneOpen, StandsOn, IsOfOneVersion, AreEarlier, Decides};
 ghost use Rattle.std.specs.Prelude.{◌⊎◌};
 ghost use Rattle.stm_core.specs.Client.{version_of, IsFree};
@@ -18,7 +19,8 @@ use stm_logs::WriteLog;
 use stm_words::{Addr, Law, Tag, Version};
 
 impl<L: Law, A: Allocator> Region<L, A> {
-    /// Begins an attempt: one load of the clock, which is the read version.
+    /// Begins an attempt: one load of the clock, which is the read version. A client with all
+    /// grants is the only one out, so that it finds its floor, the version that it knows.
     #[inline]
     pub fn begin(&self, client: &mut Client<L>) -> Version
         requires own { client.old.table ≡ self.now.table }
@@ -26,6 +28,7 @@ impl<L: Law, A: Allocator> Region<L, A> {
         ensures client { client.new ≡ acted self.now begins result client.old }
         ensures version { result ≤ self.now.last }
         ensures floor { client.old.value.floor ≤ result }
+        ensures alone { client.old.value.grants ≡ MOST_GRANTS → result ≡ client.old.value.floor }
         ensures stands { StandsOn L.fits self.now.size [] }
         ensures earlier { AreEarlier self.now.renewal result client.old.value.records }
     {
