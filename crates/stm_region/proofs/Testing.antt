@@ -4,7 +4,7 @@ use Rattle.std.proofs.lemmas.Bool.Decides.{nat_tests}
 use mathlib.Core.Option.{some, some-injective, some-ne-none}
 use lib.ListN.{get_elem?}
 use Rattle.stm_words.specs.Image.{In}
-use Rattle.stm_core.specs.Client.{Client, running, committed, locked, ticked, word_before, writes_to}
+use Rattle.stm_core.specs.Client.{Client, running, committed, locked, ticked, word_before, without, writes_to}
 use Rattle.stm_core.specs.Core.{IsFreeHanded}
 use Rattle.stm_core.specs.Event.{begin, probe, lock, tick, put as put_word, release, give_back, MayWrite, Holds, after, stepping, holding, committed_by, versioned}
 use Rattle.stm_region.specs.Shown.{RegionShown, ClientShown, IsAllowed, acted, unplaced, stripe_of}
@@ -135,6 +135,16 @@ may_release r d e k a x h q = subst (λ (y : ClientShown). IsAllowed Free r (rel
     λ b z t. (0, rw h.stored (ap some (eqb_or a b (subst (λ w. writes_to w b ≡ true) h.writes t)))),
   ),
 )
+
+one_gone : (k old : ℕ) → without ((k, old) ∷ []) k ≡ []
+one_gone k old = rw (same_number k) refl
+
+-- who gives its one lock back, or releases it, holds none
+pub given_free : (r : RegionShown) (d e : ClientShown) (k : ℕ) → HasLock k d.value → e ≡ acted r (give_back k) 0 d → IsFreeHanded e.value
+given_free r d e k h q = subst (λ (y : ClientShown). IsFreeHanded y.value) (sym q) (h.alive, ap (λ (l : List (ℕ × ℕ)). without l k) h.held ∙ one_gone k h.old)
+
+pub released_free : (r : RegionShown) (d e f : ClientShown) (k a x : ℕ) → HasDecided k a x d.value → e ≡ acted r (put_word a x) 0 d → f ≡ acted r (release k) 0 e → IsFreeHanded f.value
+released_free r d e f k a x h q q' = subst (λ (y : ClientShown). IsFreeHanded y.value) (sym (q' ∙ ap (acted r (release k) 0) q)) (h.alive, ap (λ (l : List (ℕ × ℕ)). without l k) h.held ∙ one_gone k h.old)
 
 pub not_there : (a l : ℕ) → get {R = nat_cmp} (empty {X = ℕ}) a ≡ Some l → ⊥
 not_there a l e = some_none l (sym (get-empty nat_cmp a) ∙ e)

@@ -71,6 +71,23 @@ fn a_spent_clock_goes_on(rt: HostRuntime) -> Result<(), Fail> {
     Ok(())
 }
 
+// The contracts say it of each region, whatever the clock before had reached.
+#[test]
+fn a_new_and_a_renewed_region_begin_at_version_0(rt: HostRuntime) -> Result<(), Fail> {
+    let alloc = rt.alloc();
+    let (region, mut client) = Region::<FreeLaw>::new(alloc, &[7], 2, 1)?;
+    let first = region.begin(&mut client).get();
+    prove!(first == 0);
+    let written = write_at(alloc, &region, &mut client, Addr(0), 8)?;
+    let Ok((region, mut client)) = region.renew(alloc, client, 2) else {
+        panic!(rt; "it was not renewed")
+    };
+    let renewed = region.begin(&mut client).get();
+    prove!(renewed == 0);
+    assert_eq!(rt; (first, written, renewed), (0, true, 0));
+    Ok(())
+}
+
 // Each refusal keeps the region, so that the next one meets it as it was.
 #[test]
 fn refuses_a_renewal_in_order(rt: HostRuntime) -> Result<(), Fail> {

@@ -2,7 +2,7 @@ use Rattle.std.proofs.Common.{[], ◌∷◌, sym, ap, ◌∙◌, arith}
 use Rattle.std.specs.FinMap.{get}
 use Rattle.stm_logs.specs.Log.{LogValue, log_pairs}
 use Rattle.stm_logs.specs.Held.{with_word}
-use Rattle.stm_region.proofs.Testing.{took_one, may_tick, one_pair, has_lock, may_give_back, lost_one, won_one, may_put, may_release, not_there}
+use Rattle.stm_region.proofs.Testing.{took_one, may_tick, one_pair, has_lock, may_give_back, lost_one, won_one, may_put, may_release, given_free, released_free, not_there}
 use Rattle.stm_region.proofs.tests.write_at.Goals as goal
 
 pub put-requires : goal.put-requires
@@ -40,3 +40,16 @@ release-requires-clause-allowed c =
     let h = took_one r c.args.client.now c.begin.new.client c.probe-word.new.client c.lock.new.client c.lock_of-lock.result c.get-from.result c.begin.result c.probe-word.result c.requires.free c.get-from.ensures.number c.begin.ensures.client c.probe-word.ensures.client c.in-Ok.ensures.client in
     let pairs = ap log_pairs (c.in_ok-put.ensures.answer ∙ ap (λ (w : LogValue). with_word w c.args.addr.0 c.lock_of-lock.result c.args.value) c.new-log.ensures) ∙ one_pair c.args.addr.0 c.lock_of-lock.result c.args.value in
     may_release r c.tick.new.client c.put-2.new.client c.lock_of-lock.result c.args.addr.0 c.args.value (won_one r c.lock.new.client c.tick.new.client _ c.get-from.result _ _ (1 ∷ []) _ h pairs c.in-Ok-tick.ensures.client) c.put-2.ensures
+
+pub returns-in_default-tick-clause-free : goal.returns-in_default-tick-clause-free
+returns-in_default-tick-clause-free c =
+    let r = c.args.region.now in
+    let h = took_one r c.args.client.now c.begin.new.client c.probe-word.new.client c.lock.new.client c.lock_of-lock.result c.get-from.result c.begin.result c.probe-word.result c.requires.free c.get-from.ensures.number c.begin.ensures.client c.probe-word.ensures.client c.in-Ok.ensures.client in
+    given_free r c.tick.new.client c.give_back-in_default-tick.new.client c.lock_of-lock.result (lost_one r c.lock.new.client c.tick.new.client c.lock_of-lock.result c.get-from.result c.in_default-tick.field-0 (1 ∷ []) _ h c.in_default-tick.ensures.client.0 c.in_default-tick.ensures.client.1) c.give_back-in_default-tick.ensures
+
+pub returns-clause-free : goal.returns-clause-free
+returns-clause-free c =
+    let r = c.args.region.now in
+    let h = took_one r c.args.client.now c.begin.new.client c.probe-word.new.client c.lock.new.client c.lock_of-lock.result c.get-from.result c.begin.result c.probe-word.result c.requires.free c.get-from.ensures.number c.begin.ensures.client c.probe-word.ensures.client c.in-Ok.ensures.client in
+    let pairs = ap log_pairs (c.in_ok-put.ensures.answer ∙ ap (λ (w : LogValue). with_word w c.args.addr.0 c.lock_of-lock.result c.args.value) c.new-log.ensures) ∙ one_pair c.args.addr.0 c.lock_of-lock.result c.args.value in
+    released_free r c.tick.new.client c.put-2.new.client c.release.new.client c.lock_of-lock.result c.args.addr.0 c.args.value (won_one r c.lock.new.client c.tick.new.client _ c.get-from.result _ _ (1 ∷ []) _ h pairs c.in-Ok-tick.ensures.client) c.put-2.ensures c.release.ensures
