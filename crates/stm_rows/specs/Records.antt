@@ -15,7 +15,8 @@ IsSized m n = n ≡ 96
 pub record HasItem (s : View) (node used free total price : ℕ) : Type 0 where
   pub node_is : IsNode s node
   pub under : (image : List ℕ) → Sees s image →
-      item_in (mem s image) node ≡ record { used = used; free = free; total = total; price = price }
+      item_in (mem s image) node ≡
+      record { used = used; free = free; total = total; price = price }
 
 -- under each image that there may be the customer in block 24 has no booking
 pub record HasNoBooking (s : View) : Type 0 where

@@ -1,5 +1,5 @@
 //! Attempts of one step, for the other tests.
-ghost use Rattle.std.specs.Prelude.{◌≡◌, ◌<◌};
+ghost use Rattle.std.specs.Prelude.{◌≡◌, ◌<◌, IfOk};
 ghost use Rattle.stm_core.specs.Core.{IsFreeHanded};
 
 use std::test::Fail;
@@ -11,7 +11,8 @@ pub(crate) fn version(number: u64) -> Result<Version, Fail> {
     Ok(Version::new(number).ok_or("it is no version")?)
 }
 
-// One attempt that writes a word.
+// One attempt that writes a word. Its client then knows the version that it answers, and no later
+// one.
 pub(crate) fn write_one(
     region: &Region<FreeLaw>,
     client: &mut Client<FreeLaw>,
@@ -24,6 +25,7 @@ pub(crate) fn write_one(
     requires range { addr.0 < region.now.size }
     ensures own { client.new.table ≡ client.old.table }
     ensures free { IsFreeHanded client.new.value }
+    ensures version { IfOk result (λ version. client.new.value.floor ≡ version) }
 {
     let mut attempt = Attempt::begin(region, client, logs);
     match attempt.write(addr, value) {

@@ -36,6 +36,52 @@ impl Gate for Told {
     }
 }
 
+const ALL_POINTS: [Option<Point>; 5] = [
+    Some(Point::ReadsDone),
+    Some(Point::Locked),
+    Some(Point::Ticked),
+    Some(Point::Decided),
+    Some(Point::Written),
+];
+
+#[test]
+fn gates_are_told_each_point(rt: HostRuntime) -> Result<(), Fail> {
+    let alloc = rt.alloc();
+    let mut writing = Told::new();
+    let mut reading = Told::new();
+    let mut validating = Told::new();
+    let answers = {
+        let (region, mut a) = Region::<FreeLaw>::new(alloc, &[0; 32], 100, 4)?;
+        let mut b = region.split(&mut a)?;
+        let mut logs_a = Logs::new(alloc);
+        let mut logs_b = Logs::new(alloc);
+        let mut attempt = Attempt::begin(&region, &mut a, &mut logs_a);
+        let written = attempt.write(Addr(9), 1);
+        let first = attempt.commit(&1u64, &mut writing);
+        let attempt = Attempt::begin(&region, &mut a, &mut logs_a);
+        let second = attempt.commit(&2u64, &mut reading);
+        // It validates its reads, since another one comes between.
+        let mut attempt = Attempt::begin(&region, &mut a, &mut logs_a);
+        let read = attempt.read(Addr(9));
+        let rewritten = attempt.write(Addr(9), 3);
+        let between = write_one(&region, &mut b, &mut logs_b, Addr(10), 2);
+        let third = attempt.commit(&3u64, &mut validating);
+        assert!(rt; written.is_ok() && rewritten.is_ok() && read == Ok(1));
+        [first, second, between, third]
+    };
+    let versions = [
+        Ok(version(1)?),
+        Ok(version(1)?),
+        Ok(version(2)?),
+        Ok(version(3)?),
+    ];
+    assert_eq!(rt; answers, versions);
+    assert!(rt; &writing.points[..5] == ALL_POINTS.as_slice() && writing.points[5].is_none());
+    assert!(rt; reading.points == [Some(Point::ReadsDone), None, None, None, None, None]);
+    assert!(rt; validating.points == writing.points);
+    Ok(())
+}
+
 // Reads word 9, writes word 10 and commits under the gate, while the other client writes to word 9
 // after the read.
 fn commit_after_a_newer_write<G: Gate>(
@@ -102,7 +148,7 @@ fn newer() -> Result<Stop, Fail> {
 }
 
 #[test]
-fn no_decision_is_told_after_a_refused_look(rt: HostRuntime) -> Result<(), Fail> {
+fn no_decision_is_told_after_a_refused_validation(rt: HostRuntime) -> Result<(), Fail> {
     let alloc = rt.alloc();
     let mut told = Told::new();
     let (answers, ten) = {
@@ -192,8 +238,8 @@ fn no_tick_is_told_where_the_clock_is_spent(rt: HostRuntime) -> Result<(), Fail>
 }
 
 // Another client's attempt, which has not ended.
-struct Running<'b> {
-    attempt: Attempt<'b, FreeLaw>,
+pub(crate) struct Running<'b> {
+    pub(crate) attempt: Attempt<'b, FreeLaw>,
     ghost runs: { attempt.logs.now.in_use ≡ true },
     ghost range: { 9 < attempt.region.now.size },
 }
@@ -218,7 +264,7 @@ impl<'a, 'b> Gate for ReadsAt<'a, 'b> {
 }
 
 // Writes 1 to word 9 under the gate.
-fn write_under<G: Gate>(
+pub(crate) fn write_under<G: Gate>(
     region: &Region<FreeLaw>,
     client: &mut Client<FreeLaw>,
     logs: &mut Logs,
@@ -299,10 +345,10 @@ fn locks_are_held_from_locked_to_written(rt: HostRuntime) -> Result<(), Fail> {
 }
 
 // Commits another client's attempt at one point.
-struct CommitsAt<'a, 'b> {
-    other: Option<Running<'b>>,
-    when: Point,
-    answer: &'a mut Option<Answer>,
+pub(crate) struct CommitsAt<'a, 'b> {
+    pub(crate) other: Option<Running<'b>>,
+    pub(crate) when: Point,
+    pub(crate) answer: &'a mut Option<Answer>,
 }
 
 impl<'a, 'b> Gate for CommitsAt<'a, 'b> {

@@ -2,8 +2,11 @@
 //! keep, and the structures in words over plain memory and over a region alike.
 #![tactic(auto)]
 
-#[cfg(test)]
 mod attempts;
+#[cfg(test)]
+mod commits;
+#[cfg(test)]
+mod conflicts;
 #[cfg(test)]
 mod customers;
 #[cfg(test)]
@@ -15,8 +18,14 @@ mod lists;
 #[cfg(test)]
 mod logs;
 #[cfg(test)]
+mod meetings;
+#[cfg(test)]
+mod memory;
+#[cfg(test)]
 mod records;
 #[cfg(test)]
 mod tables;
+#[cfg(test)]
+mod threads;
 #[cfg(test)]
 mod words;

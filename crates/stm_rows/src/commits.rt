@@ -1,0 +1,219 @@
+//! Attempts of one or two clients in turn: what they read, answer and leave.
+ghost use Rattle.std.specs.Prelude.{◌≡◌, ◌<◌};
+
+use crate::attempts::{read_one, version, write_one};
+use std::test::Fail;
+use stm_attempt::{Attempt, Conflict, Logs, NoGate, ReadAttempt, Stop};
+use stm_region::Region;
+use stm_words::{Addr, FreeLaw, TxMem, TxRead};
+
+// The sum of two words.
+fn sum_of<M: TxRead>(memory: &mut M, first: Addr, second: Addr) -> Result<u64, M::Stop>
+    requires first { first.0 < (M.view memory.old).size }
+    requires second { second.0 < (M.view memory.old).size }
+    ensures origin { M.origin memory.new ≡ M.origin memory.old }
+{
+    Ok(memory.read(first)?.wrapping_add(memory.read(second)?))
+}
+
+#[test]
+fn own_writes_are_read_and_dropped(rt: HostRuntime) -> Result<(), Fail> {
+    let alloc = rt.alloc();
+    let (before, written, after, dropped, words, last) = {
+        let (region, mut client) = Region::<FreeLaw>::new(alloc, &[0; 32], 100, 32)?;
+        let mut logs = Logs::new(alloc);
+        let mut attempt = Attempt::begin(&region, &mut client, &mut logs);
+        let before = attempt.read(Addr(9));
+        let written = attempt.write(Addr(9), 5);
+        let after = attempt.read(Addr(9));
+        attempt.drop_it();
+        let dropped = read_one(&region, &mut client, &mut logs, Addr(9));
+        let Ok((words, last)) = region.close(alloc, client) else {
+            panic!(rt; "it stayed open")
+        };
+        (before, written, after, dropped, words, last)
+    };
+    assert_eq!(rt; before?, 0);
+    written?;
+    assert_eq!(rt; after?, 5);
+    assert_eq!(rt; dropped?, 0);
+    assert_eq!(rt; words.as_slice(), [0u64; 32].as_slice());
+    assert_eq!(rt; last.get(), 0);
+    Ok(())
+}
+
+#[test]
+fn a_reader_finishes_at_its_read_version(rt: HostRuntime) -> Result<(), Fail> {
+    let alloc = rt.alloc();
+    let (committed, value, finished) = {
+        let (region, mut client) = Region::<FreeLaw>::new(alloc, &[0; 32], 100, 32)?;
+        let mut logs = Logs::new(alloc);
+        let committed = write_one(&region, &mut client, &mut logs, Addr(9), 5);
+        let mut reader = ReadAttempt::begin(&region, &mut client);
+        let value = reader.read(Addr(9));
+        if value.is_err() {
+            reader.drop_it();
+            panic!(rt; "it was refused")
+        }
+        (committed, value, reader.finish(&7u64))
+    };
+    assert_eq!(rt; committed?, version(1)?);
+    assert_eq!(rt; value, Ok(5));
+    assert_eq!(rt; finished, version(1)?);
+    Ok(())
+}
+
+#[test]
+fn a_reader_meets_a_newer_version_and_repeats(rt: HostRuntime) -> Result<(), Fail> {
+    let alloc = rt.alloc();
+    let (between, stops, value, committed, words, last) = {
+        let (region, mut a) = Region::<FreeLaw>::new(alloc, &[0; 32], 100, 32)?;
+        let mut b = region.split(&mut a)?;
+        let mut logs_a = Logs::new(alloc);
+        let mut logs_b = Logs::new(alloc);
+        let mut reading = Attempt::begin(&region, &mut a, &mut logs_a);
+        let between = write_one(&region, &mut b, &mut logs_b, Addr(9), 5);
+        let stops = [
+            reading.read(Addr(9)).err(),
+            reading.read(Addr(9)).err(),
+            reading.write(Addr(9), 6).err(),
+            reading.commit(&2u64, &mut NoGate).err(),
+        ];
+        let mut reading = Attempt::begin(&region, &mut a, &mut logs_a);
+        let value = reading.read(Addr(9));
+        let committed = reading.commit(&3u64, &mut NoGate);
+        region.gather(&mut a, b);
+        let Ok((words, last)) = region.close(alloc, a) else {
+            panic!(rt; "it stayed open")
+        };
+        (between, stops, value, committed, words, last)
+    };
+    assert_eq!(rt; between?, version(1)?);
+    let newer = Stop::Conflict(Conflict::Newer {
+        lock: 9,
+        version: version(1)?,
+        rv: version(0)?,
+    });
+    assert_eq!(rt; stops, [Some(newer); 4]);
+    assert_eq!(rt; value?, 5);
+    assert_eq!(rt; committed?, version(1)?);
+    let mut expected = [0u64; 32];
+    expected[9] = 5;
+    assert_eq!(rt; words.as_slice(), expected.as_slice());
+    assert_eq!(rt; last, version(1)?);
+    Ok(())
+}
+
+#[test]
+fn a_spent_clock_refuses_what_writes(rt: HostRuntime) -> Result<(), Fail> {
+    let alloc = rt.alloc();
+    let (first, before, written, refused, read, committed) = {
+        let (region, mut client) = Region::<FreeLaw>::new(alloc, &[0; 32], 1, 32)?;
+        let mut logs = Logs::new(alloc);
+        let first = write_one(&region, &mut client, &mut logs, Addr(9), 5);
+        let mut attempt = Attempt::begin(&region, &mut client, &mut logs);
+        let before = attempt.read(Addr(9));
+        let written = attempt.write(Addr(9), 6);
+        let refused = attempt.commit(&2u64, &mut NoGate);
+        let mut attempt = Attempt::begin(&region, &mut client, &mut logs);
+        let read = attempt.read(Addr(9));
+        let committed = attempt.commit(&3u64, &mut NoGate);
+        (first, before, written, refused, read, committed)
+    };
+    assert_eq!(rt; first?, version(1)?);
+    assert_eq!(rt; before?, 5);
+    written?;
+    let spent = Stop::Spent {
+        version: version(1)?,
+    };
+    assert_eq!(rt; refused, Err(spent));
+    assert_eq!(rt; read?, 5);
+    assert_eq!(rt; committed?, version(1)?);
+    Ok(())
+}
+
+#[test]
+fn two_words_of_one_stripe(rt: HostRuntime) -> Result<(), Fail> {
+    let alloc = rt.alloc();
+    let (stops, first, refused, read, second) = {
+        let (region, mut a) = Region::<FreeLaw>::new(alloc, &[0; 32], 100, 4)?;
+        let mut b = region.split(&mut a)?;
+        let mut logs_a = Logs::new(alloc);
+        let mut logs_b = Logs::new(alloc);
+        let mut reading = Attempt::begin(&region, &mut b, &mut logs_b);
+        let mut writing = Attempt::begin(&region, &mut a, &mut logs_a);
+        let one = writing.write(Addr(9), 1);
+        let two = writing.write(Addr(13), 2);
+        let three = writing.write(Addr(10), 3);
+        let first = writing.commit(&1u64, &mut NoGate);
+        let refused = reading.read(Addr(5));
+        reading.drop_it();
+        let mut writing = Attempt::begin(&region, &mut a, &mut logs_a);
+        let read = writing.read(Addr(9));
+        let four = writing.write(Addr(13), 4);
+        let second = writing.commit(&2u64, &mut NoGate);
+        let stops = [one.err(), two.err(), three.err(), four.err()];
+        (stops, first, refused, read, second)
+    };
+    assert_eq!(rt; stops, [None; 4]);
+    assert_eq!(rt; first?, version(1)?);
+    let newer = Conflict::Newer {
+        lock: 1,
+        version: version(1)?,
+        rv: version(0)?,
+    };
+    assert_eq!(rt; refused, Err(Stop::Conflict(newer)));
+    assert_eq!(rt; read?, 1);
+    assert_eq!(rt; second?, version(2)?);
+    Ok(())
+}
+
+#[test]
+fn three_hundred_writes_in_one_commit(rt: HostRuntime) -> Result<(), Fail> {
+    let alloc = rt.alloc();
+    let (refused, committed, words, last) = {
+        let (region, mut client) = Region::<FreeLaw>::new(alloc, &[0; 512], 100, 64)?;
+        let mut logs = Logs::new(alloc);
+        let mut attempt = Attempt::begin(&region, &mut client, &mut logs);
+        let mut refused = 0;
+        for i in 0..300u32 {
+            if attempt.write(Addr(299 - i), u64::from(i) + 1).is_err() {
+                refused = 1;
+            }
+        }
+        let committed = attempt.commit(&1u64, &mut NoGate);
+        let Ok((words, last)) = region.close(alloc, client) else {
+            panic!(rt; "it stayed open")
+        };
+        (refused, committed, words, last)
+    };
+    assert_eq!(rt; refused, 0);
+    assert_eq!(rt; committed?, version(1)?);
+    for (i, word) in words.iter().enumerate() {
+        let expected = if i < 300 { 300 - i } else { 0 };
+        assert_eq!(rt; *word, expected as u64);
+    }
+    assert_eq!(rt; last, version(1)?);
+    Ok(())
+}
+
+#[test]
+fn both_kinds_of_attempt_read_alike(rt: HostRuntime) -> Result<(), Fail> {
+    let alloc = rt.alloc();
+    let (written, logged, unlogged) = {
+        let (region, mut client) = Region::<FreeLaw>::new(alloc, &[7; 32], 100, 4)?;
+        let mut logs = Logs::new(alloc);
+        let written = write_one(&region, &mut client, &mut logs, Addr(9), 5);
+        let mut attempt = Attempt::begin(&region, &mut client, &mut logs);
+        let logged = sum_of(&mut attempt, Addr(9), Addr(13));
+        attempt.drop_it();
+        let mut reader = ReadAttempt::begin(&region, &mut client);
+        let unlogged = sum_of(&mut reader, Addr(9), Addr(13));
+        reader.drop_it();
+        (written, logged, unlogged)
+    };
+    written?;
+    assert_eq!(rt; logged?, 12);
+    assert_eq!(rt; unlogged, Ok(12));
+    Ok(())
+}

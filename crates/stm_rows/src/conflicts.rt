@@ -1,0 +1,96 @@
+//! What a commit answers where another client has committed since the attempt began.
+ghost use Rattle.std.specs.Prelude.{◌≡◌, ◌<◌};
+ghost use Rattle.stm_core.specs.Core.{IsFreeHanded};
+
+use crate::attempts::{read_one, version, write_one};
+use std::test::Fail;
+use stm_attempt::{Attempt, Conflict, Logs, NoGate, Stop};
+use stm_region::{Client, Region};
+use stm_words::{Addr, FreeLaw, TxMem, TxRead, Version};
+
+// Reads word 9 and writes a word, while the other client writes 1 to word 9.
+fn write_beside_a_commit(
+    region: &Region<FreeLaw>,
+    client: &mut Client<FreeLaw>,
+    other: &mut Client<FreeLaw>,
+    logs: &mut Logs,
+    others: &mut Logs,
+    addr: Addr,
+) -> Result<Result<Version, Stop>, Stop>
+    requires own { (client.old.table ≡ region.now.table) × (other.old.table ≡ region.now.table) }
+    requires free { IsFreeHanded client.old.value × IsFreeHanded other.old.value }
+    requires range { (9 < region.now.size) × (addr.0 < region.now.size) }
+    ensures own { (client.new.table ≡ client.old.table) × (other.new.table ≡ other.old.table) }
+    ensures free { IsFreeHanded client.new.value × IsFreeHanded other.new.value }
+{
+    let mut attempt = Attempt::begin(region, client, logs);
+    let read = attempt.read(Addr(9));
+    let written = attempt.write(addr, 7);
+    let between = write_one(region, other, others, Addr(9), 1);
+    let committed = attempt.commit(&2u64, &mut NoGate);
+    read?;
+    written?;
+    between?;
+    Ok(committed)
+}
+
+// The word that was read has a version above the read version, be its lock free or the client's
+// own.
+#[test]
+fn a_validation_meets_a_newer_version(rt: HostRuntime) -> Result<(), Fail> {
+    let alloc = rt.alloc();
+    let (free, own, nine, ten, after) = {
+        let (region, mut a) = Region::<FreeLaw>::new(alloc, &[0; 32], 100, 32)?;
+        let mut b = region.split(&mut a)?;
+        let mut logs_a = Logs::new(alloc);
+        let mut logs_b = Logs::new(alloc);
+        (
+            write_beside_a_commit(&region, &mut a, &mut b, &mut logs_a, &mut logs_b, Addr(10)),
+            write_beside_a_commit(&region, &mut a, &mut b, &mut logs_a, &mut logs_b, Addr(9)),
+            read_one(&region, &mut a, &mut logs_a, Addr(9)),
+            read_one(&region, &mut a, &mut logs_a, Addr(10)),
+            write_one(&region, &mut a, &mut logs_a, Addr(10), 8),
+        )
+    };
+    let newer = Conflict::Newer {
+        lock: 9,
+        version: version(1)?,
+        rv: version(0)?,
+    };
+    assert_eq!(rt; free?, Err(Stop::Conflict(newer)));
+    let newer = Conflict::Newer {
+        lock: 9,
+        version: version(3)?,
+        rv: version(2)?,
+    };
+    assert_eq!(rt; own?, Err(Stop::Conflict(newer)));
+    assert_eq!(rt; nine?, 1);
+    assert_eq!(rt; ten?, 0);
+    assert_eq!(rt; after?, version(5)?);
+    Ok(())
+}
+
+// The other one has made the last version, which the first tick finds; no validation comes after
+// it.
+#[test]
+fn a_lost_tick_finds_the_clock_spent(rt: HostRuntime) -> Result<(), Fail> {
+    let alloc = rt.alloc();
+    let (committed, ten, nine) = {
+        let (region, mut a) = Region::<FreeLaw>::new(alloc, &[0; 32], 1, 32)?;
+        let mut b = region.split(&mut a)?;
+        let mut logs_a = Logs::new(alloc);
+        let mut logs_b = Logs::new(alloc);
+        (
+            write_beside_a_commit(&region, &mut a, &mut b, &mut logs_a, &mut logs_b, Addr(10)),
+            read_one(&region, &mut b, &mut logs_b, Addr(10)),
+            read_one(&region, &mut a, &mut logs_a, Addr(9)),
+        )
+    };
+    let spent = Stop::Spent {
+        version: version(1)?,
+    };
+    assert_eq!(rt; committed?, Err(spent));
+    assert_eq!(rt; ten?, 0);
+    assert_eq!(rt; nine?, 1);
+    Ok(())
+}

@@ -1,0 +1,131 @@
+//! What another client's commit meets at the point where the locks are held.
+
+use crate::attempts::{read_one, version, write_one};
+use crate::gates::{CommitsAt, Running, write_under};
+use std::test::Fail;
+use stm_attempt::{Attempt, Conflict, Logs, Point, Stop};
+use stm_region::Region;
+use stm_words::{Addr, FreeLaw, TxMem, TxRead};
+
+// Its tick comes between the locks and the tick of the other one, and is the first after its read
+// version: it decides, though the word that it has read is locked.
+#[test]
+fn a_commit_at_locked_decides_by_its_tick(rt: HostRuntime) -> Result<(), Fail> {
+    let alloc = rt.alloc();
+    let mut answer = None;
+    let (read, written, committed) = {
+        let (region, mut a) = Region::<FreeLaw>::new(alloc, &[0; 32], 100, 32)?;
+        let mut b = region.split(&mut a)?;
+        let mut logs_a = Logs::new(alloc);
+        let mut logs_b = Logs::new(alloc);
+        let mut other = Attempt::begin(&region, &mut b, &mut logs_b);
+        let read = other.read(Addr(9));
+        let written = other.write(Addr(10), 7);
+        let mut gate = CommitsAt {
+            other: Some(Running { attempt: other }),
+            when: Point::Locked,
+            answer: &mut answer,
+        };
+        let committed = write_under(&region, &mut a, &mut logs_a, &mut gate);
+        let CommitsAt {
+            other,
+            when: _,
+            answer: _,
+        } = gate;
+        if let Some(Running { attempt }) = other {
+            attempt.drop_it();
+        }
+        (read, written, committed)
+    };
+    assert_eq!(rt; read?, 0);
+    written?;
+    assert_eq!(rt; committed?, version(2)?);
+    assert_eq!(rt; answer, Some(Ok(version(1)?)));
+    Ok(())
+}
+
+// Another commit came before, so that it must validate the word that it has read, and finds it
+// held.
+#[test]
+fn a_commit_at_locked_meets_a_held_lock(rt: HostRuntime) -> Result<(), Fail> {
+    let alloc = rt.alloc();
+    let mut answer = None;
+    let (read, written, before, committed, nine, ten) = {
+        let (region, mut a) = Region::<FreeLaw>::new(alloc, &[0; 32], 100, 32)?;
+        let mut b = region.split(&mut a)?;
+        let mut logs_a = Logs::new(alloc);
+        let mut logs_b = Logs::new(alloc);
+        let mut other = Attempt::begin(&region, &mut b, &mut logs_b);
+        let read = other.read(Addr(9));
+        let written = other.write(Addr(10), 7);
+        let before = write_one(&region, &mut a, &mut logs_a, Addr(20), 1);
+        let mut gate = CommitsAt {
+            other: Some(Running { attempt: other }),
+            when: Point::Locked,
+            answer: &mut answer,
+        };
+        let committed = write_under(&region, &mut a, &mut logs_a, &mut gate);
+        let CommitsAt {
+            other,
+            when: _,
+            answer: _,
+        } = gate;
+        if let Some(Running { attempt }) = other {
+            attempt.drop_it();
+        }
+        let nine = read_one(&region, &mut a, &mut logs_a, Addr(9));
+        let ten = read_one(&region, &mut a, &mut logs_a, Addr(10));
+        (read, written, before, committed, nine, ten)
+    };
+    assert_eq!(rt; read?, 0);
+    written?;
+    assert_eq!(rt; before?, version(1)?);
+    assert_eq!(rt; committed?, version(3)?);
+    let held = Conflict::Held { lock: 9, word: 1 };
+    assert_eq!(rt; answer, Some(Err(Stop::Conflict(held))));
+    assert_eq!(rt; nine?, 1);
+    assert_eq!(rt; ten?, 0);
+    Ok(())
+}
+
+// It writes the same word, and one below it: it takes that one's lock, finds the other one held,
+// and gives the first back.
+#[test]
+fn a_commit_at_locked_finds_a_lock_taken(rt: HostRuntime) -> Result<(), Fail> {
+    let alloc = rt.alloc();
+    let mut answer = None;
+    let (eighth, ninth, committed, eight, nine) = {
+        let (region, mut a) = Region::<FreeLaw>::new(alloc, &[0; 32], 100, 32)?;
+        let mut b = region.split(&mut a)?;
+        let mut logs_a = Logs::new(alloc);
+        let mut logs_b = Logs::new(alloc);
+        let mut other = Attempt::begin(&region, &mut b, &mut logs_b);
+        let eighth = other.write(Addr(8), 6);
+        let ninth = other.write(Addr(9), 7);
+        let mut gate = CommitsAt {
+            other: Some(Running { attempt: other }),
+            when: Point::Locked,
+            answer: &mut answer,
+        };
+        let committed = write_under(&region, &mut a, &mut logs_a, &mut gate);
+        let CommitsAt {
+            other,
+            when: _,
+            answer: _,
+        } = gate;
+        if let Some(Running { attempt }) = other {
+            attempt.drop_it();
+        }
+        let eight = read_one(&region, &mut a, &mut logs_a, Addr(8));
+        let nine = read_one(&region, &mut a, &mut logs_a, Addr(9));
+        (eighth, ninth, committed, eight, nine)
+    };
+    eighth?;
+    ninth?;
+    assert_eq!(rt; committed?, version(1)?);
+    let held = Conflict::Held { lock: 9, word: 1 };
+    assert_eq!(rt; answer, Some(Err(Stop::Conflict(held))));
+    assert_eq!(rt; eight?, 0);
+    assert_eq!(rt; nine?, 1);
+    Ok(())
+}
