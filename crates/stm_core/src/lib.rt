@@ -18,8 +18,6 @@ mod tests;
 mod theorem;
 
 pub use event::{Entry, Event, NotAllowed, Writes};
-pub use limits::{
-    MOST_CLIENTS, MOST_GRANTS, MOST_RENEWALS, MOST_STRIPES, MOST_TICKS, MOST_WORDS,
-};
+pub use limits::{MOST_CLIENTS, MOST_GRANTS, MOST_RENEWALS, MOST_STRIPES, MOST_TICKS, MOST_WORDS};
 pub use replay::Core;
 pub use theorem::{core_theorem, law_theorem, running_theorem};

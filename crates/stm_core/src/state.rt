@@ -9,11 +9,11 @@ ghost use Rattle.stm_words.specs.declared.version.TheConstants.{VERSION_LIMIT};
 
 use crate::event::{Entry, Event, Writes};
 use crate::limits::{MOST_CLIENTS, MOST_RENEWALS};
-use stm_words::VERSION_LIMIT;
 use crate::order::Order;
 use crate::seat::{Seat, others_spent};
 use std::alloc::{AllocError, Global};
 use std::marker::Model;
+use stm_words::VERSION_LIMIT;
 
 /// The words, what is kept of the clients, and the decided records.
 #[derive(Drop)]

@@ -5,9 +5,7 @@ mod moves;
 mod player;
 mod random;
 
-use super::{
-    Core, Entry, Event, NotAllowed, Writes, core_theorem, law_theorem, running_theorem,
-};
+use super::{Core, Entry, Event, NotAllowed, Writes, core_theorem, law_theorem, running_theorem};
 use std::alloc::Global;
 use std::process::Abort;
 use stm_words::{FreeLaw, VERSION_LIMIT};

@@ -4,10 +4,10 @@ ghost use Rattle.std.specs.Prelude.{◌<◌, ◌≤◌};
 ghost use Rattle.stm_words.specs.declared.version.TheConstants.{VERSION_LIMIT};
 
 use crate::{Event, Writes};
-use stm_words::VERSION_LIMIT;
 use rand_core::utils::NextWord;
 use rand_pcg::Pcg32;
 use std::alloc::{AllocError, Global};
+use stm_words::VERSION_LIMIT;
 
 /// How many words and stripes a region has, and its last version.
 #[derive(Clone, Copy, Debug)]

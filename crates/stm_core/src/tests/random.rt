@@ -4,11 +4,11 @@ use super::history::History;
 use super::moves::{Kind, Move, Shape, below};
 use super::player::Stage;
 use crate::{Core, MOST_GRANTS, NotAllowed};
-use stm_words::VERSION_LIMIT;
 use rand_pcg::Pcg32;
 use std::alloc::{AllocError, Global};
 use std::process::Abort;
 use std::test::Fail;
+use stm_words::VERSION_LIMIT;
 
 const LISTS: u64 = 2000;
 
