@@ -9,7 +9,7 @@ use Rattle.vac_lines.specs.declared.fault.LineFault.{LineFault}
 use Rattle.vac_lines.specs.Script.{answer, script_state}
 use Rattle.vac_lines.specs.Text.{Extends}
 use Rattle.vac_manager.specs.Legal.{IsHistory}
-use Rattle.vac_manager.specs.Called.{CallerShown}
+use Rattle.vac_manager.specs.Called.{CallerShown, HasAllGrants}
 use Rattle.vac_cli.specs.Script.{pending, leaves, LeavesSame, script_out}
 
 -- the manager, which contracts see as its region, and its client
@@ -20,7 +20,7 @@ pub record SystemShown : Type 0 where
 -- the client is of this manager, and alone: it has all grants
 pub record IsAlone (y : SystemShown) : Type 0 where
   pub own : y.client.table ≡ y.manager.table
-  pub all : y.client.value.grants ≡ 63
+  pub all : HasAllGrants y.client.value
 
 -- the records of the client are a whole history of the manager, which leads to this state
 abbrev pub StandsAt : SystemShown → State → Type 0

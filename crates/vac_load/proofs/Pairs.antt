@@ -1,5 +1,5 @@
 -- Lists whose elements are related place by place.
-use Rattle.std.proofs.Common.{◌≡◌, ◌∙◌, ◌++◌, ℕ, suc, List, [], ◌∷◌, length, append-nil, append_assoc, All, refl, sym, ap, subst, arith}
+use Rattle.std.proofs.Common.{◌≡◌, ◌∙◌, ◌++◌, ◌<◌, ℕ, zero, suc, slice_index_or, List, [], ◌∷◌, length, append-nil, append_assoc, All, refl, sym, ap, subst, arith}
 use Rattle.vac_manager.specs.Called.{CallerShown}
 use Rattle.vac_load.specs.declared.settings.Settings.{Settings}
 use Rattle.vac_load.specs.declared.tally.Tally.{Tally}
@@ -46,6 +46,21 @@ all_met all xs rest e n = sym (e ∙ (ap (λ (r : List _). xs ++ r) (no_more res
 -- the first of what is left goes over
 pub one_on : {A : Type 0} (all xs rest rest' : List A) (x : A) → all ≡ xs ++ rest → rest ≡ x ∷ rest' → all ≡ (xs ++ (x ∷ [])) ++ rest'
 one_on all xs rest rest' x e f = e ∙ (ap (λ (l : List _). xs ++ l) f ∙ sym (append_assoc xs (x ∷ []) rest'))
+
+pub all_cons : {A : Type 0} (P : A → Type 0) (x : A) (xs : List A) → P x → All P xs → (k : ℕ) (d : A) → k < length (x ∷ xs) → P (slice_index_or (x ∷ xs) k d)
+all_cons P x xs p h zero d less = p
+all_cons P x xs p h (suc k) d less = h k d (omega (arith, less))
+
+all_last : {A : Type 0} (P : A → Type 0) (xs : List A) (x : A) → All P xs → P x → All P (xs ++ (x ∷ []))
+all_last P [] x h p = all_cons P x [] p h
+all_last P (y ∷ xs) x h p = all_cons P y (xs ++ (x ∷ [])) (h 0 y (omega arith)) (all_last P xs x (λ k d l. h (suc k) d (omega (arith, l))) p)
+
+-- one element more
+pub all_more : {A : Type 0} (P : A → Type 0) (xs ys : List A) (x : A) → ys ≡ xs ++ (x ∷ []) → All P xs → P x → All P ys
+all_more P xs ys x e h p = subst (λ (l : List _). All P l) (sym e) (all_last P xs x h p)
+
+pub all_none : {A : Type 0} (P : A → Type 0) (xs : List A) → xs ≡ [] → All P xs
+all_none P xs e = subst (λ (l : List _). All P l) (sym e) (λ k d less. absurd (omega (arith, less)))
 
 pub all_same : {A : Type 0} (P : A → Type 0) (xs ys : List A) → ys ≡ xs → All P xs → All P ys
 all_same P xs ys e h = subst (λ (l : List _). All P l) (sym e) h

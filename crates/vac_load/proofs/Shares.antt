@@ -1,5 +1,5 @@
 -- What each client did, from its client before and after.
-use Rattle.std.proofs.Common.{◌≡◌, ◌∙◌, ◌<◌, ℕ, zero, suc, ◌+◌, ◌-◌, ◌≤◌, List, [], ◌∷◌, ◌++◌, length, slice_index_or, All, refl, sym, ap, subst, arith}
+use Rattle.std.proofs.Common.{◌≡◌, ◌∙◌, ℕ, suc, ◌+◌, ◌-◌, ◌≤◌, List, [], ◌∷◌, ◌++◌, length, All, refl, sym, ap, subst, arith}
 use Rattle.atomic_table.specs.Seated.{TableId}
 use Rattle.stm_words.specs.Image.{In}
 use Rattle.stm_core.specs.Client.{Client, Record, merged}
@@ -17,7 +17,7 @@ use Rattle.vac_load.specs.Sums.{sum_of, plus, added_up}
 use Rattle.vac_load.specs.Load.{Paired, none, both, SubEach, all_merged, Gathered, HasWorked, IsHired, Hired, AreKnown, Share, HasShare, RanAll}
 use Rattle.vac_load.proofs.Order.{IsLater, added_later, known_first, merged_behind}
 use Rattle.vac_load.proofs.Gatherings.{length_merged}
-use Rattle.vac_load.proofs.Pairs.{paired_through}
+use Rattle.vac_load.proofs.Pairs.{paired_through, all_cons}
 
 -- a client that was split off
 pub split_hired : {D : Type 0} (c before after other : CallerShown) (state : D) → Splits before after other → before.table ≡ c.table → before.value.floor ≡ c.value.floor →
@@ -49,10 +49,6 @@ paired_length related [] [] none = refl
 paired_length related (x ∷ xs) (y ∷ ys) (both r p) = ap suc (paired_length related xs ys p)
 paired_length related [] (y ∷ ys) p = elim p [ ]
 paired_length related (x ∷ xs) [] p = elim p [ ]
-
-all_cons : {A : Type 0} (P : A → Type 0) (x : A) (xs : List A) → P x → All P xs → (k : ℕ) (d : A) → k < length (x ∷ xs) → P (slice_index_or (x ∷ xs) k d)
-all_cons P x xs p h zero d less = p
-all_cons P x xs p h (suc k) d less = h k d (omega (arith, less))
 
 -- what follows for each element of the second list
 pub paired_each : {A B : Type 0} (related : A → B → Type 0) (P : B → Type 0) → ((x : A) (y : B) → related x y → P y) → (xs : List A) (ys : List B) → Paired related xs ys → All P ys
@@ -190,6 +186,10 @@ module _ {D W R : Type 0} (leads : D → ℕ → D → Type 0) (s : Settings) (r
   pub worked_own : (table : TableId) (ws : List W) (rs : List R) → All (λ w. (client_of w).table ≡ table) ws →
       Paired (λ w r. HasWorked leads s renewal (client_of w) (after_of r) (drawing w) (last_of r) (tally_of r)) ws rs → All (λ r. (after_of r).table ≡ table) rs
   worked_own table ws rs h p = paired_both _ (λ w. (client_of w).table ≡ table) (λ r. (after_of r).table ≡ table) (λ w r e k. ap (λ (x : CallerShown). x.table) k.client ∙ e) ws rs h p
+
+  pub worked_grants : (ws : List W) (rs : List R) → All (λ w. (client_of w).value.grants ≡ 0) ws →
+      Paired (λ w r. HasWorked leads s renewal (client_of w) (after_of r) (drawing w) (last_of r) (tally_of r)) ws rs → All (λ r. (after_of r).value.grants ≡ 0) rs
+  worked_grants ws rs h p = paired_both _ (λ w. (client_of w).value.grants ≡ 0) (λ r. (after_of r).value.grants ≡ 0) (λ w r e k. k.looped.answered.grants ∙ e) ws rs h p
 
   pub worked_tasks : (n : ℕ) (ws : List W) (rs : List R) → s.tasks ≤ n →
       Paired (λ w r. HasWorked leads s renewal (client_of w) (after_of r) (drawing w) (last_of r) (tally_of r)) ws rs → All (λ r. total (tally_of r) ≤ n) rs

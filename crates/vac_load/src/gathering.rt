@@ -1,6 +1,8 @@
 //! Clients that are split off for a round, and gathered after it.
 
 ghost use Rattle.std.specs.Prelude.{◌≡◌, ◌≤◌, ◌<◌, ◌+◌, ◌⊎◌, ◌∷◌, [], true, All, vec_len, vec_capacity, IfOk, IfErr};
+ghost use Rattle.stm_core.specs.declared.limits.TheConstants.{MOST_GRANTS};
+ghost use Rattle.vac_manager.specs.Called.{HasAllGrants};
 ghost use Rattle.vac_load.specs.Looping.{total};
 ghost use Rattle.vac_load.specs.Setting.{is_settings};
 ghost use Rattle.vac_load.specs.declared.settings.TheConstants.{MOST_TASKS, MOST_CLIENTS};
@@ -35,12 +37,15 @@ fn gather_all<D: Drop, G: Drop>(
 ) -> Round<D, G>
     requires own { crew.first.worker.client.table ≡ manager.now.table }
     requires others_own { All (λ w. w.worker.client.table ≡ manager.now.table) crew.others.items }
+    requires grants { crew.first.worker.client.value.grants + vec_len crew.others ≡ MOST_GRANTS }
+    requires others_grants { All (λ w. w.worker.client.value.grants ≡ 0) crew.others.items }
     requires few { vec_len crew.others < MOST_CLIENTS }
     requires room { vec_len crew.others < vec_capacity pairs }
     requires empty { pairs.items ≡ [] }
     requires tasks { total crew.first.tally ≤ MOST_TASKS }
     requires others_tasks { All (λ w. total w.tally ≤ MOST_TASKS) crew.others.items }
     ensures own { result.client.table ≡ manager.now.table }
+    ensures grants { HasAllGrants result.client.value }
     ensures gathered { Gathered (λ w. w.worker.client.value.records) (λ w. w.tally)
         crew.first crew.others.items result.client.value.records result.tally }
     ensures pairs { Paired (λ w p. p.0 ≡ w.worker.draws)
@@ -88,7 +93,7 @@ fn hire<D: Drop, G: Drop>(
     pairs: Vec<(D, G)>,
 ) -> Result<Crew<Worker<D, G>>, LoadFault>
     requires own { client.table ≡ manager.now.table }
-    requires alone { client.value.grants ≡ 63 }
+    requires alone { HasAllGrants client.value }
     requires some { 0 < vec_len pairs }
     requires few { vec_len pairs ≤ MOST_CLIENTS }
     ensures hired { IfOk result (λ crew. Hired (λ p. p.0) client pairs.items
@@ -96,6 +101,10 @@ fn hire<D: Drop, G: Drop>(
     ensures own { IfOk result (λ crew.
         All (λ w. w.client.table ≡ manager.now.table) crew.others.items) }
     ensures number { IfOk result (λ crew. vec_len crew.others + 1 ≡ vec_len pairs) }
+    ensures grants { IfOk result (λ crew.
+        crew.first.client.value.grants + vec_len crew.others ≡ MOST_GRANTS) }
+    ensures others_grants { IfOk result (λ crew.
+        All (λ w. w.client.value.grants ≡ 0) crew.others.items) }
     ensures refused { IfErr result (λ fault. fault ≡ LoadFault.Memory) }
 {
     let Ok(mut others) = Vec::with_capacity(alloc, pairs.len()) else {
@@ -137,11 +146,12 @@ pub(crate) fn run_clients<R: Threads + Wait, D: Draws + Send + Drop, G: Gate + S
     pairs: Vec<(D, G)>,
 ) -> Result<Round<D, G>, LoadFault>
     requires own { client.table ≡ manager.now.table }
-    requires alone { client.value.grants ≡ 63 }
+    requires alone { HasAllGrants client.value }
     requires settings { is_settings settings.now ≡ true }
     requires number { vec_len pairs ≡ settings.now.clients }
     requires known { AreKnown manager.now.renewal client.value.floor client.value.records }
     ensures own { IfOk result (λ r. r.client.table ≡ manager.now.table) }
+    ensures alone { IfOk result (λ r. HasAllGrants r.client.value) }
     ensures ran { IfOk result (λ r. RanAll D.leads settings.now (λ p. p.0) settings.now.tasks
         client.value.records pairs.items r.client.value.records r.pairs.items r.tally) }
     ensures number { IfOk result (λ r. vec_len r.pairs ≡ settings.now.clients) }

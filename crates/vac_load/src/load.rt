@@ -15,6 +15,7 @@ use std::alloc::{AllocError, Global};
 use std::sync::Wait;
 use std::thread::Threads;
 use stm_attempt::{Gate, NoGate};
+use stm_region::RegionFault;
 use thiserror::Error;
 use vac_manager::{Fault, Manager, Report};
 
@@ -65,8 +66,12 @@ fn run_in_range<R: Threads + Wait, D: Draws + Send + Drop, G: Gate + Send + Drop
     }
     let progress = run_rounds(rt, alloc, settings, manager, client, clients)?;
     let Progress { manager, round } = progress;
-    let Ok((words, _)) = manager.close(round.client) else {
-        return Err(LoadFault::Memory);
+    let words = match manager.close(round.client) {
+        Ok((words, _)) => words,
+        Err((_, _, fault)) => {
+            prove!(fault == RegionFault::Memory);
+            return Err(LoadFault::Memory);
+        }
     };
     let report = report_of(words);
     Ok(LoadReport {

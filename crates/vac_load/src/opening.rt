@@ -2,6 +2,7 @@
 
 ghost use Rattle.std.specs.Prelude.{◌≡◌, ◌<◌, ◌≤◌, ◌^◌, true, IfOk, IfErr, [], ◌∷◌};
 ghost use Rattle.vac_model.specs.Ranges.{is_command};
+ghost use Rattle.vac_manager.specs.Called.{HasAllGrants};
 ghost use Rattle.vac_load.specs.Draws.{for_each};
 ghost use Rattle.vac_load.specs.Setting.{is_settings};
 ghost use Rattle.vac_load.specs.Looping.{Answered};
@@ -20,10 +21,10 @@ const TRIES: u32 = 1;
 /// Asks for a command.
 fn ask_for(manager: &Manager, client: &mut Client, command: Command) -> Result<(), Fault>
     requires own { client.old.table ≡ manager.now.table }
-    requires alone { client.old.value.grants ≡ 63 }
+    requires alone { HasAllGrants client.old.value }
     requires range { is_command command ≡ true }
     ensures client { client.new ≡ record client.old { value = client.new.value } }
-    ensures grants { client.new.value.grants ≡ 63 }
+    ensures grants { HasAllGrants client.new.value }
     ensures answered { IfOk result (λ _. Answered manager.now.renewal (Task.One command ∷ [])
         client.old.value client.new.value) }
     ensures refused { IfErr result (λ fault. IsOpeningFault fault) }
@@ -43,10 +44,10 @@ fn add_item<D: Draws>(
     kind: Kind,
 ) -> Result<(), Fault>
     requires own { client.old.table ≡ manager.now.table }
-    requires alone { client.old.value.grants ≡ 63 }
+    requires alone { HasAllGrants client.old.value }
     requires id { 1 ≤ id }
     ensures client { client.new ≡ record client.old { value = client.new.value } }
-    ensures grants { client.new.value.grants ≡ 63 }
+    ensures grants { HasAllGrants client.new.value }
     ensures ran { IfOk result (λ _. Ran D.leads manager.now.renewal (stock id kind)
         client.old.value client.new.value draws.old draws.new) }
     ensures refused { IfErr result (λ fault. IsOpeningFault fault) }
@@ -70,10 +71,10 @@ fn add_items<D: Draws>(
     id: u32,
 ) -> Result<(), Fault>
     requires own { client.old.table ≡ manager.now.table }
-    requires alone { client.old.value.grants ≡ 63 }
+    requires alone { HasAllGrants client.old.value }
     requires id { 1 ≤ id }
     ensures client { client.new ≡ record client.old { value = client.new.value } }
-    ensures grants { client.new.value.grants ≡ 63 }
+    ensures grants { HasAllGrants client.new.value }
     ensures ran { IfOk result (λ _. Ran D.leads manager.now.renewal (stocks id)
         client.old.value client.new.value draws.old draws.new) }
     ensures refused { IfErr result (λ fault. IsOpeningFault fault) }
@@ -91,10 +92,10 @@ fn add_all<D: Draws>(
     items: u32,
 ) -> Result<(), Fault>
     requires own { client.old.table ≡ manager.now.table }
-    requires alone { client.old.value.grants ≡ 63 }
+    requires alone { HasAllGrants client.old.value }
     requires fits { items < 2 ^ 31 }
     ensures client { client.new ≡ record client.old { value = client.new.value } }
-    ensures grants { client.new.value.grants ≡ 63 }
+    ensures grants { HasAllGrants client.new.value }
     ensures ran { IfOk result (λ _. Ran D.leads manager.now.renewal (for_each items stocks)
         client.old.value client.new.value draws.old draws.new) }
     ensures refused { IfErr result (λ fault. IsOpeningFault fault) }
@@ -115,10 +116,10 @@ pub fn open<D: Draws>(
     settings: &Settings,
 ) -> Result<(), Fault>
     requires own { client.old.table ≡ manager.now.table }
-    requires alone { client.old.value.grants ≡ 63 }
+    requires alone { HasAllGrants client.old.value }
     requires settings { is_settings settings.now ≡ true }
     ensures client { client.new ≡ record client.old { value = client.new.value } }
-    ensures grants { client.new.value.grants ≡ 63 }
+    ensures grants { HasAllGrants client.new.value }
     ensures ran { IfOk result (λ _. Ran D.leads manager.now.renewal (opening settings.now)
         client.old.value client.new.value draws.old draws.new) }
     ensures refused { IfErr result (λ fault. IsOpeningFault fault) }

@@ -1,6 +1,7 @@
 //! The rounds of a load, with a renewal of the clock between two of them.
 
-ghost use Rattle.std.specs.Prelude.{◌≡◌, ◌≤◌, ◌*◌, ◌⊎◌, true, vec_len, IfOk, IfErr};
+ghost use Rattle.std.specs.Prelude.{◌≡◌, ◌≤◌, ◌<◌, ◌+◌, ◌*◌, ◌⊎◌, true, vec_len, IfOk, IfErr};
+ghost use Rattle.vac_manager.specs.Called.{HasAllGrants};
 ghost use Rattle.vac_load.specs.Looping.{total};
 ghost use Rattle.vac_load.specs.Setting.{is_settings};
 ghost use Rattle.vac_load.specs.declared.settings.TheConstants.{MOST_CLIENTS, MOST_ROUNDS, MOST_TASKS};
@@ -14,7 +15,8 @@ use std::alloc::Global;
 use std::sync::Wait;
 use std::thread::Threads;
 use stm_attempt::Gate;
-use vac_manager::{Client, Manager};
+use stm_region::RegionFault;
+use vac_manager::{Client, Manager, RenewFault};
 
 /// A load after some of its rounds: its manager, and what the last round left, with the tasks of
 /// all rounds counted.
@@ -32,10 +34,14 @@ fn go_on<R: Threads + Wait, D: Draws + Send + Drop, G: Gate + Send + Drop>(
     progress: Progress<D, G>,
 ) -> Result<Progress<D, G>, LoadFault>
     requires own { progress.round.client.table ≡ progress.manager.table }
+    requires alone { HasAllGrants progress.round.client.value }
+    requires renewals { progress.manager.renewal < MOST_ROUNDS }
     requires settings { is_settings settings.now ≡ true }
     requires number { vec_len progress.round.pairs ≡ settings.now.clients }
     requires few { total progress.round.tally ≤ MOST_CLIENTS * (MOST_ROUNDS * MOST_TASKS) }
     ensures own { IfOk result (λ r. r.round.client.table ≡ r.manager.table) }
+    ensures alone { IfOk result (λ r. HasAllGrants r.round.client.value) }
+    ensures renewals { IfOk result (λ r. r.manager.renewal ≡ progress.manager.renewal + 1) }
     ensures number { IfOk result (λ r. vec_len r.round.pairs ≡ settings.now.clients) }
     ensures size { IfOk result (λ r. r.manager.size ≡ progress.manager.size) }
     ensures ran { IfOk result (λ r. RanMore D.leads settings.now (λ p. p.0)
@@ -50,8 +56,13 @@ fn go_on<R: Threads + Wait, D: Draws + Send + Drop, G: Gate + Send + Drop>(
         pairs,
         tally,
     } = round;
-    let Ok((manager, client)) = manager.renew(client, settings.last) else {
-        return Err(LoadFault::Memory);
+    let (manager, client) = match manager.renew(client, settings.last) {
+        Ok(renewed) => renewed,
+        Err(RenewFault::Kept(_, _, fault)) => {
+            prove!(fault == RegionFault::Memory);
+            return Err(LoadFault::Memory);
+        }
+        Err(RenewFault::Closed(..)) => return Err(LoadFault::Memory),
     };
     let Round {
         client,
@@ -76,11 +87,13 @@ pub(crate) fn run_rounds<R: Threads + Wait, D: Draws + Send + Drop, G: Gate + Se
     pairs: Vec<(D, G)>,
 ) -> Result<Progress<D, G>, LoadFault>
     requires own { client.table ≡ manager.table }
-    requires alone { client.value.grants ≡ 63 }
+    requires alone { HasAllGrants client.value }
+    requires renewals { manager.renewal ≡ 0 }
     requires settings { is_settings settings.now ≡ true }
     requires number { vec_len pairs ≡ settings.now.clients }
     requires known { AreKnown manager.renewal client.value.floor client.value.records }
     ensures own { IfOk result (λ r. r.round.client.table ≡ r.manager.table) }
+    ensures alone { IfOk result (λ r. HasAllGrants r.round.client.value) }
     ensures size { IfOk result (λ r. r.manager.size ≡ manager.size) }
     ensures ran { IfOk result (λ r. RanAll D.leads settings.now (λ p. p.0)
         (settings.now.rounds * settings.now.tasks) client.value.records pairs.items

@@ -17,7 +17,7 @@ use Rattle.vac_model.specs.Code.{code}
 use Rattle.vac_model.proofs.Codes.{code_determines}
 use Rattle.vac_manager.specs.Law.{IsLawful}
 use Rattle.vac_manager.specs.Legal.{Runs, IsLegal, IsHistory, WasLegal, capacity_of}
-use Rattle.vac_manager.specs.Called.{Adds, Records, Continues, LeadsOn, IsWhole}
+use Rattle.vac_manager.specs.Called.{HasAllGrants, Adds, Records, Continues, LeadsOn, IsWhole}
 use Rattle.vac_manager.proofs.Adding.{in_snoc, inserted_last}
 
 -- a sorted list of which nothing stands before what is in another is put behind it
@@ -48,7 +48,7 @@ all_of_one (x ∷ cs) (suc i) v e s f =
     ∙ merged_last [] v.records s (λ x y i j. absurd (nothing_in x i)))
 
 -- the records of a client with all grants are a history
-pub whole : (region : RegionShown) (v : Client) → WasLegal region v → v.grants ≡ 63 → IsWhole region v
+pub whole : (region : RegionShown) (v : Client) → WasLegal region v → HasAllGrants v → IsWhole region v
 whole region v h all =
     let law : List ℕ → List (ℕ × ℕ) → List (ℕ × ℕ) → Type 0 = λ tag reads writes. IsLawful tag reads writes in
     let alone = all_grants law (stripe_of region.stripes) h.core h.rule h.number h.caller h.member h.out (h.grants ∙ all) in
@@ -91,6 +91,6 @@ continues region t (Ok reply) v v' a w = λ s h. leads_on region t reply v v' a 
 continues region t (Err e) v v' r w = λ s h. subst (λ (rs : List Record). IsHistory region rs s) (sym r) h
 
 -- the same at a result that was made of another
-pub whole_of : {E : Type 0} (region : RegionShown) (result : Result Reply E) (v v' : Client) → IfOk result (λ _. WasLegal region v') → v'.grants ≡ v.grants → v.grants ≡ 63 → IfOk result (λ _. IsWhole region v')
+pub whole_of : {E : Type 0} (region : RegionShown) (result : Result Reply E) (v v' : Client) → IfOk result (λ _. WasLegal region v') → v'.grants ≡ v.grants → HasAllGrants v → IfOk result (λ _. IsWhole region v')
 whole_of region (Ok reply) v v' h same all = whole region v' h (same ∙ all)
 whole_of region (Err e) v v' h same all = tt

@@ -57,6 +57,8 @@ opens region client xs ys n last stripes e h is c =
       last_is = ap (λ (r : RegionShown). r.last) is;
       stripes_is = ap (λ (r : RegionShown). r.stripes) is;
       capacity = capacity_is region n all;
+      renewal = ap (λ (r : RegionShown). r.renewal) is;
+      start = ap (λ (r : RegionShown). r.start) is;
       first = ap (λ (r : RegionShown). r.first) is ∙ sym opening;
       shown = subst (λ (zs : List ℕ). Shows zs (empty_state n)) (sym opening) (fresh_shows xs ys n e h);
       client_is = ap (λ (x : ClientShown). record { table = x.table; value = x.value; start = 0; next = 1 }) c;

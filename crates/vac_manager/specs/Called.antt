@@ -3,7 +3,7 @@ use Rattle.std.specs.Prelude.{◌≡◌, ℕ, ◌+◌, ◌*◌, ◌%◌, ◌<◌
 use Rattle.std.specs.Prelude.{List, [], ◌∷◌, ◌++◌, Result, Ok, Err}
 use Rattle.atomic_table.specs.Seated.{TableId}
 use Rattle.stm_words.specs.Image.{In}
-use Rattle.stm_core.specs.declared.limits.TheConstants.{MOST_WORDS}
+use Rattle.stm_core.specs.declared.limits.TheConstants.{MOST_WORDS, MOST_GRANTS}
 use Rattle.stm_core.specs.Client.{Client, Record, rank}
 use Rattle.stm_logs.specs.Log.{LogValue}
 use Rattle.stm_core.specs.Event.{giving, fresh}
@@ -40,6 +40,10 @@ pub record IsOpened (region : RegionShown) : Type 0 where
   pub size : region.size ≡ 16 + 8 * capacity_of region
   pub small : region.size ≤ MOST_WORDS
   pub shown : Shows region.first (empty_state (capacity_of region))
+
+-- the client has all grants of its region: no other client is out, so it is alone
+abbrev pub HasAllGrants : Client → Type 0
+HasAllGrants v = v.grants ≡ MOST_GRANTS
 
 -- the client's records keep no place in a list of events
 pub record IsUnplaced (v : Client) : Type 0 where

@@ -29,7 +29,8 @@ abbrev pub is_opening : ℕ → ℕ → ℕ → Bool
 is_opening blocks last stripes = is_block_count blocks && (is_last last && is_stripe_count stripes)
 
 -- a manager's region was opened with so many blocks and lock words, this last version, and words
--- that represent the empty state; its first client has all grants and no record
+-- that represent the empty state, and was never renewed; its first client has all grants and no
+-- record
 pub record Opens (blocks last stripes : ℕ) (region : RegionShown) (client : CallerShown) :
     Type 0 where
   pub size : region.size ≡ 16 + 8 * blocks
@@ -37,6 +38,8 @@ pub record Opens (blocks last stripes : ℕ) (region : RegionShown) (client : Ca
   pub stripes_is : region.stripes ≡ stripes
   pub capacity : capacity_of region ≡ blocks
   pub first : region.first ≡ region.opening
+  pub renewal : region.renewal ≡ 0
+  pub start : region.start ≡ opener
   pub shown : Shows region.opening (empty_state blocks)
   pub client_is : client ≡ record { table = region.table; value = opener; start = 0; next = 1 }
 

@@ -5,7 +5,7 @@ ghost use Rattle.stm_core.specs.Core.{IsFreeHanded};
 ghost use Rattle.vac_model.specs.Ranges.{is_task};
 ghost use Rattle.vac_tasks.specs.Reading as reading;
 ghost use Rattle.vac_manager.specs.Legal.{WasLegal};
-ghost use Rattle.vac_manager.specs.Called.{IsOpened, IsUnplaced, Tried, Repeated};
+ghost use Rattle.vac_manager.specs.Called.{HasAllGrants, IsOpened, IsUnplaced, Tried, Repeated};
 ghost use Rattle.vac_manager.specs.Called.{WasShown, IsStop, IsNoConflict};
 
 use crate::law::ManagerLaw;
@@ -35,7 +35,7 @@ fn try_reading<G: Gate>(
     ensures tried { Tried region.now task.now client.old.value client.new.value result }
     ensures legal { IfOk result (λ _. WasLegal region.now client.new.value) }
     ensures stopped { IfErr result (λ conflict. WasShown region.now conflict client.new.value) }
-    ensures lone { client.old.value.grants ≡ 63 → IsOk result }
+    ensures lone { HasAllGrants client.old.value → IsOk result }
 {
     let mut attempt = ReadAttempt::begin(region, client);
     let answer = read_task(&mut attempt, task);
@@ -77,7 +77,7 @@ fn try_writing<G: Gate>(
     ensures tried { Tried region.now task.now client.old.value client.new.value result }
     ensures legal { IfOk result (λ _. WasLegal region.now client.new.value) }
     ensures stopped { IfErr result (λ stop. IsStop region.now task.now stop client.new.value) }
-    ensures lone { client.old.value.grants ≡ 63 → IfErr result (λ stop. IsNoConflict stop) }
+    ensures lone { HasAllGrants client.old.value → IfErr result (λ stop. IsNoConflict stop) }
 {
     let mut attempt = Attempt::begin(region, client, logs);
     let answer = run_task(&mut attempt, task, start);
@@ -120,7 +120,7 @@ fn try_once<G: Gate>(
     ensures tried { Tried region.now task.now client.old.value client.new.value result }
     ensures legal { IfOk result (λ _. WasLegal region.now client.new.value) }
     ensures stopped { IfErr result (λ stop. IsStop region.now task.now stop client.new.value) }
-    ensures lone { client.old.value.grants ≡ 63 → IfErr result (λ stop. IsNoConflict stop) }
+    ensures lone { HasAllGrants client.old.value → IfErr result (λ stop. IsNoConflict stop) }
 {
     if only_reads(task) {
         match try_reading(region, client, task, gate) {
@@ -157,7 +157,7 @@ pub(crate) fn run_in_attempts<G: Gate>(
         client.old.value client.new.value result }
     ensures legal { IfOk result (λ _. WasLegal region.now client.new.value) }
     ensures stopped { IfErr result (λ stop. IsStop region.now task.now stop client.new.value) }
-    ensures lone { client.old.value.grants ≡ 63 → IfErr result (λ stop. IsNoConflict stop) }
+    ensures lone { HasAllGrants client.old.value → IfErr result (λ stop. IsNoConflict stop) }
 {
     let backoff = Backoff::new();
     let mut left = tries;

@@ -7,7 +7,7 @@ ghost use Rattle.stm_core.specs.History.{Sub};
 ghost use Rattle.stm_region.specs.Shown.{joined};
 ghost use Rattle.stm_region.specs.Refused.{ClosesNot};
 ghost use Rattle.vac_manager.specs.Legal.{WasLegal};
-ghost use Rattle.vac_manager.specs.Called.{is_call, Records, Continues, IsWhole, Attempts};
+ghost use Rattle.vac_manager.specs.Called.{is_call, HasAllGrants, Records, Continues, IsWhole, Attempts};
 ghost use Rattle.vac_manager.specs.Called.{IsFault, IsNotBusy, Splits, SplitsNot, OnlyOf};
 ghost use Rattle.vac_manager.specs.Opening.{is_opening, Opens, Closes};
 
@@ -118,13 +118,13 @@ impl Manager {
         ensures attempts { Attempts tries
             client.old.value.attempt client.new.value.attempt result }
         ensures legal { IfOk result (λ _. WasLegal self.now client.new.value) }
-        ensures whole { client.old.value.grants ≡ 63
+        ensures whole { HasAllGrants client.old.value
             → IfOk result (λ _. IsWhole self.now client.new.value) }
-        ensures history { client.old.value.grants ≡ 63
+        ensures history { HasAllGrants client.old.value
             → Continues self.now task.now result client.old.value client.new.value }
         ensures fault { IfErr result
             (λ fault. IsFault self.now task.now tries fault client.old.value client.new.value) }
-        ensures alone { client.old.value.grants ≡ 63 → IfErr result (λ fault. IsNotBusy fault) }
+        ensures alone { HasAllGrants client.old.value → IfErr result (λ fault. IsNotBusy fault) }
     {
         self.call_gated(client, task, tries, &mut NoGate)
     }
@@ -149,13 +149,13 @@ impl Manager {
         ensures attempts { Attempts tries
             client.old.value.attempt client.new.value.attempt result }
         ensures legal { IfOk result (λ _. WasLegal self.now client.new.value) }
-        ensures whole { client.old.value.grants ≡ 63
+        ensures whole { HasAllGrants client.old.value
             → IfOk result (λ _. IsWhole self.now client.new.value) }
-        ensures history { client.old.value.grants ≡ 63
+        ensures history { HasAllGrants client.old.value
             → Continues self.now task.now result client.old.value client.new.value }
         ensures fault { IfErr result
             (λ fault. IsFault self.now task.now tries fault client.old.value client.new.value) }
-        ensures alone { client.old.value.grants ≡ 63 → IfErr result (λ fault. IsNotBusy fault) }
+        ensures alone { HasAllGrants client.old.value → IfErr result (λ fault. IsNotBusy fault) }
     {
         let start = client.start;
         let tries_fit = 1 <= tries && tries <= MOST_TRIES;
@@ -218,7 +218,7 @@ impl Manager {
     pub fn close(self, client: Client) -> Result<(Vec<u64>, Version), Kept>
         requires { client.table ≡ self.table }
         ensures closes { IfOk result (λ r. Closes self client.value r.0.items r.1) }
-        ensures all { IfOk result (λ _. client.value.grants ≡ 63) }
+        ensures all { IfOk result (λ _. HasAllGrants client.value) }
         ensures kept { IfErr result
             (λ r. (r.0 ≡ self) × (r.1 ≡ client) × ClosesNot client.value.grants r.2) }
     {

@@ -1,5 +1,6 @@
-use Rattle.std.proofs.Common.{rules, ◌≡◌, ◌≤◌, ◌+◌, [], ◌∷◌, List, subst, refl, arith}
+use Rattle.std.proofs.Common.{rules, ◌≡◌, ◌≤◌, ◌+◌, min, [], ◌∷◌, List, length, ap, subst, refl, arith}
 use Rattle.std.specs.Vec.Iter.{into_iter_items, into_iter_len}
+use Rattle.vac_manager.specs.Called.{CallerShown}
 use Rattle.vac_load.specs.Looping.{total}
 use Rattle.vac_load.specs.Load.{Paired, Gathered}
 use Rattle.vac_load.proofs.Pairs.{all_met, paired_none, paired_step, one_on, all_same, all_but_first, all_first}
@@ -10,6 +11,8 @@ pub loop-worked-init : goal.loop-worked-init
 loop-worked-init g c = record {
   all = search rules;
   own = c.requires.own;
+  grants = let n : into_iter_len c.into_iter-worked-iterator.result ≡ length c.args.crew.others.items = search rules in omega (arith, n, c.requires.grants);
+  others_grants = all_same (λ w. w.worker.client.value.grants ≡ 0) _ _ (search rules) c.requires.others_grants;
   others = all_same (λ w. w.worker.client.table ≡ c.args.manager.now.table) _ _ (search rules) c.requires.others_own;
   tasks = all_same (λ w. total w.tally ≤ 1000000) _ _ (search rules) c.requires.others_tasks;
   gathered = gathered_one _ _ c.args.crew.first;
@@ -29,10 +32,14 @@ plus-tally-requires g c =
 pub loop-worked-preserved : goal.loop-worked-preserved
 loop-worked-preserved g c =
     let m = all_first (λ w. total w.tally ≤ 1000000) (into_iter_items c.loop-worked.worked-iterator) (into_iter_items c.next.new.self) c.in-Some.worked (search rules) c.loop-worked.invariant.tasks in
+    let none = all_first (λ w. w.worker.client.value.grants ≡ 0) (into_iter_items c.loop-worked.worked-iterator) (into_iter_items c.next.new.self) c.in-Some.worked (search rules) c.loop-worked.invariant.others_grants in
+    let held : c.gather.new.client.value.grants ≡ min (c.loop-worked.client.value.grants + c.in-Some.worked.worker.client.value.grants + 1) 63 = ap (λ (x : CallerShown). x.value.grants) c.gather.ensures.client in
     let less : into_iter_len c.next.new.self + 1 ≡ into_iter_len c.loop-worked.worked-iterator = search rules in
     record {
       all = one_on _ _ _ _ _ c.loop-worked.invariant.all (search rules);
       own = search rules;
+      grants = omega (arith, less, held, none, c.loop-worked.invariant.grants);
+      others_grants = all_but_first (λ w. w.worker.client.value.grants ≡ 0) (into_iter_items c.loop-worked.worked-iterator) (into_iter_items c.next.new.self) c.in-Some.worked (search rules) c.loop-worked.invariant.others_grants;
       others = all_but_first (λ w. w.worker.client.table ≡ c.args.manager.now.table) (into_iter_items c.loop-worked.worked-iterator) (into_iter_items c.next.new.self) c.in-Some.worked (search rules) c.loop-worked.invariant.others;
       tasks = all_but_first (λ w. total w.tally ≤ 1000000) (into_iter_items c.loop-worked.worked-iterator) (into_iter_items c.next.new.self) c.in-Some.worked (search rules) c.loop-worked.invariant.tasks;
       gathered = gathered_more (λ w. w.worker.client.value.records) (λ w. w.tally) c.args.crew.first _ c.in-Some.worked c.loop-worked.client.value c.gather.new.client.value c.loop-worked.tally c.plus-tally.result

@@ -1,4 +1,5 @@
 use Rattle.std.proofs.Common.{◌≡◌, ◌≤◌, ◌+◌, ◌*◌, ◌++◌, ◌∷◌, All, vec_len, vec_capacity}
+use Rattle.stm_core.specs.declared.limits.TheConstants.{MOST_GRANTS}
 use Rattle.std.specs.Vec.Iter.{into_iter_items, into_iter_len}
 use Rattle.vac_load.specs.Looping.{total}
 use Rattle.vac_load.specs.Load.{Paired, Gathered}
@@ -8,6 +9,8 @@ abbrev pub invariant-loop-worked : goal.invariant-loop-worked
 invariant-loop-worked g l = record {
   all : l.fn.crew.others.items ≡ l.yielded ++ into_iter_items l.worked-iterator;
   own : l.client.table ≡ l.manager.table;
+  grants : l.client.value.grants + into_iter_len l.worked-iterator ≡ MOST_GRANTS;
+  others_grants : All (λ w. w.worker.client.value.grants ≡ 0) (into_iter_items l.worked-iterator);
   others : All (λ w. w.worker.client.table ≡ l.manager.table) (into_iter_items l.worked-iterator);
   tasks : All (λ w. total w.tally ≤ 1000000) (into_iter_items l.worked-iterator);
   gathered : Gathered (λ w. w.worker.client.value.records) (λ w. w.tally) l.fn.crew.first l.yielded l.client.value.records l.tally;

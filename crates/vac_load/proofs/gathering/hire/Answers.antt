@@ -1,6 +1,7 @@
-use Rattle.std.proofs.Common.{rules, ◌≡◌, ◌∙◌, ◌+◌, length, refl, arith}
+use Rattle.std.proofs.Common.{rules, ◌≡◌, ◌∙◌, ◌+◌, length, ap, refl, arith}
 use Rattle.std.specs.Vec.Iter.{into_iter_items}
-use Rattle.vac_load.proofs.Pairs.{paired_none, paired_step, paired_all, one_on}
+use Rattle.vac_manager.specs.Called.{CallerShown}
+use Rattle.vac_load.proofs.Pairs.{paired_none, paired_step, paired_all, one_on, all_more, all_none}
 use Rattle.vac_load.proofs.Shares.{split_hired, split_keeps, paired_each}
 use Rattle.vac_load.proofs.gathering.hire.Goals as goal
 
@@ -13,6 +14,7 @@ loop-draws-init g c = record {
   grants = grind rules;
   count = grind rules;
   room = grind rules;
+  others_grants = all_none (λ w. w.client.value.grants ≡ 0) _ (search rules);
   hired = paired_none _ _ (search rules);
 }
 
@@ -30,6 +32,7 @@ loop-draws-preserved g c =
       grants = grind (rules, keeps.grants, i.grants);
       count = grind rules;
       room = grind rules;
+      others_grants = all_more (λ w. w.client.value.grants ≡ 0) c.loop-draws.others.items c.push.new.self.items (record { client = c.in-Ok-split.other; draws = c.in-Some-2.draws; gate = c.in-Some-2.gate }) (search rules) i.others_grants (ap (λ (x : CallerShown). x.value.grants) s.theirs);
       hired = paired_step _ _ c.loop-draws.others.items c.push.new.self.items (c.in-Some-2.draws, c.in-Some-2.gate) (record { client = c.in-Ok-split.other; draws = c.in-Some-2.draws; gate = c.in-Some-2.gate }) (search rules) i.hired
           (split_hired c.args.client c.loop-draws.client c.split.new.client c.in-Ok-split.other c.in-Some-2.draws s i.own i.floor);
     }

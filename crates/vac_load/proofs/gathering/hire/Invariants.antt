@@ -1,4 +1,5 @@
-use Rattle.std.proofs.Common.{◌≡◌, ◌≤◌, ◌+◌, ◌++◌, [], vec_len, vec_capacity}
+use Rattle.std.proofs.Common.{◌≡◌, ◌≤◌, ◌+◌, ◌++◌, [], All, vec_len, vec_capacity}
+use Rattle.stm_core.specs.declared.limits.TheConstants.{MOST_GRANTS}
 use Rattle.std.specs.Vec.Iter.{into_iter_items, into_iter_len}
 use Rattle.vac_load.specs.Load.{Paired, IsHired}
 use Rattle.vac_load.proofs.gathering.hire.Given as goal
@@ -9,7 +10,8 @@ invariant-loop-draws g l = record {
   own : l.client.table ≡ l.fn.client.table;
   records : l.client.value.records ≡ l.fn.client.value.records;
   floor : l.client.value.floor ≡ l.fn.client.value.floor;
-  grants : l.client.value.grants + vec_len l.others ≡ 63;
+  grants : l.client.value.grants + vec_len l.others ≡ MOST_GRANTS;
+  others_grants : All (λ w. w.client.value.grants ≡ 0) l.others.items;
   count : vec_len l.others + into_iter_len l.draws-iterator + 1 ≡ vec_len l.fn.pairs;
   room : vec_len l.others + into_iter_len l.draws-iterator ≤ vec_capacity l.others;
   hired : Paired (λ p w. IsHired l.fn.client.table [] l.fn.client.value.floor p.0 w.client w.draws) l.yielded l.others.items;

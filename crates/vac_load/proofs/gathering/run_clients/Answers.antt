@@ -1,7 +1,7 @@
 use Rattle.std.proofs.Common.{◌∙◌, ◌≤◌, ap, arith}
 use Rattle.vac_manager.specs.Called.{CallerShown}
 use Rattle.vac_load.proofs.Joining.{few}
-use Rattle.vac_load.proofs.Shares.{ran_all, worked_own, worked_tasks, paired_length}
+use Rattle.vac_load.proofs.Shares.{ran_all, worked_own, worked_grants, worked_tasks, paired_length}
 use Rattle.vac_load.proofs.gathering.run_clients.Goals as goal
 
 pub gather_all-requires : goal.gather_all-requires
@@ -15,6 +15,8 @@ gather_all-requires g c =
     record {
       own = ap (λ (x : CallerShown). x.table) c.in_ok-crew-2.ensures.first.client ∙ (c.in_ok-crew.ensures.hired.opening.own ∙ c.requires.own);
       others_own = worked_own g.D.Draws.leads c.args.settings.now c.args.manager.now.renewal (λ w. w.client) (λ w. w.draws) (λ r. r.worker.client) (λ r. r.worker.draws) (λ r. r.tally) _ _ _ c.in_ok-crew.ensures.own c.in_ok-crew-2.ensures.others;
+      grants = let held = c.in_ok-crew-2.ensures.first.looped.answered.grants in omega (arith, held, same, c.in_ok-crew.ensures.grants);
+      others_grants = worked_grants g.D.Draws.leads c.args.settings.now c.args.manager.now.renewal (λ w. w.client) (λ w. w.draws) (λ r. r.worker.client) (λ r. r.worker.draws) (λ r. r.tally) _ _ c.in_ok-crew.ensures.others_grants c.in_ok-crew-2.ensures.others;
       few = omega (arith, number, same, m, c.requires.number);
       room = omega (arith, number, same, c.in-Ok.ensures.capacity, c.len.ensures);
       empty = c.in-Ok.ensures.items;

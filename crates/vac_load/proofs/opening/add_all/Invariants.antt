@@ -1,4 +1,5 @@
 use Rattle.std.proofs.Common.{◌≡◌}
+use Rattle.vac_manager.specs.Called.{HasAllGrants}
 use Rattle.vac_load.specs.Draws.{for_each}
 use Rattle.vac_load.specs.Tasks.{stocks}
 use Rattle.vac_load.specs.Opening.{Ran}
@@ -7,6 +8,6 @@ use Rattle.vac_load.proofs.opening.add_all.Given as goal
 abbrev pub invariant-items : goal.invariant-items
 invariant-items g l = record {
   client : l.client ≡ record l.fn.client { value = l.client.value };
-  grants : l.client.value.grants ≡ 63;
+  grants : HasAllGrants l.client.value;
   ran : Ran g.D.Draws.leads l.manager.renewal (for_each l.place stocks) l.fn.client.value l.client.value l.fn.draws l.draws;
 }

@@ -14,7 +14,7 @@ run_clients-requires-clause-alone g c = λ _ _. ap (λ (x : CallerShown). x.valu
 
 pub run_clients-requires-clause-known : goal.run_clients-requires-clause-known
 run_clients-requires-clause-known g c = λ _ _.
-    renewed_known c.args.progress.manager c.in-Ok.manager c.args.progress.round.client c.in-Ok.client _ c.in-Ok.ensures.words
+    renewed_known c.args.progress.manager c.in-Ok.renewed.0 c.args.progress.round.client c.in-Ok.renewed.1 _ c.in-Ok.ensures.words
     (ap (λ (r : RegionShown). r.renewal) c.in-Ok.ensures.manager) (ap (λ (x : CallerShown). x.value.records) c.in-Ok.ensures.client)
 
 pub plus-requires : goal.plus-requires

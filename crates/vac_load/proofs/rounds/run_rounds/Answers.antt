@@ -8,6 +8,8 @@ rounds-init g c =
     let one : c.args.settings.now.tasks ≡ 1 * c.args.settings.now.tasks = omega arith in
     record {
       own = c.in_ok-round.ensures.own;
+      alone = c.in_ok-round.ensures.alone;
+      renewals = omega (arith, c.requires.renewals);
       number = c.in_ok-round.ensures.number;
       size = refl;
       ran = subst (λ (n : ℕ). RanAll g.D.Draws.leads c.args.settings.now (λ p. p.0) n c.args.client.value.records c.args.pairs.items c.in_ok-round.round.client.value.records c.in_ok-round.round.pairs.items c.in_ok-round.round.tally) one c.in_ok-round.ensures.ran;
@@ -24,6 +26,8 @@ go_on-requires-clause-few g c = λ _ _.
 pub rounds-preserved : goal.rounds-preserved
 rounds-preserved g c = record {
   own = c.in_ok-progress.ensures.own;
+  alone = c.in_ok-progress.ensures.alone;
+  renewals = omega (arith, c.in_ok-progress.ensures.renewals, c.rounds.invariant.renewals);
   number = c.in_ok-progress.ensures.number;
   size = c.in_ok-progress.ensures.size ∙ c.rounds.invariant.size;
   ran = ran_more g.D.Draws.leads c.args.settings.now (λ p. p.0) c.rounds.done _ _ _ _ _ _ _ _ c.rounds.invariant.ran c.in_ok-progress.ensures.ran;

@@ -1,10 +1,13 @@
-use Rattle.std.proofs.Common.{◌≡◌, ◌*◌, vec_len}
+use Rattle.std.proofs.Common.{◌≡◌, ◌+◌, ◌*◌, vec_len}
+use Rattle.vac_manager.specs.Called.{HasAllGrants}
 use Rattle.vac_load.specs.Load.{RanAll}
 use Rattle.vac_load.proofs.rounds.run_rounds.Given as goal
 
 abbrev pub invariant-rounds : goal.invariant-rounds
 invariant-rounds g l = record {
   own : l.progress.round.client.table ≡ l.progress.manager.table;
+  alone : HasAllGrants l.progress.round.client.value;
+  renewals : l.progress.manager.renewal + 1 ≡ l.done;
   number : vec_len l.progress.round.pairs ≡ l.fn.settings.clients;
   size : l.progress.manager.size ≡ l.fn.manager.size;
   ran : RanAll g.D.Draws.leads l.fn.settings (λ p. p.0) (l.done * l.fn.settings.tasks) l.fn.client.value.records l.fn.pairs.items
