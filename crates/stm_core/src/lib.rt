@@ -13,8 +13,6 @@ mod pairs;
 mod replay;
 mod seat;
 mod state;
-#[cfg(test)]
-mod tests;
 mod theorem;
 
 pub use event::{Entry, Event, NotAllowed, Writes};

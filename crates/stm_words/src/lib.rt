@@ -14,6 +14,3 @@ pub use law::{FreeLaw, Law, Tag, law_keeps_fitting};
 pub use memory::{Addr, TxMem, TxRead, load, store};
 pub use plain::Flat;
 pub use version::{LockWord, VERSION_LIMIT, Version};
-
-#[cfg(test)]
-mod tests;

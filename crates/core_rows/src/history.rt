@@ -1,12 +1,12 @@
 //! The history of a random list, worked out anew from who was allowed what, and held against what
 //! the core shows.
 
-use super::moves::{Kind, Move, Shape, below};
-use super::player::{Player, Stage};
-use crate::{Core, Entry, Event, MOST_GRANTS};
+use crate::moves::{Kind, Move, Shape, below};
+use crate::player::{Player, Stage};
 use rand_pcg::Pcg32;
 use std::alloc::{AllocError, Global};
 use std::process::Abort;
+use stm_core::{Core, Entry, Event, MOST_GRANTS};
 
 /// A decided attempt: its point is the place of a writer's won tick, or of a reader's begin, among
 /// the events.
@@ -19,7 +19,7 @@ struct Decided {
 }
 
 #[derive(Drop)]
-pub(super) struct History {
+pub(crate) struct History {
     pub shape: Shape,
     /// The image of the first opening, and that of the present renewal.
     first: Vec<u64>,
@@ -33,7 +33,7 @@ pub(super) struct History {
 }
 
 impl History {
-    pub(super) fn new(
+    pub(crate) fn new(
         alloc: Global,
         shape: Shape,
         opening: Vec<u64>,
@@ -54,17 +54,17 @@ impl History {
     }
 
     /// Whether the clock is at the last version.
-    pub(super) fn is_spent(&self) -> bool {
+    pub(crate) fn is_spent(&self) -> bool {
         self.clock == self.shape.last
     }
 
     /// How many clients there were.
-    pub(super) fn known(&self) -> u32 {
+    pub(crate) fn known(&self) -> u32 {
         self.players.len().min(1000) as u32
     }
 
     /// How many clients are out.
-    pub(super) fn outs(&self) -> u32 {
+    pub(crate) fn outs(&self) -> u32 {
         let mut outs = 0u32;
         for player in self.players.iter() {
             outs = outs.wrapping_add(u32::from(player.out));
@@ -73,7 +73,7 @@ impl History {
     }
 
     /// A client that is out: the next after so many others, or the last.
-    pub(super) fn out_after(&self, others: u32) -> u32 {
+    pub(crate) fn out_after(&self, others: u32) -> u32 {
         let mut left = others.wrapping_add(1);
         let mut client = 0u32;
         let mut chosen = 0;
@@ -88,7 +88,7 @@ impl History {
     }
 
     /// The event of a move; a tick has what its client is going to write.
-    pub(super) fn event(&self, alloc: Global, turn: &Move, tag: u64) -> Result<Event, AllocError> {
+    pub(crate) fn event(&self, alloc: Global, turn: &Move, tag: u64) -> Result<Event, AllocError> {
         match self.player(turn.client) {
             Some(player) => turn.event(alloc, tag, &player.goal),
             None => turn.event(alloc, tag, &[]),
@@ -96,7 +96,7 @@ impl History {
     }
 
     /// What is known of a client.
-    pub(super) fn player(&self, client: u32) -> Option<&Player> {
+    pub(crate) fn player(&self, client: u32) -> Option<&Player> {
         self.players.get(client.wrapping_sub(1) as usize)
     }
 
@@ -153,7 +153,7 @@ impl History {
     }
 
     /// The word that an event will find.
-    pub(super) fn expected(&self, turn: &Move) -> Option<u64> {
+    pub(crate) fn expected(&self, turn: &Move) -> Option<u64> {
         match turn.kind {
             Kind::Begin | Kind::Finish | Kind::Tick => Some(self.clock),
             Kind::Probe | Kind::Lock | Kind::Validate => Some(self.lock_word(turn.place)),
@@ -165,7 +165,7 @@ impl History {
     }
 
     /// Whether the rules allow an event.
-    pub(super) fn allows(&self, turn: &Move) -> bool {
+    pub(crate) fn allows(&self, turn: &Move) -> bool {
         let Some(player) = self.player(turn.client).filter(|player| player.out) else {
             return false;
         };
@@ -180,7 +180,7 @@ impl History {
     }
 
     /// Takes an event that was allowed. True where it decides.
-    pub(super) fn takes(
+    pub(crate) fn takes(
         &mut self,
         rt: &impl Abort,
         alloc: Global,
@@ -245,7 +245,7 @@ impl History {
     }
 
     /// A client drops its plan to write where a lock or a tick was refused.
-    pub(super) fn drops(&mut self, turn: &Move) {
+    pub(crate) fn drops(&mut self, turn: &Move) {
         if matches!(turn.kind, Kind::Lock | Kind::Tick) {
             if let Some(player) = self.players.get_mut(turn.client.wrapping_sub(1) as usize) {
                 player.goal.clear();
@@ -256,7 +256,7 @@ impl History {
     /// Plans what a client reads and writes in the attempt that it begins, and what it reads next.
     /// Now and then the writes are none that can be ticked, an address twice or one outside, or
     /// the locks come in the wrong order.
-    pub(super) fn plans(&mut self, rng: &mut Pcg32, turn: &Move) -> Result<(), AllocError> {
+    pub(crate) fn plans(&mut self, rng: &mut Pcg32, turn: &Move) -> Result<(), AllocError> {
         let words = self.shape.words;
         let aim = below(rng, words);
         let first = if below(rng, 32) == 0 {
@@ -290,7 +290,7 @@ impl History {
     }
 
     /// Holds the words found and the length of the order against the history.
-    pub(super) fn fits(&self, rt: &impl Abort, core: &Core) {
+    pub(crate) fn fits(&self, rt: &impl Abort, core: &Core) {
         let mut client = 0;
         assert_eq!(rt; core.found(client), None);
         for player in self.players.iter() {
@@ -302,7 +302,7 @@ impl History {
     }
 
     /// Holds the order, and all that was read, against the history.
-    pub(super) fn fits_whole(
+    pub(crate) fn fits_whole(
         &self,
         rt: &impl Abort,
         alloc: Global,

@@ -3,15 +3,15 @@
 ghost use Rattle.std.specs.Prelude.{◌<◌, ◌≤◌};
 ghost use Rattle.stm_words.specs.declared.version.TheConstants.{VERSION_LIMIT};
 
-use crate::{Event, Writes};
 use rand_core::utils::NextWord;
 use rand_pcg::Pcg32;
 use std::alloc::{AllocError, Global};
+use stm_core::{Event, Writes};
 use stm_words::VERSION_LIMIT;
 
 /// How many words and stripes a region has, and its last version.
 #[derive(Clone, Copy, Debug)]
-pub(super) struct Shape {
+pub(crate) struct Shape {
     pub words: u32,
     pub stripes: u32,
     pub last: u64,
@@ -21,7 +21,7 @@ pub(super) struct Shape {
 
 impl Shape {
     /// A few words and stripes, so that clients meet, and a last version that is often reached.
-    pub(super) fn drawn(rng: &mut Pcg32) -> Shape {
+    pub(crate) fn drawn(rng: &mut Pcg32) -> Shape {
         Shape {
             words: 1 + below(rng, 5),
             stripes: 1 + below(rng, 4),
@@ -30,7 +30,7 @@ impl Shape {
     }
 
     /// The same with another last version, where a region may have it.
-    pub(super) fn renewed(self, last: u64) -> Option<Shape> {
+    pub(crate) fn renewed(self, last: u64) -> Option<Shape> {
         if 1 <= last && last < VERSION_LIMIT {
             Some(Shape {
                 words: self.words,
@@ -43,13 +43,13 @@ impl Shape {
     }
 
     /// The lock of an address.
-    pub(super) fn lock_of(&self, addr: u32) -> u32 {
+    pub(crate) fn lock_of(&self, addr: u32) -> u32 {
         addr % self.stripes
     }
 }
 
 /// A number below a bound.
-pub(super) fn below(rng: &mut Pcg32, bound: u32) -> u32
+pub(crate) fn below(rng: &mut Pcg32, bound: u32) -> u32
     requires { 0 < bound }
     ensures { result < bound }
 {
@@ -57,7 +57,7 @@ pub(super) fn below(rng: &mut Pcg32, bound: u32) -> u32
 }
 
 #[derive(Clone, Copy, Debug, PartialEq, Eq)]
-pub(super) enum Kind {
+pub(crate) enum Kind {
     Begin,
     Probe,
     Fetch,
@@ -76,7 +76,7 @@ pub(super) enum Kind {
 
 impl Kind {
     /// Any kind.
-    pub(super) fn drawn(rng: &mut Pcg32) -> Kind {
+    pub(crate) fn drawn(rng: &mut Pcg32) -> Kind {
         match below(rng, 14) {
             0 => Kind::Begin,
             1 => Kind::Probe,
@@ -98,7 +98,7 @@ impl Kind {
 
 /// An event but for its tag and its writes.
 #[derive(Clone, Copy, Debug)]
-pub(super) struct Move {
+pub(crate) struct Move {
     pub kind: Kind,
     pub client: u32,
     /// The lock, the address or the other client.
@@ -109,7 +109,7 @@ pub(super) struct Move {
 
 impl Move {
     /// A move without a number.
-    pub(super) fn of(kind: Kind, client: u32, place: u32) -> Move {
+    pub(crate) fn of(kind: Kind, client: u32, place: u32) -> Move {
         Move {
             kind,
             client,
@@ -119,7 +119,7 @@ impl Move {
     }
 
     /// A renewal with this last version.
-    pub(super) fn renewal(client: u32, last: u64) -> Move {
+    pub(crate) fn renewal(client: u32, last: u64) -> Move {
         Move {
             kind: Kind::Renew,
             client,
@@ -129,7 +129,7 @@ impl Move {
     }
 
     /// The event with this tag and these writes.
-    pub(super) fn event(
+    pub(crate) fn event(
         &self,
         alloc: Global,
         tag: u64,

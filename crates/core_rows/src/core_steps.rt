@@ -1,13 +1,11 @@
+//! Events played one by one: what each finds, which are refused, and the order that comes of them.
 ghost use Rattle.std.specs.Prelude.{◌≡◌, ◌<◌, ◌≤◌, ◌^◌, length};
 
-mod history;
-mod moves;
-mod player;
-mod random;
-
-use super::{Core, Entry, Event, NotAllowed, Writes, core_theorem, law_theorem, running_theorem};
 use std::alloc::Global;
 use std::process::Abort;
+use stm_core::{
+    Core, Entry, Event, NotAllowed, Writes, core_theorem, law_theorem, running_theorem,
+};
 use stm_words::{FreeLaw, VERSION_LIMIT};
 
 const LAST: u64 = 100;

@@ -1,9 +1,10 @@
+//! Versions and lock words, and plain memory through the bound.
 ghost use Rattle.std.specs.Prelude.{◌≡◌, ℕ, ◌<◌, IfOk};
 
-use super::{
+use std::test::Fail;
+use stm_words::{
     Addr, Flat, FreeLaw, LockWord, TxMem, TxRead, Version, law_keeps_fitting, load, store,
 };
-use std::test::Fail;
 
 #[test]
 fn versions_end_below_two_to_the_62(rt: HostRuntime) {

@@ -1,13 +1,13 @@
 //! Random lists of events by fixed seeds, most of them by the rules of an attempt.
 
-use super::history::History;
-use super::moves::{Kind, Move, Shape, below};
-use super::player::Stage;
-use crate::{Core, MOST_GRANTS, NotAllowed};
+use crate::history::History;
+use crate::moves::{Kind, Move, Shape, below};
+use crate::player::Stage;
 use rand_pcg::Pcg32;
 use std::alloc::{AllocError, Global};
 use std::process::Abort;
 use std::test::Fail;
+use stm_core::{Core, MOST_GRANTS, NotAllowed};
 use stm_words::VERSION_LIMIT;
 
 const LISTS: u64 = 2000;

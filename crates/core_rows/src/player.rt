@@ -1,11 +1,11 @@
 //! A client of a random list, by what it was allowed to do and what it found: nothing here is
 //! known from the core.
 
-use super::moves::{Kind, Move, Shape};
+use crate::moves::{Kind, Move, Shape};
 use std::alloc::{AllocError, Global};
 
 #[derive(Clone, Copy, Debug, PartialEq, Eq)]
-pub(super) enum Stage {
+pub(crate) enum Stage {
     /// No attempt, or one that ended as a reader.
     Resting,
     Running,
@@ -16,7 +16,7 @@ pub(super) enum Stage {
 }
 
 #[derive(Drop)]
-pub(super) struct Player {
+pub(crate) struct Player {
     pub out: bool,
     pub grants: u32,
     pub stage: Stage,
@@ -45,7 +45,7 @@ pub(super) struct Player {
 }
 
 impl Player {
-    pub(super) fn new(alloc: Global, grants: u32) -> Player {
+    pub(crate) fn new(alloc: Global, grants: u32) -> Player {
         Player {
             out: true,
             grants,
@@ -72,12 +72,12 @@ impl Player {
     }
 
     /// Whether it holds a lock.
-    pub(super) fn holds(&self, lock: u32) -> bool {
+    pub(crate) fn holds(&self, lock: u32) -> bool {
         self.held.iter().any(|pair| pair.0 == lock)
     }
 
     /// Whether it has decided to write an address and has not stored it.
-    pub(super) fn owes(&self, addr: u32) -> bool {
+    pub(crate) fn owes(&self, addr: u32) -> bool {
         self.stage == Stage::Committed
             && self.writes.iter().any(|pair| pair.0 == addr)
             && !self.stored.contains(&addr)
@@ -116,7 +116,7 @@ impl Player {
     }
 
     /// Whether the rules allow an event, but for what they ask of another client.
-    pub(super) fn may(&self, turn: &Move, shape: &Shape) -> bool {
+    pub(crate) fn may(&self, turn: &Move, shape: &Shape) -> bool {
         let place = turn.place;
         let bare = self.held.is_empty();
         let reads = self.is_reading();
@@ -164,7 +164,7 @@ impl Player {
     }
 
     /// Takes an event that was allowed, with the word that it found. True where it decides.
-    pub(super) fn moves(
+    pub(crate) fn moves(
         &mut self,
         turn: &Move,
         tag: u64,
@@ -220,7 +220,7 @@ impl Player {
     }
 
     /// It is gathered by another client.
-    pub(super) fn leaves(&mut self) {
+    pub(crate) fn leaves(&mut self) {
         self.out = false;
         self.stage = Stage::Resting;
         self.seen = None;
@@ -301,7 +301,7 @@ impl Player {
     }
 
     /// What it does next by the rules of an attempt.
-    pub(super) fn next(&self, client: u32, shape: &Shape) -> Move {
+    pub(crate) fn next(&self, client: u32, shape: &Shape) -> Move {
         let (kind, place, number) = match self.stage {
             Stage::Resting => (Kind::Begin, 0, 0),
             Stage::Ending => self.give_up(),
@@ -325,7 +325,7 @@ impl Player {
     }
 
     /// What it does next to hold no lock, where it holds one.
-    pub(super) fn rests(&self, client: u32) -> Option<Move> {
+    pub(crate) fn rests(&self, client: u32) -> Option<Move> {
         let (kind, place, number) = if self.stage == Stage::Committed {
             self.next_store()
         } else {
