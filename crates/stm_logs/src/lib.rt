@@ -12,8 +12,6 @@ mod link;
 mod nodes;
 mod read;
 mod row;
-#[cfg(test)]
-mod tests;
 mod tree;
 mod write;
 

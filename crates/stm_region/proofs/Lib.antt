@@ -2,4 +2,3 @@ pub mod Places
 pub mod Moves
 pub mod Ending
 pub mod Laws
-pub mod Testing

@@ -26,6 +26,3 @@ pub use limits::{MOST_GRANTS, MOST_RENEWALS, MOST_STRIPES, MOST_WORDS, VERSION_L
 pub use region::Region;
 pub use renew::RenewFault;
 pub use rule::{gathering_keeps_all_grants, reads_are_of_one_version, records_are_serial};
-
-#[cfg(test)]
-mod tests;

@@ -2,8 +2,8 @@ use Rattle.std.proofs.Common.{[], ◌∷◌, sym, ap, ◌∙◌, arith}
 use Rattle.std.specs.FinMap.{get}
 use Rattle.stm_logs.specs.Log.{LogValue, log_pairs}
 use Rattle.stm_logs.specs.Held.{with_word}
-use Rattle.stm_region.proofs.Testing.{took_one, may_tick, one_pair, has_lock, may_give_back, lost_one, won_one, may_put, may_release, given_free, released_free, not_there}
-use Rattle.stm_region.proofs.tests.write_at.Goals as goal
+use Rattle.region_rows.proofs.OneWord.{took_one, may_tick, one_pair, has_lock, may_give_back, lost_one, won_one, may_put, may_release, given_free, released_free, not_there}
+use Rattle.region_rows.proofs.regions.write_at.Goals as goal
 
 pub put-requires : goal.put-requires
 put-requires c l e = absurd (not_there c.args.addr.0 l (ap (λ (w : LogValue). get w.locks c.args.addr.0) (sym c.new-log.ensures) ∙ e))

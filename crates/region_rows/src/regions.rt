@@ -1,20 +1,23 @@
+//! Regions that open, split, close and write single words, one client at a time and in threads.
 ghost use Rattle.std.specs.Prelude.{◌≡◌, ℕ, ◌<◌, IfOk, false, []};
 ghost use Rattle.stm_core.specs.Core.{IsFreeHanded};
 
-mod renewals;
-
-use super::{
-    Client, Region, RegionFault, gathering_keeps_all_grants, reads_are_of_one_version,
-    records_are_serial,
-};
 use std::alloc::{AllocError, Global};
 use std::test::Fail;
 use std::thread;
 use stm_logs::WriteLog;
+use stm_region::{
+    Client, Region, RegionFault, gathering_keeps_all_grants, reads_are_of_one_version,
+    records_are_serial,
+};
 use stm_words::{Addr, FreeLaw};
 
 // What a read finds at an address, where no lock stops it.
-fn read_at(region: &Region<FreeLaw>, client: &mut Client<FreeLaw>, addr: Addr) -> Option<u64>
+pub(crate) fn read_at(
+    region: &Region<FreeLaw>,
+    client: &mut Client<FreeLaw>,
+    addr: Addr,
+) -> Option<u64>
     requires own { client.old.table ≡ region.now.table }
     requires free { IsFreeHanded client.old.value }
     requires range { addr.0 < region.now.size }
@@ -36,7 +39,7 @@ fn read_at(region: &Region<FreeLaw>, client: &mut Client<FreeLaw>, addr: Addr) -
 }
 
 // Writes a word without reading any, by one try. Answers whether it committed.
-fn write_at(
+pub(crate) fn write_at(
     alloc: Global,
     region: &Region<FreeLaw>,
     client: &mut Client<FreeLaw>,

@@ -1,12 +1,12 @@
-//! What no clause says: worked rows, and many addresses.
+//! Read logs and write logs: worked rows, many addresses, and each growth refused.
 ghost use Rattle.std.specs.Prelude.{◌≡◌, ℕ, ◌%◌, ◌<◌, ◌≤◌};
 ghost use Rattle.stm_logs.specs.Log.{IsStriped};
 
-use crate::{ReadLog, WriteLog};
 use linked_list_allocator::LocalHeap;
 use std::alloc::{AllocError, Allocator};
 use std::process::Abort;
 use std::test::Fail;
+use stm_logs::{ReadLog, WriteLog};
 use stm_words::Addr;
 
 fn new_log<A: Allocator + Copy>(alloc: A) -> WriteLog<A>

@@ -2,11 +2,11 @@
 ghost use Rattle.std.specs.Prelude.{◌≡◌, IfOk};
 ghost use Rattle.stm_core.specs.Core.{IsFreeHanded};
 
-use super::{read_at, write_at};
-use crate::{Client, Region, RegionFault, RenewFault};
+use crate::regions::{read_at, write_at};
 use linked_list_allocator::LocalHeap;
 use std::alloc::{Allocator, Global};
 use std::test::Fail;
+use stm_region::{Client, Region, RegionFault, RenewFault};
 use stm_words::{Addr, FreeLaw};
 
 type Renewed = (Region<FreeLaw>, Client<FreeLaw>);

@@ -1,5 +1,5 @@
 use Rattle.stm_logs.specs.Log.{IsStriped}
-use Rattle.stm_logs.proofs.tests.put_some.Given as goal
+use Rattle.region_rows.proofs.logs.put_some.Given as goal
 
 abbrev pub invariant-loop-addr : goal.invariant-loop-addr
 invariant-loop-addr g l = IsStriped l.log 1000000
