@@ -15,6 +15,3 @@ mod rows;
 pub use fresh::fresh_words;
 pub use pool::{Block, give, take};
 pub use rows::rows_are_a_map;
-
-#[cfg(test)]
-mod tests;

@@ -7,4 +7,3 @@ mod Order
 mod Seeking
 mod Changing
 pub mod After
-mod Stocked

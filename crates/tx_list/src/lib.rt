@@ -13,6 +13,3 @@ mod search;
 pub use change::{insert, remove};
 pub use key::Key;
 pub use search::{find, first, next};
-
-#[cfg(test)]
-mod tests;

@@ -23,6 +23,3 @@ pub use insertion::insert;
 pub use laws::height_is_logarithmic;
 pub use removal::remove;
 pub use search::{Entry, find, least_above};
-
-#[cfg(test)]
-mod tests;

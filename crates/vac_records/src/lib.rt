@@ -26,6 +26,3 @@ pub use laws::{
     items_follow_their_blocks, one_state_for_a_memory, states_have_their_structures,
 };
 pub use vac_model::{Item, Kind};
-
-#[cfg(test)]
-mod tests;

@@ -1,0 +1,151 @@
+//! A list of bookings in plain memory beside an ordered map.
+ghost use Rattle.std.specs.Prelude.{◌≡◌, ◌+◌, ◌*◌, ◌<◌, IfOk};
+ghost use Rattle.tx_list.specs.Stock.{IsStock, IsStockKey, HasStock, stock_block, stock_word};
+
+use rand_core::Rng;
+use rand_pcg::Pcg32;
+use std::alloc::{AllocError, Global};
+use std::collections::BTreeMap;
+use std::test::Fail;
+use stm_words::{Addr, Flat, TxMem, TxRead};
+use tx_alloc::Block;
+use tx_list::{Key, find, first, insert, next, remove};
+
+const HEAD: Addr = Addr(5);
+
+const IDS: u32 = 40;
+
+const WORDS: usize = 976;
+
+/// The block that has this key written from the start.
+fn block_of(key: Key) -> Block
+    requires { IsStockKey key }
+    ensures { result.0.0 ≡ stock_block (40 * key.kind + key.id) }
+{
+    Block(Addr(16 + 8 * (IDS * key.kind as u32 + key.id as u32)))
+}
+
+/// A word of the memory before the first change.
+fn word_at(place: usize) -> u64
+    requires { place < WORDS }
+    ensures { result ≡ stock_word place }
+{
+    if place < 16 {
+        return if place == 5 { 0 } else { 1000 + place as u64 };
+    }
+    let block = (place as u64 - 16) / 8;
+    match place % 8 {
+        0 => block / 40,
+        1 => block % 40,
+        _ => 1000 + place as u64,
+    }
+}
+
+fn stock_words(alloc: Global) -> Result<Vec<u64>, AllocError>
+    ensures { IfOk result (λ words. IsStock words.items) }
+{
+    let mut words = Vec::from_elem(alloc, 0u64, WORDS)?;
+    for place in 0..WORDS {
+        words[place] = word_at(place);
+    }
+    Ok(words)
+}
+
+/// Takes the booking of a key out, or hangs it in where there is none.
+fn turn<M: TxMem>(memory: &mut M, key: Key) -> Result<Option<Block>, M::Stop>
+    requires stock { HasStock (M.view memory.old) }
+    requires key { IsStockKey key }
+    ensures origin { M.origin memory.new ≡ M.origin memory.old }
+    ensures stock { IfOk result (λ _. HasStock (M.view memory.new)) }
+{
+    let removed = remove(memory, HEAD, key)?;
+    match removed {
+        None => {
+            insert(memory, HEAD, key, block_of(key))?;
+            Ok(None)
+        }
+        Some(block) => Ok(Some(block)),
+    }
+}
+
+fn look<M: TxRead>(memory: &mut M, key: Key) -> Result<Option<Block>, M::Stop>
+    requires stock { HasStock (M.view memory.old) }
+    requires key { IsStockKey key }
+    ensures origin { M.origin memory.new ≡ M.origin memory.old }
+    ensures stock { IfOk result (λ _. HasStock (M.view memory.new)) }
+{
+    let found = find(memory, HEAD, key)?;
+    Ok(found)
+}
+
+/// Whether a walk along the list comes by these blocks and no others.
+fn has_blocks<M: TxRead>(memory: &mut M, blocks: &[Block]) -> Result<bool, M::Stop>
+    requires stock { HasStock (M.view memory.old) }
+    ensures origin { M.origin memory.new ≡ M.origin memory.old }
+    ensures stock { IfOk result (λ _. HasStock (M.view memory.new)) }
+{
+    let mut found = first(memory, HEAD)?;
+    for block in blocks {
+        match found {
+            None => return Ok(false),
+            Some(here) => {
+                if here != *block {
+                    return Ok(false);
+                }
+                found = next(memory, here)?;
+            }
+        }
+    }
+    Ok(found.is_none())
+}
+
+fn random_key(random: &mut Pcg32) -> Key
+    ensures { IsStockKey result }
+{
+    let kind = random.next_u32() % 3;
+    let id = random.next_u32() % IDS;
+    Key {
+        kind: kind as u64,
+        id: id as u64,
+    }
+}
+
+/// The words that no call may change: all but the head and the words that lead on.
+fn fixed(alloc: Global, words: &[u64]) -> Result<Vec<u64>, AllocError> {
+    words
+        .iter()
+        .copied()
+        .enumerate()
+        .filter(|(place, _)| *place != 5 && (*place < 16 || *place % 8 != 3))
+        .map(|(_, word)| word)
+        .collect(alloc)
+}
+
+#[test]
+fn random_changes_beside_an_ordered_map(rt: HostRuntime) -> Result<(), Fail> {
+    let mut random = Pcg32::new(42, 54);
+    let words = stock_words(rt.alloc())?;
+    let before = fixed(rt.alloc(), &words)?;
+    let mut flat = Flat::new(words);
+    let mut map = BTreeMap::new(rt.alloc());
+    let mut agrees = true;
+    for _ in 0..3000 {
+        let key = random_key(&mut random);
+        let other = random_key(&mut random);
+        let Ok(removed) = turn(&mut flat, key);
+        let expected = map.remove(&key);
+        if expected.is_none() {
+            map.insert(key, block_of(key))?;
+        }
+        let Ok(found) = look(&mut flat, other);
+        let blocks: Vec<Block> = map.values().copied().collect(rt.alloc())?;
+        let Ok(listed) = has_blocks(&mut flat, &blocks);
+        let answers = removed == expected && found == map.get(&other).copied();
+        agrees = agrees && answers && listed;
+    }
+    let words = flat.words();
+    let after = fixed(rt.alloc(), &words)?;
+    assert!(rt; agrees);
+    assert_eq!(rt; after, before);
+    Ok(())
+}

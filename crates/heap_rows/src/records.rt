@@ -1,0 +1,103 @@
+//! Items and customers in plain memory: which words are written.
+ghost use Rattle.std.specs.Prelude.{◌≡◌, IfOk};
+ghost use Rattle.vac_records.specs.Items.{IsNode};
+
+use std::test::Fail;
+use stm_words::{Addr, Flat, TxMem};
+use vac_model::Booking;
+use vac_records::{
+    Item, add_total, booking_at, free_at, init_customer, init_item, item_at, place, price_at,
+    set_price, sum_at, total_at, units_at, used_at,
+};
+
+/// An item of 100 units at 50, then 5 more units, then another price.
+fn make_and_change<M: TxMem>(memory: &mut M, node: Addr) -> Result<Item, M::Stop>
+    requires { IsNode (M.view memory.old) node.0 }
+    ensures origin { M.origin memory.new ≡ M.origin memory.old }
+    ensures size { IfOk result (λ _. (M.view memory.new).size ≡ (M.view memory.old).size) }
+{
+    init_item(memory, node, 7, 100, 50)?;
+    add_total(memory, node, 5)?;
+    set_price(memory, node, 80)?;
+    item_at(memory, node)
+}
+
+/// The numbers of an item, read one by one.
+fn numbers<M: TxMem>(memory: &mut M, node: Addr) -> Result<(u64, u64, u64, u64), M::Stop>
+    requires { IsNode (M.view memory.old) node.0 }
+    ensures { M.origin memory.new ≡ M.origin memory.old }
+{
+    let used = used_at(memory, node)?;
+    let free = free_at(memory, node)?;
+    let total = total_at(memory, node)?;
+    let price = price_at(memory, node)?;
+    Ok((used, free, total, price))
+}
+
+#[test]
+fn an_item_in_plain_memory(rt: HostRuntime) -> Result<(), Fail> {
+    let mut flat = Flat::new(vec![in rt.alloc(); 9u64; 24]?);
+    let Ok(item) = make_and_change(&mut flat, Addr(8));
+    let expected = Item {
+        used: 0,
+        free: 105,
+        total: 105,
+        price: 80,
+    };
+    assert_eq!(rt; item, expected);
+    let Ok(read) = numbers(&mut flat, Addr(8));
+    assert_eq!(rt; read, (0, 105, 105, 80));
+    // The links of the block and all words outside are as they were.
+    let words = flat.words();
+    for (i, word) in words.iter().enumerate() {
+        let expected = match i {
+            8 => 7,
+            12 => 0,
+            13 | 14 => 105,
+            15 => 80,
+            _ => 9,
+        };
+        assert_eq!(rt; *word, expected);
+    }
+    Ok(())
+}
+
+/// A customer without bookings; and the block's words, read as a booking's.
+fn make_customer<M: TxMem>(memory: &mut M, node: Addr) -> Result<(Booking, u64, u64), M::Stop>
+    requires { IsNode (M.view memory.old) node.0 }
+    ensures { M.origin memory.new ≡ M.origin memory.old }
+{
+    init_customer(memory, node, 3)?;
+    let booking = booking_at(memory, node)?;
+    let units = units_at(memory, node)?;
+    let sum = sum_at(memory, node)?;
+    Ok((booking, units, sum))
+}
+
+#[test]
+fn a_customer_in_plain_memory(rt: HostRuntime) -> Result<(), Fail> {
+    let mut flat = Flat::new(vec![in rt.alloc(); 9u64; 24]?);
+    let Ok(read) = make_customer(&mut flat, Addr(8));
+    assert_eq!(rt; read, (Booking { units: 0, sum: 9 }, 0, 9));
+    // The key, the head of the bookings and the spare words are written, and nothing else.
+    let words = flat.words();
+    for (i, word) in words.iter().enumerate() {
+        let expected = match i {
+            8 => 3,
+            12..=15 => 0,
+            _ => 9,
+        };
+        assert_eq!(rt; *word, expected);
+    }
+    Ok(())
+}
+
+#[test]
+fn places(rt: HostRuntime) {
+    assert_eq!(rt; place::KEY, 0);
+    assert_eq!(rt; place::USED, 4);
+    assert_eq!(rt; place::FREE, 5);
+    assert_eq!(rt; place::TOTAL, 6);
+    assert_eq!(rt; place::PRICE, 7);
+    assert_eq!(rt; place::BOOKINGS, 4);
+}

@@ -1,4 +1,0 @@
-use Rattle.tx_tree.proofs.tests.«+blacks_of».Given as goal
-
-abbrev pub decreases-blacks_of : goal.decreases-blacks_of
-decreases-blacks_of l = l.fuel

@@ -1,9 +1,0 @@
-use Rattle.stm_words.specs.Plain.{flat_view}
-use Rattle.tx_tree.specs.Table.{Removed}
-use Rattle.tx_tree.proofs.Counting.{after_cut}
-use Rattle.tx_tree.proofs.tests.cut.Goals as goal
-
-pub returns-in-Some : goal.returns-in-Some
-returns-in-Some c =
-    let r : Removed (flat_view c.args.flat.now) (flat_view c.remove.new.memory) 3 c.args.key c.in-Some.block.0.0 = rw c.in-Some.is at c.in-Ok.ensures.answer in
-    rw c.saturating_sub.ensures (after_cut _ _ _ _ _ _ _ c.requires r)
