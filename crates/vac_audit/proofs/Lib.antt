@@ -5,4 +5,3 @@ pub mod ItemWalk
 pub mod BookingWalk
 pub mod CustomerWalk
 pub mod Reports
-mod Stocked

@@ -11,6 +11,3 @@ mod reporting;
 
 pub use reporting::report;
 pub use vac_model::Report;
-
-#[cfg(test)]
-mod tests;

@@ -34,6 +34,3 @@ pub enum Flaw {
     /// units are used than are booked.
     Bookings(u32),
 }
-
-#[cfg(test)]
-mod tests;

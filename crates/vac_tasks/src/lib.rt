@@ -12,6 +12,3 @@ mod trip;
 mod update;
 
 pub use tasks::{only_reads, read_task, run_task};
-
-#[cfg(test)]
-mod tests;

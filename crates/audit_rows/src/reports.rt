@@ -1,11 +1,12 @@
+//! Reports of heaps in plain memory.
 ghost use Rattle.std.specs.Prelude.{◌≡◌, IfOk};
-ghost use Rattle.vac_audit.specs.Stock.{stock_words};
+ghost use Rattle.audit_rows.specs.Stock.{stock_words};
 
-use super::{Report, report};
 use std::alloc::{AllocError, Global};
 use std::test::Fail;
 use stm_words::Flat;
 use tx_alloc::fresh_words;
+use vac_audit::{Report, report};
 
 #[test]
 fn no_entries(rt: HostRuntime) -> Result<(), Fail> {

@@ -1,8 +1,8 @@
 //! Words that were worked out by hand, and what the audit answers to them.
 
-use crate::{AuditFault, Flaw, audit_words};
 use std::alloc::Global;
 use std::test::Fail;
+use vac_check::{AuditFault, Flaw, audit_words};
 use vac_model::Report;
 
 /// Words of this number, all 0 but those that are listed with their addresses.

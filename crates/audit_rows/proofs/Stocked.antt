@@ -16,15 +16,14 @@ use Rattle.vac_model.specs.declared.items.Kind.{Kind}
 use Rattle.vac_model.specs.declared.items.Kind.TheVariants.{Car, Flight, Room}
 use Rattle.vac_model.specs.declared.items.Item.{Item}
 use Rattle.vac_model.specs.declared.items.Booking.{Booking}
-use Rattle.vac_model.specs.State.{State, Bookings, Place, place_cmp, kind_number, table_of, units_of, units_held, item_of, bookings_of, size, empty_state}
+use Rattle.vac_model.specs.State.{State, Bookings, Place, place_cmp, kind_number, table_of, units_of, units_held, item_of, bookings_of, size}
 use Rattle.vac_model.specs.Balanced.{IsItem, IsBooking}
 use Rattle.vac_model.proofs.Ids.{id_between}
 use Rattle.vac_model.specs.Fits.{IsSmall}
 use Rattle.vac_model.proofs.Balance.{some_same}
-use Rattle.vac_model.proofs.Empty.{empty-small}
 use Rattle.vac_model.proofs.Places.{place_cmp_total, place_cmp-IsAntisymmetric}
 use Rattle.vac_model.proofs.Sums.{either_key, apart_test}
-use Rattle.tx_alloc.specs.Pool.{IsBlock, IsPool, IsEmptyHeap, fresh_lists}
+use Rattle.tx_alloc.specs.Pool.{IsBlock}
 use Rattle.tx_alloc.specs.Rows.{Rows, times}
 use Rattle.tx_tree.specs.Tree.{leaf, node}
 use Rattle.tx_tree.specs.Table.{IsTable}
@@ -32,10 +31,9 @@ use Rattle.tx_list.specs.Bookings.{IsList}
 use Rattle.vac_records.specs.Items.{mem}
 use Rattle.vac_records.specs.Heap.{Parts, IsHeap, used_in}
 use Rattle.vac_records.specs.Holds.{HoldsState}
-use Rattle.vac_records.proofs.Fresh.{fresh_state}
 use Rattle.vac_records.proofs.Single.{same_words}
 use Rattle.vac_records.specs.Represents.{Represents, items_in, customers_in, bookings_in, opened}
-use Rattle.vac_audit.specs.Stock.{stock_words}
+use Rattle.audit_rows.specs.Stock.{stock_words}
 
 -- the words
 abbrev word : ℕ → ℕ
@@ -390,6 +388,3 @@ flat_holds xs s low high h small = record {
 
 pub stock_holds : (xs : List ℕ) → xs ≡ stock_words → HoldsState (flat_view xs)
 stock_holds xs e = subst (λ (z : List ℕ). HoldsState (flat_view z)) (sym e) (flat_holds stock_words stock (omega arith) (omega arith) stock_represents stock_small)
-
-pub fresh_holds : (ys xs : List ℕ) (blocks : ℕ) → ys ≡ xs → blocks ≤ 262144 → IsEmptyHeap xs blocks → IsPool (λ (a : ℕ). slice_index xs a) (length xs) (fresh_lists blocks) (λ (x : ℕ). 0) 0 → HoldsState (flat_view ys)
-fresh_holds ys xs blocks e l h pool = subst (λ (z : List ℕ). HoldsState (flat_view z)) (sym e) (flat_holds xs (empty_state blocks) (omega (arith, h.size)) (omega (arith, h.size, l)) (fresh_state xs blocks h pool) (empty-small blocks l))
