@@ -15,6 +15,3 @@ pub use check::check_words;
 pub use command_line::{refuse_words, run_words};
 pub use dump::dump_script;
 pub use script::{RunFault, run_script};
-
-#[cfg(test)]
-mod tests;

@@ -23,8 +23,3 @@ pub use opening::open;
 pub use settings::{MOST_CLIENTS, MOST_ITEMS, MOST_ROUNDS, MOST_TASKS, PERCENT, Settings};
 pub use tally::Tally;
 pub use tasks::{Tasks, tasks_of, turns_make_tasks};
-
-#[cfg(test)]
-mod load_tests;
-#[cfg(test)]
-mod tests;

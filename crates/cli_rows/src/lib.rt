@@ -1,0 +1,24 @@
+//! Tests of the load and of the program's calls: scripts, dumps, checks and command lines over
+//! input and output that fail, drawn tasks, and loads of one client and of several that meet.
+#![tactic(auto)]
+
+#[cfg(test)]
+mod command_lines;
+#[cfg(test)]
+mod draws;
+#[cfg(test)]
+mod example;
+#[cfg(test)]
+mod failing;
+#[cfg(test)]
+mod loads;
+#[cfg(test)]
+mod loops;
+#[cfg(test)]
+mod meetings;
+#[cfg(test)]
+mod rounds;
+#[cfg(test)]
+mod small_load;
+#[cfg(test)]
+mod streams;

@@ -1,0 +1,50 @@
+//! Loads of one client, and arguments that are refused.
+
+use crate::small_load::{SETTINGS, THREE_TRIPS, all_answered};
+use std::test::Fail;
+use stm_attempt::NoGate;
+use vac_load::{FixedDraws, LoadFault, LoadReport, MOST_ROUNDS, Settings, run_load, run_load_with};
+
+#[test]
+fn trips_of_one_client(rt: HostRuntime) -> Result<(), Fail> {
+    let clients = vec![in rt.alloc(); (FixedDraws(0), NoGate)]?;
+    let loaded = run_load_with(&rt, &SETTINGS, FixedDraws(0), clients);
+    let wants = LoadReport {
+        tally: all_answered(3),
+        report: THREE_TRIPS,
+    };
+    assert_eq!(rt; loaded, Ok(wants));
+    Ok(())
+}
+
+#[test]
+fn one_client_asks_a_thousand_times(rt: HostRuntime) {
+    let settings = Settings {
+        tasks: 1_000,
+        tries: 1,
+        items: 16,
+        user: 80,
+        ..SETTINGS
+    };
+    let Ok(loaded) = run_load(&rt, &settings) else {
+        panic!(rt; "the load stopped")
+    };
+    assert_eq!(rt; loaded.tally, all_answered(1_000));
+    assert_eq!(rt; loaded.report.used, loaded.report.bookings);
+}
+
+#[test]
+fn arguments_are_looked_at(rt: HostRuntime) {
+    let none = Vec::<(FixedDraws, NoGate)>::new(rt.alloc());
+    let refused = run_load_with(&rt, &SETTINGS, FixedDraws(0), none);
+    assert_eq!(rt; refused, Err(LoadFault::Arguments));
+    for (items, rounds) in [(300, 1), (2, 0), (2, MOST_ROUNDS.saturating_add(1))] {
+        let settings = Settings {
+            items,
+            rounds,
+            ..SETTINGS
+        };
+        let refused = run_load(&rt, &settings);
+        assert_eq!(rt; refused, Err(LoadFault::Arguments), "{items} {rounds}");
+    }
+}
