@@ -8,18 +8,18 @@ use Rattle.stm_core.specs.Version.{World, At, Claims, Saw, IsSound}
 use Rattle.stm_core.proofs.Lists.{same_at, clash, nothing_in}
 use Rattle.stm_core.proofs.Turns.{Heart, turn_keeps}
 
-module _ (lk : ℕ → ℕ) (s : World) (cs : List Client) (id : ℕ) (v w : Client) (h : Heart lk s cs) (at : At cs id v) (empty : v.held ≡ []) (empty' : w.held ≡ []) (wv : w.wv ≡ 0) (phase : decided w ≡ false) (rv : w.rv ≤ s.clock) (floor : w.floor ≤ s.clock)
+module _ (lk : ℕ → ℕ) (s : World) (cs : List Client) (id : ℕ) (v w : Client) (h : Heart lk s cs) (at : At cs id v) (empty : v.attempt.held ≡ []) (empty' : w.attempt.held ≡ []) (wv : w.attempt.wv ≡ 0) (phase : decided w ≡ false) (rv : w.attempt.rv ≤ s.clock) (floor : w.floor ≤ s.clock)
     (claims : (b a x : ℕ) → Claims w b a x → Claims v b a x) (records : (r : Record) → In r w.records → In r v.records) where
   me : IsSound lk s v
   me = h.version.sound id v at
 
-  no_version : 0 < w.wv → ⊥
+  no_version : 0 < w.attempt.wv → ⊥
   no_version z = (let e = wv in omega arith)
 
-  none : (k u : ℕ) → In (k, u) w.held → ⊥
+  none : (k u : ℕ) → In (k, u) w.attempt.held → ⊥
   none k u g = nothing_in (k, u) (subst (In (k, u)) empty' g)
 
-  pub clear_keeps : Saw lk s w.rv w.last → Heart lk s (set cs id w)
+  pub clear_keeps : Saw lk s w.attempt.rv w.attempt.last → Heart lk s (set cs id w)
   clear_keeps saw = turn_keeps lk s s cs id v w h at record {
     sound = record {
       rv = rv;
@@ -47,7 +47,7 @@ module _ (lk : ℕ → ℕ) (s : World) (cs : List Client) (id : ℕ) (v w : Cli
     own = λ i o e n z. absurd (no_version z);
     free = h.version.free;
     holder = λ k odd. let q = h.version.holder k odd in
-        dite (ℕ_discrete q.0 id) (λ e. absurd (nothing_in (k, version_of (s.lock k)) (subst (In (k, version_of (s.lock k))) (ap (λ (c : Client). c.held) (same_at cs id q.1 v (subst (λ n. At cs n q.1) e q.2) at) ∙ empty) q.3))) (λ n. inr (q.0, q.1, q.2, n, q.3));
+        dite (ℕ_discrete q.0 id) (λ e. absurd (nothing_in (k, version_of (s.lock k)) (subst (In (k, version_of (s.lock k))) (ap (λ (c : Client). c.attempt.held) (same_at cs id q.1 v (subst (λ n. At cs n q.1) e q.2) at) ∙ empty) q.3))) (λ n. inr (q.0, q.1, q.2, n, q.3));
     alone = λ i o k m n e ne a b. none k n b;
     kept = λ k u g. absurd (none k u g);
     kept_else = λ i o k u e n g. h.version.kept i o k u e g;

@@ -16,25 +16,25 @@ module _ (lawful : List ℕ → List (ℕ × ℕ) → List (ℕ × ℕ) → Type
   it : IsFiled lawful size renewal story v
   it = h.filed id v at
 
-  module _ (open' : IsOpen v) (numbers : (i : ℕ) (o : Client) → At cs i o → i ≢ id → decided o ≡ true → (0 < o.wv) × (o.wv ≢ v.wv)) (phase : decided w ≡ true) (spent : w.spent ≡ false) (reads : w.reads ≡ v.reads) (wv : w.wv ≡ v.wv) (writes : w.writes ≡ v.writes)
-      (records : w.records ≡ inserted r v.records) (r_tag : r.tag ≡ v.tag) (r_reads : r.reads ≡ v.reads) (r_writes : r.writes ≡ v.writes) (r_writer : r.writer ≡ true) (r_version : r.version ≡ v.wv) (r_renewal : r.renewal ≡ renewal) where
+  module _ (open' : IsOpen v) (numbers : (i : ℕ) (o : Client) → At cs i o → i ≢ id → decided o ≡ true → (0 < o.attempt.wv) × (o.attempt.wv ≢ v.attempt.wv)) (phase : decided w ≡ true) (spent : w.spent ≡ false) (reads : w.attempt.reads ≡ v.attempt.reads) (wv : w.attempt.wv ≡ v.attempt.wv) (writes : w.attempt.writes ≡ v.attempt.writes)
+      (records : w.records ≡ inserted r v.records) (r_tag : r.tag ≡ v.attempt.tag) (r_reads : r.reads ≡ v.attempt.reads) (r_writes : r.writes ≡ v.attempt.writes) (r_writer : r.writer ≡ true) (r_version : r.version ≡ v.attempt.wv) (r_renewal : r.renewal ≡ renewal) where
     abbrev story' : List (List (ℕ × ℕ))
-    story' = set story (v.wv - 1) v.writes
+    story' = set story (v.attempt.wv - 1) v.attempt.writes
 
-    place : get_elem? story (v.wv - 1) ≡ some []
+    place : get_elem? story (v.attempt.wv - 1) ≡ some []
     place = h.empty id v at open'
 
-    differ : (n : ℕ) → 0 < n → n ≢ v.wv → n - 1 ≢ v.wv - 1
+    differ : (n : ℕ) → 0 < n → n ≢ v.attempt.wv → n - 1 ≢ v.attempt.wv - 1
     differ n z ne e = ne (let k = open'.0 in omega (arith, z, e))
 
     record_stays : (i : ℕ) (o : Client) → At cs i o → (x : Record) → In x o.records → x.writer ≡ true → 0 < x.version → get_elem? story (x.version - 1) ≡ some x.writes → get_elem? story' (x.version - 1) ≡ some x.writes
-    record_stays i o e x m t z p = set_else story (v.wv - 1) (x.version - 1) v.writes x.writes (differ x.version z (h.unwritten i id o v x e at m t open')) p
+    record_stays i o e x m t z p = set_else story (v.attempt.wv - 1) (x.version - 1) v.attempt.writes x.writes (differ x.version z (h.unwritten i id o v x e at m t open')) p
 
     other : (i : ℕ) (o : Client) → At cs i o → i ≢ id → IsFiled lawful size renewal story' o
-    other i o e n = filed_on lawful size renewal story story' o (h.filed i o e) (record_stays i o e) (λ d p. let q = numbers i o e n d in set_else story (v.wv - 1) (o.wv - 1) v.writes o.writes (differ o.wv q.0 q.1) p)
+    other i o e n = filed_on lawful size renewal story story' o (h.filed i o e) (record_stays i o e) (λ d p. let q = numbers i o e n d in set_else story (v.attempt.wv - 1) (o.attempt.wv - 1) v.attempt.writes o.attempt.writes (differ o.attempt.wv q.0 q.1) p)
 
-    here : get_elem? story' (v.wv - 1) ≡ some v.writes
-    here = set_here story (v.wv - 1) [] v.writes place
+    here : get_elem? story' (v.attempt.wv - 1) ≡ some v.attempt.writes
+    here = set_here story (v.attempt.wv - 1) [] v.attempt.writes place
 
     new_told : IsTold lawful size renewal story' r
     new_told = record {
@@ -61,29 +61,29 @@ module _ (lawful : List ℕ → List (ℕ × ℕ) → List (ℕ × ℕ) → Type
     new_else : (i : ℕ) (o : Client) (x y : Record) → At cs i o → i ≢ id → In x w.records → x.writer ≡ true → In y o.records → y.writer ≡ true → x.version ≢ y.version
     new_else i o x y e n m t m' t' = ⊎_elim (λ q. λ s. h.unwritten i id o v y e at m' t' open' (sym s ∙ (sym (ap (λ (z : Record). z.version) q) ∙ r_version))) (λ old. h.once id i v o x y at e (λ s. n (sym s)) old m' t t') (in_inserted r v.records x (subst (In x) records m))
 
-    pub commit_keeps : ((i : ℕ) (o : Client) → At cs i o → i ≢ id → IsOpen o → o.wv ≢ v.wv) → Filed lawful size renewal story' clock (set cs id w)
+    pub commit_keeps : ((i : ℕ) (o : Client) → At cs i o → i ≢ id → IsOpen o → o.attempt.wv ≢ v.attempt.wv) → Filed lawful size renewal story' clock (set cs id w)
     commit_keeps opens = filing_keeps lawful size renewal story story' clock clock cs id v w h at record {
       mine = mine;
       others = other;
-      versions = length-set story (v.wv - 1) v.writes ∙ h.versions;
+      versions = length-set story (v.attempt.wv - 1) v.attempt.writes ∙ h.versions;
       unwritten_mine = λ i o x e n m t op. clash phase op.1;
       unwritten_else = λ i o x e n m t op. ⊎_elim (λ q. λ s. opens i o e n op (sym s ∙ (sym (ap (λ (z : Record). z.version) q) ∙ r_version))) (λ old. h.unwritten id i v o x at e old t op) (in_inserted r v.records x (subst (In x) records m));
       unwritten_self = λ x m t op. clash phase op.1;
       empty_mine = λ op. clash phase op.1;
-      empty_else = λ i o e n op. set_else story (v.wv - 1) (o.wv - 1) v.writes [] (differ o.wv op.0 (opens i o e n op)) (h.empty i o e op);
+      empty_else = λ i o e n op. set_else story (v.attempt.wv - 1) (o.attempt.wv - 1) v.attempt.writes [] (differ o.attempt.wv op.0 (opens i o e n op)) (h.empty i o e op);
       once = λ i o x y e n m m' t t'. new_else i o x y e n m t m' t';
-      complete = λ u ws e n. dite (ℕ_discrete u (v.wv - 1)) (λ q. inl (r, rw records (inserted_in r v.records), r_writer, r_version ∙ (let k = open'.0 in omega (arith, q))))
+      complete = λ u ws e n. dite (ℕ_discrete u (v.attempt.wv - 1)) (λ q. inl (r, rw records (inserted_in r v.records), r_writer, r_version ∙ (let k = open'.0 in omega (arith, q))))
           (λ q. ⊎_elim (λ p. inl (p.0, rw records (inserted_old r v.records p.0 p.1), p.2, p.3)) (λ p. inr p) (split_writer lawful size renewal story clock cs id v h at (suc u) (h.complete u ws (back u ws q e) n)));
     }
       where
-        back : (u : ℕ) (ws : List (ℕ × ℕ)) → u ≢ v.wv - 1 → get_elem? story' u ≡ some ws → get_elem? story u ≡ some ws
-        back u ws q e = ⊎_elim (λ p. absurd (q p.0)) (λ p. p.1) (at_set story (v.wv - 1) u v.writes ws e)
+        back : (u : ℕ) (ws : List (ℕ × ℕ)) → u ≢ v.attempt.wv - 1 → get_elem? story' u ≡ some ws → get_elem? story u ≡ some ws
+        back u ws q e = ⊎_elim (λ p. absurd (q p.0)) (λ p. p.1) (at_set story (v.attempt.wv - 1) u v.attempt.writes ws e)
 
   -- a reader's record
-  module _ (phase : decided w ≡ false) (spent : w.spent ≡ false) (reads : w.reads ≡ v.reads) (wv : w.wv ≡ v.wv) (none' : v.wv ≡ 0) (records : w.records ≡ inserted r v.records) (r_lawful : lawful r.tag r.reads r.writes) (r_reads : r.reads ≡ v.reads) (r_writes : r.writes ≡ [])
+  module _ (phase : decided w ≡ false) (spent : w.spent ≡ false) (reads : w.attempt.reads ≡ v.attempt.reads) (wv : w.attempt.wv ≡ v.attempt.wv) (none' : v.attempt.wv ≡ 0) (records : w.records ≡ inserted r v.records) (r_lawful : lawful r.tag r.reads r.writes) (r_reads : r.reads ≡ v.attempt.reads) (r_writes : r.writes ≡ [])
       (r_writer : r.writer ≡ false) (r_renewal : r.renewal ≡ renewal) where
-    closed : 0 < w.wv → ⊥
-    closed z = (let e : w.wv ≡ 0 = wv ∙ none' in omega arith)
+    closed : 0 < w.attempt.wv → ⊥
+    closed z = (let e : w.attempt.wv ≡ 0 = wv ∙ none' in omega arith)
 
     nothing_inside : AllInside size []
     nothing_inside a x i = absurd (nothing_in (a, x) i)

@@ -17,7 +17,7 @@ use Rattle.stm_core.proofs.Histories.{Ranked, rank_writer, rank_reader}
 
 -- the place of a begin that may still become a reader's point step, or of a won tick that may still become a writer's
 abbrev pub Mark : Client → ℕ → Type 0
-Mark v p = (IsReading v × (p ≡ v.began_at)) ⊎ (IsOpen v × (p ≡ v.ticked_at))
+Mark v p = (IsReading v.attempt × (p ≡ v.attempt.began_at)) ⊎ (IsOpen v × (p ≡ v.attempt.ticked_at))
 
 -- a record beside the values of the clock before each event
 pub record IsStamped (time : ℕ → ℕ) (events : ℕ) (r : Record) : Type 0 where
@@ -26,8 +26,8 @@ pub record IsStamped (time : ℕ → ℕ) (events : ℕ) (r : Record) : Type 0 w
   pub reader : r.writer ≡ false → (time r.point ≡ r.version) × (time (suc r.point) ≡ r.version)
 
 pub record IsDated (time : ℕ → ℕ) (events : ℕ) (v : Client) : Type 0 where
-  pub reading : IsReading v → (v.began_at < events) × (time v.began_at ≡ v.rv) × (time (suc v.began_at) ≡ v.rv)
-  pub ticking : IsOpen v → (v.ticked_at < events) × (time v.ticked_at + 1 ≡ v.wv) × (time (suc v.ticked_at) ≡ v.wv)
+  pub reading : IsReading v.attempt → (v.attempt.began_at < events) × (time v.attempt.began_at ≡ v.attempt.rv) × (time (suc v.attempt.began_at) ≡ v.attempt.rv)
+  pub ticking : IsOpen v → (v.attempt.ticked_at < events) × (time v.attempt.ticked_at + 1 ≡ v.attempt.wv) × (time (suc v.attempt.ticked_at) ≡ v.attempt.wv)
 
 pub record Dated (old : List Record) (clock events : ℕ) (cs : List Client) (h : List Record) : Type 0 where
   pub time : ℕ → ℕ
@@ -41,13 +41,13 @@ pub record Dated (old : List Record) (clock events : ℕ) (cs : List Client) (h 
   pub every : (i : ℕ) (v : Client) (r : Record) → At cs i v → In r v.records → In r h
   pub only : (r : Record) → In r h → (i : ℕ) × (v : Client) × At cs i v × In r v.records
   pub known : (r : Record) → In r h → r.client ≤ length cs
-  pub numbered : (i : ℕ) (v : Client) (r : Record) → At cs i v → v.spent ≡ false → In r h → r.client ≡ suc i → (r.attempt ≤ v.attempt) × (r.attempt ≡ v.attempt → is_settled v.phase ≡ true)
+  pub numbered : (i : ℕ) (v : Client) (r : Record) → At cs i v → v.spent ≡ false → In r h → r.client ≡ suc i → (r.attempt ≤ v.attempt.number) × (r.attempt ≡ v.attempt.number → is_settled v.attempt.phase ≡ true)
   -- the records of earlier renewals stand before all that
   pub old_past : (r : Record) → In r old → r.point < events
   pub old_before : (r x : Record) → In r old → In x h → r.point < x.point
   pub old_marked : (i : ℕ) (v : Client) (p : ℕ) (r : Record) → At cs i v → Mark v p → In r old → r.point < p
   pub old_known : (r : Record) → In r old → r.client ≤ length cs
-  pub old_numbered : (i : ℕ) (v : Client) (r : Record) → At cs i v → v.spent ≡ false → In r old → r.client ≡ suc i → (r.attempt ≤ v.attempt) × (r.attempt ≡ v.attempt → is_settled v.phase ≡ true)
+  pub old_numbered : (i : ℕ) (v : Client) (r : Record) → At cs i v → v.spent ≡ false → In r old → r.client ≡ suc i → (r.attempt ≤ v.attempt.number) × (r.attempt ≡ v.attempt.number → is_settled v.attempt.phase ≡ true)
 
 -- the values of the clock with one more, after so many events
 pub later_on : (ℕ → ℕ) → ℕ → ℕ → ℕ → ℕ
@@ -121,9 +121,9 @@ module _ (old : List Record) (clock events : ℕ) (cs : List Client) (h : List R
 
   -- one event more, which decides nothing
   module _ (clock' : ℕ) (up : clock ≤ clock') (records : w.records ≡ v.records) (spent : w.spent ≡ v.spent)
-      (reading : IsReading w → (IsReading v × (w.began_at ≡ v.began_at) × (w.rv ≡ v.rv)) ⊎ ((w.began_at ≡ events) × (w.rv ≡ clock) × (clock' ≡ clock)))
-      (ticking : IsOpen w → (IsOpen v × (w.ticked_at ≡ v.ticked_at) × (w.wv ≡ v.wv)) ⊎ ((w.ticked_at ≡ events) × (w.wv ≡ clock + 1) × (clock' ≡ clock + 1)))
-      (number : (v.attempt < w.attempt) ⊎ ((w.attempt ≡ v.attempt) × (is_settled v.phase ≡ true → is_settled w.phase ≡ true))) where
+      (reading : IsReading w.attempt → (IsReading v.attempt × (w.attempt.began_at ≡ v.attempt.began_at) × (w.attempt.rv ≡ v.attempt.rv)) ⊎ ((w.attempt.began_at ≡ events) × (w.attempt.rv ≡ clock) × (clock' ≡ clock)))
+      (ticking : IsOpen w → (IsOpen v × (w.attempt.ticked_at ≡ v.attempt.ticked_at) × (w.attempt.wv ≡ v.attempt.wv)) ⊎ ((w.attempt.ticked_at ≡ events) × (w.attempt.wv ≡ clock + 1) × (clock' ≡ clock + 1)))
+      (number : (v.attempt.number < w.attempt.number) ⊎ ((w.attempt.number ≡ v.attempt.number) × (is_settled v.attempt.phase ≡ true → is_settled w.attempt.phase ≡ true))) where
     abbrev time' : ℕ → ℕ
     time' = later_on d.time events clock'
 
@@ -141,8 +141,8 @@ module _ (old : List Record) (clock events : ℕ) (cs : List Client) (h : List R
 
     dated_on : (o : Client) → IsDated d.time events o → IsDated time' (events + 1) o
     dated_on o it = record {
-      reading = λ r. let q = it.reading r in (omega (arith, q.0), then o.began_at (omega (arith, q.0)) ∙ q.1, then (suc o.began_at) (omega (arith, q.0)) ∙ q.2);
-      ticking = λ r. let q = it.ticking r in (omega (arith, q.0), (let e = then o.ticked_at (omega (arith, q.0)) in omega (arith, q.1)), then (suc o.ticked_at) (omega (arith, q.0)) ∙ q.2);
+      reading = λ r. let q = it.reading r in (omega (arith, q.0), then o.attempt.began_at (omega (arith, q.0)) ∙ q.1, then (suc o.attempt.began_at) (omega (arith, q.0)) ∙ q.2);
+      ticking = λ r. let q = it.ticking r in (omega (arith, q.0), (let e = then o.attempt.ticked_at (omega (arith, q.0)) in omega (arith, q.1)), then (suc o.attempt.ticked_at) (omega (arith, q.0)) ∙ q.2);
     }
 
     at_now : (later_on d.time events clock') events ≡ clock
@@ -179,27 +179,27 @@ module _ (old : List Record) (clock events : ℕ) (cs : List Client) (h : List R
       every = λ j o r e m. who (λ y c. In r c.records → In r h) (λ m'. d.every i v r at (subst (In r) records m')) (λ y c f n m'. d.every y c r f m') j o e m;
       only = λ r m. let q = d.only r m in dite (ℕ_discrete q.0 i) (λ z. (i, w, set_here cs i v w at, rw records (subst (λ (c : Client). In r c.records) (same_at cs i q.1 v (subst (λ y. At cs y q.1) z q.2) at) q.3))) (λ z. (q.0, q.1, set_else cs i q.0 w q.1 z q.2, q.3));
       known = λ r m. rw (length-set cs i w) (d.known r m);
-      numbered = λ j o r e s m k. who (λ y c. c.spent ≡ false → r.client ≡ suc y → (r.attempt ≤ c.attempt) × (r.attempt ≡ c.attempt → is_settled c.phase ≡ true))
+      numbered = λ j o r e s m k. who (λ y c. c.spent ≡ false → r.client ≡ suc y → (r.attempt ≤ c.attempt.number) × (r.attempt ≡ c.attempt.number → is_settled c.attempt.phase ≡ true))
           (λ s' k'. let q = d.numbered i v r at (sym spent ∙ s') m k' in ⊎_elim (λ l. (omega (arith, q.0), λ z. absurd (let a = q.0 in omega (arith, l)))) (λ l. (let a = q.0 in let b = l.0 in omega arith, λ z. l.1 (q.1 (z ∙ l.0)))) number)
           (λ y c f n s' k'. d.numbered y c r f s' m k') j o e s k;
       old_past = λ r m. (let p = d.old_past r m in omega arith);
       old_before = d.old_before;
       old_marked = λ j o p r e m k. who (λ y c. Mark c p → r.point < p) (λ m'. ⊎_elim (λ q. d.old_marked i v p r at q k) (λ q. (let z = d.old_past r k in omega arith)) (marks p m')) (λ y c f n m'. d.old_marked y c p r f m' k) j o e m;
       old_known = λ r m. rw (length-set cs i w) (d.old_known r m);
-      old_numbered = λ j o r e s m k. who (λ y c. c.spent ≡ false → r.client ≡ suc y → (r.attempt ≤ c.attempt) × (r.attempt ≡ c.attempt → is_settled c.phase ≡ true))
+      old_numbered = λ j o r e s m k. who (λ y c. c.spent ≡ false → r.client ≡ suc y → (r.attempt ≤ c.attempt.number) × (r.attempt ≡ c.attempt.number → is_settled c.attempt.phase ≡ true))
           (λ s' k'. let q = d.old_numbered i v r at (sym spent ∙ s') m k' in ⊎_elim (λ l. (omega (arith, q.0), λ z. absurd (let a = q.0 in omega (arith, l)))) (λ l. (let a = q.0 in let b = l.0 in omega arith, λ z. l.1 (q.1 (z ∙ l.0)))) number)
           (λ y c f n s' k'. d.old_numbered y c r f s' m k') j o e s k;
     }
 
   -- a decision: the point step was before
-  module _ (r : Record) (mark : Mark v r.point) (records : w.records ≡ inserted r v.records) (spent : w.spent ≡ v.spent) (none : (p : ℕ) → Mark w p → ⊥) (stamp : IsStamped d.time events r) (who_is : r.client ≡ suc i) (attempt : r.attempt ≡ v.attempt) (number : w.attempt ≡ v.attempt) (settled : is_settled w.phase ≡ true) where
+  module _ (r : Record) (mark : Mark v r.point) (records : w.records ≡ inserted r v.records) (spent : w.spent ≡ v.spent) (none : (p : ℕ) → Mark w p → ⊥) (stamp : IsStamped d.time events r) (who_is : r.client ≡ suc i) (attempt : r.attempt ≡ v.attempt.number) (number : w.attempt.number ≡ v.attempt.number) (settled : is_settled w.attempt.phase ≡ true) where
     pub date_decide : Dated old clock events (set cs i w) (placed r h)
     date_decide = record {
       time = d.time;
       grows = d.grows;
       now = d.now;
       stamped = λ x m. ⊎_elim (λ e. subst (IsStamped d.time events) e stamp) (λ k. d.stamped x k) (in_placed r h x m);
-      each = λ j o e. who (λ y c. IsDated d.time events c) (record { reading = λ q. absurd (none w.began_at (inl (q, refl))); ticking = λ q. absurd (none w.ticked_at (inr (q, refl))) }) (λ y c f n. d.each y c f) j o e;
+      each = λ j o e. who (λ y c. IsDated d.time events c) (record { reading = λ q. absurd (none w.attempt.began_at (inl (q, refl))); ticking = λ q. absurd (none w.attempt.ticked_at (inr (q, refl))) }) (λ y c f n. d.each y c f) j o e;
       unused = λ j o p x e m k. who (λ y c. Mark c p → x.point ≢ p) (λ m'. absurd (none p m'))
           (λ y c f n m'. ⊎_elim (λ q s. d.apart y i c v p f at n m' (subst (Mark v) (ap (λ (z : Record). z.point) q ∙ s) mark)) (λ q. d.unused y c p x f m' q) (in_placed r h x k)) j o e m;
       apart = λ j k o q p e f n m m'. who (λ y c. y ≢ k → Mark c p → ⊥) (λ n' a. none p a) (λ y c g n' n'' a. who (λ z b. y ≢ z → Mark b p → ⊥) (λ n3 b. none p b) (λ z b g' n3 n4 b'. d.apart y z c b p g g' n4 a b') k q f n'' m') j o e n m;
@@ -208,20 +208,20 @@ module _ (old : List Record) (clock events : ℕ) (cs : List Client) (h : List R
       only = λ x m. ⊎_elim (λ e. (i, w, set_here cs i v w at, rw records (subst (λ z. In z (inserted r v.records)) e (inserted_in r v.records))))
           (λ k. let q = d.only x k in dite (ℕ_discrete q.0 i) (λ z. (i, w, set_here cs i v w at, rw records (inserted_old r v.records x (subst (λ (c : Client). In x c.records) (same_at cs i q.1 v (subst (λ y. At cs y q.1) z q.2) at) q.3)))) (λ z. (q.0, q.1, set_else cs i q.0 w q.1 z q.2, q.3))) (in_placed r h x m);
       known = λ x m. rw (length-set cs i w) (⊎_elim (λ q. subst (λ (z : Record). z.client ≤ length cs) q (rw who_is (in_range cs i v at))) (λ q. d.known x q) (in_placed r h x m));
-      numbered = λ j o x e s m k. who (λ y c. c.spent ≡ false → x.client ≡ suc y → (x.attempt ≤ c.attempt) × (x.attempt ≡ c.attempt → is_settled c.phase ≡ true))
+      numbered = λ j o x e s m k. who (λ y c. c.spent ≡ false → x.client ≡ suc y → (x.attempt ≤ c.attempt.number) × (x.attempt ≡ c.attempt.number → is_settled c.attempt.phase ≡ true))
           (λ s' k'. (⊎_elim (λ q. (let z : r.attempt ≡ x.attempt = ap (λ (y : Record). y.attempt) q in let l = number in let l' = attempt in omega arith)) (λ q. (let z = (d.numbered i v x at (sym spent ∙ s') q k').0 in let l = number in omega arith)) (in_placed r h x m), λ z. settled))
           (λ y c f n s' k'. ⊎_elim (λ q. absurd (n (let z : r.client ≡ x.client = ap (λ (y : Record). y.client) q in let a = who_is in omega (arith, k')))) (λ q. d.numbered y c x f s' q k') (in_placed r h x m)) j o e s k;
       old_past = d.old_past;
       old_before = λ y x k m. ⊎_elim (λ e. subst (λ (z : Record). y.point < z.point) e (d.old_marked i v r.point y at mark k)) (λ q. d.old_before y x k q) (in_placed r h x m);
       old_marked = λ j o p y e m k. who (λ z c. Mark c p → y.point < p) (λ m'. absurd (none p m')) (λ z c f n m'. d.old_marked z c p y f m' k) j o e m;
       old_known = λ x m. rw (length-set cs i w) (d.old_known x m);
-      old_numbered = λ j o x e s m k. who (λ y c. c.spent ≡ false → x.client ≡ suc y → (x.attempt ≤ c.attempt) × (x.attempt ≡ c.attempt → is_settled c.phase ≡ true))
+      old_numbered = λ j o x e s m k. who (λ y c. c.spent ≡ false → x.client ≡ suc y → (x.attempt ≤ c.attempt.number) × (x.attempt ≡ c.attempt.number → is_settled c.attempt.phase ≡ true))
           (λ s' k'. let q = d.old_numbered i v x at (sym spent ∙ s') m k' in (let a = q.0 in let l = number in omega arith, λ z. settled)) (λ y c f n s' k'. d.old_numbered y c x f s' m k') j o e s k;
     }
 
 module _ (old : List Record) (clock events : ℕ) (cs : List Client) (h : List Record) (d : Dated old clock events cs h) where
   blank_dated : (w : Client) → ((p : ℕ) → Mark w p → ⊥) → IsDated d.time events w
-  blank_dated w none = record { reading = λ q. absurd (none w.began_at (inl (q, refl))); ticking = λ q. absurd (none w.ticked_at (inr (q, refl))) }
+  blank_dated w none = record { reading = λ q. absurd (none w.attempt.began_at (inl (q, refl))); ticking = λ q. absurd (none w.attempt.ticked_at (inr (q, refl))) }
 
   -- a client more, which has nothing
   pub date_longer : (w : Client) → ((p : ℕ) → Mark w p → ⊥) → w.records ≡ [] → Dated old clock events (cs ++ w ∷ []) h
@@ -237,12 +237,12 @@ module _ (old : List Record) (clock events : ℕ) (cs : List Client) (h : List R
     every = λ i o r e m. who (λ y c. In r c.records → In r h) (λ y _ m'. absurd (nothing_in r (subst (In r) records m'))) (λ y c f m'. d.every y c r f m') i o e m;
     only = λ r m. let q = d.only r m in (q.0, q.1, at_longer cs w q.1 q.0 q.2, q.3);
     known = λ r m. rw (length-append cs (w ∷ [])) (let q = d.known r m in omega arith);
-    numbered = λ i o r e s m k. who (λ y c. c.spent ≡ false → r.client ≡ suc y → (r.attempt ≤ c.attempt) × (r.attempt ≡ c.attempt → is_settled c.phase ≡ true)) (λ y l s' k'. absurd (let q = d.known r m in omega (arith, l, k'))) (λ y c f s' k'. d.numbered y c r f s' m k') i o e s k;
+    numbered = λ i o r e s m k. who (λ y c. c.spent ≡ false → r.client ≡ suc y → (r.attempt ≤ c.attempt.number) × (r.attempt ≡ c.attempt.number → is_settled c.attempt.phase ≡ true)) (λ y l s' k'. absurd (let q = d.known r m in omega (arith, l, k'))) (λ y c f s' k'. d.numbered y c r f s' m k') i o e s k;
     old_past = d.old_past;
     old_before = d.old_before;
     old_marked = λ i o p r e m k. who (λ y c. Mark c p → r.point < p) (λ y _ m'. absurd (none p m')) (λ y c f m'. d.old_marked y c p r f m' k) i o e m;
     old_known = λ r m. rw (length-append cs (w ∷ [])) (let q = d.old_known r m in omega arith);
-    old_numbered = λ i o r e s m k. who (λ y c. c.spent ≡ false → r.client ≡ suc y → (r.attempt ≤ c.attempt) × (r.attempt ≡ c.attempt → is_settled c.phase ≡ true)) (λ y l s' k'. absurd (let q = d.old_known r m in omega (arith, l, k'))) (λ y c f s' k'. d.old_numbered y c r f s' m k') i o e s k;
+    old_numbered = λ i o r e s m k. who (λ y c. c.spent ≡ false → r.client ≡ suc y → (r.attempt ≤ c.attempt.number) × (r.attempt ≡ c.attempt.number → is_settled c.attempt.phase ≡ true)) (λ y l s' k'. absurd (let q = d.old_known r m in omega (arith, l, k'))) (λ y c f s' k'. d.old_numbered y c r f s' m k') i o e s k;
   }
     where
       last_at : (l : List Client) (i : ℕ) (o : Client) → At (l ++ w ∷ []) i o → At l i o ⊎ ((i ≡ length l) × (w ≡ o))
@@ -273,12 +273,12 @@ module _ (old : List Record) (clock events : ℕ) (cs : List Client) (h : List R
         (λ z. dite (ℕ_discrete q.0 j) (λ y. (i, taking v w, here, merged_right v.records w.records r (subst (λ (c : Client). In r c.records) (same_at cs j q.1 w (subst (λ y'. At cs y' q.1) y q.2) to) q.3)))
         (λ y. (q.0, q.1, set_else (set cs i (taking v w)) j q.0 gone q.1 y (set_else cs i q.0 (taking v w) q.1 z q.2), q.3)));
     known = λ r m. rw (length-set (set cs i (taking v w)) j gone ∙ length-set cs i (taking v w)) (d.known r m);
-    numbered = λ n o r e s m k. who (λ y c. c.spent ≡ false → r.client ≡ suc y → (r.attempt ≤ c.attempt) × (r.attempt ≡ c.attempt → is_settled c.phase ≡ true)) (λ s' k'. d.numbered i v r at live m k') (λ s' k'. clash refl s') (λ y c f a b s' k'. d.numbered y c r f s' m k') n o e s k;
+    numbered = λ n o r e s m k. who (λ y c. c.spent ≡ false → r.client ≡ suc y → (r.attempt ≤ c.attempt.number) × (r.attempt ≡ c.attempt.number → is_settled c.attempt.phase ≡ true)) (λ s' k'. d.numbered i v r at live m k') (λ s' k'. clash refl s') (λ y c f a b s' k'. d.numbered y c r f s' m k') n o e s k;
     old_past = d.old_past;
     old_before = d.old_before;
     old_marked = λ n o p r e m k. who (λ y c. Mark c p → r.point < p) (λ m'. d.old_marked i v p r at m' k) (λ m'. absurd (none p m')) (λ y c f a b m'. d.old_marked y c p r f m' k) n o e m;
     old_known = λ r m. rw (length-set (set cs i (taking v w)) j gone ∙ length-set cs i (taking v w)) (d.old_known r m);
-    old_numbered = λ n o r e s m k. who (λ y c. c.spent ≡ false → r.client ≡ suc y → (r.attempt ≤ c.attempt) × (r.attempt ≡ c.attempt → is_settled c.phase ≡ true)) (λ s' k'. d.old_numbered i v r at live m k') (λ s' k'. clash refl s') (λ y c f a b s' k'. d.old_numbered y c r f s' m k') n o e s k;
+    old_numbered = λ n o r e s m k. who (λ y c. c.spent ≡ false → r.client ≡ suc y → (r.attempt ≤ c.attempt.number) × (r.attempt ≡ c.attempt.number → is_settled c.attempt.phase ≡ true)) (λ s' k'. d.old_numbered i v r at live m k') (λ s' k'. clash refl s') (λ y c f a b s' k'. d.old_numbered y c r f s' m k') n o e s k;
   }
     where
       none : (p : ℕ) → Mark gone p → ⊥

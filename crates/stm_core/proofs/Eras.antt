@@ -3,8 +3,8 @@ use Rattle.std.proofs.Common.{◌≡◌, ℕ, suc, ◌+◌, ◌<◌, ◌⊎◌, 
 use mathlib.Core.Option.{some}
 use Rattle.std.proofs.lemmas.Bool.Decides.{nat_tests}
 use Rattle.stm_words.specs.Image.{In}
-use Rattle.stm_core.specs.Client.{Client, Record, Stamp, before, inserted, merged, of_renewal, shed, writes_to, word_before, value_fetched, checked, locked, ticked, looked, version_of}
-use Rattle.stm_core.specs.Event.{Action, check, lock, tick, validate, finish, committed_by, stepping, failing, read_too, holding, versioned, decides_at_once, won, passes, passing, after, writer_record, reader_record}
+use Rattle.stm_core.specs.Client.{Client, Record, Stamp, before, inserted, merged, of_renewal, shed, writes_to, word_before, value_fetched, checked, locked, ticked, validated, version_of}
+use Rattle.stm_core.specs.Event.{Action, check, lock, tick, validate, finish, committed_by, stepping, failing, read_too, holding, versioned, decides_at_once, won, passes, passing, after, writer_record, reader_record, with_ticks, marking, counting}
 use Rattle.stm_core.specs.Invariant.{Sorted}
 use Rattle.stm_core.proofs.Lists.{nothing_in, in_snoc}
 use Rattle.stm_core.proofs.Orders.{in_cons, in_merged}
@@ -105,7 +105,7 @@ pub shed_pad : (n : ℕ) (pre : List Record) (u : Client) → AllBefore n pre �
 shed_pad n pre u f g = ap (λ l. record u { records = l }) (of_padded n pre u.records f g)
 
 committed_pad : (t : Stamp) (pre : List Record) (u : Client) → AllBefore t.renewal pre → committed_by t (pad pre u) ≡ pad pre (committed_by t u)
-committed_pad t pre u f = ap (λ l. record (committed_by t u) { records = l }) (inserted_padded (writer_record t u) pre u.records f)
+committed_pad t pre u f = ap (λ l. record (committed_by t u) { records = l }) (inserted_padded (writer_record t u.attempt) pre u.records f)
 
 on_cond : {A X : Type 0} (f g : A → X) (b : Bool) (x y x' y' : A) → f x ≡ g x' → f y ≡ g y' → f (cond b x y) ≡ g (cond b x' y')
 on_cond f g true x y x' y' e k = e
@@ -114,19 +114,19 @@ on_cond f g false x y x' y' e k = k
 -- a step does not look at the records
 pub after_pad : (t : Stamp) (lk : ℕ → ℕ) (e : Action) (n : ℕ) (pre : List Record) (u : Client) → AllBefore t.renewal pre → after t lk e n (pad pre u) ≡ pad pre (after t lk e n u)
 after_pad t lk (check a) n pre u f =
-    on_cond (λ w. stepping (checked a (word_before u.last) n) w) (λ w. pad pre (stepping (checked a (word_before u.last) n) w)) (eqb n (word_before u.last)) (read_too a (value_fetched u.last) (pad pre u)) (failing (pad pre u)) (read_too a (value_fetched u.last) u) (failing u) refl refl
+    on_cond (λ w. stepping (checked a (word_before u.attempt.last) n) w) (λ w. pad pre (stepping (checked a (word_before u.attempt.last) n) w)) (eqb n (word_before u.attempt.last)) (read_too a (value_fetched u.attempt.last) (pad pre u)) (failing (pad pre u)) (read_too a (value_fetched u.attempt.last) u) (failing u) refl refl
 after_pad t lk (lock k) n pre u f =
-    on_cond (λ w. stepping (locked k (word_before u.last) n) w) (λ w. pad pre (stepping (locked k (word_before u.last) n) w)) (eqb n (word_before u.last)) (holding k (version_of n) (pad pre u)) (failing (pad pre u)) (holding k (version_of n) u) (failing u) refl refl
+    on_cond (λ w. stepping (locked k (word_before u.attempt.last) n) w) (λ w. pad pre (stepping (locked k (word_before u.attempt.last) n) w)) (eqb n (word_before u.attempt.last)) (holding k (version_of n) (pad pre u)) (failing (pad pre u)) (holding k (version_of n) u) (failing u) refl refl
 after_pad t lk (tick from tag writes) n pre u f =
     let w0 : Client = versioned t (from + 1) tag writes u in
-    on_cond (λ w. record (stepping (ticked from n) w) { ticks = u.ticks + 1; next_from = n }) (λ w. pad pre (record (stepping (ticked from n) w) { ticks = u.ticks + 1; next_from = n })) (eqb n from) (won t (from + 1) tag writes (pad pre u)) (pad pre u) (won t (from + 1) tag writes u) u
-    (on_cond (λ w. record (stepping (ticked from n) w) { ticks = u.ticks + 1; next_from = n }) (λ w. pad pre (record (stepping (ticked from n) w) { ticks = u.ticks + 1; next_from = n })) (decides_at_once w0) (committed_by t (pad pre w0)) (pad pre w0) (committed_by t w0) w0
-    (ap (λ w. record (stepping (ticked from n) w) { ticks = u.ticks + 1; next_from = n }) (committed_pad t pre w0 f)) refl) refl
+    on_cond (λ w. with_ticks (u.attempt.ticks + 1) n (stepping (ticked from n) w)) (λ w. pad pre (with_ticks (u.attempt.ticks + 1) n (stepping (ticked from n) w))) (eqb n from) (won t (from + 1) tag writes (pad pre u)) (pad pre u) (won t (from + 1) tag writes u) u
+    (on_cond (λ w. with_ticks (u.attempt.ticks + 1) n (stepping (ticked from n) w)) (λ w. pad pre (with_ticks (u.attempt.ticks + 1) n (stepping (ticked from n) w))) (decides_at_once w0) (committed_by t (pad pre w0)) (pad pre w0) (committed_by t w0) w0
+    (ap (λ w. with_ticks (u.attempt.ticks + 1) n (stepping (ticked from n) w)) (committed_pad t pre w0 f)) refl) refl
 after_pad t lk (validate k) n pre u f =
-    let w0 : Client = record u { passed = u.passed + 1 } in
-    on_cond (λ w. record (stepping (looked k n) w) { mine = writes_to u.held k }) (λ w. pad pre (record (stepping (looked k n) w) { mine = writes_to u.held k })) (passes k n u) (passing t (pad pre u)) (failing (pad pre u)) (passing t u) (failing u)
-    (on_cond (λ w. record (stepping (looked k n) w) { mine = writes_to u.held k }) (λ w. pad pre (record (stepping (looked k n) w) { mine = writes_to u.held k })) (eqb w0.passed (length u.reads)) (committed_by t (pad pre w0)) (pad pre w0) (committed_by t w0) w0
-    (ap (λ w. record (stepping (looked k n) w) { mine = writes_to u.held k }) (committed_pad t pre w0 f)) refl) refl
+    let w0 : Client = counting u in
+    on_cond (λ w. marking (writes_to u.attempt.held k) (stepping (validated k n) w)) (λ w. pad pre (marking (writes_to u.attempt.held k) (stepping (validated k n) w))) (passes k n u) (passing t (pad pre u)) (failing (pad pre u)) (passing t u) (failing u)
+    (on_cond (λ w. marking (writes_to u.attempt.held k) (stepping (validated k n) w)) (λ w. pad pre (marking (writes_to u.attempt.held k) (stepping (validated k n) w))) (eqb w0.attempt.passed (length u.attempt.reads)) (committed_by t (pad pre w0)) (pad pre w0) (committed_by t w0) w0
+    (ap (λ w. marking (writes_to u.attempt.held k) (stepping (validated k n) w)) (committed_pad t pre w0 f)) refl) refl
 after_pad t lk (finish tag) n pre u f =
-    ap (λ l. record (after t lk (finish tag) n u) { records = l }) (inserted_padded (reader_record t tag u) pre u.records f)
+    ap (λ l. record (after t lk (finish tag) n u) { records = l }) (inserted_padded (reader_record t tag u.attempt) pre u.records f)
 after_pad t lk _ n pre u f = refl

@@ -58,25 +58,25 @@ module _ (lawful : List ℕ → List (ℕ × ℕ) → List (ℕ × ℕ) → Type
   image_by rs g v a l = image_is c.opening h.story rs c.opening 0 v a g zero-le l
 
   -- what an attempt has read is in the image of its read version
-  pub agrees_by : (rs : List Record) → Ahead c.opening h.story rs c.opening 0 → (i : ℕ) (v : Client) → At c.clients i v → Agrees (image_at c.opening v.rv rs) v.reads
+  pub agrees_by : (rs : List Record) → Ahead c.opening h.story rs c.opening 0 → (i : ℕ) (v : Client) → At c.clients i v → Agrees (image_at c.opening v.attempt.rv rs) v.attempt.reads
   agrees_by rs g i v e a x m =
       let l = (h.filed.filed i v e).reads a x m in
-      (rw (image_length c.opening h.story rs c.opening v.rv) l, image_by rs g v.rv a l ∙ ((h.version.sound i v e).agrees v.rv a x (runs refl m)).0)
+      (rw (image_length c.opening h.story rs c.opening v.attempt.rv) l, image_by rs g v.attempt.rv a l ∙ ((h.version.sound i v e).agrees v.attempt.rv a x (runs refl m)).0)
 
-  pub one_version : (i : ℕ) (v : Client) → At c.clients i v → Agrees (image_at c.opening v.rv (all_records c.clients)) v.reads
+  pub one_version : (i : ℕ) (v : Client) → At c.clients i v → Agrees (image_at c.opening v.attempt.rv (all_records c.clients)) v.attempt.reads
   one_version i v e = agrees_by (all_records c.clients) ahead i v e
 
   -- under a law that keeps what fits, some fitting image of the size agrees with the reads of an attempt
-  pub some_fits : (fits : List ℕ → Type 0) → ((tag m : List ℕ) (reads writes : List (ℕ × ℕ)) → fits m → Agrees m reads → lawful tag reads writes → fits (laid m writes)) → fits c.opening → (i : ℕ) (v : Client) → At c.clients i v → SomeFits fits (length c.opening) v.reads
+  pub some_fits : (fits : List ℕ → Type 0) → ((tag m : List ℕ) (reads writes : List (ℕ × ℕ)) → fits m → Agrees m reads → lawful tag reads writes → fits (laid m writes)) → fits c.opening → (i : ℕ) (v : Client) → At c.clients i v → SomeFits fits (length c.opening) v.attempt.reads
   some_fits fits keeps k i v e = (
-    image_at c.opening v.rv (all_records c.clients),
-    image_fits c.opening h.story fits lawful keeps (all_records c.clients) c.opening 0 v.rv ahead all_lawful k,
-    image_length c.opening h.story (all_records c.clients) c.opening v.rv,
+    image_at c.opening v.attempt.rv (all_records c.clients),
+    image_fits c.opening h.story fits lawful keeps (all_records c.clients) c.opening 0 v.attempt.rv ahead all_lawful k,
+    image_length c.opening h.story (all_records c.clients) c.opening v.attempt.rv,
     one_version i v e,
   )
 
   -- where nobody holds a lock, the data words are the newest image
-  pub cells_by : (rs : List Record) → Ahead c.opening h.story rs c.opening 0 → ((r : Record) → In r rs → (i : ℕ) × (v : Client) × At c.clients i v × In r v.records) → ((i : ℕ) (v : Client) → At c.clients i v → v.held ≡ []) → c.cells ≡ image_after c.opening rs
+  pub cells_by : (rs : List Record) → Ahead c.opening h.story rs c.opening 0 → ((r : Record) → In r rs → (i : ℕ) × (v : Client) × At c.clients i v × In r v.records) → ((i : ℕ) (v : Client) → At c.clients i v → v.attempt.held ≡ []) → c.cells ≡ image_after c.opening rs
   cells_by rs g back free =
       let newest : image_at c.opening c.clock rs ≡ image_after c.opening rs = image_last c.opening h.story rs c.opening c.clock (λ r i. let q = back r i in (h.version.sound q.0 q.1 q.2).recorded r q.3) in
       ext_get_or 0 c.cells (image_at c.opening c.clock rs) (h.size ∙ sym (image_length c.opening h.story rs c.opening c.clock))
@@ -101,7 +101,7 @@ module _ (lawful : List ℕ → List (ℕ × ℕ) → List (ℕ × ℕ) → Type
   pub alone : (i : ℕ) (v : Client) → At c.clients i v → IsFreeHanded v → ((j : ℕ) (w : Client) → At c.clients j w → j ≢ i → w.spent ≡ true) → (all_records c.clients ≡ v.records) × (c.cells ≡ image_after c.opening v.records)
   alone i v e free spent =
       let mine = alone_all c.clients i v e (h.filed.filed i v e).ordered (λ j w f n. ((h.filed.filed j w f).gone (spent j w f n)).0) in
-      (mine, cells_by (all_records c.clients) ahead (λ r m. in_all c.clients r m) (λ j w f. dite (ℕ_discrete j i) (λ z. ap (λ (y : Client). y.held) (same_at c.clients i w v (subst (λ n. At c.clients n w) z f) e) ∙ free.1) (λ n. ((h.filed.filed j w f).gone (spent j w f n)).1)) ∙ ap (image_after c.opening) mine)
+      (mine, cells_by (all_records c.clients) ahead (λ r m. in_all c.clients r m) (λ j w f. dite (ℕ_discrete j i) (λ z. ap (λ (y : Client). y.attempt.held) (same_at c.clients i w v (subst (λ n. At c.clients n w) z f) e) ∙ free.1) (λ n. ((h.filed.filed j w f).gone (spent j w f n)).1)) ∙ ap (image_after c.opening) mine)
 
   pub alone_serial : (i : ℕ) (v : Client) → At c.clients i v → IsFreeHanded v → ((j : ℕ) (w : Client) → At c.clients j w → j ≢ i → w.spent ≡ true) → Serial c.opening v.records
   alone_serial i v e free spent = subst (Serial c.opening) (alone i v e free spent).0 all_serial

@@ -5,8 +5,8 @@ use lib.ListN.{get_elem?}
 use Rattle.std.proofs.lemmas.Bool.Decides.{nat_tests}
 use Rattle.std.proofs.lemmas.List.{length-replicate}
 use Rattle.stm_words.specs.Image.{In}
-use Rattle.stm_core.specs.Client.{shed, Client, Record, Stamp, checked, locked, ticked, looked, version_of, word_before, value_fetched, writes_to, old_version, is_committed}
-use Rattle.stm_core.specs.Event.{Action, begin, probe, fetch, check, lock, tick, validate, put, release, give_back, finish, committed_by, stepping, failing, read_too, holding, versioned, decides_at_once, won, passes, passing, after, giving, fresh, taking, renewing, gone, MayAct}
+use Rattle.stm_core.specs.Client.{shed, Client, Record, Stamp, checked, locked, ticked, validated, version_of, word_before, value_fetched, writes_to, old_version, is_committed}
+use Rattle.stm_core.specs.Event.{Action, begin, probe, fetch, check, lock, tick, validate, put, release, give_back, finish, committed_by, stepping, failing, read_too, holding, versioned, decides_at_once, won, passes, passing, after, giving, fresh, taking, renewing, gone, MayAct, with_ticks, marking, counting}
 use Rattle.stm_core.specs.History.{ByPoint}
 use Rattle.stm_core.specs.Core.{Core, bounds_of, found, left, written, Event, acts, splits, gathers, renews, IsClient, IsAlone, Allowed, client_of, played, Leads, opened}
 use Rattle.stm_core.specs.Theorem.{stripe_of, free_law, IsHistory}
@@ -55,21 +55,21 @@ left_shown begin n v = refl
 left_shown _ n v = refl
 
 after_shown : (t : Stamp) (lk : ℕ → ℕ) (e : Action) (n : ℕ) (v : Client) → blank (after t lk e n v) ≡ seat_after t.place e n (blank v)
-after_shown t lk (check a) n v = by_case (λ b. blank (stepping (checked a (word_before v.last) n) (cond b (read_too a (value_fetched v.last) v) (failing v))) ≡ blank (stepping (checked a (word_before v.last) n) (cond b (read_too a (value_fetched v.last) (blank v)) (failing (blank v))))) (eqb n (word_before v.last)) (λ e. refl) (λ e. refl)
-after_shown t lk (lock k) n v = by_case (λ b. blank (stepping (locked k (word_before v.last) n) (cond b (holding k (version_of n) v) (failing v))) ≡ blank (stepping (locked k (word_before v.last) n) (cond b (holding k (version_of n) (blank v)) (failing (blank v))))) (eqb n (word_before v.last)) (λ e. refl) (λ e. refl)
+after_shown t lk (check a) n v = by_case (λ b. blank (stepping (checked a (word_before v.attempt.last) n) (cond b (read_too a (value_fetched v.attempt.last) v) (failing v))) ≡ blank (stepping (checked a (word_before v.attempt.last) n) (cond b (read_too a (value_fetched v.attempt.last) (blank v)) (failing (blank v))))) (eqb n (word_before v.attempt.last)) (λ e. refl) (λ e. refl)
+after_shown t lk (lock k) n v = by_case (λ b. blank (stepping (locked k (word_before v.attempt.last) n) (cond b (holding k (version_of n) v) (failing v))) ≡ blank (stepping (locked k (word_before v.attempt.last) n) (cond b (holding k (version_of n) (blank v)) (failing (blank v))))) (eqb n (word_before v.attempt.last)) (λ e. refl) (λ e. refl)
 after_shown t lk (tick from tag writes) n v =
     let u : Stamp = record { client = 0; place = t.place; renewal = 0 } in
     let w = versioned t (from + 1) tag writes v in
     let w' = versioned u (from + 1) tag writes (blank v) in
-    by_case (λ b. blank (record (stepping (ticked from n) (cond b (won t (from + 1) tag writes v) v)) { ticks = v.ticks + 1; next_from = n }) ≡ blank (record (stepping (ticked from n) (cond b (won u (from + 1) tag writes (blank v)) (blank v))) { ticks = v.ticks + 1; next_from = n })) (eqb n from)
-    (λ e. by_case (λ b. blank (record (stepping (ticked from n) (cond b (committed_by t w) w)) { ticks = v.ticks + 1; next_from = n }) ≡ blank (record (stepping (ticked from n) (cond b (committed_by u w') w')) { ticks = v.ticks + 1; next_from = n })) (decides_at_once w) (λ z. refl) (λ z. refl))
+    by_case (λ b. blank (with_ticks (v.attempt.ticks + 1) n (stepping (ticked from n) (cond b (won t (from + 1) tag writes v) v))) ≡ blank (with_ticks (v.attempt.ticks + 1) n (stepping (ticked from n) (cond b (won u (from + 1) tag writes (blank v)) (blank v))))) (eqb n from)
+    (λ e. by_case (λ b. blank (with_ticks (v.attempt.ticks + 1) n (stepping (ticked from n) (cond b (committed_by t w) w))) ≡ blank (with_ticks (v.attempt.ticks + 1) n (stepping (ticked from n) (cond b (committed_by u w') w')))) (decides_at_once w) (λ z. refl) (λ z. refl))
     (λ e. refl)
 after_shown t lk (validate k) n v =
     let u : Stamp = record { client = 0; place = t.place; renewal = 0 } in
-    let w : Client = record v { passed = v.passed + 1 } in
-    let w' : Client = record (blank v) { passed = v.passed + 1 } in
-    by_case (λ b. blank (record (stepping (looked k n) (cond b (passing t v) (failing v))) { mine = writes_to v.held k }) ≡ blank (record (stepping (looked k n) (cond b (passing u (blank v)) (failing (blank v)))) { mine = writes_to v.held k })) (passes k n v)
-    (λ e. by_case (λ b. blank (record (stepping (looked k n) (cond b (committed_by t w) w)) { mine = writes_to v.held k }) ≡ blank (record (stepping (looked k n) (cond b (committed_by u w') w')) { mine = writes_to v.held k })) (eqb (v.passed + 1) (length v.reads)) (λ z. refl) (λ z. refl))
+    let w : Client = counting v in
+    let w' : Client = counting (blank v) in
+    by_case (λ b. blank (marking (writes_to v.attempt.held k) (stepping (validated k n) (cond b (passing t v) (failing v)))) ≡ blank (marking (writes_to v.attempt.held k) (stepping (validated k n) (cond b (passing u (blank v)) (failing (blank v)))))) (passes k n v)
+    (λ e. by_case (λ b. blank (marking (writes_to v.attempt.held k) (stepping (validated k n) (cond b (committed_by t w) w))) ≡ blank (marking (writes_to v.attempt.held k) (stepping (validated k n) (cond b (committed_by u w') w')))) (eqb (v.attempt.passed + 1) (length v.attempt.reads)) (λ z. refl) (λ z. refl))
     (λ e. refl)
 after_shown t lk _ n v = refl
 
@@ -134,7 +134,7 @@ last_found_shown c k = rw (map_length c.clients, client_shown c k) refl
 may_shown : (e : Event) (c : Core) → may_play e (shown c) ≡ may_play e c
 may_shown (acts k e) c = rw (out_shown c k, client_shown c k) (ap (λ b. is_out c k && b) (same e))
   where
-    same : (e : Action) → may_act (bounds_of c) e (blank (client_of c k)) ≡ may_act (bounds_of c) e (client_of c k)
+    same : (e : Action) → may_act (bounds_of c) e (blank (client_of c k)).attempt ≡ may_act (bounds_of c) e (client_of c k).attempt
     same begin = refl
     same (probe n) = refl
     same (fetch a) = refl
@@ -194,29 +194,29 @@ client_is c k v h = sym (get_is c.clients (k - 1) v gone h.1)
 -- the running core allows just the events that are allowed
 pub play_test : (e : Event) (c : Core) → Decides (may_play e c) (Allowed free_law (stripes_of c) e c)
 play_test (acts k e) c = through (λ p. (client_of c k, p.0.0, (p.0.1, p.1)))
-    (λ p. subst (λ (v : Client). (IsClient c k v × (v.spent ≡ false)) × MayAct free_law (stripes_of c) (bounds_of c) e v) (client_is c k p.0 p.1) ((p.1, p.2.0), p.2.1))
+    (λ p. subst (λ (v : Client). (IsClient c k v × (v.spent ≡ false)) × MayAct free_law (stripes_of c) (bounds_of c) e v.attempt) (client_is c k p.0 p.1) ((p.1, p.2.0), p.2.1))
     (and2 (out_test c k) (act_test (bounds_of c) (client_of c k) e))
 play_test (splits k) c = through (λ p. (client_of c k, p.0.0, (p.0.1, p.1), p.2, p.3))
-    (λ p. subst (λ (v : Client). (IsClient c k v × (v.spent ≡ false)) × (v.held ≡ []) × (0 < v.grants) × (length c.clients < 2 ^ 32 - 1)) (client_is c k p.0 p.1) ((p.1, p.2.0), p.2.1, p.3, p.4))
-    (and4 (out_test c k) (empty_test (client_of c k).held) (lt_test 0 (client_of c k).grants) (lt_test (length c.clients) (2 ^ 32 - 1)))
+    (λ p. subst (λ (v : Client). (IsClient c k v × (v.spent ≡ false)) × (v.attempt.held ≡ []) × (0 < v.grants) × (length c.clients < 2 ^ 32 - 1)) (client_is c k p.0 p.1) ((p.1, p.2.0), p.2.1, p.3, p.4))
+    (and4 (out_test c k) (empty_test (client_of c k).attempt.held) (lt_test 0 (client_of c k).grants) (lt_test (length c.clients) (2 ^ 32 - 1)))
 play_test (gathers k j) c = through (λ p. (client_of c k, client_of c j, p.0.0, p.1.0, p.2, (p.0.1, p.3), (p.1.1, p.4)))
     (λ p. (
       subst (λ (v : Client). IsClient c k v × (v.spent ≡ false)) (client_is c k p.0 p.2) (p.2, p.5.0),
       subst (λ (v : Client). IsClient c j v × (v.spent ≡ false)) (client_is c j p.1 p.3) (p.3, p.6.0),
       p.4,
-      subst (λ (v : Client). v.held ≡ []) (client_is c k p.0 p.2) p.5.1,
-      subst (λ (v : Client). v.held ≡ []) (client_is c j p.1 p.3) p.6.1,
+      subst (λ (v : Client). v.attempt.held ≡ []) (client_is c k p.0 p.2) p.5.1,
+      subst (λ (v : Client). v.attempt.held ≡ []) (client_is c j p.1 p.3) p.6.1,
     ))
-    (and5 (out_test c k) (out_test c j) (not_test (eq_test k j)) (empty_test (client_of c k).held) (empty_test (client_of c j).held))
+    (and5 (out_test c k) (out_test c j) (not_test (eq_test k j)) (empty_test (client_of c k).attempt.held) (empty_test (client_of c j).attempt.held))
 play_test (renews k last) c = through (λ p. (client_of c k, p.0.0.0, (p.0.0.1, p.0.1), p.0.2, p.0.3, p.0.4, p.1))
-    (λ p. (subst (λ (v : Client). (IsClient c k v × (v.spent ≡ false)) × (v.held ≡ []) × IsAlone c (k - 1) × (1 ≤ last) × (last < 2 ^ 62)) (client_is c k p.0 p.1) ((p.1, p.2.0), p.2.1, p.3, p.4, p.5), p.6))
-    (and2 (and5 (out_test c k) (empty_test (client_of c k).held) (others_test c.clients (k - 1)) (le_test 1 last) (lt_test last (2 ^ 62))) (lt_test c.renewal 65535))
+    (λ p. (subst (λ (v : Client). (IsClient c k v × (v.spent ≡ false)) × (v.attempt.held ≡ []) × IsAlone c (k - 1) × (1 ≤ last) × (last < 2 ^ 62)) (client_is c k p.0 p.1) ((p.1, p.2.0), p.2.1, p.3, p.4, p.5), p.6))
+    (and2 (and5 (out_test c k) (empty_test (client_of c k).attempt.held) (others_test c.clients (k - 1)) (le_test 1 last) (lt_test last (2 ^ 62))) (lt_test c.renewal 65535))
 
 locks_stay : (lk : ℕ → ℕ) (e : Event) (c : Core) → length (played lk e c).locks ≡ length c.locks
 locks_stay lk (acts k begin) c = refl
 locks_stay lk (acts k (lock n)) c = length-set c.locks n (left (lock n) (found lk c (lock n)) (client_of c k))
-locks_stay lk (acts k (release n)) c = length-set c.locks n (2 * (client_of c k).wv)
-locks_stay lk (acts k (give_back n)) c = length-set c.locks n (2 * old_version (client_of c k).held n)
+locks_stay lk (acts k (release n)) c = length-set c.locks n (2 * (client_of c k).attempt.wv)
+locks_stay lk (acts k (give_back n)) c = length-set c.locks n (2 * old_version (client_of c k).attempt.held n)
 locks_stay lk (renews k last) c = length-replicate (length c.locks) 0
 locks_stay lk _ c = refl
 
@@ -247,24 +247,24 @@ old_none (p ∷ ps) k h = go (eqb p.0 k) refl (λ e. old_none ps k e)
     go false e f = rw e (f (subst (λ b. (b || writes_to ps k) ≡ false) e h))
 
 module _ (c : Core) (h : Inv free_law (stripes_of c) c) (low : c.last < 2 ^ 62) (some' : 0 < length c.locks) where
-  lock_inside : (k j : ℕ) → writes_to (client_of c k).held j ≡ true → j < length c.locks
+  lock_inside : (k j : ℕ) → writes_to (client_of c k).attempt.held j ≡ true → j < length c.locks
   lock_inside k j t = ⊎_elim
-      (λ at. word_inside c.locks j (2 * old_version (client_of c k).held j) ((h.books.booked (k - 1) (client_of c k) at).listed j (old_version (client_of c k).held j) (old_in (client_of c k).held j t) ∙ omega arith))
-      (λ g. clash t (ap (λ (z : Client). writes_to z.held j) g)) (client_cases c k)
+      (λ at. word_inside c.locks j (2 * old_version (client_of c k).attempt.held j) ((h.books.booked (k - 1) (client_of c k) at).listed j (old_version (client_of c k).attempt.held j) (old_in (client_of c k).attempt.held j t) ∙ omega arith))
+      (λ g. clash t (ap (λ (z : Client). writes_to z.attempt.held j) g)) (client_cases c k)
 
-  cell_inside : (k a x : ℕ) → is_committed (client_of c k).phase ≡ true → In (a, x) (client_of c k).writes → a < length c.cells
+  cell_inside : (k a x : ℕ) → is_committed (client_of c k).attempt.phase ≡ true → In (a, x) (client_of c k).attempt.writes → a < length c.cells
   cell_inside k a x t i = ⊎_elim
       (λ at. let z = ((h.books.booked (k - 1) (client_of c k) at).told t).0 in let l = ((h.filed.filed (k - 1) (client_of c k) at).writes z).0 a x i in (let e = h.size in omega arith))
-      (λ g. absurd (nothing_in (a, x) (subst (λ (z : Client). In (a, x) z.writes) g i))) (client_cases c k)
+      (λ g. absurd (nothing_in (a, x) (subst (λ (z : Client). In (a, x) z.attempt.writes) g i))) (client_cases c k)
 
-  small_version : (k : ℕ) → (client_of c k).wv < 2 ^ 62
-  small_version k = ⊎_elim (λ at. (let a = (h.version.sound (k - 1) (client_of c k) at).wv in let b = h.bounded in omega arith)) (λ g. subst (λ (z : Client). z.wv < 2 ^ 62) (sym g) (omega arith)) (client_cases c k)
+  small_version : (k : ℕ) → (client_of c k).attempt.wv < 2 ^ 62
+  small_version k = ⊎_elim (λ at. (let a = (h.version.sound (k - 1) (client_of c k) at).wv in let b = h.bounded in omega arith)) (λ g. subst (λ (z : Client). z.attempt.wv < 2 ^ 62) (sym g) (omega arith)) (client_cases c k)
 
-  small_old : (k j : ℕ) → old_version (client_of c k).held j < 2 ^ 62
-  small_old k j = by_bool (writes_to (client_of c k).held j)
-      (λ t. ⊎_elim (λ at. (let a = (h.books.booked (k - 1) (client_of c k) at).listed j (old_version (client_of c k).held j) (old_in (client_of c k).held j t) in let b = h.version.versions j in let d = h.bounded in omega arith))
-      (λ g. clash t (ap (λ (z : Client). writes_to z.held j) g)) (client_cases c k))
-      (λ f. (let e = old_none (client_of c k).held j f in omega arith))
+  small_old : (k j : ℕ) → old_version (client_of c k).attempt.held j < 2 ^ 62
+  small_old k j = by_bool (writes_to (client_of c k).attempt.held j)
+      (λ t. ⊎_elim (λ at. (let a = (h.books.booked (k - 1) (client_of c k) at).listed j (old_version (client_of c k).attempt.held j) (old_in (client_of c k).attempt.held j t) in let b = h.version.versions j in let d = h.bounded in omega arith))
+      (λ g. clash t (ap (λ (z : Client). writes_to z.attempt.held j) g)) (client_cases c k))
+      (λ f. (let e = old_none (client_of c k).attempt.held j f in omega arith))
 
   few_grants : (k j : ℕ) → k ≢ j → is_out c k ≡ true → is_out c j ≡ true → (client_of c k).grants + (client_of c j).grants + 1 ≤ 63
   few_grants k j n o p = let a = (out_test c k).sound o in let b = (out_test c j).sound p in grants_of_two free_law (stripes_of c) c h (k - 1) (j - 1) (client_of c k) (client_of c j) (λ e. n (let x = a.0.0 in let y = b.0.0 in omega arith)) a.0.1 b.0.1 a.1 b.1
@@ -273,10 +273,10 @@ module _ (c : Core) (h : Inv free_law (stripes_of c) c) (low : c.last < 2 ^ 62) 
   sane_shown = record {
     last = low;
     some = some';
-    held = λ k j t. lock_inside k j (subst (λ (z : Client). writes_to z.held j ≡ true) (client_shown c k) t);
-    written = λ k a x t i. cell_inside k a x (subst (λ (z : Client). is_committed z.phase ≡ true) (client_shown c k) t) (subst (λ (z : Client). In (a, x) z.writes) (client_shown c k) i);
-    versions = λ k. subst (λ (z : Client). z.wv < 2 ^ 62) (sym (client_shown c k)) (small_version k);
-    old = λ k j. subst (λ (z : Client). old_version z.held j < 2 ^ 62) (sym (client_shown c k)) (small_old k j);
+    held = λ k j t. lock_inside k j (subst (λ (z : Client). writes_to z.attempt.held j ≡ true) (client_shown c k) t);
+    written = λ k a x t i. cell_inside k a x (subst (λ (z : Client). is_committed z.attempt.phase ≡ true) (client_shown c k) t) (subst (λ (z : Client). In (a, x) z.attempt.writes) (client_shown c k) i);
+    versions = λ k. subst (λ (z : Client). z.attempt.wv < 2 ^ 62) (sym (client_shown c k)) (small_version k);
+    old = λ k j. subst (λ (z : Client). old_version z.attempt.held j < 2 ^ 62) (sym (client_shown c k)) (small_old k j);
     grants = λ k j n o p. rw (client_shown c k, client_shown c j) (few_grants k j n (sym (out_shown c k) ∙ o) (sym (out_shown c j) ∙ p));
   }
 

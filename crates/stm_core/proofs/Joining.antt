@@ -20,16 +20,16 @@ use Rattle.stm_core.proofs.Clearing.{clear_keeps}
 use Rattle.stm_core.proofs.Sums.{sum_set, sum_snoc, share_of}
 use Rattle.stm_core.proofs.Steps.{heart_of, same_files}
 
-module _ (lk : ℕ → ℕ) (s : World) (cs : List Client) (w : Client) (h : Heart lk s cs) (held : w.held ≡ []) (wv : w.wv ≡ 0) (reads : w.reads ≡ []) (records : w.records ≡ []) (phase : decided w ≡ false) (rv : w.rv ≡ 0) (floor : w.floor ≤ s.clock) (last : w.last ≡ nothing) where
+module _ (lk : ℕ → ℕ) (s : World) (cs : List Client) (w : Client) (h : Heart lk s cs) (held : w.attempt.held ≡ []) (wv : w.attempt.wv ≡ 0) (reads : w.attempt.reads ≡ []) (records : w.records ≡ []) (phase : decided w ≡ false) (rv : w.attempt.rv ≡ 0) (floor : w.floor ≤ s.clock) (last : w.attempt.last ≡ nothing) where
   no_claim : (b a x : ℕ) → Claims w b a x → ⊥
   no_claim b a x (runs e i) = nothing_in (a, x) (subst (In (a, x)) reads i)
   no_claim b a x (passes e j l i) = (let z : suc b ≡ 0 = e ∙ wv in omega arith)
   no_claim b a x (noted r i e m) = nothing_in r (subst (In r) records i)
 
-  no_lock : (k u : ℕ) → In (k, u) w.held → ⊥
+  no_lock : (k u : ℕ) → In (k, u) w.attempt.held → ⊥
   no_lock k u i = nothing_in (k, u) (subst (In (k, u)) held i)
 
-  no_version : 0 < w.wv → ⊥
+  no_version : 0 < w.attempt.wv → ⊥
   no_version z = (let e = wv in omega arith)
 
   who : (P : ℕ → Client → Type 0) → ((i : ℕ) → P i w) → ((i : ℕ) (o : Client) → At cs i o → P i o) → (i : ℕ) (o : Client) → At (cs ++ w ∷ []) i o → P i o
@@ -40,14 +40,14 @@ module _ (lk : ℕ → ℕ) (s : World) (cs : List Client) (w : Client) (h : Hea
   longer_keeps = record {
     version = record {
       versions = h.version.versions;
-      own = λ i j o p e f z same. who (λ y c. 0 < c.wv → c.wv ≡ p.wv → y ≡ j) (λ y z'. absurd (no_version z'))
-          (λ y c at z' same'. who (λ n d. c.wv ≡ d.wv → y ≡ n) (λ n q. absurd (no_version (let q' : c.wv ≡ w.wv = q in omega arith))) (λ n d at' q. h.version.own y n c d at at' z' q) j p f same') i o e z same;
+      own = λ i j o p e f z same. who (λ y c. 0 < c.attempt.wv → c.attempt.wv ≡ p.attempt.wv → y ≡ j) (λ y z'. absurd (no_version z'))
+          (λ y c at z' same'. who (λ n d. c.attempt.wv ≡ d.attempt.wv → y ≡ n) (λ n q. absurd (no_version (let q' : c.attempt.wv ≡ w.attempt.wv = q in omega arith))) (λ n d at' q. h.version.own y n c d at at' z' q) j p f same') i o e z same;
       free = h.version.free;
       holder = λ k odd. let q = h.version.holder k odd in (q.0, q.1, at_longer cs w q.1 q.0 q.2, q.3);
-      alone = λ i j o p k u t e f a b. who (λ y c. In (k, u) c.held → y ≡ j) (λ y g. absurd (no_lock k u g)) (λ y c at g. who (λ n d. In (k, t) d.held → y ≡ n) (λ n g'. absurd (no_lock k t g')) (λ n d at' g'. h.version.alone y n c d k u t at at' g g') j p f b) i o e a;
-      kept = λ i o k u e g. who (λ y c. In (k, u) c.held → IsKept lk s c k u) (λ y g'. absurd (no_lock k u g')) (λ y c at g'. h.version.kept y c k u at g') i o e g;
-      apart = λ i j o p b a x e f c op l. who (λ y d. Claims d b a x → writes_to p.writes a ≡ false) (λ y c'. absurd (no_claim b a x c'))
-          (λ y d at c'. who (λ n q. IsOpen q → q.wv ≤ b → writes_to q.writes a ≡ false) (λ n op'. absurd (no_version op'.0)) (λ n q at' op' l'. h.version.apart y n d q b a x at at' c' op' l') j p f op l) i o e c;
+      alone = λ i j o p k u t e f a b. who (λ y c. In (k, u) c.attempt.held → y ≡ j) (λ y g. absurd (no_lock k u g)) (λ y c at g. who (λ n d. In (k, t) d.attempt.held → y ≡ n) (λ n g'. absurd (no_lock k t g')) (λ n d at' g'. h.version.alone y n c d k u t at at' g g') j p f b) i o e a;
+      kept = λ i o k u e g. who (λ y c. In (k, u) c.attempt.held → IsKept lk s c k u) (λ y g'. absurd (no_lock k u g')) (λ y c at g'. h.version.kept y c k u at g') i o e g;
+      apart = λ i j o p b a x e f c op l. who (λ y d. Claims d b a x → writes_to p.attempt.writes a ≡ false) (λ y c'. absurd (no_claim b a x c'))
+          (λ y d at c'. who (λ n q. IsOpen q → q.attempt.wv ≤ b → writes_to q.attempt.writes a ≡ false) (λ n op'. absurd (no_version op'.0)) (λ n q at' op' l'. h.version.apart y n d q b a x at at' c' op' l') j p f op l) i o e c;
       sound = λ i o e. who (λ y c. IsSound lk s c) (λ y. new_sound) (λ y c at. h.version.sound y c at) i o e;
     };
     books = record {
@@ -67,7 +67,7 @@ module _ (lk : ℕ → ℕ) (s : World) (cs : List Client) (w : Client) (h : Hea
         locked = λ o. absurd (no_version o.0);
         pending = λ d. clash d phase;
         above = λ k u i. absurd (no_lock k u i);
-        saw = subst (Saw lk s w.rv) (sym last) tt;
+        saw = subst (Saw lk s w.attempt.rv) (sym last) tt;
       }
 
       new_booked : IsBooked lk s w
@@ -81,7 +81,7 @@ module _ (lk : ℕ → ℕ) (s : World) (cs : List Client) (w : Client) (h : Hea
 
 module _ (lawful : List ℕ → List (ℕ × ℕ) → List (ℕ × ℕ) → Type 0) (size renewal : ℕ) (story : List (List (ℕ × ℕ))) where
   -- a client that has nothing is filed
-  blank_filed : (w : Client) → w.held ≡ [] → w.wv ≡ 0 → w.reads ≡ [] → w.records ≡ [] → decided w ≡ false → IsFiled lawful size renewal story w
+  blank_filed : (w : Client) → w.attempt.held ≡ [] → w.attempt.wv ≡ 0 → w.attempt.reads ≡ [] → w.records ≡ [] → decided w ≡ false → IsFiled lawful size renewal story w
   blank_filed w held wv reads records phase = record {
     ordered = rw records tt;
     told = λ r m. absurd (nothing_in r (subst (In r) records m));
@@ -92,13 +92,13 @@ module _ (lawful : List ℕ → List (ℕ × ℕ) → List (ℕ × ℕ) → Type
     gone = λ s. (records, held);
   }
 
-  pub longer_files : (clock : ℕ) (cs : List Client) (w : Client) → Filed lawful size renewal story clock cs → w.held ≡ [] → w.wv ≡ 0 → w.reads ≡ [] → w.records ≡ [] → decided w ≡ false → Filed lawful size renewal story clock (cs ++ w ∷ [])
+  pub longer_files : (clock : ℕ) (cs : List Client) (w : Client) → Filed lawful size renewal story clock cs → w.attempt.held ≡ [] → w.attempt.wv ≡ 0 → w.attempt.reads ≡ [] → w.records ≡ [] → decided w ≡ false → Filed lawful size renewal story clock (cs ++ w ∷ [])
   longer_files clock cs w h held wv reads records phase = record {
     filed = λ i o e. who (λ y c. IsFiled lawful size renewal story c) (λ y. blank_filed w held wv reads records phase) (λ y c at. h.filed y c at) i o e;
     versions = h.versions;
-    unwritten = λ i j o p r e f m t op. who (λ y c. In r c.records → r.version ≢ p.wv) (λ y m'. absurd (no_record r m'))
-        (λ y c at m'. who (λ n d. IsOpen d → r.version ≢ d.wv) (λ n op'. absurd (closed op')) (λ n d at' op'. h.unwritten y n c d r at at' m' t op') j p f op) i o e m;
-    empty = λ i o e op. who (λ y c. IsOpen c → get_elem? story (c.wv - 1) ≡ some []) (λ y op'. absurd (closed op')) (λ y c at op'. h.empty y c at op') i o e op;
+    unwritten = λ i j o p r e f m t op. who (λ y c. In r c.records → r.version ≢ p.attempt.wv) (λ y m'. absurd (no_record r m'))
+        (λ y c at m'. who (λ n d. IsOpen d → r.version ≢ d.attempt.wv) (λ n op'. absurd (closed op')) (λ n d at' op'. h.unwritten y n c d r at at' m' t op') j p f op) i o e m;
+    empty = λ i o e op. who (λ y c. IsOpen c → get_elem? story (c.attempt.wv - 1) ≡ some []) (λ y op'. absurd (closed op')) (λ y c at op'. h.empty y c at op') i o e op;
     once = λ i j o p r x e f n m m' t t'. who (λ y c. y ≢ j → In r c.records → r.version ≢ x.version) (λ y n' a. absurd (no_record r a))
         (λ y c at n' a. who (λ z d. y ≢ z → In x d.records → r.version ≢ x.version) (λ z q b. absurd (no_record x b)) (λ z d at' q b. h.once y z c d r x at at' q a b t t') j p f n' m') i o e n m;
     complete = λ u ws e n. let q = h.complete u ws e n in (q.0, q.1, q.2, at_longer cs w q.1 q.0 q.3, q.4, q.5, q.6);
@@ -115,7 +115,7 @@ module _ (lawful : List ℕ → List (ℕ × ℕ) → List (ℕ × ℕ) → Type
 
   -- two clients' records come together
   module _ (clock : ℕ) (cs : List Client) (i j : ℕ) (v w new none : Client) (h : Filed lawful size renewal story clock cs) (at : At cs i v) (to : At cs j w) (ne : i ≢ j) (records : new.records ≡ merged v.records w.records)
-      (spent : new.spent ≡ false) (wv : new.wv ≡ v.wv) (writes : new.writes ≡ v.writes) (tag : new.tag ≡ v.tag) (phase : decided new ≡ decided v) (reads : new.reads ≡ v.reads) (none_held : none.held ≡ []) (none_wv : none.wv ≡ 0) (none_reads : none.reads ≡ []) (none_records : none.records ≡ []) (none_phase : decided none ≡ false) where
+      (spent : new.spent ≡ false) (wv : new.attempt.wv ≡ v.attempt.wv) (writes : new.attempt.writes ≡ v.attempt.writes) (tag : new.attempt.tag ≡ v.attempt.tag) (phase : decided new ≡ decided v) (reads : new.attempt.reads ≡ v.attempt.reads) (none_held : none.attempt.held ≡ []) (none_wv : none.attempt.wv ≡ 0) (none_reads : none.attempt.reads ≡ []) (none_records : none.records ≡ []) (none_phase : decided none ≡ false) where
     mine : IsFiled lawful size renewal story v
     mine = h.filed i v at
 
@@ -154,10 +154,10 @@ module _ (lawful : List ℕ → List (ℕ × ℕ) → List (ℕ × ℕ) → Type
     join_files = record {
       filed = λ n o e. stands (λ y c. IsFiled lawful size renewal story c) joined (blank_filed none none_held none_wv none_reads none_records none_phase) (λ y c q a b. h.filed y c q) n o e;
       versions = h.versions;
-      unwritten = λ n m o p r e f g t op. stands (λ y c. In r c.records → r.version ≢ p.wv)
+      unwritten = λ n m o p r e f g t op. stands (λ y c. In r c.records → r.version ≢ p.attempt.wv)
           (λ g'. versions_differ r t (λ y c q opn. ⊎_elim (λ l. h.unwritten i y v c r at q l t opn) (λ l. h.unwritten j y w c r to q l t opn) (either r g')) m p f op) (λ g'. absurd (no_record r g'))
           (λ y c q a b g'. versions_differ r t (λ z d q' opn. h.unwritten y z c d r q q' g' t opn) m p f op) n o e g;
-      empty = λ n o e op. stands (λ y c. IsOpen c → get_elem? story (c.wv - 1) ≡ some []) (λ op'. rw wv (h.empty i v at (was_open op'))) (λ op'. absurd (closed op')) (λ y c q a b op'. h.empty y c q op') n o e op;
+      empty = λ n o e op. stands (λ y c. IsOpen c → get_elem? story (c.attempt.wv - 1) ≡ some []) (λ op'. rw wv (h.empty i v at (was_open op'))) (λ op'. absurd (closed op')) (λ y c q a b op'. h.empty y c q op') n o e op;
       once = λ n m o p r x e f d g g' t t'. stands (λ y c. y ≢ m → In r c.records → r.version ≢ x.version)
           (λ d' a. stands (λ z c. i ≢ z → In x c.records → r.version ≢ x.version) (λ q b. absurd (q refl)) (λ q b. absurd (no_record x b))
           (λ z c q z1 z2 d'' b. ⊎_elim (λ l. h.once i z v c r x at q (λ s. z1 (sym s)) l b t t') (λ l. h.once j z w c r x to q (λ s. z2 (sym s)) l b t t') (either r a)) m p f d' g')
@@ -173,8 +173,8 @@ module _ (lawful : List ℕ → List (ℕ × ℕ) → List (ℕ × ℕ) → Type
         was_open : IsOpen new → IsOpen v
         was_open o = (subst (λ n. 0 < n) wv o.0, sym phase ∙ o.1)
 
-        versions_differ : (r : Record) → r.writer ≡ true → ((y : ℕ) (c : Client) → At cs y c → IsOpen c → r.version ≢ c.wv) → (m : ℕ) (p : Client) → At (set (set cs i new) j none) m p → IsOpen p → r.version ≢ p.wv
-        versions_differ r t f m p e op = stands (λ z d. IsOpen d → r.version ≢ d.wv) (λ op' s. f i v at (was_open op') (s ∙ wv)) (λ op'. absurd (closed op')) (λ z d q a b op'. f z d q op') m p e op
+        versions_differ : (r : Record) → r.writer ≡ true → ((y : ℕ) (c : Client) → At cs y c → IsOpen c → r.version ≢ c.attempt.wv) → (m : ℕ) (p : Client) → At (set (set cs i new) j none) m p → IsOpen p → r.version ≢ p.attempt.wv
+        versions_differ r t f m p e op = stands (λ z d. IsOpen d → r.version ≢ d.attempt.wv) (λ op' s. f i v at (was_open op') (s ∙ wv)) (λ op'. absurd (closed op')) (λ z d q a b op'. f z d q op') m p e op
 
 module _ (lawful : List ℕ → List (ℕ × ℕ) → List (ℕ × ℕ) → Type 0) (lk : ℕ → ℕ) (c : Core) (i : ℕ) (v : Client) (h : Inv lawful lk c) (at : At c.clients i v) where
   me : IsSound lk (world c h.story) v

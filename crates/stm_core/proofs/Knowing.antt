@@ -2,8 +2,8 @@
 use Rattle.std.proofs.Common.{◌≡◌, ◌≢◌, ℕ, ◌+◌, ◌≤◌, max, false, cond, eqb, length, set, slice_index, slice_set, refl, ap, ◌∙◌, subst, arith}
 use mathlib.Core.Logic.{dite}
 use native.Mathlib.Decide.{ℕ_discrete}
-use Rattle.stm_core.specs.Client.{Client, checked, locked, ticked, looked, Stamp, version_of, word_before, value_fetched, writes_to}
-use Rattle.stm_core.specs.Event.{Action, begin, probe, fetch, check, lock, tick, validate, put, release, give_back, finish, committed_by, stepping, failing, read_too, holding, versioned, decides_at_once, won, passes, passing, after, giving, fresh, taking, gone}
+use Rattle.stm_core.specs.Client.{Client, checked, locked, ticked, validated, Stamp, version_of, word_before, value_fetched, writes_to}
+use Rattle.stm_core.specs.Event.{Action, begin, probe, fetch, check, lock, tick, validate, put, release, give_back, finish, committed_by, stepping, failing, read_too, holding, versioned, decides_at_once, won, passes, passing, after, giving, fresh, taking, gone, with_ticks, marking, counting}
 use Rattle.stm_core.specs.Core.{Core, stepped, divided, gathered}
 use Rattle.stm_core.specs.Version.{At}
 use Rattle.stm_core.specs.Invariant.{IsKnown}
@@ -31,29 +31,29 @@ module _ (lk : ℕ → ℕ) (c : Core) (k : IsKnown c.clock c.clients) (i : ℕ)
   act_known t (fetch a) = stays (after t lk (fetch a) (slice_index c.cells a) v) refl refl
   act_known t (check a) =
       let n = slice_index c.locks (lk a) in
-      by_case (λ b. IsKnown c.clock (slice_set c.clients i (stepping (checked a (word_before v.last) n) (cond b (read_too a (value_fetched v.last) v) (failing v))))) (eqb n (word_before v.last))
-      (λ e. stays (stepping (checked a (word_before v.last) n) (read_too a (value_fetched v.last) v)) refl refl)
-      (λ e. stays (stepping (checked a (word_before v.last) n) (failing v)) refl refl)
+      by_case (λ b. IsKnown c.clock (slice_set c.clients i (stepping (checked a (word_before v.attempt.last) n) (cond b (read_too a (value_fetched v.attempt.last) v) (failing v))))) (eqb n (word_before v.attempt.last))
+      (λ e. stays (stepping (checked a (word_before v.attempt.last) n) (read_too a (value_fetched v.attempt.last) v)) refl refl)
+      (λ e. stays (stepping (checked a (word_before v.attempt.last) n) (failing v)) refl refl)
   act_known t (lock j) =
       let n = slice_index c.locks j in
-      by_case (λ b. IsKnown c.clock (slice_set c.clients i (stepping (locked j (word_before v.last) n) (cond b (holding j (version_of n) v) (failing v))))) (eqb n (word_before v.last))
-      (λ e. stays (stepping (locked j (word_before v.last) n) (holding j (version_of n) v)) refl refl)
-      (λ e. stays (stepping (locked j (word_before v.last) n) (failing v)) refl refl)
+      by_case (λ b. IsKnown c.clock (slice_set c.clients i (stepping (locked j (word_before v.attempt.last) n) (cond b (holding j (version_of n) v) (failing v))))) (eqb n (word_before v.attempt.last))
+      (λ e. stays (stepping (locked j (word_before v.attempt.last) n) (holding j (version_of n) v)) refl refl)
+      (λ e. stays (stepping (locked j (word_before v.attempt.last) n) (failing v)) refl refl)
   act_known t (tick from tag writes) =
       let w0 : Client = versioned t (from + 1) tag writes v in
-      by_case (λ b. IsKnown (cond b (from + 1) c.clock) (slice_set c.clients i (record (stepping (ticked from c.clock) (cond b (won t (from + 1) tag writes v) v)) { ticks = v.ticks + 1; next_from = c.clock }))) (eqb c.clock from)
-      (λ e. by_case (λ b. IsKnown (from + 1) (slice_set c.clients i (record (stepping (ticked from c.clock) (cond b (committed_by t w0) w0)) { ticks = v.ticks + 1; next_from = c.clock }))) (decides_at_once w0)
-      (λ z. turn_known c i v at (from + 1) (record (stepping (ticked from c.clock) (committed_by t w0)) { ticks = v.ticks + 1; next_from = c.clock }) live refl)
-      (λ z. turn_known c i v at (from + 1) (record (stepping (ticked from c.clock) w0) { ticks = v.ticks + 1; next_from = c.clock }) live refl))
-      (λ e. stays (record (stepping (ticked from c.clock) v) { ticks = v.ticks + 1; next_from = c.clock }) refl refl)
+      by_case (λ b. IsKnown (cond b (from + 1) c.clock) (slice_set c.clients i (with_ticks (v.attempt.ticks + 1) c.clock (stepping (ticked from c.clock) (cond b (won t (from + 1) tag writes v) v))))) (eqb c.clock from)
+      (λ e. by_case (λ b. IsKnown (from + 1) (slice_set c.clients i (with_ticks (v.attempt.ticks + 1) c.clock (stepping (ticked from c.clock) (cond b (committed_by t w0) w0))))) (decides_at_once w0)
+      (λ z. turn_known c i v at (from + 1) (with_ticks (v.attempt.ticks + 1) c.clock (stepping (ticked from c.clock) (committed_by t w0))) live refl)
+      (λ z. turn_known c i v at (from + 1) (with_ticks (v.attempt.ticks + 1) c.clock (stepping (ticked from c.clock) w0)) live refl))
+      (λ e. stays (with_ticks (v.attempt.ticks + 1) c.clock (stepping (ticked from c.clock) v)) refl refl)
   act_known t (validate j) =
       let n = slice_index c.locks j in
-      let w0 : Client = record v { passed = v.passed + 1 } in
-      by_case (λ b. IsKnown c.clock (slice_set c.clients i (record (stepping (looked j n) (cond b (passing t v) (failing v))) { mine = writes_to v.held j }))) (passes j n v)
-      (λ e. by_case (λ b. IsKnown c.clock (slice_set c.clients i (record (stepping (looked j n) (cond b (committed_by t w0) w0)) { mine = writes_to v.held j }))) (eqb w0.passed (length v.reads))
-      (λ z. stays (record (stepping (looked j n) (committed_by t w0)) { mine = writes_to v.held j }) refl refl)
-      (λ z. stays (record (stepping (looked j n) w0) { mine = writes_to v.held j }) refl refl))
-      (λ e. stays (record (stepping (looked j n) (failing v)) { mine = writes_to v.held j }) refl refl)
+      let w0 : Client = counting v in
+      by_case (λ b. IsKnown c.clock (slice_set c.clients i (marking (writes_to v.attempt.held j) (stepping (validated j n) (cond b (passing t v) (failing v)))))) (passes j n v)
+      (λ e. by_case (λ b. IsKnown c.clock (slice_set c.clients i (marking (writes_to v.attempt.held j) (stepping (validated j n) (cond b (committed_by t w0) w0))))) (eqb w0.attempt.passed (length v.attempt.reads))
+      (λ z. stays (marking (writes_to v.attempt.held j) (stepping (validated j n) (committed_by t w0))) refl refl)
+      (λ z. stays (marking (writes_to v.attempt.held j) (stepping (validated j n) w0)) refl refl))
+      (λ e. stays (marking (writes_to v.attempt.held j) (stepping (validated j n) (failing v))) refl refl)
   act_known t (put a x) = stays (after t lk (put a x) (slice_index c.cells a) v) refl refl
   act_known t (release j) = stays (after t lk (release j) (slice_index c.locks j) v) refl refl
   act_known t (give_back j) = stays (after t lk (give_back j) (slice_index c.locks j) v) refl refl

@@ -3,7 +3,7 @@ use Rattle.std.proofs.Common.{◌≡◌, ◌≢◌, ℕ, ◌+◌, ◌*◌, ◌/�
 use mathlib.Core.Logic.{dite}
 use native.Mathlib.Decide.{ℕ_discrete}
 use Rattle.stm_words.specs.Image.{In}
-use Rattle.stm_core.specs.Client.{Client, Step, nothing, began, probed, fetched, checked, locked, ticked, looked, ended, decided, version_of, IsFree}
+use Rattle.stm_core.specs.Client.{Client, Step, nothing, began, probed, fetched, checked, locked, ticked, validated, ended, decided, version_of, IsFree}
 use Rattle.stm_core.specs.Version.{World, At, Claims, Saw, IsSound, IsBooked}
 use Rattle.stm_core.proofs.Lists.{in_snoc, in_longer, in_last, same_at, clash}
 use Rattle.stm_core.proofs.Turns.{Heart, turn_keeps}
@@ -23,11 +23,11 @@ saw_stays lk s lock rv (fetched a n x) up p = (p.0, p.1, (let q = up (lk a) in o
 saw_stays lk s lock rv (checked a n m) up p = tt
 saw_stays lk s lock rv (locked k n m) up p = tt
 saw_stays lk s lock rv (ticked f m) up p = tt
-saw_stays lk s lock rv (looked k n) up p = tt
+saw_stays lk s lock rv (validated k n) up p = tt
 saw_stays lk s lock rv (ended n) up p = tt
 
-module _ (lk : ℕ → ℕ) (s : World) (cs : List Client) (id : ℕ) (v w : Client) (k u : ℕ) (lock : ℕ → ℕ) (h : Heart lk s cs) (at : At cs id v) (free' : s.lock k ≡ 2 * u) (none' : v.wv ≡ 0) (undecided : decided v ≡ false)
-    (word : Writes s.lock lock k (2 * u + 1)) (held : w.held ≡ v.held ++ (k, u) ∷ []) (wv : w.wv ≡ v.wv) (phase : decided w ≡ decided v) (rv : w.rv ≡ v.rv) (floor : w.floor ≡ v.floor) (reads : w.reads ≡ v.reads) (passed : w.passed ≡ v.passed) (records : w.records ≡ v.records) where
+module _ (lk : ℕ → ℕ) (s : World) (cs : List Client) (id : ℕ) (v w : Client) (k u : ℕ) (lock : ℕ → ℕ) (h : Heart lk s cs) (at : At cs id v) (free' : s.lock k ≡ 2 * u) (none' : v.attempt.wv ≡ 0) (undecided : decided v ≡ false)
+    (word : Writes s.lock lock k (2 * u + 1)) (held : w.attempt.held ≡ v.attempt.held ++ (k, u) ∷ []) (wv : w.attempt.wv ≡ v.attempt.wv) (phase : decided w ≡ decided v) (rv : w.attempt.rv ≡ v.attempt.rv) (floor : w.floor ≡ v.floor) (reads : w.attempt.reads ≡ v.attempt.reads) (passed : w.attempt.passed ≡ v.attempt.passed) (records : w.records ≡ v.records) where
   me : IsSound lk s v
   me = h.version.sound id v at
 
@@ -38,7 +38,7 @@ module _ (lk : ℕ → ℕ) (s : World) (cs : List Client) (id : ℕ) (v w : Cli
   even = omega arith
 
   -- no client holds it
-  not_held : (i : ℕ) (o : Client) (j t : ℕ) → At cs i o → In (j, t) o.held → j ≢ k
+  not_held : (i : ℕ) (o : Client) (j t : ℕ) → At cs i o → In (j, t) o.attempt.held → j ≢ k
   not_held i o j t e g z = (let p : s.lock k ≡ 2 * t + 1 = subst (λ y. s.lock y ≡ 2 * t + 1) z ((h.books.booked i o e).listed j t g) in omega arith)
 
   same_half : (j : ℕ) → version_of (lock j) ≡ version_of (s.lock j)
@@ -50,8 +50,8 @@ module _ (lk : ℕ → ℕ) (s : World) (cs : List Client) (id : ℕ) (v w : Cli
   claims_same : (b a x : ℕ) → Claims w b a x → Claims v b a x
   claims_same = claims_as v w rv reads wv passed records
 
-  no_version : 0 < w.wv → ⊥
-  no_version z = (let e : w.wv ≡ 0 = wv ∙ none' in omega arith)
+  no_version : 0 < w.attempt.wv → ⊥
+  no_version z = (let e : w.attempt.wv ≡ 0 = wv ∙ none' in omega arith)
 
   other_sound : (i : ℕ) (o : Client) → At cs i o → IsSound lk after o
   other_sound i o e = let it = h.version.sound i o e in record {
@@ -63,7 +63,7 @@ module _ (lk : ℕ → ℕ) (s : World) (cs : List Client) (id : ℕ) (v w : Cli
     locked = it.locked;
     pending = it.pending;
     above = it.above;
-    saw = saw_stays lk s lock o.rv o.last up it.saw;
+    saw = saw_stays lk s lock o.attempt.rv o.attempt.last up it.saw;
   }
 
   other_booked : (i : ℕ) (o : Client) → At cs i o → IsBooked lk after o
@@ -75,13 +75,13 @@ module _ (lk : ℕ → ℕ) (s : World) (cs : List Client) (id : ℕ) (v w : Cli
     listed = λ j t g. word.else j (not_held i o j t e g) ∙ it.listed j t g;
   }
 
-  split : (j t : ℕ) → In (j, t) w.held → In (j, t) v.held ⊎ ((j ≡ k) × (t ≡ u))
-  split j t g = ⊎_elim (λ p. inl p) (λ (p : (k, u) ≡ (j, t)). inr (sym (ap (λ (q : ℕ × ℕ). q.0) p), sym (ap (λ (q : ℕ × ℕ). q.1) p))) (in_snoc v.held (k, u) (j, t) (subst (In (j, t)) held g))
+  split : (j t : ℕ) → In (j, t) w.attempt.held → In (j, t) v.attempt.held ⊎ ((j ≡ k) × (t ≡ u))
+  split j t g = ⊎_elim (λ p. inl p) (λ (p : (k, u) ≡ (j, t)). inr (sym (ap (λ (q : ℕ × ℕ). q.0) p), sym (ap (λ (q : ℕ × ℕ). q.1) p))) (in_snoc v.attempt.held (k, u) (j, t) (subst (In (j, t)) held g))
 
-  grow : (j t : ℕ) → In (j, t) v.held → In (j, t) w.held
-  grow j t g = rw held (in_longer v.held (k, u) (j, t) g)
+  grow : (j t : ℕ) → In (j, t) v.attempt.held → In (j, t) w.attempt.held
+  grow j t g = rw held (in_longer v.attempt.held (k, u) (j, t) g)
 
-  pub lock_keeps : Saw lk s w.rv w.last → Heart lk after (set cs id w)
+  pub lock_keeps : Saw lk s w.attempt.rv w.attempt.last → Heart lk after (set cs id w)
   lock_keeps saw = turn_keeps lk s after cs id v w h at record {
     sound = record {
       rv = rw rv me.rv;
@@ -92,7 +92,7 @@ module _ (lk : ℕ → ℕ) (s : World) (cs : List Client) (id : ℕ) (v w : Cli
       locked = λ o. absurd (no_version o.0);
       pending = λ d. clash d (phase ∙ undecided);
       above = λ j t g z. absurd (no_version z);
-      saw = saw_stays lk s lock w.rv w.last up saw;
+      saw = saw_stays lk s lock w.attempt.rv w.attempt.last up saw;
     };
     booked = record {
       later = λ z. absurd (no_version z);
@@ -110,10 +110,10 @@ module _ (lk : ℕ → ℕ) (s : World) (cs : List Client) (id : ℕ) (v w : Cli
     free = λ j a m e l.
         let n : j ≢ k = λ z. (let p : lock j ≡ 2 * u + 1 = ap lock z ∙ word.here in omega arith) in
         let same = word.else j n in let was = h.version.free j a m (sym same ∙ (e ∙ ap (λ z. 2 * (z / 2)) same)) l in (was.0, λ y. was.1 (omega (arith, y, same)));
-    holder = λ j e. dite (ℕ_discrete j k) (λ z. let y : version_of (lock j) ≡ u = rw (z, word.here) (omega arith) in inl (rw held (subst (λ (p : ℕ × ℕ). In p (v.held ++ (k, u) ∷ [])) (λ i. (sym z i, sym y i)) (in_last v.held (k, u)))))
+    holder = λ j e. dite (ℕ_discrete j k) (λ z. let y : version_of (lock j) ≡ u = rw (z, word.here) (omega arith) in inl (rw held (subst (λ (p : ℕ × ℕ). In p (v.attempt.held ++ (k, u) ∷ [])) (λ i. (sym z i, sym y i)) (in_last v.attempt.held (k, u)))))
         (λ n. let same = word.else j n in let q = h.version.holder j (sym same ∙ (e ∙ ap (λ z. 2 * (z / 2) + 1) same)) in
-        let g : In (j, version_of (lock j)) q.1.held = subst (λ y. In (j, y / 2) q.1.held) (sym same) q.3 in
-        dite (ℕ_discrete q.0 id) (λ z. inl (grow j (version_of (lock j)) (subst (λ (c : Client). In (j, version_of (lock j)) c.held) (same_at cs id q.1 v (subst (λ y. At cs y q.1) z q.2) at) g))) (λ z. inr (q.0, q.1, q.2, z, g)));
+        let g : In (j, version_of (lock j)) q.1.attempt.held = subst (λ y. In (j, y / 2) q.1.attempt.held) (sym same) q.3 in
+        dite (ℕ_discrete q.0 id) (λ z. inl (grow j (version_of (lock j)) (subst (λ (c : Client). In (j, version_of (lock j)) c.attempt.held) (same_at cs id q.1 v (subst (λ y. At cs y q.1) z q.2) at) g))) (λ z. inr (q.0, q.1, q.2, z, g)));
     alone = λ i o j m t e n a b. ⊎_elim (λ old. n (h.version.alone i id o v j m t e at a old)) (λ new. not_held i o j m e a new.0) (split j t b);
     kept = λ j t g. ⊎_elim
         (λ old. let was = h.version.kept id v j t at old in record { same = λ a l c. was.same a l (inl undecided); waiting = λ a l d. clash d (phase ∙ undecided); newest = λ a m l b c. was.newest a m l b (inl undecided) })

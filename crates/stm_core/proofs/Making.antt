@@ -10,20 +10,20 @@ use Rattle.stm_core.proofs.Held.{held_has}
 use Rattle.stm_core.proofs.Simulating.{and2, act_test}
 use Rattle.stm_core.proofs.Following.{out_test}
 
-may_of : (c : Core) (k : ℕ) (e : Action) → may_play (acts k e) c ≡ true → MayAct free_law (stripes_of c) (bounds_of c) e (client_of c k)
+may_of : (c : Core) (k : ℕ) (e : Action) → may_play (acts k e) c ≡ true → MayAct free_law (stripes_of c) (bounds_of c) e (client_of c k).attempt
 may_of c k e h = ((and2 (out_test c k) (act_test (bounds_of c) (client_of c k) e)).sound h).1
 
 pub looked_inside : (c : Core) (k n : ℕ) → IsSane c → may_play (acts k (validate n)) c ≡ true → n < length c.locks
 looked_inside c k n s h = let q = (may_of c k (validate n) h).2 in subst (λ y. y < length c.locks) q.3 (let z = s.some in let l : q.0 % length c.locks < length c.locks = omega arith in l)
 
-pub looked_next : (c : Core) (k n : ℕ) → may_play (acts k (validate n)) c ≡ true → (client_of c k).passed < length (client_of c k).reads
-looked_next c k n h = let q = (may_of c k (validate n) h).2 in in_range (client_of c k).reads (client_of c k).passed (q.0, q.1) q.2
+pub looked_next : (c : Core) (k n : ℕ) → may_play (acts k (validate n)) c ≡ true → (client_of c k).attempt.passed < length (client_of c k).attempt.reads
+looked_next c k n h = let q = (may_of c k (validate n) h).2 in in_range (client_of c k).attempt.reads (client_of c k).attempt.passed (q.0, q.1) q.2
 
 pub put_inside : (c : Core) (k a x : ℕ) → IsSane c → may_play (acts k (put a x)) c ≡ true → a < length c.cells
 put_inside c k a x s h = let m = may_of c k (put a x) h in s.written k a x (ap is_committed m.0) m.1
 
 pub release_inside : (c : Core) (k n : ℕ) → IsSane c → may_play (acts k (release n)) c ≡ true → n < length c.locks
-release_inside c k n s h = let m = may_of c k (release n) h in s.held k n (held_has (client_of c k).held n m.1.0 m.1.1)
+release_inside c k n s h = let m = may_of c k (release n) h in s.held k n (held_has (client_of c k).attempt.held n m.1.0 m.1.1)
 
 pub given_inside : (c : Core) (k n : ℕ) → IsSane c → may_play (acts k (give_back n)) c ≡ true → n < length c.locks
-given_inside c k n s h = let m = may_of c k (give_back n) h in s.held k n (held_has (client_of c k).held n m.1.0 m.1.1)
+given_inside c k n s h = let m = may_of c k (give_back n) h in s.held k n (held_has (client_of c k).attempt.held n m.1.0 m.1.1)

@@ -5,8 +5,8 @@ use Rattle.std.proofs.Math.ListN.{get_or-map}
 use Rattle.std.proofs.lemmas.Bool.Decides.{nat_tests}
 use mathlib.Core.Option.{some, some-injective, some-ne-none}
 use lib.ListN.{get_elem?}
-use Rattle.stm_core.specs.Client.{Client, Record, Stamp, checked, locked, ticked, looked, version_of, word_before, value_fetched, writes_to, before, inserted, merged}
-use Rattle.stm_core.specs.Event.{Action, begin, check, lock, tick, validate, finish, Bounds, MayAct, committed_by, stepping, failing, read_too, holding, versioned, decides_at_once, won, passes, passing, after, giving, fresh, taking, renewing, gone, writer_record, reader_record}
+use Rattle.stm_core.specs.Client.{Client, Record, Stamp, checked, locked, ticked, validated, version_of, word_before, value_fetched, writes_to, before, inserted, merged}
+use Rattle.stm_core.specs.Event.{Action, begin, check, lock, tick, validate, finish, Bounds, MayAct, committed_by, stepping, failing, read_too, holding, versioned, decides_at_once, won, passes, passing, after, giving, fresh, taking, renewing, gone, writer_record, reader_record, with_ticks, marking, counting}
 use Rattle.stm_core.specs.Core.{Core, bounds_of, found, left, written, stepped, divided, gathered, renewed, Event, acts, splits, gathers, renews, IsClient, Allowed, client_of, played, Leads, opened}
 use Rattle.stm_core.specs.Version.{At}
 use Rattle.stm_core.specs.Theorem.{stripe_of, free_law}
@@ -38,15 +38,15 @@ module _ (number : List ℕ → ℕ) where
   merged_numbered l (y ∷ m) = merged_numbered (inserted y l) m ∙ ap (λ k. merged k (map (numbered_record number) m)) (inserted_numbered y l)
 
   -- a client with a write version has a number for its tag
-  tag_numbered : (v : Client) → 0 < v.wv → cond (eqb v.wv 0) [] (number v.tag ∷ []) ≡ number v.tag ∷ []
-  tag_numbered v h = (let e : eqb v.wv 0 ≡ false = grind (arith, nat_tests) in rw e refl)
+  tag_numbered : (v : Client) → 0 < v.attempt.wv → cond (eqb v.attempt.wv 0) [] (number v.attempt.tag ∷ []) ≡ number v.attempt.tag ∷ []
+  tag_numbered v h = (let e : eqb v.attempt.wv 0 ≡ false = grind (arith, nat_tests) in rw e refl)
 
-  committed_numbered : (t : Stamp) (v : Client) → 0 < v.wv → numbered_client number (committed_by t v) ≡ committed_by t (numbered_client number v)
+  committed_numbered : (t : Stamp) (v : Client) → 0 < v.attempt.wv → numbered_client number (committed_by t v) ≡ committed_by t (numbered_client number v)
   committed_numbered t v h = ap (λ l. record (committed_by t (numbered_client number v)) { records = l })
-      (inserted_numbered (writer_record t v) v.records ∙ ap (λ g. inserted (record (writer_record t v) { tag = g }) (map (numbered_record number) v.records)) (sym (tag_numbered v h)))
+      (inserted_numbered (writer_record t v.attempt) v.records ∙ ap (λ g. inserted (record (writer_record t v.attempt) { tag = g }) (map (numbered_record number) v.records)) (sym (tag_numbered v h)))
 
   versioned_numbered : (t : Stamp) (n : ℕ) (tag : List ℕ) (writes : List (ℕ × ℕ)) (v : Client) → 0 < n → numbered_client number (versioned t n tag writes v) ≡ versioned t n (number tag ∷ []) writes (numbered_client number v)
-  versioned_numbered t n tag writes v h = ap (λ g. record (versioned t n (number tag ∷ []) writes (numbered_client number v)) { tag = g }) (tag_numbered (versioned t n tag writes v) h)
+  versioned_numbered t n tag writes v h = ap (λ g. let w = versioned t n (number tag ∷ []) writes (numbered_client number v) in record w { attempt = record w.attempt { tag = g } }) (tag_numbered (versioned t n tag writes v) h)
 
   won_numbered : (t : Stamp) (n : ℕ) (tag : List ℕ) (writes : List (ℕ × ℕ)) (v : Client) → 0 < n → numbered_client number (won t n tag writes v) ≡ won t n (number tag ∷ []) writes (numbered_client number v)
   won_numbered t n tag writes v h =
@@ -57,10 +57,10 @@ module _ (number : List ℕ → ℕ) where
       (λ z. committed_numbered t w h ∙ ap (committed_by t) e)
       (λ z. e)
 
-  passing_numbered : (t : Stamp) (v : Client) → 0 < v.wv → numbered_client number (passing t v) ≡ passing t (numbered_client number v)
+  passing_numbered : (t : Stamp) (v : Client) → 0 < v.attempt.wv → numbered_client number (passing t v) ≡ passing t (numbered_client number v)
   passing_numbered t v h =
-      let w : Client = record v { passed = v.passed + 1 } in
-      by_case (λ b. numbered_client number (cond b (committed_by t w) w) ≡ cond b (committed_by t (numbered_client number w)) (numbered_client number w)) (eqb w.passed (length v.reads))
+      let w : Client = counting v in
+      by_case (λ b. numbered_client number (cond b (committed_by t w) w) ≡ cond b (committed_by t (numbered_client number w)) (numbered_client number w)) (eqb w.attempt.passed (length v.attempt.reads))
       (λ z. committed_numbered t w h)
       (λ z. refl)
 
@@ -77,29 +77,29 @@ module _ (number : List ℕ → ℕ) where
   written_numbered _ m c cs = refl
 
   module _ (lawful : List ℕ → List (ℕ × ℕ) → List (ℕ × ℕ) → Type 0) (lk : ℕ → ℕ) where
-    may_numbered : (b : Bounds) (e : Action) (v : Client) → MayAct lawful lk b e v → MayAct free_law lk b (numbered_action number e) (numbered_client number v)
+    may_numbered : (b : Bounds) (e : Action) (v : Client) → MayAct lawful lk b e v.attempt → MayAct free_law lk b (numbered_action number e) (numbered_client number v).attempt
     may_numbered b (tick from tag writes) v m = (m.0, m.1, m.2, m.3, m.4, tt)
     may_numbered b (finish tag) v m = (m.0, m.1, tt)
     may_numbered b _ v m = m
 
-    after_numbered : (t : Stamp) (b : Bounds) (e : Action) (n : ℕ) (v : Client) → MayAct lawful lk b e v → numbered_client number (after t lk e n v) ≡ after t lk (numbered_action number e) n (numbered_client number v)
+    after_numbered : (t : Stamp) (b : Bounds) (e : Action) (n : ℕ) (v : Client) → MayAct lawful lk b e v.attempt → numbered_client number (after t lk e n v) ≡ after t lk (numbered_action number e) n (numbered_client number v)
     after_numbered t b (check a) n v m =
-        let l = checked a (word_before v.last) n in
-        by_case (λ z. numbered_client number (stepping l (cond z (read_too a (value_fetched v.last) v) (failing v))) ≡ stepping l (cond z (read_too a (value_fetched v.last) (numbered_client number v)) (failing (numbered_client number v)))) (eqb n (word_before v.last)) (λ e. refl) (λ e. refl)
+        let l = checked a (word_before v.attempt.last) n in
+        by_case (λ z. numbered_client number (stepping l (cond z (read_too a (value_fetched v.attempt.last) v) (failing v))) ≡ stepping l (cond z (read_too a (value_fetched v.attempt.last) (numbered_client number v)) (failing (numbered_client number v)))) (eqb n (word_before v.attempt.last)) (λ e. refl) (λ e. refl)
     after_numbered t b (lock k) n v m =
-        let l = locked k (word_before v.last) n in
-        by_case (λ z. numbered_client number (stepping l (cond z (holding k (version_of n) v) (failing v))) ≡ stepping l (cond z (holding k (version_of n) (numbered_client number v)) (failing (numbered_client number v)))) (eqb n (word_before v.last)) (λ e. refl) (λ e. refl)
+        let l = locked k (word_before v.attempt.last) n in
+        by_case (λ z. numbered_client number (stepping l (cond z (holding k (version_of n) v) (failing v))) ≡ stepping l (cond z (holding k (version_of n) (numbered_client number v)) (failing (numbered_client number v)))) (eqb n (word_before v.attempt.last)) (λ e. refl) (λ e. refl)
     after_numbered t b (tick from tag writes) n v m =
-        let to : Client → Client = λ w. record (stepping (ticked from n) w) { ticks = v.ticks + 1; next_from = n } in
+        let to : Client → Client = λ w. with_ticks (v.attempt.ticks + 1) n (stepping (ticked from n) w) in
         by_case (λ z. numbered_client number (to (cond z (won t (from + 1) tag writes v) v)) ≡ to (cond z (won t (from + 1) (number tag ∷ []) writes (numbered_client number v)) (numbered_client number v))) (eqb n from)
         (λ e. ap to (won_numbered t (from + 1) tag writes v (omega arith)))
         (λ e. refl)
     after_numbered t b (validate k) n v m =
-        let to : Client → Client = λ w. record (stepping (looked k n) w) { mine = writes_to v.held k } in
+        let to : Client → Client = λ w. marking (writes_to v.attempt.held k) (stepping (validated k n) w) in
         by_case (λ z. numbered_client number (to (cond z (passing t v) (failing v))) ≡ to (cond z (passing t (numbered_client number v)) (failing (numbered_client number v)))) (passes k n v)
         (λ e. ap to (passing_numbered t v m.1))
         (λ e. refl)
-    after_numbered t b (finish tag) n v m = ap (λ l. record (after t lk (finish (number tag ∷ [])) n (numbered_client number v)) { records = l }) (inserted_numbered (reader_record t tag v) v.records)
+    after_numbered t b (finish tag) n v m = ap (λ l. record (after t lk (finish (number tag ∷ [])) n (numbered_client number v)) { records = l }) (inserted_numbered (reader_record t tag v.attempt) v.records)
     after_numbered t b _ n v m = refl
 
   client_numbered : (c : Core) (k : ℕ) → client_of (numbered_core number c) k ≡ numbered_client number (client_of c k)
@@ -151,7 +151,7 @@ module _ (number : List ℕ → ℕ) where
         let t : Stamp = record { client = k; place = c.events; renewal = c.renewal } in
         let v = client_of c k in
         let same : v ≡ h.0 = get_is c.clients (k - 1) h.0 gone h.1.1 in
-        let may : MayAct lawful lk (bounds_of c) e v = subst (MayAct lawful lk (bounds_of c) e) (sym same) h.2.1 in
+        let may : MayAct lawful lk (bounds_of c) e v.attempt = subst (λ (w : Client). MayAct lawful lk (bounds_of c) e w.attempt) (sym same) h.2.1 in
         stepped_numbered t lk e (k - 1) v c (λ n. after_numbered lawful lk t (bounds_of c) e n v may)
         ∙ ap (λ w. stepped t lk (numbered_action number e) (k - 1) w (numbered_core number c)) (sym (client_numbered c k))
     event_played (splits k) c h = divided_numbered (k - 1) (client_of c k) c ∙ ap (λ w. divided (k - 1) w (numbered_core number c)) (sym (client_numbered c k))

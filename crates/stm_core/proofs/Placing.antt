@@ -64,14 +64,14 @@ as_kept r = record r { attempt = 0 }
 -- a client as far as it is kept decides the same record as far as it is kept
 pub decision_shown : (t : Stamp) (e : Action) (n : ℕ) (v : Client) → decision t e n (blank v) ≡ map as_kept (decision t e n v)
 decision_shown t (tick from tag writes) n v =
-    let r : Record = writer_record t (versioned t (from + 1) tag writes v) in
+    let r : Record = writer_record t (versioned t (from + 1) tag writes v).attempt in
     by_case (λ b. cond b (cond (decides_at_once (versioned t (from + 1) tag writes v)) (as_kept r ∷ []) []) [] ≡ map as_kept (cond b (cond (decides_at_once (versioned t (from + 1) tag writes v)) (r ∷ []) []) [])) (eqb n from)
     (λ e. by_case (λ b. cond b (as_kept r ∷ []) [] ≡ map as_kept (cond b (r ∷ []) [])) (decides_at_once (versioned t (from + 1) tag writes v)) (λ z. refl) (λ z. refl))
     (λ e. refl)
 decision_shown t (validate k) n v =
-    let r : Record = writer_record t v in
-    by_case (λ b. cond b (cond (eqb (v.passed + 1) (length v.reads)) (as_kept r ∷ []) []) [] ≡ map as_kept (cond b (cond (eqb (v.passed + 1) (length v.reads)) (r ∷ []) []) [])) (passes k n v)
-    (λ e. by_case (λ b. cond b (as_kept r ∷ []) [] ≡ map as_kept (cond b (r ∷ []) [])) (eqb (v.passed + 1) (length v.reads)) (λ z. refl) (λ z. refl))
+    let r : Record = writer_record t v.attempt in
+    by_case (λ b. cond b (cond (eqb (v.attempt.passed + 1) (length v.attempt.reads)) (as_kept r ∷ []) []) [] ≡ map as_kept (cond b (cond (eqb (v.attempt.passed + 1) (length v.attempt.reads)) (r ∷ []) []) [])) (passes k n v)
+    (λ e. by_case (λ b. cond b (as_kept r ∷ []) [] ≡ map as_kept (cond b (r ∷ []) [])) (eqb (v.attempt.passed + 1) (length v.attempt.reads)) (λ z. refl) (λ z. refl))
     (λ e. refl)
 decision_shown t _ n v = refl
 

@@ -7,8 +7,8 @@ use lib.ListN.{get_elem?}
 use Rattle.std.proofs.lemmas.Bool.Decides.{nat_tests}
 use Rattle.stm_words.specs.Image.{In}
 use Rattle.stm_core.specs.History.{Serial, image_after, ByPoint}
-use Rattle.stm_core.specs.Client.{shed, Client, Record, idle, running, ending, committed, checked, locked, ticked, looked, Stamp, version_of, word_before, value_fetched, writes_to}
-use Rattle.stm_core.specs.Event.{Action, begin, probe, fetch, check, lock, tick, validate, put, release, give_back, finish, IsReading, MayAct, committed_by, stepping, failing, read_too, holding, versioned, decides_at_once, won, passes, passing, after, giving, fresh, renewing, gone, opener, writer_record, reader_record}
+use Rattle.stm_core.specs.Client.{shed, Client, Record, idle, running, ending, committed, checked, locked, ticked, validated, Stamp, version_of, word_before, value_fetched, writes_to}
+use Rattle.stm_core.specs.Event.{Action, begin, probe, fetch, check, lock, tick, validate, put, release, give_back, finish, IsReading, MayAct, committed_by, stepping, failing, read_too, holding, versioned, decides_at_once, won, passes, passing, after, giving, fresh, renewing, gone, opener, writer_record, reader_record, with_ticks, marking, counting}
 use Rattle.stm_core.specs.Core.{Core, bounds_of, found, stepped, divided, gathered, renewed, IsFreeHanded, IsAlone, Event, acts, splits, gathers, renews, Allowed, client_of, played, Leads, opened}
 use Rattle.stm_core.specs.Version.{At, IsOpen}
 use Rattle.stm_core.specs.Invariant.{now, Rule}
@@ -24,16 +24,16 @@ use Rattle.stm_core.proofs.Renewals.{step_rules, now_stepped, may_shed, pre, map
 use Rattle.stm_core.proofs.Renewing.{split_rules, gather_rules, renew_rules, opening_rules, now_divided, now_gathered, whole, at_below, serial_append, image_append}
 use Rattle.stm_core.proofs.Dating.{Mark, IsStamped, IsDated, Dated, placed, date_step, date_decide, date_longer, date_join, ranked_by}
 
-not_running : (c : Client) → c.phase ≡ ending → IsReading c → ⊥
+not_running : (c : Client) → c.attempt.phase ≡ ending → IsReading c.attempt → ⊥
 not_running c e r = (let z : ending ≡ running = sym e ∙ r.0 in cc)
 
-unsettled : (v : Client) → v.phase ≡ running → is_settled v.phase ≡ true → ⊥
+unsettled : (v : Client) → v.attempt.phase ≡ running → is_settled v.attempt.phase ≡ true → ⊥
 unsettled v e s = clash s (ap is_settled e)
 
-unsettled_end : (v : Client) → v.phase ≡ ending → is_settled v.phase ≡ true → ⊥
+unsettled_end : (v : Client) → v.attempt.phase ≡ ending → is_settled v.attempt.phase ≡ true → ⊥
 unsettled_end v e s = clash s (ap is_settled e)
 
-settled_at : (v : Client) → v.phase ≡ committed → is_settled v.phase ≡ true
+settled_at : (v : Client) → v.attempt.phase ≡ committed → is_settled v.attempt.phase ≡ true
 settled_at v e = ap is_settled e
 
 pub get_is : {A : Type 0} (l : List A) (i : ℕ) (v d : A) → get_elem? l i ≡ some v → get_or l i d ≡ v
@@ -75,7 +75,7 @@ module _ (lawful : List ℕ → List (ℕ × ℕ) → List (ℕ × ℕ) → Type
   Next e = IsDatedBy old (filed (decision stamp e (found lk c e) v) h) (stepped stamp lk e i v c)
 
   -- a step that leaves read version, write version and their places
-  quiet : (w : Client) → w.records ≡ v.records → w.spent ≡ v.spent → (IsReading w → IsReading v × (w.began_at ≡ v.began_at) × (w.rv ≡ v.rv)) → (IsOpen w → IsOpen v × (w.ticked_at ≡ v.ticked_at) × (w.wv ≡ v.wv)) → w.attempt ≡ v.attempt → (is_settled v.phase ≡ true → is_settled w.phase ≡ true)
+  quiet : (w : Client) → w.records ≡ v.records → w.spent ≡ v.spent → (IsReading w.attempt → IsReading v.attempt × (w.attempt.began_at ≡ v.attempt.began_at) × (w.attempt.rv ≡ v.attempt.rv)) → (IsOpen w → IsOpen v × (w.attempt.ticked_at ≡ v.attempt.ticked_at) × (w.attempt.wv ≡ v.attempt.wv)) → w.attempt.number ≡ v.attempt.number → (is_settled v.attempt.phase ≡ true → is_settled w.attempt.phase ≡ true)
       → Dated old c.clock (c.events + 1) (set c.clients i w) h
   quiet w records spent reading ticking attempt settled = date_step old c.clock c.events c.clients h d i v w at c.clock (le_refl _) records spent (λ r. inl (reading r)) (λ o. inl (ticking o)) (inr (attempt, settled))
 
@@ -88,58 +88,58 @@ module _ (lawful : List ℕ → List (ℕ × ℕ) → List (ℕ × ℕ) → Type
   fetch_dates : (a : ℕ) → Next (fetch a)
   fetch_dates a = quiet (after stamp lk (fetch a) (slice_index c.cells a) v) refl refl (λ r. (r, refl, refl)) (λ o. (o, refl, refl)) refl (λ s. s)
 
-  closed : IsReading v → 0 < v.wv → ⊥
+  closed : IsReading v.attempt → 0 < v.attempt.wv → ⊥
   closed r z = (let e = r.1 in omega arith)
 
-  check_dates : (a : ℕ) → IsReading v → Next (check a)
+  check_dates : (a : ℕ) → IsReading v.attempt → Next (check a)
   check_dates a may =
       let n = slice_index c.locks (lk a) in
-      by_case (λ b. Dated old c.clock (c.events + 1) (slice_set c.clients i (stepping (checked a (word_before v.last) n) (cond b (read_too a (value_fetched v.last) v) (failing v)))) h) (eqb n (word_before v.last))
-      (λ e. quiet (stepping (checked a (word_before v.last) n) (read_too a (value_fetched v.last) v)) refl refl (λ r. (r, refl, refl)) (λ o. (o, refl, refl)) refl (λ s. s))
-      (λ e. let w : Client = stepping (checked a (word_before v.last) n) (failing v) in quiet w refl refl (λ r. absurd (not_running w refl r)) (λ o. absurd (closed may o.0)) refl (λ s. absurd (unsettled v may.0 s)))
+      by_case (λ b. Dated old c.clock (c.events + 1) (slice_set c.clients i (stepping (checked a (word_before v.attempt.last) n) (cond b (read_too a (value_fetched v.attempt.last) v) (failing v)))) h) (eqb n (word_before v.attempt.last))
+      (λ e. quiet (stepping (checked a (word_before v.attempt.last) n) (read_too a (value_fetched v.attempt.last) v)) refl refl (λ r. (r, refl, refl)) (λ o. (o, refl, refl)) refl (λ s. s))
+      (λ e. let w : Client = stepping (checked a (word_before v.attempt.last) n) (failing v) in quiet w refl refl (λ r. absurd (not_running w refl r)) (λ o. absurd (closed may o.0)) refl (λ s. absurd (unsettled v may.0 s)))
 
-  lock_dates : (k : ℕ) → IsReading v → Next (lock k)
+  lock_dates : (k : ℕ) → IsReading v.attempt → Next (lock k)
   lock_dates k may =
       let n = slice_index c.locks k in
-      by_case (λ b. Dated old c.clock (c.events + 1) (slice_set c.clients i (stepping (locked k (word_before v.last) n) (cond b (holding k (version_of n) v) (failing v)))) h) (eqb n (word_before v.last))
-      (λ e. quiet (stepping (locked k (word_before v.last) n) (holding k (version_of n) v)) refl refl (λ r. (r, refl, refl)) (λ o. (o, refl, refl)) refl (λ s. s))
-      (λ e. let w : Client = stepping (locked k (word_before v.last) n) (failing v) in quiet w refl refl (λ r. absurd (not_running w refl r)) (λ o. absurd (closed may o.0)) refl (λ s. absurd (unsettled v may.0 s)))
+      by_case (λ b. Dated old c.clock (c.events + 1) (slice_set c.clients i (stepping (locked k (word_before v.attempt.last) n) (cond b (holding k (version_of n) v) (failing v)))) h) (eqb n (word_before v.attempt.last))
+      (λ e. quiet (stepping (locked k (word_before v.attempt.last) n) (holding k (version_of n) v)) refl refl (λ r. (r, refl, refl)) (λ o. (o, refl, refl)) refl (λ s. s))
+      (λ e. let w : Client = stepping (locked k (word_before v.attempt.last) n) (failing v) in quiet w refl refl (λ r. absurd (not_running w refl r)) (λ o. absurd (closed may o.0)) refl (λ s. absurd (unsettled v may.0 s)))
 
   -- a decision right after a step of the same client
-  then_decided : (clock events : ℕ) (w : Client) (g : Dated old clock events (set c.clients i w) h) → IsOpen w → w.spent ≡ v.spent → Dated old clock events (set c.clients i (committed_by stamp w)) (placed (writer_record stamp w) h)
+  then_decided : (clock events : ℕ) (w : Client) (g : Dated old clock events (set c.clients i w) h) → IsOpen w → w.spent ≡ v.spent → Dated old clock events (set c.clients i (committed_by stamp w)) (placed (writer_record stamp w.attempt) h)
   then_decided clock events w g open' spent =
       let here : At (set c.clients i w) i w = set_here c.clients i v w at in
       let q = (g.each i w here).ticking open' in
-      subst (λ cs. Dated old clock events cs (placed (writer_record stamp w) h)) (set-set c.clients i w (committed_by stamp w))
-      (date_decide old clock events (set c.clients i w) h g i w (committed_by stamp w) here (writer_record stamp w) (inr (open', refl)) refl refl
+      subst (λ cs. Dated old clock events cs (placed (writer_record stamp w.attempt) h)) (set-set c.clients i w (committed_by stamp w))
+      (date_decide old clock events (set c.clients i w) h g i w (committed_by stamp w) here (writer_record stamp w.attempt) (inr (open', refl)) refl refl
       (λ p m. ⊎_elim (λ s. (let z = s.0.0 in cc)) (λ s. clash refl s.0.1) m) (record { past = q.0; writer = λ t. (q.1, q.2); reader = λ t. clash refl t }) refl refl refl refl)
 
-  tick_dates : (from : ℕ) (tag : List ℕ) (writes : List (ℕ × ℕ)) → IsReading v → Next (tick from tag writes)
+  tick_dates : (from : ℕ) (tag : List ℕ) (writes : List (ℕ × ℕ)) → IsReading v.attempt → Next (tick from tag writes)
   tick_dates from tag writes may =
       let w0 : Client = versioned stamp (from + 1) tag writes v in
-      by_case (λ b. Dated old (cond b (from + 1) c.clock) (c.events + 1) (slice_set c.clients i (record (stepping (ticked from c.clock) (cond b (won stamp (from + 1) tag writes v) v)) { ticks = v.ticks + 1; next_from = c.clock })) (filed (cond b (cond (decides_at_once w0) (writer_record stamp w0 ∷ []) []) []) h)) (eqb c.clock from)
+      by_case (λ b. Dated old (cond b (from + 1) c.clock) (c.events + 1) (slice_set c.clients i (with_ticks (v.attempt.ticks + 1) c.clock (stepping (ticked from c.clock) (cond b (won stamp (from + 1) tag writes v) v)))) (filed (cond b (cond (decides_at_once w0) (writer_record stamp w0.attempt ∷ []) []) []) h)) (eqb c.clock from)
       (λ e. let same : c.clock ≡ from = grind (arith, nat_tests) in
-      let w : Client = record (stepping (ticked from c.clock) w0) { ticks = v.ticks + 1; next_from = c.clock } in
+      let w : Client = with_ticks (v.attempt.ticks + 1) c.clock (stepping (ticked from c.clock) w0) in
       let open' : IsOpen w = (omega arith, undecided_at v may.0) in
       let g : Dated old (from + 1) (c.events + 1) (set c.clients i w) h =
       date_step old c.clock c.events c.clients h d i v w at (from + 1) (omega arith) refl refl (λ r. absurd (let z = r.1 in omega arith)) (λ o. inr (refl, omega arith, omega arith)) (inr (refl, λ s. s)) in
-      by_case (λ b. Dated old (from + 1) (c.events + 1) (slice_set c.clients i (record (stepping (ticked from c.clock) (cond b (committed_by stamp w0) w0)) { ticks = v.ticks + 1; next_from = c.clock })) (filed (cond b (writer_record stamp w0 ∷ []) []) h)) (decides_at_once w0)
+      by_case (λ b. Dated old (from + 1) (c.events + 1) (slice_set c.clients i (with_ticks (v.attempt.ticks + 1) c.clock (stepping (ticked from c.clock) (cond b (committed_by stamp w0) w0)))) (filed (cond b (writer_record stamp w0.attempt ∷ []) []) h)) (decides_at_once w0)
       (λ z. then_decided (from + 1) (c.events + 1) w g open' refl)
       (λ z. g))
-      (λ e. quiet (record (stepping (ticked from c.clock) v) { ticks = v.ticks + 1; next_from = c.clock }) refl refl (λ r. (r, refl, refl)) (λ o. (o, refl, refl)) refl (λ s. s))
+      (λ e. quiet (with_ticks (v.attempt.ticks + 1) c.clock (stepping (ticked from c.clock) v)) refl refl (λ r. (r, refl, refl)) (λ o. (o, refl, refl)) refl (λ s. s))
 
-  validate_dates : (k : ℕ) → v.phase ≡ running → 0 < v.wv → Next (validate k)
+  validate_dates : (k : ℕ) → v.attempt.phase ≡ running → 0 < v.attempt.wv → Next (validate k)
   validate_dates k run number =
       let n = slice_index c.locks k in
-      let w0 : Client = record v { passed = v.passed + 1 } in
-      by_case (λ b. Dated old c.clock (c.events + 1) (slice_set c.clients i (record (stepping (looked k n) (cond b (passing stamp v) (failing v))) { mine = writes_to v.held k })) (filed (cond b (cond (eqb w0.passed (length v.reads)) (writer_record stamp w0 ∷ []) []) []) h)) (passes k n v)
-      (λ e. let w : Client = record (stepping (looked k n) w0) { mine = writes_to v.held k } in
+      let w0 : Client = counting v in
+      by_case (λ b. Dated old c.clock (c.events + 1) (slice_set c.clients i (marking (writes_to v.attempt.held k) (stepping (validated k n) (cond b (passing stamp v) (failing v))))) (filed (cond b (cond (eqb w0.attempt.passed (length v.attempt.reads)) (writer_record stamp w0.attempt ∷ []) []) []) h)) (passes k n v)
+      (λ e. let w : Client = marking (writes_to v.attempt.held k) (stepping (validated k n) w0) in
       let open' : IsOpen w = (number, undecided_at v run) in
       let g : Dated old c.clock (c.events + 1) (set c.clients i w) h = quiet w refl refl (λ r. (r, refl, refl)) (λ o. (o, refl, refl)) refl (λ s. s) in
-      by_case (λ b. Dated old c.clock (c.events + 1) (slice_set c.clients i (record (stepping (looked k n) (cond b (committed_by stamp w0) w0)) { mine = writes_to v.held k })) (filed (cond b (writer_record stamp w0 ∷ []) []) h)) (eqb w0.passed (length v.reads))
+      by_case (λ b. Dated old c.clock (c.events + 1) (slice_set c.clients i (marking (writes_to v.attempt.held k) (stepping (validated k n) (cond b (committed_by stamp w0) w0)))) (filed (cond b (writer_record stamp w0.attempt ∷ []) []) h)) (eqb w0.attempt.passed (length v.attempt.reads))
       (λ z. then_decided c.clock (c.events + 1) w g open' refl)
       (λ z. g))
-      (λ e. let w : Client = record (stepping (looked k n) (failing v)) { mine = writes_to v.held k } in quiet w refl refl (λ r. absurd (not_running w refl r)) (λ o. ((number, undecided_at v run), refl, refl)) refl (λ s. absurd (unsettled v run s)))
+      (λ e. let w : Client = marking (writes_to v.attempt.held k) (stepping (validated k n) (failing v)) in quiet w refl refl (λ r. absurd (not_running w refl r)) (λ o. ((number, undecided_at v run), refl, refl)) refl (λ s. absurd (unsettled v run s)))
 
   put_dates : (a x : ℕ) → Next (put a x)
   put_dates a x = quiet (after stamp lk (put a x) (slice_index c.cells a) v) refl refl (λ r. (r, refl, refl)) (λ o. (o, refl, refl)) refl (λ s. s)
@@ -147,13 +147,13 @@ module _ (lawful : List ℕ → List (ℕ × ℕ) → List (ℕ × ℕ) → Type
   release_dates : (k : ℕ) → Next (release k)
   release_dates k = quiet (after stamp lk (release k) (slice_index c.locks k) v) refl refl (λ r. (r, refl, refl)) (λ o. (o, refl, refl)) refl (λ s. s)
 
-  give_back_dates : (k : ℕ) → (v.phase ≡ running) ⊎ (v.phase ≡ ending) → Next (give_back k)
+  give_back_dates : (k : ℕ) → (v.attempt.phase ≡ running) ⊎ (v.attempt.phase ≡ ending) → Next (give_back k)
   give_back_dates k may = let w : Client = after stamp lk (give_back k) (slice_index c.locks k) v in
       quiet w refl refl (λ r. absurd (not_running w refl r)) (λ o. absurd (let z = o.0 in omega arith)) refl (λ s. absurd (⊎_elim (λ e. unsettled v e s) (λ e. unsettled_end v e s) may))
 
-  finish_dates : (tag : List ℕ) → IsReading v → Next (finish tag)
+  finish_dates : (tag : List ℕ) → IsReading v.attempt → Next (finish tag)
   finish_dates tag may =
-      let r : Record = reader_record stamp tag v in
+      let r : Record = reader_record stamp tag v.attempt in
       let w : Client = after stamp lk (finish tag) c.clock v in
       let g : Dated old c.clock (c.events + 1) (set c.clients i v) h = quiet v refl refl (λ q. (q, refl, refl)) (λ o. (o, refl, refl)) refl (λ s. s) in
       let k : Dated old c.clock (c.events + 1) c.clients h = subst (λ cs. Dated old c.clock (c.events + 1) cs h) (set_same c.clients i v at) g in
@@ -161,7 +161,7 @@ module _ (lawful : List ℕ → List (ℕ × ℕ) → List (ℕ × ℕ) → Type
       date_decide old c.clock (c.events + 1) c.clients h k i v w at r (inl (may, refl)) refl refl (λ p m. ⊎_elim (λ s. (let z = s.0.0 in cc)) (λ s. (let z = s.0.0 in closed may z)) m)
       (record { past = q.0; writer = λ t. clash t refl; reader = λ t. (q.1, q.2) }) refl refl refl refl
 
-  act_dates : (e : Action) → MayAct lawful lk (bounds_of c) e v → Next e
+  act_dates : (e : Action) → MayAct lawful lk (bounds_of c) e v.attempt → Next e
   act_dates begin may = begin_dates
   act_dates (probe k) may = probe_dates k
   act_dates (fetch a) may = fetch_dates a
@@ -238,7 +238,7 @@ module _ (lawful : List ℕ → List (ℕ × ℕ) → List (ℕ × ℕ) → Type
         let q = at_unmap (shed (c.renewal + 1)) (set c.clients i (renewing v)) j o e in
         subst (P j) q.2 (⊎_elim (λ p. subst (λ y. P j (shed (c.renewal + 1) y)) p.1 (subst (λ n. P n (shed (c.renewal + 1) (renewing v))) (sym p.0) mine)) (λ p. subst (λ y. P j (shed (c.renewal + 1) y)) (sym (is_gone j q.0 p.1 p.0)) (else j)) (at_set c.clients i j (renewing v) q.0 q.1))
 
-    no_mark : (w : Client) → w.phase ≡ idle → w.wv ≡ 0 → (p : ℕ) → Mark w p → ⊥
+    no_mark : (w : Client) → w.attempt.phase ≡ idle → w.attempt.wv ≡ 0 → (p : ℕ) → Mark w p → ⊥
     no_mark w e z p m = ⊎_elim (λ q. (let k : idle ≡ running = sym e ∙ q.0.0 in cc)) (λ q. (let k = q.0.0 in omega (arith, z))) m
 
     unmarked : (j : ℕ) (o : Client) → At (now (renewed i last v c)).clients j o → (p : ℕ) → Mark o p → ⊥
@@ -253,7 +253,7 @@ module _ (lawful : List ℕ → List (ℕ × ℕ) → List (ℕ × ℕ) → Type
       grows = λ p q l. le_refl _;
       now = refl;
       stamped = λ r m. absurd (nothing_in r m);
-      each = λ j o e. record { reading = λ q. absurd (unmarked j o e o.began_at (inl (q, refl))); ticking = λ q. absurd (unmarked j o e o.ticked_at (inr (q, refl))) };
+      each = λ j o e. record { reading = λ q. absurd (unmarked j o e o.attempt.began_at (inl (q, refl))); ticking = λ q. absurd (unmarked j o e o.attempt.ticked_at (inr (q, refl))) };
       unused = λ j o p r e m k. absurd (nothing_in r k);
       apart = λ j k o q p e f n m m'. unmarked j o e p m;
       ascending = tt;
@@ -265,7 +265,7 @@ module _ (lawful : List ℕ → List (ℕ × ℕ) → List (ℕ × ℕ) → Type
       old_before = λ r x m k. absurd (nothing_in x k);
       old_marked = λ j o p r e m k. absurd (unmarked j o e p m);
       old_known = λ r m. rw same_length (⊎_elim (λ p. d.old_known r p) (λ p. d.known r p) (in_append old h r m));
-      old_numbered = λ j o r e s m k. who (λ n y. y.spent ≡ false → r.client ≡ suc n → (r.attempt ≤ y.attempt) × (r.attempt ≡ y.attempt → is_settled y.phase ≡ true))
+      old_numbered = λ j o r e s m k. who (λ n y. y.spent ≡ false → r.client ≡ suc n → (r.attempt ≤ y.attempt.number) × (r.attempt ≡ y.attempt.number → is_settled y.attempt.phase ≡ true))
           (λ s' k'. (⊎_elim (λ p. (d.old_numbered i v' r at' free.0 p k').0) (λ p. (d.numbered i v' r at' free.0 p k').0) (in_append old h r m), λ z. refl)) (λ n s'. clash refl s') j o e s k;
     }
       where
@@ -278,10 +278,10 @@ module _ (lawful : List ℕ → List (ℕ × ℕ) → List (ℕ × ℕ) → Type
     whole_is : v.records ≡ c.past ++ v'.records
     whole_is = whole lawful lk c b.rule i v at free others last
 
-    nobody_holds : (j : ℕ) (o : Client) → At (now c).clients j o → o.held ≡ []
+    nobody_holds : (j : ℕ) (o : Client) → At (now c).clients j o → o.attempt.held ≡ []
     nobody_holds j o e = let q = at_unmap (shed c.renewal) c.clients j o e in
-        dite (ℕ_discrete j i) (λ s. sym (ap (λ (y : Client). y.held) q.2) ∙ (ap (λ (y : Client). y.held) (same_at c.clients i q.0 v (subst (λ n. At c.clients n q.0) s q.1) at) ∙ free.1))
-        (λ n. sym (ap (λ (y : Client). y.held) q.2) ∙ ap (λ (y : Client). y.held) (is_gone j q.0 q.1 n))
+        dite (ℕ_discrete j i) (λ s. sym (ap (λ (y : Client). y.attempt.held) q.2) ∙ (ap (λ (y : Client). y.attempt.held) (same_at c.clients i q.0 v (subst (λ n. At c.clients n q.0) s q.1) at) ∙ free.1))
+        (λ n. sym (ap (λ (y : Client). y.attempt.held) q.2) ∙ ap (λ (y : Client). y.attempt.held) (is_gone j q.0 q.1 n))
 
     renew_earlier : Earlier (old ++ h) (frame_of (renewed i last v c))
     renew_earlier = record {
@@ -442,7 +442,7 @@ stands lk c old h b =
       newest = image_last c.opening k.story h c.opening c.clock (λ r m. let q = d.only r m in (k.version.sound q.0 q.1 q.2).recorded r q.3) ∙ sym all;
       one_version = λ i v e. agrees_by free_law lk (now c) k h g i (shed c.renewal v) (at_map (shed c.renewal) c.clients i v e);
       lone = λ i v e y z. goes_on free_law lk c k b.rule.lone i v e y z;
-      words = λ f. cells_by free_law lk (now c) k h g (λ r m. d.only r m) (λ i v e. let q = at_unmap (shed c.renewal) c.clients i v e in sym (ap (λ (y : Client). y.held) q.2) ∙ f i q.0 q.1) ∙ sym all;
+      words = λ f. cells_by free_law lk (now c) k h g (λ r m. d.only r m) (λ i v e. let q = at_unmap (shed c.renewal) c.clients i v e in sym (ap (λ (y : Client). y.attempt.held) q.2) ∙ f i q.0 q.1) ∙ sym all;
       no_trace = λ i v r e s u m n z. ⊎_elim (λ p. clash ((d.old_numbered i (shed c.renewal v) r (at_map (shed c.renewal) c.clients i v e) s p n).1 z) u) (λ p. clash ((d.numbered i (shed c.renewal v) r (at_map (shed c.renewal) c.clients i v e) s p n).1 z) u) (in_append old h r m);
     }
 

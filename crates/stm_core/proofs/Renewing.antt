@@ -200,14 +200,14 @@ module _ (lawful : List ℕ → List (ℕ × ℕ) → List (ℕ × ℕ) → Type
 
     -- a client that has nothing
     record IsBare (w : Client) : Type 0 where
-      pub held : w.held ≡ []
-      pub wv : w.wv ≡ 0
-      pub reads : w.reads ≡ []
+      pub held : w.attempt.held ≡ []
+      pub wv : w.attempt.wv ≡ 0
+      pub reads : w.attempt.reads ≡ []
       pub records : w.records ≡ []
       pub phase : decided w ≡ false
-      pub rv : w.rv ≡ 0
+      pub rv : w.attempt.rv ≡ 0
       pub floor : w.floor ≡ 0
-      pub last_is : w.last ≡ nothing
+      pub last_is : w.attempt.last ≡ nothing
 
     abbrev start : World
     start = world (opened c.cells last (length c.locks)) []
@@ -255,7 +255,7 @@ module _ (lawful : List ℕ → List (ℕ × ℕ) → List (ℕ × ℕ) → Type
             filed = bare_files (c.renewal + 1) clients' [] (no_files (c.renewal + 1)) bare;
             size = refl;
           };
-          lone = λ n o e y. ⊎_elim (λ p. clash y (ap (λ (x : Client). x.lone) (sym p.1))) (λ p. clash y (ap (λ (x : Client). x.lone) (is_gone n o p.1 p.0))) (at_set c.clients i n (renewing v) o e);
+          lone = λ n o e y. ⊎_elim (λ p. clash y (ap (λ (x : Client). x.attempt.lone) (sym p.1))) (λ p. clash y (ap (λ (x : Client). x.attempt.lone) (is_gone n o p.1 p.0))) (at_set c.clients i n (renewing v) o e);
           known = turn_known c i v at 0 (renewing v) refl refl;
           past = record {
             serial = past_serial;
@@ -276,7 +276,7 @@ module _ (lawful : List ℕ → List (ℕ × ℕ) → List (ℕ × ℕ) → Type
 pub opening_rules : (lawful : List ℕ → List (ℕ × ℕ) → List (ℕ × ℕ) → Type 0) (lk : ℕ → ℕ) (image : List ℕ) (last stripes : ℕ) → Rule lawful lk (opened image last stripes)
 opening_rules lawful lk image last stripes = record {
   inv = opening_keeps lawful lk image last stripes;
-  lone = λ i v e y. clash y (ap (λ (x : Client). x.lone) (sym (only i v e)));
+  lone = λ i v e y. clash y (ap (λ (x : Client). x.attempt.lone) (sym (only i v e)));
   known = record { place = 0; knower = opener; member = refl; out = refl; floor = refl };
   past = record {
     serial = tt;
@@ -310,17 +310,17 @@ module _ (lawful : List ℕ → List (ℕ × ℕ) → List (ℕ × ℕ) → Type
   pub begins_rules : v ≡ renewing v → v.grants ≡ 63 → Serial first v.records → image_after first v.records ≡ image → ((r : Record) → In r v.records → lawful r.tag r.reads r.writes) → AllBefore renewal v.records → Sorted v.records → Rule lawful lk (begun_on first image renewal last stripes v)
   begins_rules new all serial leads abides earlier sorted =
       let none : v''.records ≡ [] = of_none renewal v.records earlier in
-      let k = longer_keeps lk (world (opened image last stripes) []) [] v'' (nobody_yet lawful lk image last stripes) (ap (λ (y : Client). y.held) new) (ap (λ (y : Client). y.wv) new) (ap (λ (y : Client). y.reads) new) none (ap (λ (y : Client). decided y) new) (ap (λ (y : Client). y.rv) new) (let e : v.floor ≡ 0 = ap (λ (y : Client). y.floor) new in omega arith) (ap (λ (y : Client). y.last) new) in record {
+      let k = longer_keeps lk (world (opened image last stripes) []) [] v'' (nobody_yet lawful lk image last stripes) (ap (λ (y : Client). y.attempt.held) new) (ap (λ (y : Client). y.attempt.wv) new) (ap (λ (y : Client). y.attempt.reads) new) none (ap (λ (y : Client). decided y) new) (ap (λ (y : Client). y.attempt.rv) new) (let e : v.floor ≡ 0 = ap (λ (y : Client). y.floor) new in omega arith) (ap (λ (y : Client). y.attempt.last) new) in record {
         inv = record {
           bounded = zero-le;
           grants = rw (sum_by-cons share v'' []) (let e : share v'' ≡ v.grants + 1 = share_of v'' (ap (λ (y : Client). y.spent) new) in omega (arith, all));
           story = [];
           version = k.version;
           books = k.books;
-          filed = longer_files lawful (length image) renewal [] 0 [] v'' no_files (ap (λ (y : Client). y.held) new) (ap (λ (y : Client). y.wv) new) (ap (λ (y : Client). y.reads) new) none (ap (λ (y : Client). decided y) new);
+          filed = longer_files lawful (length image) renewal [] 0 [] v'' no_files (ap (λ (y : Client). y.attempt.held) new) (ap (λ (y : Client). y.attempt.wv) new) (ap (λ (y : Client). y.attempt.reads) new) none (ap (λ (y : Client). decided y) new);
           size = refl;
         };
-        lone = λ i w e y. clash y (ap (λ (x : Client). x.lone) (sym (only i w e)) ∙ ap (λ (x : Client). x.lone) new);
+        lone = λ i w e y. clash y (ap (λ (x : Client). x.attempt.lone) (sym (only i w e)) ∙ ap (λ (x : Client). x.attempt.lone) new);
         known = record { place = 0; knower = v; member = refl; out = ap (λ (x : Client). x.spent) new; floor = ap (λ (x : Client). x.floor) new };
         past = record {
           serial = serial;

@@ -125,8 +125,8 @@ end_test running = record { sound = λ h. inl refl; complete = λ e. refl }
 end_test ending = record { sound = λ h. inr refl; complete = λ e. refl }
 end_test _ = record { sound = λ h. clash h refl; complete = ⊎_elim (λ e. ap may_end e) (λ e. ap may_end e) }
 
-reading_test : (c : Client) → Decides (is_reading c) (IsReading c)
-reading_test c = and2 (running_test c.phase) (eq_test c.wv 0)
+reading_test : (c : Client) → Decides (is_reading c.attempt) (IsReading c.attempt)
+reading_test c = and2 (running_test c.attempt.phase) (eq_test c.attempt.wv 0)
 
 free_test : (k : ℕ) (l : Step) → Decides (has_found_free k l) (HasFoundFree k l)
 free_test k (probed j n) = and2 (eq_test j k) (free_word n)
@@ -177,17 +177,17 @@ module _ (stripes : ℕ) where
       one a {b = b} {c = c} d e = record { sound = λ h p. e.sound (subst (λ y. (not y || c) ≡ true) (d.complete p) h); complete = λ f. by_bool b (λ t. rw (t, e.complete (f (d.sound t))) refl) (λ n. rw n refl) }
 
 -- whether a client may make a step
-pub act_test : (b : Bounds) (c : Client) (e : Action) → Decides (may_act b e c) (MayAct free_law (stripe_of b.stripes) b e c)
-act_test b c begin = empty_test c.held
+pub act_test : (b : Bounds) (c : Client) (e : Action) → Decides (may_act b e c.attempt) (MayAct free_law (stripe_of b.stripes) b e c.attempt)
+act_test b c begin = empty_test c.attempt.held
 act_test b c (probe k) = and2 (reading_test c) (lt_test k b.stripes)
-act_test b c (fetch a) = and4 (reading_test c) (lt_test a b.size) (empty_test c.held) (probed_test (a % b.stripes) c.rv c.last)
-act_test b c (check a) = and4 (reading_test c) (lt_test a b.size) (empty_test c.held) (fetched_test a c.rv c.last)
-act_test b c (lock k) = and4 (reading_test c) (lt_test k b.stripes) (free_test k c.last)
-    (through (λ f j u i. f (j, u) i) (λ f x i. f x.0 x.1 i) (all_test (λ p. nat_lt p.0 k) (λ p. p.0 < k) (λ p. lt_test p.0 k) c.held))
+act_test b c (fetch a) = and4 (reading_test c) (lt_test a b.size) (empty_test c.attempt.held) (probed_test (a % b.stripes) c.attempt.rv c.attempt.last)
+act_test b c (check a) = and4 (reading_test c) (lt_test a b.size) (empty_test c.attempt.held) (fetched_test a c.attempt.rv c.attempt.last)
+act_test b c (lock k) = and4 (reading_test c) (lt_test k b.stripes) (free_test k c.attempt.last)
+    (through (λ f j u i. f (j, u) i) (λ f x i. f x.0 x.1 i) (all_test (λ p. nat_lt p.0 k) (λ p. p.0 < k) (λ p. lt_test p.0 k) c.attempt.held))
 act_test b c (tick from tag writes) = through (λ p. (p.0, p.1, p.2, p.3, p.4, tt)) (λ p. (p.0, p.1, p.2, p.3, p.4))
-    (and5 (reading_test c) (eq_test from c.next_from) (lt_test from b.last) (lt_test c.ticks 16) (write_test b.stripes b.size c.held writes))
-act_test b c (validate k) = and3 (running_test c.phase) (lt_test 0 c.wv) (next_test b.stripes k c.reads c.passed)
-act_test b c (put a x) = and4 (committed_test c.phase) (pair_test a x c.writes) (held_test c.held (a % b.stripes)) (not_test (number_test a c.stored))
-act_test b c (release k) = and3 (committed_test c.phase) (held_test c.held k) (stored_test b.stripes k c.stored c.writes)
-act_test b c (give_back k) = and2 (end_test c.phase) (held_test c.held k)
-act_test b c (finish tag) = through (λ p. (p.0, p.1, tt)) (λ p. (p.0, p.1)) (and2 (reading_test c) (empty_test c.held))
+    (and5 (reading_test c) (eq_test from c.attempt.next_from) (lt_test from b.last) (lt_test c.attempt.ticks 16) (write_test b.stripes b.size c.attempt.held writes))
+act_test b c (validate k) = and3 (running_test c.attempt.phase) (lt_test 0 c.attempt.wv) (next_test b.stripes k c.attempt.reads c.attempt.passed)
+act_test b c (put a x) = and4 (committed_test c.attempt.phase) (pair_test a x c.attempt.writes) (held_test c.attempt.held (a % b.stripes)) (not_test (number_test a c.attempt.stored))
+act_test b c (release k) = and3 (committed_test c.attempt.phase) (held_test c.attempt.held k) (stored_test b.stripes k c.attempt.stored c.attempt.writes)
+act_test b c (give_back k) = and2 (end_test c.attempt.phase) (held_test c.attempt.held k)
+act_test b c (finish tag) = through (λ p. (p.0, p.1, tt)) (λ p. (p.0, p.1)) (and2 (reading_test c) (empty_test c.attempt.held))

@@ -8,10 +8,10 @@ use Rattle.stm_core.specs.Version.{World, At, Claims, runs, passes, noted, Saw, 
 use Rattle.stm_core.proofs.Lists.{same_at, clash}
 use Rattle.stm_core.proofs.Turns.{Heart, turn_keeps}
 
-module _ (lk : ℕ → ℕ) (s : World) (cs : List Client) (id : ℕ) (v w : Client) (val : ℕ → ℕ → ℕ) (wrote : ℕ → ℕ → Bool) (h : Heart lk s cs) (at : At cs id v) (none' : v.wv ≡ 0) (undecided : decided v ≡ false)
+module _ (lk : ℕ → ℕ) (s : World) (cs : List Client) (id : ℕ) (v w : Client) (val : ℕ → ℕ → ℕ) (wrote : ℕ → ℕ → Bool) (h : Heart lk s cs) (at : At cs id v) (none' : v.attempt.wv ≡ 0) (undecided : decided v ≡ false)
     (same_val : (b a : ℕ) → val b a ≡ s.val b a) (same_wrote : (u a : ℕ) → wrote u a ≡ s.wrote u a)
-    (locks : (a : ℕ) → writes_to w.writes a ≡ true → (u : ℕ) × In (lk a, u) v.held) (held : w.held ≡ v.held) (wv : w.wv ≡ s.clock + 1) (phase : decided w ≡ false) (rv : w.rv ≡ v.rv) (floor : w.floor ≤ s.clock + 1) (reads : w.reads ≡ v.reads)
-    (passed : w.passed ≡ 0) (records : w.records ≡ v.records) where
+    (locks : (a : ℕ) → writes_to w.attempt.writes a ≡ true → (u : ℕ) × In (lk a, u) v.attempt.held) (held : w.attempt.held ≡ v.attempt.held) (wv : w.attempt.wv ≡ s.clock + 1) (phase : decided w ≡ false) (rv : w.attempt.rv ≡ v.attempt.rv) (floor : w.floor ≤ s.clock + 1) (reads : w.attempt.reads ≡ v.attempt.reads)
+    (passed : w.attempt.passed ≡ 0) (records : w.records ≡ v.records) where
   me : IsSound lk s v
   me = h.version.sound id v at
 
@@ -37,16 +37,16 @@ module _ (lk : ℕ → ℕ) (s : World) (cs : List Client) (id : ℕ) (v w : Cli
     locked = it.locked;
     pending = it.pending;
     above = it.above;
-    saw = saw_ticks o.rv o.last it.saw;
+    saw = saw_ticks o.attempt.rv o.attempt.last it.saw;
   }
 
   other_booked : (i : ℕ) (o : Client) → At cs i o → IsBooked lk after o
   other_booked i o e = let it = h.books.booked i o e in record {
     later = it.later;
     listed = it.listed;
-    unwritten = λ op a. same_wrote o.wv a ∙ it.unwritten op a;
-    told = λ d. ((it.told d).0, λ a. same_wrote o.wv a ∙ (it.told d).1 a);
-    values = λ d a x u g m. same_val o.wv a ∙ it.values d a x u g m;
+    unwritten = λ op a. same_wrote o.attempt.wv a ∙ it.unwritten op a;
+    told = λ d. ((it.told d).0, λ a. same_wrote o.attempt.wv a ∙ (it.told d).1 a);
+    values = λ d a x u g m. same_val o.attempt.wv a ∙ it.values d a x u g m;
   }
 
   claims_same : (b a x : ℕ) → Claims w b a x → Claims v b a x
@@ -57,13 +57,13 @@ module _ (lk : ℕ → ℕ) (s : World) (cs : List Client) (id : ℕ) (v w : Cli
   bound : (i : ℕ) (o : Client) (b a x : ℕ) → At cs i o → Claims o b a x → b ≤ s.clock
   bound i o b a x e c = ((h.version.sound i o e).agrees b a x c).1
 
-  old : (i : ℕ) (o : Client) (k u : ℕ) → At cs i o → In (k, u) o.held → u ≤ s.clock
+  old : (i : ℕ) (o : Client) (k u : ℕ) → At cs i o → In (k, u) o.attempt.held → u ≤ s.clock
   old i o k u e g = (let p = (h.books.booked i o e).listed k u g in let q = h.version.versions k in omega arith)
 
   kept_on : (o : Client) (k u : ℕ) → IsKept lk s o k u → IsKept lk after o k u
-  kept_on o k u was = record { same = λ a l c. was.same a l c ∙ newest_same a; waiting = λ a l d t n. was.waiting a l d t n ∙ sym (same_val (o.wv - 1) a); newest = λ a m l b c. same_wrote m a ∙ was.newest a m l b c }
+  kept_on o k u was = record { same = λ a l c. was.same a l c ∙ newest_same a; waiting = λ a l d t n. was.waiting a l d t n ∙ sym (same_val (o.attempt.wv - 1) a); newest = λ a m l b c. same_wrote m a ∙ was.newest a m l b c }
 
-  pub tick_keeps : Saw lk after w.rv w.last → Heart lk after (set cs id w)
+  pub tick_keeps : Saw lk after w.attempt.rv w.attempt.last → Heart lk after (set cs id w)
   tick_keeps saw = turn_keeps lk s after cs id v w h at record {
     sound = record {
       rv = rw rv (let p = me.rv in omega arith);
@@ -88,10 +88,10 @@ module _ (lk : ℕ → ℕ) (s : World) (cs : List Client) (id : ℕ) (v w : Cli
     story = λ u a l. same_wrote u a ∙ h.books.story u a (omega arith);
     steady = λ a m n l q. same_val m a ∙ (h.books.steady a m n l (λ u y z. sym (same_wrote u a) ∙ q u y z) ∙ sym (same_val n a));
     versions = λ k. (let p = h.version.versions k in omega arith);
-    own = λ i o e n z same. (let p = (h.version.sound i o e).wv in let q : o.wv ≡ s.clock + 1 = sym same ∙ wv in omega arith);
+    own = λ i o e n z same. (let p = (h.version.sound i o e).wv in let q : o.attempt.wv ≡ s.clock + 1 = sym same ∙ wv in omega arith);
     free = λ k a m e l. let was = h.version.free k a m e l in (was.0 ∙ newest_same a, λ y. same_wrote m a ∙ was.1 y);
     holder = λ k odd. let q = h.version.holder k odd in
-        dite (ℕ_discrete q.0 id) (λ e. inl (rw held (subst (λ (c : Client). In (k, version_of (s.lock k)) c.held) (same_at cs id q.1 v (subst (λ n. At cs n q.1) e q.2) at) q.3))) (λ n. inr (q.0, q.1, q.2, n, q.3));
+        dite (ℕ_discrete q.0 id) (λ e. inl (rw held (subst (λ (c : Client). In (k, version_of (s.lock k)) c.attempt.held) (same_at cs id q.1 v (subst (λ n. At cs n q.1) e q.2) at) q.3))) (λ n. inr (q.0, q.1, q.2, n, q.3));
     alone = λ i o k m n e ne a b. ne (h.version.alone i id o v k m n e at a (subst (In (k, n)) held b));
     kept = λ k u g. let was = h.version.kept id v k u at (subst (In (k, u)) held g) in record {
       same = λ a l c. was.same a l (inl undecided) ∙ newest_same a;

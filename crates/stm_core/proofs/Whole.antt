@@ -5,8 +5,8 @@ use native.Mathlib.Decide.{ℕ_discrete}
 use Rattle.std.proofs.lemmas.Bool.Decides.{nat_tests}
 use Rattle.stm_words.specs.Image.{In, Agrees, laid}
 use Rattle.stm_core.specs.Client.{Client, Record, before, inserted, merged, of_renewal, shed}
-use Rattle.stm_core.specs.Client.{Stamp, version_of, word_before, value_fetched, checked, locked, ticked, looked}
-use Rattle.stm_core.specs.Event.{Action, check, lock, tick, validate, finish, committed_by, stepping, failing, read_too, holding, versioned, decides_at_once, won, passes, passing, after, taking}
+use Rattle.stm_core.specs.Client.{Stamp, version_of, word_before, value_fetched, checked, locked, ticked, validated}
+use Rattle.stm_core.specs.Event.{Action, check, lock, tick, validate, finish, committed_by, stepping, failing, read_too, holding, versioned, decides_at_once, won, passes, passing, after, taking, counting}
 use Rattle.stm_core.specs.Core.{Core, IsFreeHanded, IsAlone}
 use Rattle.stm_core.proofs.Steps.{by_case}
 use Rattle.stm_core.specs.Version.{At}
@@ -161,14 +161,14 @@ module _ (lawful : List ℕ → List (ℕ × ℕ) → List (ℕ × ℕ) → Type
 
 -- a client's records stay sorted through its steps, and where two clients' come together
 pub after_sorted : (t : Stamp) (lk : ℕ → ℕ) (e : Action) (n : ℕ) (v : Client) → Sorted v.records → Sorted (after t lk e n v).records
-after_sorted t lk (check a) n v s = by_case (λ b. Sorted (stepping (checked a (word_before v.last) n) (cond b (read_too a (value_fetched v.last) v) (failing v))).records) (eqb n (word_before v.last)) (λ _. s) (λ _. s)
-after_sorted t lk (lock k) n v s = by_case (λ b. Sorted (stepping (locked k (word_before v.last) n) (cond b (holding k (version_of n) v) (failing v))).records) (eqb n (word_before v.last)) (λ _. s) (λ _. s)
+after_sorted t lk (check a) n v s = by_case (λ b. Sorted (stepping (checked a (word_before v.attempt.last) n) (cond b (read_too a (value_fetched v.attempt.last) v) (failing v))).records) (eqb n (word_before v.attempt.last)) (λ _. s) (λ _. s)
+after_sorted t lk (lock k) n v s = by_case (λ b. Sorted (stepping (locked k (word_before v.attempt.last) n) (cond b (holding k (version_of n) v) (failing v))).records) (eqb n (word_before v.attempt.last)) (λ _. s) (λ _. s)
 after_sorted t lk (tick f g w) n v s =
     let w0 : Client = versioned t (f + 1) g w v in
     by_case (λ b. Sorted (stepping (ticked f n) (cond b (won t (f + 1) g w v) v)).records) (eqb n f) (λ _. by_case (λ b. Sorted (stepping (ticked f n) (cond b (committed_by t w0) w0)).records) (decides_at_once w0) (λ _. inserted_sorted _ v.records s) (λ _. s)) (λ _. s)
 after_sorted t lk (validate k) n v s =
-    let w0 : Client = record v { passed = v.passed + 1 } in
-    by_case (λ b. Sorted (stepping (looked k n) (cond b (passing t v) (failing v))).records) (passes k n v) (λ _. by_case (λ b. Sorted (stepping (looked k n) (cond b (committed_by t w0) w0)).records) (eqb w0.passed (length v.reads)) (λ _. inserted_sorted _ v.records s) (λ _. s)) (λ _. s)
+    let w0 : Client = counting v in
+    by_case (λ b. Sorted (stepping (validated k n) (cond b (passing t v) (failing v))).records) (passes k n v) (λ _. by_case (λ b. Sorted (stepping (validated k n) (cond b (committed_by t w0) w0)).records) (eqb w0.attempt.passed (length v.attempt.reads)) (λ _. inserted_sorted _ v.records s) (λ _. s)) (λ _. s)
 after_sorted t lk (finish g) n v s = inserted_sorted _ v.records s
 after_sorted t lk _ n v s = s
 

@@ -1,5 +1,5 @@
--- What one client is, as plain data: its running attempt, what it holds, and the records of its
--- committed calls.
+-- What one client is, as plain data: its grants, the records of its committed calls, and its
+-- attempt.
 use Rattle.std.specs.Prelude.{◌≡◌, ℕ, ◌+◌, ◌*◌, ◌-◌, ◌/◌, Bool, true, false, cond, eqb, ltb, ◌||◌, ◌&&◌, List, [], ◌∷◌, Option, Some, None}
 
 -- one committed call: what it read and wrote, and where it stands. A writer's version is its write
@@ -23,7 +23,7 @@ pub data Phase : Type 0 where
   -- no attempt was begun
   idle : Phase
   running : Phase
-  -- it can only end: a check, a lock or a look failed, or a lock was given back
+  -- it can only end: a check, a lock or a validation failed, or a lock was given back
   ending : Phase
   -- a decided writer, which may have values to store and locks to release
   committed : Phase
@@ -42,17 +42,14 @@ pub data Step : Type 0 where
   checked : (address word now : ℕ) → Step
   locked : (lock word now : ℕ) → Step
   ticked : (from now : ℕ) → Step
-  looked : (lock word : ℕ) → Step
+  validated : (lock word : ℕ) → Step
   ended : (version : ℕ) → Step
 
-pub record Client : Type 0 where
-  -- how many more clients it may split off
-  pub grants : ℕ
-  -- it was gathered, and is no client any more
-  pub spent : Bool
+-- the running attempt of a client, or its last one
+pub record Attempt : Type 0 where
+  -- 0 before the first
+  pub number : ℕ
   pub phase : Phase
-  -- the number of its last attempt, 0 before the first
-  pub attempt : ℕ
   -- the read version
   pub rv : ℕ
   -- what was read and checked: a pair of address and value for each check that succeeded
@@ -60,7 +57,7 @@ pub record Client : Type 0 where
   -- the last step, but that a give back leaves the one before it
   pub last : Step
   pub gave_back : Bool
-  -- whether the lock of the last step, a probe or a look, was then its own
+  -- whether the lock of the last step, a probe or a validation, was then its own
   pub mine : Bool
   -- the locks that it holds, each with its old version
   pub held : List (ℕ × ℕ)
@@ -69,23 +66,31 @@ pub record Client : Type 0 where
   -- tag and writes of the won tick
   pub tag : List ℕ
   pub writes : List (ℕ × ℕ)
-  -- how many of the reads the looks have passed
+  -- how many of the reads passed their validation
   pub passed : ℕ
   -- the addresses that are stored
   pub stored : List ℕ
   pub ticks : ℕ
   -- where the next tick starts: the read version, then the value that the last tick found
   pub next_from : ℕ
-  -- it had all grants at its begin and has not split since
+  -- the client had all grants at its begin and has not split since
   pub lone : Bool
-  -- how many steps the attempt has made
+  -- how many steps it has made
   pub steps : ℕ
-  -- the greatest version that the client knows
-  pub floor : ℕ
   -- the places of its begin and of its won tick in the list of events
   pub began_at : ℕ
   pub ticked_at : ℕ
+
+-- what a client is from one attempt to the next, and its attempt
+pub record Client : Type 0 where
+  -- how many more clients it may split off
+  pub grants : ℕ
+  -- it was gathered, and is no client any more
+  pub spent : Bool
+  -- the greatest version that the client knows
+  pub floor : ℕ
   pub records : List Record
+  pub attempt : Attempt
 
 -- who makes a step, and when: the client's number, the step's place in the list of events, and the
 -- renewals before it
@@ -100,7 +105,7 @@ is_committed _ = false
 
 -- the client is a decided writer
 abbrev pub decided : Client → Bool
-decided c = is_committed c.phase
+decided c = is_committed c.attempt.phase
 
 abbrev pub version_of : ℕ → ℕ
 version_of word = word / 2
@@ -145,12 +150,12 @@ word_found (fetched a n x) = Some x
 word_found (checked a n m) = Some m
 word_found (locked k n m) = Some m
 word_found (ticked f m) = Some m
-word_found (looked k n) = Some n
+word_found (validated k n) = Some n
 word_found (ended n) = Some n
 
 -- the word that the client's last step found
 abbrev pub found_by : Client → Option ℕ
-found_by c = cond c.gave_back None (word_found c.last)
+found_by c = cond c.attempt.gave_back None (word_found c.attempt.last)
 
 -- where a record stands among those of its renewal: by version, the writer of a version before its
 -- readers

@@ -43,11 +43,11 @@ found lk c (finish tag) = c.clock
 
 -- the word that the step leaves where it found n
 abbrev pub left : Action → ℕ → Client → ℕ
-left (lock k) n v = cond (eqb n (word_before v.last)) (n + 1) n
+left (lock k) n v = cond (eqb n (word_before v.attempt.last)) (n + 1) n
 left (tick from tag writes) n v = cond (eqb n from) (from + 1) n
 left (put a x) n v = x
-left (release k) n v = 2 * v.wv
-left (give_back k) n v = 2 * old_version v.held k
+left (release k) n v = 2 * v.attempt.wv
+left (give_back k) n v = 2 * old_version v.attempt.held k
 left _ n v = n
 
 -- the words after a step that leaves m
@@ -104,7 +104,7 @@ IsClient c k v = (0 < k) × (get_elem? c.clients (k - 1) ≡ some v)
 
 -- it is out, and holds no lock
 abbrev pub IsFreeHanded : Client → Type 0
-IsFreeHanded v = (v.spent ≡ false) × (v.held ≡ [])
+IsFreeHanded v = (v.spent ≡ false) × (v.attempt.held ≡ [])
 
 -- every other client is spent
 abbrev pub IsAlone : Core → ℕ → Type 0

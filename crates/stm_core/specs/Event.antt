@@ -3,7 +3,7 @@ use Rattle.std.specs.Prelude.{◌≡◌, ◌≢◌, ℕ, ◌+◌, ◌-◌, ◌<�
 use Rattle.stm_words.specs.Image.{In}
 use mathlib.Core.Option.{some}
 use lib.ListN.{get_elem?}
-use Rattle.stm_core.specs.Client.{Client, Record, idle, running, ending, committed, finished, Step, nothing, began, probed, fetched, checked, locked, ticked, looked, ended, Stamp, version_of, IsFree, is_free, writes_to, without, word_before, value_fetched, inserted, merged}
+use Rattle.stm_core.specs.Client.{Attempt, Client, Record, idle, running, ending, committed, finished, Step, nothing, began, probed, fetched, checked, locked, ticked, validated, ended, Stamp, version_of, IsFree, is_free, writes_to, without, word_before, value_fetched, inserted, merged}
 use Rattle.stm_core.specs.declared.limits.TheConstants.{MOST_GRANTS, MOST_TICKS}
 
 -- one step of one client: an atomic load, store or exchange of one word
@@ -48,8 +48,8 @@ abbrev pub Holds : List (ℕ × ℕ) → ℕ → Type 0
 Holds held k = (u : ℕ) × In (k, u) held
 
 -- an attempt runs that has no write version
-abbrev pub IsReading : Client → Type 0
-IsReading c = (c.phase ≡ running) × (c.wv ≡ 0)
+abbrev pub IsReading : Attempt → Type 0
+IsReading t = (t.phase ≡ running) × (t.wv ≡ 0)
 
 -- no address stands twice
 abbrev pub IsMap : List (ℕ × ℕ) → Type 0
@@ -68,193 +68,67 @@ pub record MayWrite (lk : ℕ → ℕ) (size : ℕ) (held writes : List (ℕ × 
   pub inside : (a : ℕ) → writes_to writes a ≡ true → a < size
   pub locks : LocksMatch lk held writes
 
--- the look of a writer at lock k stands next
-abbrev pub IsNext : (ℕ → ℕ) → ℕ → Client → Type 0
-IsNext lk k c = (a x : ℕ) × (get_elem? c.reads c.passed ≡ some (a, x)) × (lk a ≡ k)
+-- the validation of lock k stands next
+abbrev pub IsNext : (ℕ → ℕ) → ℕ → Attempt → Type 0
+IsNext lk k t = (a x : ℕ) × (get_elem? t.reads t.passed ≡ some (a, x)) × (lk a ≡ k)
 
 module _ (lawful : List ℕ → List (ℕ × ℕ) → List (ℕ × ℕ) → Type 0) (lk : ℕ → ℕ) (b : Bounds) where
-  -- when a client that is not spent may make a step
-  abbrev pub MayAct : Action → Client → Type 0
-  MayAct begin c = c.held ≡ []
-  MayAct (probe k) c = IsReading c × (k < b.stripes)
-  MayAct (fetch a) c = IsReading c × (a < b.size) × (c.held ≡ []) × HasProbed (lk a) c.rv c.last
-  MayAct (check a) c = IsReading c × (a < b.size) × (c.held ≡ []) × HasFetched a c.rv c.last
-  MayAct (lock k) c =
-      IsReading c × (k < b.stripes) × HasFoundFree k c.last
-      × ((j u : ℕ) → In (j, u) c.held → j < k)
-  MayAct (tick from tag writes) c =
-      IsReading c × (from ≡ c.next_from) × (from < b.last) × (c.ticks < MOST_TICKS)
-      × MayWrite lk b.size c.held writes × lawful tag c.reads writes
-  MayAct (validate k) c = (c.phase ≡ running) × (0 < c.wv) × IsNext lk k c
-  MayAct (put a x) c =
-      (c.phase ≡ committed) × In (a, x) c.writes × Holds c.held (lk a) × (In a c.stored → ⊥)
-  MayAct (release k) c =
-      (c.phase ≡ committed) × Holds c.held k
-      × ((a : ℕ) → lk a ≡ k → writes_to c.writes a ≡ true → In a c.stored)
-  MayAct (give_back k) c = ((c.phase ≡ running) ⊎ (c.phase ≡ ending)) × Holds c.held k
-  MayAct (finish tag) c = IsReading c × (c.held ≡ []) × lawful tag c.reads []
+  -- when an attempt of a client that is not spent may make a step, or the next one begin
+  abbrev pub MayAct : Action → Attempt → Type 0
+  MayAct begin t = t.held ≡ []
+  MayAct (probe k) t = IsReading t × (k < b.stripes)
+  MayAct (fetch a) t = IsReading t × (a < b.size) × (t.held ≡ []) × HasProbed (lk a) t.rv t.last
+  MayAct (check a) t = IsReading t × (a < b.size) × (t.held ≡ []) × HasFetched a t.rv t.last
+  MayAct (lock k) t =
+      IsReading t × (k < b.stripes) × HasFoundFree k t.last
+      × ((j u : ℕ) → In (j, u) t.held → j < k)
+  MayAct (tick from tag writes) t =
+      IsReading t × (from ≡ t.next_from) × (from < b.last) × (t.ticks < MOST_TICKS)
+      × MayWrite lk b.size t.held writes × lawful tag t.reads writes
+  MayAct (validate k) t = (t.phase ≡ running) × (0 < t.wv) × IsNext lk k t
+  MayAct (put a x) t =
+      (t.phase ≡ committed) × In (a, x) t.writes × Holds t.held (lk a) × (In a t.stored → ⊥)
+  MayAct (release k) t =
+      (t.phase ≡ committed) × Holds t.held k
+      × ((a : ℕ) → lk a ≡ k → writes_to t.writes a ≡ true → In a t.stored)
+  MayAct (give_back k) t = ((t.phase ≡ running) ⊎ (t.phase ≡ ending)) × Holds t.held k
+  MayAct (finish tag) t = IsReading t × (t.held ≡ []) × lawful tag t.reads []
 
   abbrev pub May : Action → Client → Type 0
-  May e c = (c.spent ≡ false) × MayAct e c
+  May e c = (c.spent ≡ false) × MayAct e c.attempt
 
--- the record that a client's running attempt makes as a writer, and as a reader with this tag
-abbrev pub writer_record : Stamp → Client → Record
-writer_record t c = record {
-  tag = c.tag;
-  reads = c.reads;
-  writes = c.writes;
+-- the record that an attempt makes as a writer, and as a reader with this tag
+abbrev pub writer_record : Stamp → Attempt → Record
+writer_record s t = record {
+  tag = t.tag;
+  reads = t.reads;
+  writes = t.writes;
   writer = true;
-  version = c.wv;
-  attempt = c.attempt;
-  renewal = t.renewal;
-  point = c.ticked_at;
-  client = t.client;
+  version = t.wv;
+  attempt = t.number;
+  renewal = s.renewal;
+  point = t.ticked_at;
+  client = s.client;
 }
 
-abbrev pub reader_record : Stamp → List ℕ → Client → Record
-reader_record t tag c = record {
+abbrev pub reader_record : Stamp → List ℕ → Attempt → Record
+reader_record s tag t = record {
   tag = tag;
-  reads = c.reads;
+  reads = t.reads;
   writes = [];
   writer = false;
-  version = c.rv;
-  attempt = c.attempt;
-  renewal = t.renewal;
-  point = c.began_at;
-  client = t.client;
+  version = t.rv;
+  attempt = t.number;
+  renewal = s.renewal;
+  point = t.began_at;
+  client = s.client;
 }
 
--- a decided writer, with its record
-abbrev pub committed_by : Stamp → Client → Client
-committed_by t c = record c {
-  phase = committed;
-  stored = [];
-  records = inserted (writer_record t c) c.records;
-}
-
--- a new attempt, with the clock's value as its read version
-abbrev pub begun : Stamp → ℕ → Client → Client
-begun t n c = record c {
-  phase = running;
-  attempt = c.attempt + 1;
-  rv = n;
-  reads = [];
-  last = began n;
-  gave_back = false;
-  mine = false;
-  wv = 0;
-  tag = [];
-  writes = [];
-  passed = 0;
-  stored = [];
-  ticks = 0;
-  next_from = n;
-  lone = eqb c.grants MOST_GRANTS;
-  steps = 1;
-  floor = n;
-  began_at = t.place;
-  ticked_at = 0;
-}
-
--- one step more, which found or left this
-abbrev pub stepping : Step → Client → Client
-stepping l c = record c { last = l; gave_back = false; mine = false; steps = c.steps + 1 }
-
--- the attempt can only end
-abbrev pub failing : Client → Client
-failing c = record c { phase = ending }
-
-abbrev pub read_too : ℕ → ℕ → Client → Client
-read_too a x c = record c { reads = c.reads ++ (a, x) ∷ [] }
-
-abbrev pub holding : ℕ → ℕ → Client → Client
-holding k u c = record c { held = c.held ++ (k, u) ∷ [] }
-
--- a won tick, before it is decided
-abbrev pub versioned : Stamp → ℕ → List ℕ → List (ℕ × ℕ) → Client → Client
-versioned t n tag writes c = record c {
-  wv = n;
-  tag = tag;
-  writes = writes;
-  passed = 0;
-  stored = [];
-  floor = n;
-  ticked_at = t.place;
-}
-
-abbrev pub is_empty : List (ℕ × ℕ) → Bool
-is_empty [] = true
-is_empty (p ∷ ps) = false
-
--- a won tick decides where nothing was read, or where the version is the next after the read
--- version
-abbrev pub decides_at_once : Client → Bool
-decides_at_once c = is_empty c.reads || eqb c.wv (c.rv + 1)
-
-abbrev pub won : Stamp → ℕ → List ℕ → List (ℕ × ℕ) → Client → Client
-won t n tag writes c =
-    let w = versioned t n tag writes c in cond (decides_at_once w) (committed_by t w) w
-
--- a look passes where the lock is free or its own, with a version of at most rv
-abbrev pub passes : ℕ → ℕ → Client → Bool
-passes k n c = (is_free n || writes_to c.held k) && leb (version_of n) c.rv
-
-abbrev pub passing : Stamp → Client → Client
-passing t c =
-    let w = record c { passed = c.passed + 1 } in
-    cond (eqb w.passed (length c.reads)) (committed_by t w) w
-
--- what the client is after a step that found this word
-abbrev pub after : Stamp → (ℕ → ℕ) → Action → ℕ → Client → Client
-after t lk begin n c = begun t n c
-after t lk (probe k) n c = record (stepping (probed k n) c) { mine = writes_to c.held k }
-after t lk (fetch a) n c = stepping (fetched a (word_before c.last) n) c
-after t lk (check a) n c =
-    stepping (checked a (word_before c.last) n)
-    (cond (eqb n (word_before c.last)) (read_too a (value_fetched c.last) c) (failing c))
-after t lk (lock k) n c =
-    stepping (locked k (word_before c.last) n)
-    (cond (eqb n (word_before c.last)) (holding k (version_of n) c) (failing c))
-after t lk (tick from tag writes) n c =
-    let w = cond (eqb n from) (won t (from + 1) tag writes c) c in
-    record (stepping (ticked from n) w) { ticks = c.ticks + 1; next_from = n }
-after t lk (validate k) n c =
-    let w = cond (passes k n c) (passing t c) (failing c) in
-    record (stepping (looked k n) w) { mine = writes_to c.held k }
-after t lk (put a x) n c = record (stepping nothing c) { stored = c.stored ++ a ∷ [] }
-after t lk (release k) n c = record (stepping nothing c) { held = without c.held k }
-after t lk (give_back k) n c = record c {
-  held = without c.held k;
-  wv = 0;
-  tag = [];
-  writes = [];
-  passed = 0;
-  phase = ending;
-  gave_back = true;
-  steps = c.steps + 1;
-}
-after t lk (finish tag) n c = record (stepping (ended n) c) {
-  phase = finished;
-  records = inserted (reader_record t tag c) c.records;
-}
-
--- a grant goes to a new client
-abbrev pub giving : Client → Client
-giving c = record c {
-  grants = c.grants - 1;
-  lone = false;
-  last = nothing;
-  gave_back = false;
-  mine = false;
-}
-
--- the client of a region just opened
-abbrev pub opener : Client
-opener = record {
-  grants = MOST_GRANTS;
-  spent = false;
+-- no attempt yet
+abbrev pub idle_attempt : Attempt
+idle_attempt = record {
+  number = 0;
   phase = idle;
-  attempt = 0;
   rv = 0;
   reads = [];
   last = nothing;
@@ -270,10 +144,160 @@ opener = record {
   next_from = 0;
   lone = false;
   steps = 0;
-  floor = 0;
   began_at = 0;
   ticked_at = 0;
+}
+
+-- the client with its attempt changed
+abbrev pub on_attempt : (Attempt → Attempt) → Client → Client
+on_attempt f c = record c { attempt = f c.attempt }
+
+-- the attempt, its last step forgotten
+abbrev pub forgetting : Attempt → Attempt
+forgetting t = record t { last = nothing; gave_back = false; mine = false }
+
+-- a decided writer, with its record
+abbrev pub committed_by : Stamp → Client → Client
+committed_by s c = record c {
+  records = inserted (writer_record s c.attempt) c.records;
+  attempt = record c.attempt { phase = committed; stored = [] };
+}
+
+-- a new attempt, with the clock's value as its read version
+abbrev pub begun : Stamp → ℕ → Client → Client
+begun s n c = record c {
+  floor = n;
+  attempt = record idle_attempt {
+    number = c.attempt.number + 1;
+    phase = running;
+    rv = n;
+    last = began n;
+    held = c.attempt.held;
+    next_from = n;
+    lone = eqb c.grants MOST_GRANTS;
+    steps = 1;
+    began_at = s.place;
+  };
+}
+
+-- one step more, which found or left this
+abbrev pub stepping : Step → Client → Client
+stepping l = on_attempt (λ t. record (forgetting t) { last = l; steps = t.steps + 1 })
+
+-- the lock of the last step is, or is not, the client's own
+abbrev pub marking : Bool → Client → Client
+marking mine = on_attempt (λ t. record t { mine = mine })
+
+-- the attempt can only end
+abbrev pub failing : Client → Client
+failing = on_attempt (λ t. record t { phase = ending })
+
+abbrev pub read_too : ℕ → ℕ → Client → Client
+read_too a x = on_attempt (λ t. record t { reads = t.reads ++ (a, x) ∷ [] })
+
+abbrev pub holding : ℕ → ℕ → Client → Client
+holding k u = on_attempt (λ t. record t { held = t.held ++ (k, u) ∷ [] })
+
+-- one validation more has passed
+abbrev pub counting : Client → Client
+counting = on_attempt (λ t. record t { passed = t.passed + 1 })
+
+-- this many ticks were tried, and the next one starts here
+abbrev pub with_ticks : ℕ → ℕ → Client → Client
+with_ticks ticks from = on_attempt (λ t. record t { ticks = ticks; next_from = from })
+
+-- a won tick, before it is decided
+abbrev pub versioned : Stamp → ℕ → List ℕ → List (ℕ × ℕ) → Client → Client
+versioned s n tag writes c = record c {
+  floor = n;
+  attempt = record c.attempt {
+    wv = n;
+    tag = tag;
+    writes = writes;
+    passed = 0;
+    stored = [];
+    ticked_at = s.place;
+  };
+}
+
+abbrev pub is_empty : List (ℕ × ℕ) → Bool
+is_empty [] = true
+is_empty (p ∷ ps) = false
+
+-- a won tick decides where nothing was read, or where the version is the next after the read
+-- version
+abbrev pub decides_at_once : Client → Bool
+decides_at_once c = is_empty c.attempt.reads || eqb c.attempt.wv (c.attempt.rv + 1)
+
+abbrev pub won : Stamp → ℕ → List ℕ → List (ℕ × ℕ) → Client → Client
+won s n tag writes c =
+    let w = versioned s n tag writes c in cond (decides_at_once w) (committed_by s w) w
+
+-- a validation passes where the lock is free or its own, with a version of at most rv
+abbrev pub passes : ℕ → ℕ → Client → Bool
+passes k n c = (is_free n || writes_to c.attempt.held k) && leb (version_of n) c.attempt.rv
+
+abbrev pub passing : Stamp → Client → Client
+passing s c =
+    let w = counting c in
+    cond (eqb w.attempt.passed (length c.attempt.reads)) (committed_by s w) w
+
+-- what the client is after a step that found this word
+abbrev pub after : Stamp → (ℕ → ℕ) → Action → ℕ → Client → Client
+after s lk begin n c = begun s n c
+after s lk (probe k) n c = marking (writes_to c.attempt.held k) (stepping (probed k n) c)
+after s lk (fetch a) n c = stepping (fetched a (word_before c.attempt.last) n) c
+after s lk (check a) n c =
+    let m = word_before c.attempt.last in
+    stepping (checked a m n)
+    (cond (eqb n m) (read_too a (value_fetched c.attempt.last) c) (failing c))
+after s lk (lock k) n c =
+    let m = word_before c.attempt.last in
+    stepping (locked k m n) (cond (eqb n m) (holding k (version_of n) c) (failing c))
+after s lk (tick from tag writes) n c =
+    let w = cond (eqb n from) (won s (from + 1) tag writes c) c in
+    with_ticks (c.attempt.ticks + 1) n (stepping (ticked from n) w)
+after s lk (validate k) n c =
+    let w = cond (passes k n c) (passing s c) (failing c) in
+    marking (writes_to c.attempt.held k) (stepping (validated k n) w)
+after s lk (put a x) n c =
+    on_attempt (λ t. record t { stored = t.stored ++ a ∷ [] }) (stepping nothing c)
+after s lk (release k) n c =
+    on_attempt (λ t. record t { held = without t.held k }) (stepping nothing c)
+after s lk (give_back k) n c = record c {
+  attempt = record c.attempt {
+    held = without c.attempt.held k;
+    wv = 0;
+    tag = [];
+    writes = [];
+    passed = 0;
+    phase = ending;
+    gave_back = true;
+    steps = c.attempt.steps + 1;
+  };
+}
+after s lk (finish tag) n c =
+    let w = stepping (ended n) c in
+    record w {
+      records = inserted (reader_record s tag c.attempt) c.records;
+      attempt = record w.attempt { phase = finished };
+    }
+
+-- a grant goes to a new client
+abbrev pub giving : Client → Client
+giving c = record c {
+  grants = c.grants - 1;
+  attempt = record (forgetting c.attempt) { lone = false };
+}
+
+-- the client of a region just opened
+abbrev pub opener : Client
+opener = record {
+  grants = MOST_GRANTS;
+  spent = false;
+  floor = 0;
   records = [];
+  attempt = idle_attempt;
 }
 
 -- the new client: no records, no grants, and what the giver knows
@@ -286,15 +310,17 @@ taking c d = record c {
   grants = c.grants + d.grants + 1;
   floor = max c.floor d.floor;
   records = merged c.records d.records;
-  last = nothing;
-  gave_back = false;
-  mine = false;
+  attempt = forgetting c.attempt;
 }
 
 -- a client after a renewal of the clock: it has no attempt, and keeps its grants, its attempt's
 -- number and its records
 abbrev pub renewing : Client → Client
-renewing c = record opener { grants = c.grants; attempt = c.attempt; records = c.records }
+renewing c = record opener {
+  grants = c.grants;
+  records = c.records;
+  attempt = record idle_attempt { number = c.attempt.number };
+}
 
 -- a client that was gathered
 abbrev pub gone : Client

@@ -57,12 +57,14 @@ pub record IsLone (lk : ℕ → ℕ) (clock : ℕ) (locks : List ℕ) (v : Clien
   pub out : v.spent ≡ false
   pub all : v.grants ≡ MOST_GRANTS
   -- undecided, it has no write version, and the clock is its read version, from which it will tick
-  pub still : decided v ≡ false → (v.wv ≡ 0) × (v.rv ≡ clock) × (v.next_from ≡ clock)
+  pub still : decided v ≡ false
+      → (v.attempt.wv ≡ 0) × (v.attempt.rv ≡ clock) × (v.attempt.next_from ≡ clock)
   -- while it runs, the lock word that it probed stays as it is
-  pub seen : v.phase ≡ running → Unmoved lk locks v.last
+  pub seen : v.attempt.phase ≡ running → Unmoved lk locks v.attempt.last
 
 abbrev pub Lone : (ℕ → ℕ) → ℕ → List ℕ → List Client → Type 0
-Lone lk clock locks cs = (i : ℕ) (v : Client) → At cs i v → v.lone ≡ true → IsLone lk clock locks v
+Lone lk clock locks cs =
+    (i : ℕ) (v : Client) → At cs i v → v.attempt.lone ≡ true → IsLone lk clock locks v
 
 -- a client that is out knows the clock: its floor is what the clock says
 pub record IsKnown (clock : ℕ) (cs : List Client) : Type 0 where
@@ -112,15 +114,15 @@ pub record GoesOn
     (v : Client) : Type 0 where
   -- each lock word is free or held by itself, with a version of at most its read version
   pub probes : (k : ℕ)
-      → (IsFree (slice_index c.locks k) ⊎ Holds v.held k)
-      × (version_of (slice_index c.locks k) ≤ v.rv)
+      → (IsFree (slice_index c.locks k) ⊎ Holds v.attempt.held k)
+      × (version_of (slice_index c.locks k) ≤ v.attempt.rv)
   -- a check finds the word of the probe, and a lock is won
-  pub checks : (a : ℕ) → MayAct lawful lk (bounds_of c) (check a) v
-      → slice_index c.locks (lk a) ≡ word_before v.last
-  pub locks : (k : ℕ) → MayAct lawful lk (bounds_of c) (lock k) v
-      → slice_index c.locks k ≡ word_before v.last
+  pub checks : (a : ℕ) → MayAct lawful lk (bounds_of c) (check a) v.attempt
+      → slice_index c.locks (lk a) ≡ word_before v.attempt.last
+  pub locks : (k : ℕ) → MayAct lawful lk (bounds_of c) (lock k) v.attempt
+      → slice_index c.locks k ≡ word_before v.attempt.last
   -- a tick is won and decides at once
   pub ticks : (from : ℕ) (tag : List ℕ) (writes : List (ℕ × ℕ))
-      → MayAct lawful lk (bounds_of c) (tick from tag writes) v
+      → MayAct lawful lk (bounds_of c) (tick from tag writes) v.attempt
       → (c.clock ≡ from)
       × ((t : Stamp) → decided (after t lk (tick from tag writes) c.clock v) ≡ true)

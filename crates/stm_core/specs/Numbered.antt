@@ -32,8 +32,10 @@ module _ (number : List ℕ → ℕ) where
   -- version
   abbrev pub numbered_client : Client → Client
   numbered_client v = record v {
-    tag = cond (eqb v.wv 0) [] (number v.tag ∷ []);
     records = map numbered_record v.records;
+    attempt = record v.attempt {
+      tag = cond (eqb v.attempt.wv 0) [] (number v.attempt.tag ∷ []);
+    };
   }
 
   -- the same core but for the tags of its clients

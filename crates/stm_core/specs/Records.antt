@@ -71,14 +71,14 @@ module _
     pub ordered : Ordered v.records
     pub told : (r : Record) → In r v.records → IsTold r
     -- what its attempt read is in the region
-    pub reads : AllInside size v.reads
+    pub reads : AllInside size v.attempt.reads
     -- with a write version, what it is to write is in the region, no address twice; undecided it
     -- is lawful, decided it is the story's at its version
-    pub writes : 0 < v.wv → AllInside size v.writes × IsMap v.writes
-    pub abides : IsOpen v → lawful v.tag v.reads v.writes
-    pub commits : decided v ≡ true → get_elem? story (v.wv - 1) ≡ some v.writes
+    pub writes : 0 < v.attempt.wv → AllInside size v.attempt.writes × IsMap v.attempt.writes
+    pub abides : IsOpen v → lawful v.attempt.tag v.attempt.reads v.attempt.writes
+    pub commits : decided v ≡ true → get_elem? story (v.attempt.wv - 1) ≡ some v.attempt.writes
     -- spent, it holds and records nothing
-    pub gone : v.spent ≡ true → (v.records ≡ []) × (v.held ≡ [])
+    pub gone : v.spent ≡ true → (v.records ≡ []) × (v.attempt.held ≡ [])
 
   -- the records of all clients beside the story
   pub record Filed (clock : ℕ) (cs : List Client) : Type 0 where
@@ -87,9 +87,10 @@ module _
     pub versions : length story ≡ clock
     -- a version of an undecided client is no record's
     pub unwritten : (i j : ℕ) (v w : Client) (r : Record) → At cs i v → At cs j w → In r v.records
-        → r.writer ≡ true → IsOpen w → r.version ≢ w.wv
+        → r.writer ≡ true → IsOpen w → r.version ≢ w.attempt.wv
     -- and has written nothing yet
-    pub empty : (i : ℕ) (v : Client) → At cs i v → IsOpen v → get_elem? story (v.wv - 1) ≡ some []
+    pub empty : (i : ℕ) (v : Client) → At cs i v → IsOpen v
+        → get_elem? story (v.attempt.wv - 1) ≡ some []
     -- two clients have no writer of one version
     pub once : (i j : ℕ) (v w : Client) (r x : Record) → At cs i v → At cs j w → i ≢ j
         → In r v.records → In x w.records → r.writer ≡ true → x.writer ≡ true

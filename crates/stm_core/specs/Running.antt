@@ -2,7 +2,7 @@
 use Rattle.std.specs.Prelude.{◌≡◌, ℕ, ◌+◌, ◌-◌, ◌<◌, Bool, true, not, ◌&&◌, ◌==◌, nat_lt, nat_le, zero, suc, cond, eqb, List, [], ◌∷◌, ◌++◌, length, map, slice_set, replicate, ◌≢◌, ◌≤◌, Option, None}
 use Rattle.stm_words.specs.Image.{In}
 use Rattle.stm_core.specs.Client.{Client, Record, Stamp, found_by, old_version, writes_to, is_committed}
-use Rattle.stm_core.specs.Event.{Action, tick, validate, finish, is_empty, versioned, decides_at_once, passes, writer_record, reader_record, giving, fresh, taking, renewing, gone, opener}
+use Rattle.stm_core.specs.Event.{Action, tick, validate, finish, is_empty, versioned, decides_at_once, passes, counting, writer_record, reader_record, giving, fresh, taking, renewing, gone, opener}
 use Rattle.stm_core.specs.Core.{Core, bounds_of, found, left, written, client_of, Event, acts, splits, gathers, renews}
 use Rattle.stm_core.specs.Theorem.{stripe_of}
 use Rattle.stm_core.specs.Seat.{blank, seat_after, tag_number}
@@ -36,25 +36,27 @@ others_spent (v ∷ vs) zero = are_spent vs
 others_spent (v ∷ vs) (suc i) = v.spent && others_spent vs i
 
 abbrev pub may_play : Event → Core → Bool
-may_play (acts k e) c = is_out c k && may_act (bounds_of c) e (client_of c k)
+may_play (acts k e) c = is_out c k && may_act (bounds_of c) e (client_of c k).attempt
 may_play (splits k) c =
-    is_out c k && is_empty (client_of c k).held && nat_lt 0 (client_of c k).grants
+    is_out c k && is_empty (client_of c k).attempt.held && nat_lt 0 (client_of c k).grants
     && nat_lt (length c.clients) MOST_CLIENTS
 may_play (gathers k j) c =
-    is_out c k && is_out c j && not (k == j) && is_empty (client_of c k).held
-    && is_empty (client_of c j).held
+    is_out c k && is_out c j && not (k == j) && is_empty (client_of c k).attempt.held
+    && is_empty (client_of c j).attempt.held
 may_play (renews k last) c =
-    is_out c k && is_empty (client_of c k).held && others_spent c.clients (k - 1) && nat_le 1 last
-    && nat_lt last VERSION_LIMIT && nat_lt c.renewal MOST_RENEWALS
+    is_out c k && is_empty (client_of c k).attempt.held && others_spent c.clients (k - 1)
+    && nat_le 1 last && nat_lt last VERSION_LIMIT && nat_lt c.renewal MOST_RENEWALS
 
 -- the record that a step decides
 abbrev pub decision : Stamp → Action → ℕ → Client → List Record
 decision t (tick from tag writes) n v =
     let w = versioned t (from + 1) tag writes v in
-    cond (eqb n from) (cond (decides_at_once w) (writer_record t w ∷ []) []) []
+    cond (eqb n from) (cond (decides_at_once w) (writer_record t w.attempt ∷ []) []) []
 decision t (validate k) n v =
-    cond (passes k n v) (cond (eqb (v.passed + 1) (length v.reads)) (writer_record t v ∷ []) []) []
-decision t (finish tag) n v = reader_record t tag v ∷ []
+    let w = counting v in
+    cond (passes k n v)
+    (cond (eqb w.attempt.passed (length v.attempt.reads)) (writer_record t v.attempt ∷ []) []) []
+decision t (finish tag) n v = reader_record t tag v.attempt ∷ []
 decision t _ n v = []
 
 abbrev pub entry_of : Record → Entry
@@ -137,11 +139,11 @@ found_of c k =
 pub record IsSane (c : Core) : Type 0 where
   pub last : c.last < VERSION_LIMIT
   pub some : 0 < length c.locks
-  pub held : (k j : ℕ) → writes_to (client_of c k).held j ≡ true → j < length c.locks
-  pub written : (k a x : ℕ) → is_committed (client_of c k).phase ≡ true
-      → In (a, x) (client_of c k).writes → a < length c.cells
-  pub versions : (k : ℕ) → (client_of c k).wv < VERSION_LIMIT
-  pub old : (k j : ℕ) → old_version (client_of c k).held j < VERSION_LIMIT
+  pub held : (k j : ℕ) → writes_to (client_of c k).attempt.held j ≡ true → j < length c.locks
+  pub written : (k a x : ℕ) → is_committed (client_of c k).attempt.phase ≡ true
+      → In (a, x) (client_of c k).attempt.writes → a < length c.cells
+  pub versions : (k : ℕ) → (client_of c k).attempt.wv < VERSION_LIMIT
+  pub old : (k j : ℕ) → old_version (client_of c k).attempt.held j < VERSION_LIMIT
   pub grants : (k j : ℕ) → k ≢ j → is_out c k ≡ true → is_out c j ≡ true
       → (client_of c k).grants + (client_of c j).grants + 1 ≤ MOST_GRANTS
 

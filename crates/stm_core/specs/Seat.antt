@@ -6,7 +6,11 @@ use Rattle.stm_core.specs.Event.{Action, after}
 -- a client's value without what no rule looks at: its attempt's number, its steps, its floor,
 -- whether it is lone and whether a lock was its own, and its records
 abbrev pub blank : Client → Client
-blank c = record c { attempt = 0; steps = 0; floor = 0; lone = false; mine = false; records = [] }
+blank c = record c {
+  floor = 0;
+  records = [];
+  attempt = record c.attempt { number = 0; steps = 0; lone = false; mine = false };
+}
 
 -- what is kept of a client after a step at a place of the list of events. No step looks at the
 -- lock of an address here

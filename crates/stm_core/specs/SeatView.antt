@@ -1,10 +1,11 @@
 -- The client's value that a seat of the running core stands for.
 use Rattle.std.specs.Prelude.{ℕ, false, List, [], ◌∷◌, Option, Some, None}
 use Rattle.stm_core.specs.Client as client
+use Rattle.stm_core.specs.Event.{idle_attempt}
 use Rattle.stm_core.specs.declared.seat.Phase.{Phase}
 use Rattle.stm_core.specs.declared.seat.Phase.TheVariants.{Idle, Running, Ending, Committed, Finished}
 use Rattle.stm_core.specs.declared.seat.Step.{Step}
-use Rattle.stm_core.specs.declared.seat.Step.TheVariants.{Nothing, Began, Probed, Fetched, Checked, Locked, Ticked, Looked, Ended}
+use Rattle.stm_core.specs.declared.seat.Step.TheVariants.{Nothing, Began, Probed, Fetched, Checked, Locked, Ticked, Validated, Ended}
 use Rattle.stm_core.specs.declared.seat.Seat.TheInside.{Inside}
 
 abbrev pub phase_of : Phase → client.Phase
@@ -22,7 +23,7 @@ step_of (Fetched a n x) = client.fetched a n x
 step_of (Checked a n m) = client.checked a n m
 step_of (Locked k n m) = client.locked k n m
 step_of (Ticked f m) = client.ticked f m
-step_of (Looked k n) = client.looked k n
+step_of (Validated k n) = client.validated k n
 step_of (Ended n) = client.ended n
 
 abbrev pub tag_of : Option ℕ → List ℕ
@@ -33,25 +34,23 @@ abbrev pub client_of_seat : Inside → client.Client
 client_of_seat s = record {
   grants = s.grants;
   spent = s.spent;
-  phase = phase_of s.phase;
-  attempt = 0;
-  rv = s.rv;
-  reads = s.reads.items;
-  last = step_of s.last;
-  gave_back = s.gave_back;
-  mine = false;
-  held = s.held.items;
-  wv = s.wv;
-  tag = tag_of s.tag;
-  writes = s.writes.items;
-  passed = s.passed;
-  stored = s.stored.items;
-  ticks = s.ticks;
-  next_from = s.next_from;
-  lone = false;
-  steps = 0;
   floor = 0;
-  began_at = s.began_at;
-  ticked_at = s.ticked_at;
   records = [];
+  attempt = record idle_attempt {
+    phase = phase_of s.phase;
+    rv = s.rv;
+    reads = s.reads.items;
+    last = step_of s.last;
+    gave_back = s.gave_back;
+    held = s.held.items;
+    wv = s.wv;
+    tag = tag_of s.tag;
+    writes = s.writes.items;
+    passed = s.passed;
+    stored = s.stored.items;
+    ticks = s.ticks;
+    next_from = s.next_from;
+    began_at = s.began_at;
+    ticked_at = s.ticked_at;
+  };
 }

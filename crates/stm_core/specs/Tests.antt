@@ -1,7 +1,7 @@
 -- The conditions of the events as tests.
 use Rattle.std.specs.Prelude.{ℕ, zero, suc, ◌%◌, ◌/◌, Bool, true, false, not, ◌&&◌, ◌||◌, ◌==◌, nat_lt, nat_le, List, [], ◌∷◌}
 use Rattle.std.specs.List.{list_any, list_all}
-use Rattle.stm_core.specs.Client.{Client, Phase, running, ending, Step, probed, fetched, is_free, is_committed, writes_to}
+use Rattle.stm_core.specs.Client.{Attempt, Phase, running, ending, Step, probed, fetched, is_free, is_committed, writes_to}
 use Rattle.stm_core.specs.Event.{is_empty, Bounds, Action, begin, probe, fetch, check, lock, tick, validate, put, release, give_back, finish}
 use Rattle.stm_core.specs.declared.limits.TheConstants.{MOST_TICKS}
 
@@ -15,8 +15,8 @@ may_end ending = true
 may_end _ = false
 
 -- an attempt runs that has no write version
-abbrev pub is_reading : Client → Bool
-is_reading c = is_running c.phase && (c.wv == 0)
+abbrev pub is_reading : Attempt → Bool
+is_reading t = is_running t.phase && (t.wv == 0)
 
 abbrev pub has_probed : ℕ → ℕ → Step → Bool
 has_probed k rv (probed j n) = (j == k) && is_free n && nat_le (n / 2) rv
@@ -55,26 +55,26 @@ abbrev pub are_stored : ℕ → ℕ → List ℕ → List (ℕ × ℕ) → Bool
 are_stored stripes k stored writes =
     list_all (λ p. not ((p.0 % stripes) == k) || list_any (λ n. n == p.0) stored) writes
 
--- whether a client that is not spent may make a step
-abbrev pub may_act : Bounds → Action → Client → Bool
-may_act b begin c = is_empty c.held
-may_act b (probe k) c = is_reading c && nat_lt k b.stripes
-may_act b (fetch a) c =
-    is_reading c && nat_lt a b.size && is_empty c.held && has_probed (a % b.stripes) c.rv c.last
-may_act b (check a) c =
-    is_reading c && nat_lt a b.size && is_empty c.held && has_fetched a c.rv c.last
-may_act b (lock k) c =
-    is_reading c && nat_lt k b.stripes && has_found_free k c.last
-    && list_all (λ p. nat_lt p.0 k) c.held
-may_act b (tick from tag writes) c =
-    is_reading c && (from == c.next_from) && nat_lt from b.last && nat_lt c.ticks MOST_TICKS
-    && may_write b.stripes b.size c.held writes
-may_act b (validate k) c =
-    is_running c.phase && nat_lt 0 c.wv && is_next b.stripes k c.reads c.passed
-may_act b (put a x) c =
-    is_committed c.phase && list_any (λ p. (p.0 == a) && (p.1 == x)) c.writes
-    && writes_to c.held (a % b.stripes) && not (list_any (λ n. n == a) c.stored)
-may_act b (release k) c =
-    is_committed c.phase && writes_to c.held k && are_stored b.stripes k c.stored c.writes
-may_act b (give_back k) c = may_end c.phase && writes_to c.held k
-may_act b (finish tag) c = is_reading c && is_empty c.held
+-- whether an attempt of a client that is not spent may make a step, or the next one begin
+abbrev pub may_act : Bounds → Action → Attempt → Bool
+may_act b begin t = is_empty t.held
+may_act b (probe k) t = is_reading t && nat_lt k b.stripes
+may_act b (fetch a) t =
+    is_reading t && nat_lt a b.size && is_empty t.held && has_probed (a % b.stripes) t.rv t.last
+may_act b (check a) t =
+    is_reading t && nat_lt a b.size && is_empty t.held && has_fetched a t.rv t.last
+may_act b (lock k) t =
+    is_reading t && nat_lt k b.stripes && has_found_free k t.last
+    && list_all (λ p. nat_lt p.0 k) t.held
+may_act b (tick from tag writes) t =
+    is_reading t && (from == t.next_from) && nat_lt from b.last && nat_lt t.ticks MOST_TICKS
+    && may_write b.stripes b.size t.held writes
+may_act b (validate k) t =
+    is_running t.phase && nat_lt 0 t.wv && is_next b.stripes k t.reads t.passed
+may_act b (put a x) t =
+    is_committed t.phase && list_any (λ p. (p.0 == a) && (p.1 == x)) t.writes
+    && writes_to t.held (a % b.stripes) && not (list_any (λ n. n == a) t.stored)
+may_act b (release k) t =
+    is_committed t.phase && writes_to t.held k && are_stored b.stripes k t.stored t.writes
+may_act b (give_back k) t = may_end t.phase && writes_to t.held k
+may_act b (finish tag) t = is_reading t && is_empty t.held

@@ -48,17 +48,17 @@ pub record Stands (lk : ℕ → ℕ) (image : List ℕ) (c : Core) : Type 0 wher
   -- every attempt, finished or not, has read one version: what it has read is in the image of its
   -- read version
   pub one_version : (i : ℕ) (v : Client) → At c.clients i v
-      → Agrees (image_at c.opening v.rv present) v.reads
+      → Agrees (image_at c.opening v.attempt.rv present) v.attempt.reads
   -- nothing fails a lone attempt that is not decided
-  pub lone : (i : ℕ) (v : Client) → At c.clients i v → v.lone ≡ true → decided v ≡ false
+  pub lone : (i : ℕ) (v : Client) → At c.clients i v → v.attempt.lone ≡ true → decided v ≡ false
       → GoesOn free_law lk c v
   -- when no lock is held the data words are the newest image
-  pub words : ((i : ℕ) (v : Client) → At c.clients i v → v.held ≡ [])
+  pub words : ((i : ℕ) (v : Client) → At c.clients i v → v.attempt.held ≡ [])
       → c.cells ≡ image_after image (earlier ++ present)
   -- an attempt that is not decided is in no history, and so in no image
   pub no_trace : (i : ℕ) (v : Client) (r : Record) → At c.clients i v → v.spent ≡ false
-      → is_settled v.phase ≡ false → In r (earlier ++ present) → r.client ≡ suc i
-      → r.attempt ≢ v.attempt
+      → is_settled v.attempt.phase ≡ false → In r (earlier ++ present) → r.client ≡ suc i
+      → r.attempt ≢ v.attempt.number
 
 -- the list of events is allowed from an opening on an image on, and leads to the core
 abbrev pub Reaches

@@ -81,7 +81,7 @@ pub enum Event {
         tag: u64,
         writes: Writes,
     },
-    /// Loads the lock word of the next read word; the last look that passes decides.
+    /// Loads the lock word of the next read word; the last validation that passes decides.
     Validate {
         client: u32,
         lock: u32,

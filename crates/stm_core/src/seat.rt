@@ -1,9 +1,9 @@
 ghost use Rattle.std.specs.Prelude.{◌≡◌, ℕ, ◌<◌, ◌≤◌, ◌+◌, ◌^◌, length, OnOk, OnErr, List, [], ◌∷◌, not, eqb, false, ◌&&◌, ◌||◌};
 ghost use Rattle.stm_core.specs.Client.{Client};
 ghost use Rattle.stm_core.specs.Seat.{blank, seat_after, tag_number};
-ghost use Rattle.stm_core.specs.Client.{nothing, word_before, value_fetched, found_by, is_committed, old_version};
+ghost use Rattle.stm_core.specs.Client.{word_before, value_fetched, found_by, is_committed, old_version};
 ghost use Rattle.stm_core.specs.Tests.{is_reading, has_probed, has_found_free, has_fetched, may_act};
-ghost use Rattle.stm_core.specs.Event.{is_empty, passes, begin, probe, fetch, check, lock, tick, validate, put, release, give_back, finish, giving, taking, renewing, opener, fresh, gone};
+ghost use Rattle.stm_core.specs.Event.{is_empty, passes, begin, probe, fetch, check, lock, tick, validate, put, release, give_back, finish, giving, taking, renewing, opener, fresh, gone, forgetting};
 ghost use Rattle.stm_core.specs.Running.{are_spent, others_spent};
 ghost use Rattle.stm_core.specs.declared.limits.TheConstants.{MOST_GRANTS, MOST_TICKS};
 ghost use Rattle.stm_words.specs.declared.version.TheConstants.{VERSION_LIMIT};
@@ -36,7 +36,7 @@ pub(crate) enum Step {
     Checked { address: u32, word: u64, now: u64 },
     Locked { lock: u32, word: u64, now: u64 },
     Ticked { from: u64, now: u64 },
-    Looked { lock: u32, word: u64 },
+    Validated { lock: u32, word: u64 },
     Ended { version: u64 },
 }
 
@@ -173,7 +173,7 @@ impl Seat {
         now: u64,
         place: usize,
     )
-        requires room { self.old.ticks < MOST_TICKS }
+        requires room { self.old.attempt.ticks < MOST_TICKS }
         requires below { from < VERSION_LIMIT }
         ensures { self.new ≡ seat_after place (tick from (tag ∷ []) writes.items) now self.old }
     {
@@ -194,9 +194,9 @@ impl Seat {
         self.next_from = now;
     }
 
-    /// A read word's lock was looked at again. The last look that passes decides.
+    /// A read word's lock was validated. The last validation that passes decides.
     pub(crate) fn validate(&mut self, stripe: u32, word: u64)
-        requires next { self.old.passed < length self.old.reads }
+        requires next { self.old.attempt.passed < length self.old.attempt.reads }
         ensures { self.new ≡ seat_after 0 (validate stripe) word self.old }
     {
         if (says_free(word) || names(&self.held, stripe)) && word / 2 <= self.rv {
@@ -208,7 +208,7 @@ impl Seat {
         } else {
             self.phase = Phase::Ending;
         }
-        self.last = Step::Looked { lock: stripe, word };
+        self.last = Step::Validated { lock: stripe, word };
         self.gave_back = false;
     }
 
@@ -296,8 +296,7 @@ impl Seat {
         requires { self.old.grants + grants + 1 ≤ MOST_GRANTS }
         ensures { self.new ≡ blank (record self.old {
           grants = self.old.grants + grants + 1;
-          last = nothing;
-          gave_back = false;
+          attempt = forgetting self.old.attempt;
         }) }
     {
         self.grants += grants + 1;
@@ -322,7 +321,7 @@ impl Seat {
 
     /// The word of the probe that the last step stands on.
     pub(crate) fn word_before(&self) -> u64
-        ensures { result ≡ word_before self.now.last }
+        ensures { result ≡ word_before self.now.attempt.last }
     {
         match self.last {
             Step::Probed { word, .. } | Step::Fetched { word, .. } => word,
@@ -332,7 +331,7 @@ impl Seat {
 
     /// The value that the last step fetched.
     pub(crate) fn value_fetched(&self) -> u64
-        ensures { result ≡ value_fetched self.now.last }
+        ensures { result ≡ value_fetched self.now.attempt.last }
     {
         match self.last {
             Step::Fetched { value, .. } => value,
@@ -350,7 +349,7 @@ impl Seat {
         match self.last {
             Step::Nothing => None,
             Step::Began { version } | Step::Ended { version } => Some(version),
-            Step::Probed { word, .. } | Step::Looked { word, .. } => Some(word),
+            Step::Probed { word, .. } | Step::Validated { word, .. } => Some(word),
             Step::Fetched { value, .. } => Some(value),
             Step::Checked { now, .. } | Step::Locked { now, .. } => Some(now),
             Step::Ticked { now, .. } => Some(now),
@@ -359,7 +358,7 @@ impl Seat {
 
     /// Whether an attempt runs that has no write version.
     pub(crate) fn is_reading(&self) -> bool
-        ensures { result ≡ is_reading self.now }
+        ensures { result ≡ is_reading self.now.attempt }
     {
         matches!(self.phase, Phase::Running) && self.wv == 0
     }
@@ -367,7 +366,7 @@ impl Seat {
     /// Whether the last step was a probe of this lock that found it free, with a version of at
     /// most the read version.
     pub(crate) fn has_probed(&self, lock: u32) -> bool
-        ensures { result ≡ has_probed lock self.now.rv self.now.last }
+        ensures { result ≡ has_probed lock self.now.attempt.rv self.now.attempt.last }
     {
         match self.last {
             Step::Probed { lock: probed, word } => probed == lock
@@ -379,7 +378,7 @@ impl Seat {
 
     /// Whether the last step was a probe of this lock that found it free.
     pub(crate) fn has_found_free(&self, lock: u32) -> bool
-        ensures { result ≡ has_found_free lock self.now.last }
+        ensures { result ≡ has_found_free lock self.now.attempt.last }
     {
         match self.last {
             Step::Probed { lock: probed, word } => probed == lock && says_free(word),
@@ -390,7 +389,7 @@ impl Seat {
     /// Whether the last step was a fetch of this address, on a probe that found its lock free and
     /// old enough.
     pub(crate) fn has_fetched(&self, address: u32) -> bool
-        ensures { result ≡ has_fetched address self.now.rv self.now.last }
+        ensures { result ≡ has_fetched address self.now.attempt.rv self.now.attempt.last }
     {
         match self.last {
             Step::Fetched {
@@ -404,7 +403,8 @@ impl Seat {
 
     /// Whether it may begin an attempt.
     pub(crate) fn may_begin(&self) -> bool
-        ensures { result ≡ may_act (record { last = 0; stripes = 0; size = 0 }) begin self.now }
+        ensures { result ≡ may_act
+            (record { last = 0; stripes = 0; size = 0 }) begin self.now.attempt }
     {
         none(&self.held)
     }
@@ -412,7 +412,7 @@ impl Seat {
     /// Whether it may load the word of a lock.
     pub(crate) fn may_probe(&self, lock: u32, stripes: u32) -> bool
         ensures { result ≡ may_act
-            (record { last = 0; stripes = stripes; size = 0 }) (probe lock) self.now }
+            (record { last = 0; stripes = stripes; size = 0 }) (probe lock) self.now.attempt }
     {
         self.is_reading() && lock < stripes
     }
@@ -421,7 +421,8 @@ impl Seat {
     pub(crate) fn may_fetch(&self, address: u32, stripes: u32, size: usize) -> bool
         requires { 0 < stripes }
         ensures { result ≡ may_act
-            (record { last = 0; stripes = stripes; size = size }) (fetch address) self.now }
+            (record { last = 0; stripes = stripes; size = size })
+            (fetch address) self.now.attempt }
     {
         self.is_reading()
             && (address as usize) < size
@@ -432,7 +433,8 @@ impl Seat {
     /// Whether it may look at the lock of a fetched address again.
     pub(crate) fn may_check(&self, address: u32, stripes: u32, size: usize) -> bool
         ensures { result ≡ may_act
-            (record { last = 0; stripes = stripes; size = size }) (check address) self.now }
+            (record { last = 0; stripes = stripes; size = size })
+            (check address) self.now.attempt }
     {
         let _ = stripes;
         self.is_reading()
@@ -444,7 +446,7 @@ impl Seat {
     /// Whether it may try to take a lock.
     pub(crate) fn may_lock(&self, stripe: u32, stripes: u32) -> bool
         ensures { result ≡ may_act
-            (record { last = 0; stripes = stripes; size = 0 }) (lock stripe) self.now }
+            (record { last = 0; stripes = stripes; size = 0 }) (lock stripe) self.now.attempt }
     {
         self.is_reading()
             && stripe < stripes
@@ -464,7 +466,7 @@ impl Seat {
         requires { 0 < stripes }
         ensures { result ≡ may_act
             (record { last = last; stripes = stripes; size = size })
-            (tick from [] writes.now) self.now }
+            (tick from [] writes.now) self.now.attempt }
     {
         self.is_reading()
             && from == self.next_from
@@ -473,11 +475,11 @@ impl Seat {
             && may_write(writes, &self.held, stripes, size)
     }
 
-    /// Whether its next look is at this lock.
+    /// Whether its next validation is of this lock.
     pub(crate) fn may_validate(&self, stripe: u32, stripes: u32) -> bool
         requires { 0 < stripes }
         ensures { result ≡ may_act
-            (record { last = 0; stripes = stripes; size = 0 }) (validate stripe) self.now }
+            (record { last = 0; stripes = stripes; size = 0 }) (validate stripe) self.now.attempt }
     {
         matches!(self.phase, Phase::Running)
             && 0 < self.wv
@@ -488,7 +490,8 @@ impl Seat {
     pub(crate) fn may_put(&self, address: u32, value: u64, stripes: u32) -> bool
         requires { 0 < stripes }
         ensures { result ≡ may_act
-            (record { last = 0; stripes = stripes; size = 0 }) (put address value) self.now }
+            (record { last = 0; stripes = stripes; size = 0 })
+            (put address value) self.now.attempt }
     {
         self.is_committed()
             && has_pair(&self.writes, address, value)
@@ -500,7 +503,7 @@ impl Seat {
     pub(crate) fn may_release(&self, lock: u32, stripes: u32) -> bool
         requires { 0 < stripes }
         ensures { result ≡ may_act
-            (record { last = 0; stripes = stripes; size = 0 }) (release lock) self.now }
+            (record { last = 0; stripes = stripes; size = 0 }) (release lock) self.now.attempt }
     {
         self.is_committed()
             && names(&self.held, lock)
@@ -510,7 +513,7 @@ impl Seat {
     /// Whether it may give this lock back.
     pub(crate) fn may_give_back(&self, lock: u32) -> bool
         ensures { result ≡ may_act
-            (record { last = 0; stripes = 0; size = 0 }) (give_back lock) self.now }
+            (record { last = 0; stripes = 0; size = 0 }) (give_back lock) self.now.attempt }
     {
         matches!(self.phase, Phase::Running | Phase::Ending) && names(&self.held, lock)
     }
@@ -518,14 +521,14 @@ impl Seat {
     /// Whether it may end as a reader.
     pub(crate) fn may_end(&self) -> bool
         ensures { result ≡ may_act
-            (record { last = 0; stripes = 0; size = 0 }) (finish []) self.now }
+            (record { last = 0; stripes = 0; size = 0 }) (finish []) self.now.attempt }
     {
         self.is_reading() && none(&self.held)
     }
 
     /// Whether it is a decided writer.
     pub(crate) fn is_committed(&self) -> bool
-        ensures { result ≡ is_committed self.now.phase }
+        ensures { result ≡ is_committed self.now.attempt.phase }
     {
         matches!(self.phase, Phase::Committed)
     }
@@ -539,7 +542,7 @@ impl Seat {
 
     /// Whether it holds no lock.
     pub(crate) fn holds_none(&self) -> bool
-        ensures { result ≡ is_empty self.now.held }
+        ensures { result ≡ is_empty self.now.attempt.held }
     {
         none(&self.held)
     }
@@ -553,51 +556,52 @@ impl Seat {
 
     /// The write version, 0 for none.
     pub(crate) fn write_version(&self) -> u64
-        ensures { result ≡ self.now.wv }
+        ensures { result ≡ self.now.attempt.wv }
     {
         self.wv
     }
 
     /// The read version.
     pub(crate) fn read_version(&self) -> u64
-        ensures { result ≡ self.now.rv }
+        ensures { result ≡ self.now.attempt.rv }
     {
         self.rv
     }
 
     /// The old version of a lock that it holds.
     pub(crate) fn old_version(&self, lock: u32) -> u64
-        ensures { result ≡ old_version self.now.held lock }
+        ensures { result ≡ old_version self.now.attempt.held lock }
     {
         behind(&self.held, lock)
     }
 
     /// The place of its begin in the list of events.
     pub(crate) fn began_at(&self) -> usize
-        ensures { result ≡ self.now.began_at }
+        ensures { result ≡ self.now.attempt.began_at }
     {
         self.began_at
     }
 
     /// The place of its won tick in the list of events.
     pub(crate) fn ticked_at(&self) -> usize
-        ensures { result ≡ self.now.ticked_at }
+        ensures { result ≡ self.now.attempt.ticked_at }
     {
         self.ticked_at
     }
 
     /// The tag of its won tick, or 0.
     pub(crate) fn tag(&self) -> u64
-        ensures { result ≡ tag_number self.now.tag }
+        ensures { result ≡ tag_number self.now.attempt.tag }
     {
         self.tag.unwrap_or(0)
     }
 
-    /// Whether a look at this lock that finds this word decides.
+    /// Whether a validation of this lock that finds this word decides.
     pub(crate) fn decides_by(&self, stripe: u32, word: u64) -> bool
-        requires { self.now.passed < length self.now.reads }
+        requires { self.now.attempt.passed < length self.now.attempt.reads }
         ensures { result
-            ≡ (passes stripe word self.now && eqb (self.now.passed + 1) (length self.now.reads)) }
+            ≡ (passes stripe word self.now
+            && eqb (self.now.attempt.passed + 1) (length self.now.attempt.reads)) }
     {
         (says_free(word) || names(&self.held, stripe))
             && word / 2 <= self.rv
@@ -606,7 +610,8 @@ impl Seat {
 
     /// Whether a tick that is won from this value decides at once.
     pub(crate) fn decides_from(&self, from: u64) -> bool
-        ensures { result ≡ (is_empty self.now.reads || eqb (from + 1) (self.now.rv + 1)) }
+        ensures { result
+            ≡ (is_empty self.now.attempt.reads || eqb (from + 1) (self.now.attempt.rv + 1)) }
     {
         none(&self.reads) || from == self.rv
     }

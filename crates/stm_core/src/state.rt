@@ -128,7 +128,7 @@ impl State {
     fn lock(&mut self, client: u32, stripe: u32) -> Result<(), AllocError>
         requires out { is_out self.old.core client ≡ true }
         requires inside { stripe < length self.old.core.locks }
-        requires free { IsFree (word_before (client_of self.old.core client).last) }
+        requires free { IsFree (word_before (client_of self.old.core client).attempt.last) }
         ensures done { OnOk result (self.new ≡ run_acts client (lock stripe) self.old) }
         ensures kept { OnErr result (self.new ≡ self.old) }
     {
@@ -163,7 +163,7 @@ impl State {
     fn release(&mut self, client: u32, stripe: u32) -> Result<(), AllocError>
         requires out { is_out self.old.core client ≡ true }
         requires inside { stripe < length self.old.core.locks }
-        requires small { (client_of self.old.core client).wv < VERSION_LIMIT }
+        requires small { (client_of self.old.core client).attempt.wv < VERSION_LIMIT }
         ensures done { OnOk result (self.new ≡ run_acts client (release stripe) self.old) }
         ensures kept { OnErr result (self.new ≡ self.old) }
     {
@@ -180,7 +180,8 @@ impl State {
     fn give_back(&mut self, client: u32, stripe: u32) -> Result<(), AllocError>
         requires out { is_out self.old.core client ≡ true }
         requires inside { stripe < length self.old.core.locks }
-        requires small { old_version (client_of self.old.core client).held stripe < VERSION_LIMIT }
+        requires small { old_version (client_of self.old.core client).attempt.held stripe
+            < VERSION_LIMIT }
         ensures done { OnOk result (self.new ≡ run_acts client (give_back stripe) self.old) }
         ensures kept { OnErr result (self.new ≡ self.old) }
     {
@@ -218,8 +219,8 @@ impl State {
     fn validate(&mut self, client: u32, stripe: u32) -> Result<(), AllocError>
         requires out { is_out self.old.core client ≡ true }
         requires inside { stripe < length self.old.core.locks }
-        requires next { (client_of self.old.core client).passed
-            < length (client_of self.old.core client).reads }
+        requires next { (client_of self.old.core client).attempt.passed
+            < length (client_of self.old.core client).attempt.reads }
         ensures done { OnOk result (self.new ≡ run_acts client (validate stripe) self.old) }
         ensures kept { OnErr result (self.new ≡ self.old) }
     {
@@ -244,7 +245,7 @@ impl State {
     /// Exchanges the clock.
     fn tick(&mut self, client: u32, from: u64, tag: u64, writes: Writes) -> Result<(), AllocError>
         requires out { is_out self.old.core client ≡ true }
-        requires room { (client_of self.old.core client).ticks < MOST_TICKS }
+        requires room { (client_of self.old.core client).attempt.ticks < MOST_TICKS }
         requires below { from < VERSION_LIMIT }
         ensures done { OnOk result
             (self.new ≡ run_acts client (tick from (tag ∷ []) writes) self.old) }
