@@ -6,7 +6,7 @@ use lib.ListN.{get_elem?}
 use Rattle.stm_words.specs.Image.{In}
 use Rattle.stm_core.specs.Client.{Client, running, committed, locked, ticked, word_before, without, writes_to}
 use Rattle.stm_core.specs.Core.{IsFreeHanded}
-use Rattle.stm_core.specs.Event.{begin, probe, lock, tick, put as put_word, release, give_back, MayWrite, Holds, after, stepping, holding, committed_by, versioned}
+use Rattle.stm_core.specs.Event.{begin, probe, lock, tick, put as put_word, release, give_back, MayWrite, Holds, after, stepping, holding, committed_by, versioned, with_ticks}
 use Rattle.stm_region.specs.Shown.{RegionShown, ClientShown, IsAllowed, acted, unplaced, stripe_of}
 use Rattle.std.specs.FinMap.{empty, get, get-empty, entries, entries-insert, len-entries, len-empty, put}
 use Rattle.std.specs.Ordering.{nat_cmp}
@@ -33,16 +33,16 @@ Free tag reads writes = Unit {0}
 -- a client that has taken one lock
 pub record HasOne (k from : ℕ) (v : Client) : Type 0 where
   pub alive : v.spent ≡ false
-  pub phase : v.phase ≡ running
-  pub none : v.wv ≡ 0
-  pub ticks : v.ticks ≡ 0
-  pub next : v.next_from ≡ from
-  pub reads : v.reads ≡ []
+  pub phase : v.attempt.phase ≡ running
+  pub none : v.attempt.wv ≡ 0
+  pub ticks : v.attempt.ticks ≡ 0
+  pub next : v.attempt.next_from ≡ from
+  pub reads : v.attempt.reads ≡ []
   pub old : ℕ
-  pub held : v.held ≡ (k, old) ∷ []
+  pub held : v.attempt.held ≡ (k, old) ∷ []
 
 locked_one : (r : RegionShown) (c d : ClientShown) (k n w : ℕ) → IsFreeHanded c.value
-    → d ≡ acted r (lock k) (word_before (acted r (probe k) w (acted r begin n c)).value.last) (acted r (probe k) w (acted r begin n c)) → HasOne k n d.value
+    → d ≡ acted r (lock k) (word_before (acted r (probe k) w (acted r begin n c)).value.attempt.last) (acted r (probe k) w (acted r begin n c)) → HasOne k n d.value
 locked_one r c d k n w free e = subst (λ (x : ClientShown). HasOne k n x.value) (sym e) (subst (λ v. HasOne k n v) (sym taken) record { alive = free.0; phase = refl; none = refl; ticks = refl; next = refl; reads = refl; old = w / 2; held = ap (λ (h : List (ℕ × ℕ)). h ++ (k, w / 2) ∷ []) free.1 })
   where
     b : Client
@@ -51,8 +51,8 @@ locked_one r c d k n w free e = subst (λ (x : ClientShown). HasOne k n x.value)
     taken : after (unplaced r.renewal) (stripe_of r.stripes) (lock k) w b ≡ stepping (locked k w w) (holding k (w / 2) b)
     taken = rw (same_number w) refl
 
-pub took_one : (r : RegionShown) (c c' c'' d : ClientShown) (k n m w : ℕ) → IsFreeHanded c.value → n ≡ m → c' ≡ acted r begin m c → c'' ≡ acted r (probe k) w c' → d ≡ acted r (lock k) (word_before c''.value.last) c'' → HasOne k n d.value
-took_one r c c' c'' d k n m w free q e e' e'' = locked_one r c d k n w free (e'' ∙ ap (λ (x : ClientShown). acted r (lock k) (word_before x.value.last) x) (e' ∙ ap (acted r (probe k) w) (e ∙ ap (λ (i : ℕ). acted r begin i c) (sym q))))
+pub took_one : (r : RegionShown) (c c' c'' d : ClientShown) (k n m w : ℕ) → IsFreeHanded c.value → n ≡ m → c' ≡ acted r begin m c → c'' ≡ acted r (probe k) w c' → d ≡ acted r (lock k) (word_before c''.value.attempt.last) c'' → HasOne k n d.value
+took_one r c c' c'' d k n m w free q e e' e'' = locked_one r c d k n w free (e'' ∙ ap (λ (x : ClientShown). acted r (lock k) (word_before x.value.attempt.last) x) (e' ∙ ap (acted r (probe k) w) (e ∙ ap (λ (i : ℕ). acted r begin i c) (sym q))))
 
 one_there : (p q : ℕ × ℕ) → In q (p ∷ []) → p ≡ q
 one_there p q (zero, e) = some-injective p q e
@@ -81,9 +81,9 @@ may_tick r d k n a x tag pairs h below inside is one = (
 -- a running client that holds one lock
 pub record HasLock (k : ℕ) (v : Client) : Type 0 where
   pub alive : v.spent ≡ false
-  pub phase : v.phase ≡ running
+  pub phase : v.attempt.phase ≡ running
   pub old : ℕ
-  pub held : v.held ≡ (k, old) ∷ []
+  pub held : v.attempt.held ≡ (k, old) ∷ []
 
 holds_one : (held : List (ℕ × ℕ)) (k old : ℕ) → held ≡ (k, old) ∷ [] → Holds held k
 holds_one held k old e = (old, (0, ap (λ (h : List (ℕ × ℕ)). get_elem? h 0) e))
@@ -92,27 +92,27 @@ pub has_lock : (k n : ℕ) (v : Client) → HasOne k n v → HasLock k v
 has_lock k n v h = record { alive = h.alive; phase = h.phase; old = h.old; held = h.held }
 
 pub may_give_back : (r : RegionShown) (d : ClientShown) (k : ℕ) → HasLock k d.value → IsAllowed Free r (give_back k) d
-may_give_back r d k h = (h.alive, (inl h.phase, holds_one d.value.held k h.old h.held))
+may_give_back r d k h = (h.alive, (inl h.phase, holds_one d.value.attempt.held k h.old h.held))
 
 pub lost_one : (r : RegionShown) (c d : ClientShown) (k n m : ℕ) (tag : List ℕ) (pairs : List (ℕ × ℕ)) → HasOne k n c.value → m ≢ n → d ≡ acted r (tick n tag pairs) m c → HasLock k d.value
 lost_one r c d k n m tag pairs h ne e = subst (λ (x : ClientShown). HasLock k x.value) (sym e) (subst (λ v. HasLock k v) (sym lost) record { alive = h.alive; phase = h.phase; old = h.old; held = h.held })
   where
-    lost : after (unplaced r.renewal) (stripe_of r.stripes) (tick n tag pairs) m c.value ≡ record (stepping (ticked n m) c.value) { ticks = c.value.ticks + 1; next_from = m }
+    lost : after (unplaced r.renewal) (stripe_of r.stripes) (tick n tag pairs) m c.value ≡ with_ticks (c.value.attempt.ticks + 1) m (stepping (ticked n m) c.value)
     lost = rw (ne_eqb m n ne) refl
 
 -- a decided client with one word to write
 pub record HasDecided (k a x : ℕ) (v : Client) : Type 0 where
   pub alive : v.spent ≡ false
-  pub phase : v.phase ≡ committed
-  pub writes : v.writes ≡ (a, x) ∷ []
-  pub stored : v.stored ≡ []
+  pub phase : v.attempt.phase ≡ committed
+  pub writes : v.attempt.writes ≡ (a, x) ∷ []
+  pub stored : v.attempt.stored ≡ []
   pub old : ℕ
-  pub held : v.held ≡ (k, old) ∷ []
+  pub held : v.attempt.held ≡ (k, old) ∷ []
 
 pub won_one : (r : RegionShown) (c d : ClientShown) (k n a x : ℕ) (tag : List ℕ) (pairs : List (ℕ × ℕ)) → HasOne k n c.value → pairs ≡ (a, x) ∷ [] → d ≡ acted r (tick n tag pairs) n c → HasDecided k a x d.value
 won_one r c d k n a x tag pairs h one e = subst (λ (y : ClientShown). HasDecided k a x y.value) (sym e) (subst (λ v. HasDecided k a x v) (sym won) record { alive = h.alive; phase = refl; writes = one; stored = refl; old = h.old; held = h.held })
   where
-    won : after (unplaced r.renewal) (stripe_of r.stripes) (tick n tag pairs) n c.value ≡ record (stepping (ticked n n) (committed_by (unplaced r.renewal) (versioned (unplaced r.renewal) (n + 1) tag pairs c.value))) { ticks = c.value.ticks + 1; next_from = n }
+    won : after (unplaced r.renewal) (stripe_of r.stripes) (tick n tag pairs) n c.value ≡ with_ticks (c.value.attempt.ticks + 1) n (stepping (ticked n n) (committed_by (unplaced r.renewal) (versioned (unplaced r.renewal) (n + 1) tag pairs c.value)))
     won = rw (same_number n, h.reads) refl
 
 pub may_put : (r : RegionShown) (d : ClientShown) (k a x : ℕ) → HasDecided k a x d.value → k ≡ stripe_of r.stripes a → IsAllowed Free r (put_word a x) d
@@ -121,7 +121,7 @@ may_put r d k a x h is = (
   (
     h.phase,
     (0, ap (λ (w : List (ℕ × ℕ)). get_elem? w 0) h.writes),
-    subst (Holds d.value.held) is (holds_one d.value.held k h.old h.held),
+    subst (Holds d.value.attempt.held) is (holds_one d.value.attempt.held k h.old h.held),
     λ m. some-ne-none a (sym (subst (λ (w : List ℕ). get_elem? w m.0 ≡ some a) h.stored m.1)),
   ),
 )
@@ -131,7 +131,7 @@ may_release r d e k a x h q = subst (λ (y : ClientShown). IsAllowed Free r (rel
   h.alive,
   (
     h.phase,
-    holds_one d.value.held k h.old h.held,
+    holds_one d.value.attempt.held k h.old h.held,
     λ b z t. (0, rw h.stored (ap some (eqb_or a b (subst (λ w. writes_to w b ≡ true) h.writes t)))),
   ),
 )

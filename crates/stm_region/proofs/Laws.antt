@@ -25,10 +25,10 @@ module _ (fits : List ℕ → Type 0) (lawful : List ℕ → List (ℕ × ℕ) �
   pub among : (i : ℕ) (v : Client) → get_elem? s.views i ≡ some v → Sub v.records (all_records s.views)
   among i v e = subst (λ cs. Sub v.records (all_records cs)) (sym h.views) (whole_shared lawful (stripe_of o.stripes) h.core h.rule i v (subst (λ cs. get_elem? cs i ≡ some v) h.views e)).among
 
-  pub agrees : (i : ℕ) (v : Client) → get_elem? s.views i ≡ some v → Agrees (image_at o.image v.rv (all_records (map (shed o.renewal) s.views))) v.reads
-  agrees i v e = subst (λ cs. Agrees (image_at o.image v.rv (all_records (map (shed o.renewal) cs))) v.reads) (sym h.views)
-      (subst (λ n. Agrees (image_at o.image v.rv (all_records (map (shed n) h.core.clients))) v.reads) h.renewal
-      (subst (λ image. Agrees (image_at image v.rv (all_records (now h.core).clients)) v.reads) h.opening (one_version lawful (stripe_of o.stripes) (now h.core) h.rule.inv i (shed h.core.renewal v) (at_map (shed h.core.renewal) h.core.clients i v (subst (λ cs. get_elem? cs i ≡ some v) h.views e)))))
+  pub agrees : (i : ℕ) (v : Client) → get_elem? s.views i ≡ some v → Agrees (image_at o.image v.attempt.rv (all_records (map (shed o.renewal) s.views))) v.attempt.reads
+  agrees i v e = subst (λ cs. Agrees (image_at o.image v.attempt.rv (all_records (map (shed o.renewal) cs))) v.attempt.reads) (sym h.views)
+      (subst (λ n. Agrees (image_at o.image v.attempt.rv (all_records (map (shed n) h.core.clients))) v.attempt.reads) h.renewal
+      (subst (λ image. Agrees (image_at image v.attempt.rv (all_records (now h.core).clients)) v.attempt.reads) h.opening (one_version lawful (stripe_of o.stripes) (now h.core) h.rule.inv i (shed h.core.renewal v) (at_map (shed h.core.renewal) h.core.clients i v (subst (λ cs. get_elem? cs i ≡ some v) h.views e)))))
 
   pub takes_all : (i j : ℕ) (v w : Client) → i ≢ j → get_elem? s.views i ≡ some v → get_elem? s.views j ≡ some w → v.spent ≡ false → w.spent ≡ false → joined v w ≡ taking v w
   takes_all i j v w ne e f un un' = joined_all lawful (stripe_of o.stripes) h.core h.rule i j v w ne (subst (λ cs. get_elem? cs i ≡ some v) h.views e) (subst (λ cs. get_elem? cs j ≡ some w) h.views f) un un'

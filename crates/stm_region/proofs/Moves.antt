@@ -127,10 +127,10 @@ module _ (fits : List ℕ → Type 0) (lawful : List ℕ → List (ℕ × ℕ) �
   stands_on : (image : List ℕ) (reads : List (ℕ × ℕ)) → SomeFits fits (length image) reads → StandsOn fits (length image) reads
   stands_on image reads h = record { image = h.0; length_is = h.2; fitting = h.1; agrees = h.3 }
 
-  stands_of : (c : Core) → Matches o c → length r.opening ≡ r.size → fits r.first → Rule lawful lk c → (i : ℕ) (v : Client) → get_elem? c.clients i ≡ some v → StandsOn fits r.size v.reads
+  stands_of : (c : Core) → Matches o c → length r.opening ≡ r.size → fits r.first → Rule lawful lk c → (i : ℕ) (v : Client) → get_elem? c.clients i ≡ some v → StandsOn fits r.size v.attempt.reads
   stands_of c m z f h i v at =
       let k : fits c.opening = opening_fits lawful lk c h fits law (subst fits (sym m.first) f) in
-      subst (λ n. StandsOn fits n v.reads) (ap length m.opening ∙ z) (stands_on c.opening v.reads (some_fits lawful lk (now c) h.inv fits law k i (shed c.renewal v) (at_map (shed c.renewal) c.clients i v at)))
+      subst (λ n. StandsOn fits n v.attempt.reads) (ap length m.opening ∙ z) (stands_on c.opening v.attempt.reads (some_fits lawful lk (now c) h.inv fits law k i (shed c.renewal v) (at_map (shed c.renewal) c.clients i v at)))
 
   -- the image of the read version fits, and agrees with what was read
   version_of_reads : (c : Core) → Matches o c → length r.opening ≡ r.size → fits r.first → Rule lawful lk c → (i : ℕ) (v : Client) → get_elem? c.clients i ≡ some v → IsOfOneVersion fits lawful r v
@@ -147,7 +147,7 @@ module _ (fits : List ℕ → Type 0) (lawful : List ℕ → List (ℕ × ℕ) �
         cells = h.inv.size ∙ (ap length m.opening ∙ z);
         number = i;
         member = at;
-        fitting = image_fits c.opening h.inv.story fits lawful law all c.opening 0 v.rv (ahead lawful lk (now c) h.inv) (all_lawful lawful lk (now c) h.inv) k;
+        fitting = image_fits c.opening h.inv.story fits lawful law all c.opening 0 v.attempt.rv (ahead lawful lk (now c) h.inv) (all_lawful lawful lk (now c) h.inv) k;
         agrees = one_version lawful lk (now c) h.inv i (shed c.renewal v) (at_map (shed c.renewal) c.clients i v at);
       }
 
@@ -165,12 +165,12 @@ module _ (fits : List ℕ → Type 0) (lawful : List ℕ → List (ℕ × ℕ) �
   opening_stands : (c : Core) → Matches o c → length r.opening ≡ r.size → fits r.first → Rule lawful lk c → StandsOn fits r.size []
   opening_stands c m z f h = record { image = c.opening; length_is = ap length m.opening ∙ z; fitting = opening_fits lawful lk c h fits law (subst fits (sym m.first) f); agrees = λ a x k. absurd (not_in (a, x) k) }
 
-  later : (c : Core) → Rule lawful lk c → (i : ℕ) (v : Client) → get_elem? c.clients i ≡ some v → 0 < v.wv → v.rv < v.wv
+  later : (c : Core) → Rule lawful lk c → (i : ℕ) (v : Client) → get_elem? c.clients i ≡ some v → 0 < v.attempt.wv → v.attempt.rv < v.attempt.wv
   later c h i v at = (h.inv.books.booked i (shed c.renewal v) (at_map (shed c.renewal) c.clients i v at)).later
 
   -- what a step tells, of the core before it and of the one after it
   told_of : (c d : Core) → Matches o c → Matches o d → length r.opening ≡ r.size → r.last < 2 ^ 62 → fits r.first → Rule lawful lk c → Rule lawful lk d → (i : ℕ) (v : Client) (e : Action) → get_elem? c.clients i ≡ some v
-      → get_elem? d.clients i ≡ some (after (unplaced r.renewal) lk e (found lk c e) v) → MayAct lawful lk (bounds_of c) e v → Told fits lawful r e (found lk c e) v (after (unplaced r.renewal) lk e (found lk c e) v)
+      → get_elem? d.clients i ≡ some (after (unplaced r.renewal) lk e (found lk c e) v) → MayAct lawful lk (bounds_of c) e v.attempt → Told fits lawful r e (found lk c e) v (after (unplaced r.renewal) lk e (found lk c e) v)
   told_of c d m m' z top f h h' i v begin was at may = (clock c m top h, (h.inv.version.sound i (shed c.renewal v) (at_map (shed c.renewal) c.clients i v was)).floor, opening_stands c m z f h, subst (λ n. AreEarlier n c.clock v.records) m.renewal (earlier lawful lk c h i v was), λ all. knows lawful lk c h i v was all)
   told_of c d m m' z top f h h' i v (probe k) was at may = (lock_word c m top h k, λ y. (goes_on lawful lk c h.inv h.lone i v was y.0 y.1).probes k)
   told_of c d m m' z top f h h' i v (fetch a) was at may = tt
@@ -191,12 +191,12 @@ module _ (fits : List ℕ → Type 0) (lawful : List ℕ → List (ℕ × ℕ) �
   in_clients (x ∷ xs) (suc i) v w e = in_clients xs i v w e
 
   -- a held lock word less 1 is the free word of its old version
-  less_one : (c : Core) (id k : ℕ) (v : Client) → Rule lawful lk c → get_elem? c.clients id ≡ some v → Holding v.held k → slice_index c.locks k < 18446744073709551616
-      → (slice_index c.locks k + (18446744073709551616 - 1)) % 18446744073709551616 ≡ 2 * old_version v.held k
+  less_one : (c : Core) (id k : ℕ) (v : Client) → Rule lawful lk c → get_elem? c.clients id ≡ some v → Holding v.attempt.held k → slice_index c.locks k < 18446744073709551616
+      → (slice_index c.locks k + (18446744073709551616 - 1)) % 18446744073709551616 ≡ 2 * old_version v.attempt.held k
   less_one c id k v inv at w lt =
-      let e = (inv.inv.books.booked id (shed c.renewal v) (at_map (shed c.renewal) c.clients id v at)).listed k (old_version v.held k) (old_there v.held k w.0 w.1) in
+      let e = (inv.inv.books.booked id (shed c.renewal v) (at_map (shed c.renewal) c.clients id v at)).listed k (old_version v.attempt.held k) (old_there v.attempt.held k w.0 w.1) in
       let n : ℕ = slice_index c.locks k in
-      let u : ℕ = old_version v.held k in
+      let u : ℕ = old_version v.attempt.held k in
       let e' : n ≡ 2 * u + 1 = e in omega arith
 
   module _ {S : Type 0} where

@@ -1,7 +1,7 @@
 -- What contracts see of a region and of its clients.
 use Rattle.std.specs.Prelude.{◌≡◌, ◌≢◌, ℕ, ◌+◌, ◌%◌, ◌<◌, min, length, List, [], Option, None, Some, Result, MatchResult}
 use Rattle.atomic_table.specs.Seated.{TableId}
-use Rattle.stm_core.specs.Client.{Client, Stamp, Step, nothing, began, probed, fetched, checked, locked, ticked, looked, ended}
+use Rattle.stm_core.specs.Client.{Client, Stamp, Step, nothing, began, probed, fetched, checked, locked, ticked, validated, ended}
 use Rattle.stm_core.specs.Event.{Action, Bounds, May, after, giving, fresh, taking, renewing, opener}
 use Rattle.stm_region.specs.declared.limits.TheConstants.{MOST_GRANTS}
 
@@ -152,7 +152,7 @@ KeepsProbe word (fetched a n x) = Unit {0}
 KeepsProbe word (checked a n m) = Unit {0}
 KeepsProbe word (locked k n m) = Unit {0}
 KeepsProbe word (ticked f m) = Unit {0}
-KeepsProbe word (looked k n) = Unit {0}
+KeepsProbe word (validated k n) = Unit {0}
 KeepsProbe word (ended n) = Unit {0}
 
 -- the words of the first opening: those of the opening before any renewal, or this one's

@@ -56,8 +56,9 @@ pub record IsOfOneVersion (fits : List ℕ → Type 0)
   -- this client has this value in it
   pub number : ℕ
   pub member : get_elem? core.clients number ≡ some v
-  pub fitting : fits (image_at core.opening v.rv (all_records (now core).clients))
-  pub agrees : Agrees (image_at core.opening v.rv (all_records (now core).clients)) v.reads
+  pub fitting : fits (image_at core.opening v.attempt.rv (all_records (now core).clients))
+  pub agrees : Agrees (image_at core.opening v.attempt.rv (all_records (now core).clients))
+      v.attempt.reads
 
 -- the records of all clients, this one's with its newest among them, each of its own once and in
 -- its order, are lawful and serial from the first opening image
@@ -84,16 +85,16 @@ pub record Decides (fits : List ℕ → Type 0)
 
 -- it was lone, and not decided
 abbrev pub IsLoneOpen : Client → Type 0
-IsLoneOpen v = (v.lone ≡ true) × (decided v ≡ false)
+IsLoneOpen v = (v.attempt.lone ≡ true) × (decided v ≡ false)
 
 -- what a lone attempt finds: a lock word that is free or its own, and not newer; the word of its
 -- probe; the clock that it ticks from, and its tick decides
 abbrev pub LoneTold : Action → ℕ → Client → Client → Type 0
 LoneTold begin n v w = Unit {0}
-LoneTold (probe k) n v w = (IsFree n ⊎ Holds v.held k) × (version_of n ≤ v.rv)
+LoneTold (probe k) n v w = (IsFree n ⊎ Holds v.attempt.held k) × (version_of n ≤ v.attempt.rv)
 LoneTold (fetch a) n v w = Unit {0}
-LoneTold (check a) n v w = n ≡ word_before v.last
-LoneTold (lock k) n v w = n ≡ word_before v.last
+LoneTold (check a) n v w = n ≡ word_before v.attempt.last
+LoneTold (lock k) n v w = n ≡ word_before v.attempt.last
 LoneTold (tick from tag writes) n v w = (n ≡ from) × (decided w ≡ true)
 LoneTold (validate k) n v w = Unit {0}
 LoneTold (put a x) n v w = Unit {0}
@@ -111,11 +112,11 @@ module _ (fits : List ℕ → Type 0) (lawful : List ℕ → List (ℕ × ℕ) �
   Told (probe k) n v w = IsLockWord r.last n × (IsLoneOpen v → LoneTold (probe k) n v w)
   Told (fetch a) n v w = Unit {0}
   Told (check a) n v w =
-      IsLockWord r.last n × StandsOn fits r.size w.reads
+      IsLockWord r.last n × StandsOn fits r.size w.attempt.reads
       × (IsLoneOpen v → LoneTold (check a) n v w) × IsOfOneVersion fits lawful r w
   Told (lock k) n v w = IsLockWord r.last n × (IsLoneOpen v → LoneTold (lock k) n v w)
   Told (tick from tag writes) n v w =
-      IsVersion r.last n × (0 < w.wv → w.rv < w.wv)
+      IsVersion r.last n × (0 < w.attempt.wv → w.attempt.rv < w.attempt.wv)
       × (decided w ≡ true → Decides fits lawful r w)
       × (IsLoneOpen v → LoneTold (tick from tag writes) n v w)
   Told (validate k) n v w =

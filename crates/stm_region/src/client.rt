@@ -34,14 +34,15 @@ impl<L: Law> Model for Client<L> {
     ghost invariant = { λ c.
         (c.seat.me.1 ≡ [])
         × (c.grants ≡ c.seat.me.0.grants) × (c.grants ≤ MOST_GRANTS)
-        × (c.version ≡ c.seat.me.0.wv) × (c.version < VERSION_LIMIT)
-        × KeepsProbe c.probed c.seat.me.0.last × Sorted c.seat.me.0.records };
+        × (c.version ≡ c.seat.me.0.attempt.wv) × (c.version < VERSION_LIMIT)
+        × KeepsProbe c.probed c.seat.me.0.attempt.last × Sorted c.seat.me.0.records };
 }
 
 impl<L: Law> Client<L> {
     // A client that has made no step, with so many grants.
     pub(crate) fn of_seat(seat: Seat<(), View>, grants: u64) -> Client<L>
-        requires none { (seat.me.1 ≡ []) × (seat.me.0.wv ≡ 0) × (seat.me.0.last ≡ nothing) }
+        requires none { (seat.me.1 ≡ []) × (seat.me.0.attempt.wv ≡ 0)
+            × (seat.me.0.attempt.last ≡ nothing) }
         requires grants { (grants ≡ seat.me.0.grants) × (grants ≤ MOST_GRANTS) }
         requires sorted { Sorted seat.me.0.records }
         ensures { result ≡ record { table = seat.table_id; value = seat.me.0 } }

@@ -23,7 +23,8 @@ pub fn records_are_serial<L: Law>()
 /// version.
 pub fn reads_are_of_one_version<L: Law>()
     ensures { Always L.fits L.lawful (λ o s. OfEach s (λ v.
-        Agrees (image_at o.image v.rv (all_records (map (shed o.renewal) s.views))) v.reads)) }
+        Agrees (image_at o.image v.attempt.rv (all_records (map (shed o.renewal) s.views)))
+        v.attempt.reads)) }
 {}
 
 /// Gathering takes no grant away: two clients that are out have fewer grants together than there

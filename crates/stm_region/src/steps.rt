@@ -48,8 +48,8 @@ impl<L: Law, A: Allocator> Region<L, A> {
         ensures client { client.new ≡ acted self.now (probes lock) result client.old }
         ensures word { IsLockWord self.now.last result }
         ensures lone { IsLoneOpen client.old.value →
-            (IsFree result ⊎ Holds client.old.value.held lock)
-            × (version_of result ≤ client.old.value.rv) }
+            (IsFree result ⊎ Holds client.old.value.attempt.held lock)
+            × (version_of result ≤ client.old.value.attempt.rv) }
     {
         let found = self.load_as::<Brand>(&mut client.seat, FIRST_LOCK + lock as usize, lock);
         client.probed = found;
@@ -74,8 +74,9 @@ impl<L: Law, A: Allocator> Region<L, A> {
         requires allowed { IsAllowed L.lawful self.now (checks addr.0) client.old }
         ensures client { client.new ≡ acted self.now (checks addr.0) result client.old }
         ensures word { IsLockWord self.now.last result }
-        ensures stands { StandsOn L.fits self.now.size client.new.value.reads }
-        ensures lone { IsLoneOpen client.old.value → result ≡ word_before client.old.value.last }
+        ensures stands { StandsOn L.fits self.now.size client.new.value.attempt.reads }
+        ensures lone { IsLoneOpen client.old.value
+            → result ≡ word_before client.old.value.attempt.last }
         ensures version { IsOfOneVersion L.fits L.lawful self.now client.new.value }
     {
         let lock = self.lock_of(addr);
@@ -88,10 +89,10 @@ impl<L: Law, A: Allocator> Region<L, A> {
     pub fn lock(&self, client: &mut Client<L>, lock: u32) -> Result<(), u64>
         requires own { client.old.table ≡ self.now.table }
         requires allowed { IsAllowed L.lawful self.now (locks lock) client.old }
-        ensures client { Exchanged self.now (locks lock) (word_before client.old.value.last) result
-            client.old client.new }
+        ensures client { Exchanged self.now (locks lock)
+            (word_before client.old.value.attempt.last) result client.old client.new }
         ensures word { MatchResult result
-            (λ _. IsLockWord self.now.last (word_before client.old.value.last))
+            (λ _. IsLockWord self.now.last (word_before client.old.value.attempt.last))
             (λ found. IsLockWord self.now.last found) }
         ensures lone { IfErr result (λ _. IsLoneOpen client.old.value → ⊥) }
     {
@@ -127,7 +128,8 @@ impl<L: Law, A: Allocator> Region<L, A> {
             (λ found. found ≤ self.now.last) }
         ensures lone { IsLoneOpen client.old.value →
             IsOk result × (decided client.new.value ≡ true) }
-        ensures later { 0 < client.new.value.wv → client.new.value.rv < client.new.value.wv }
+        ensures later { 0 < client.new.value.attempt.wv
+            → client.new.value.attempt.rv < client.new.value.attempt.wv }
         ensures decides { decided client.new.value ≡ true →
             Decides L.fits L.lawful self.now client.new.value }
     {
@@ -141,7 +143,7 @@ impl<L: Law, A: Allocator> Region<L, A> {
         }
     }
 
-    /// Looks at the lock word of the next read. The last look that passes decides the attempt.
+    /// Validates the lock of the next read. The last validation that passes decides the attempt.
     #[inline]
     pub fn validate(&self, client: &mut Client<L>, lock: u32) -> u64
         requires own { client.old.table ≡ self.now.table }
