@@ -17,17 +17,17 @@ not_mine (p ∷ ps) k above =
     rw other (not_mine ps k (λ j u i. above j u (in_later _ _ _ i)))
 
 module _ (lawful : List ℕ → List (ℕ × ℕ) → List (ℕ × ℕ) → Type 0) (t : Stamp) (lk : ℕ → ℕ) (b : Bounds) (v w : Client) (k n : ℕ) (stepped : w ≡ after t lk (probe k) n v) (above : IsAbove v k) where
-  pub held_shown : IsHeld n → (k ≡ k) × (w.last ≡ probed k n) × IsHeld n × (w.mine ≡ false)
-  held_shown h = (refl, ap (λ (x : Client). x.last) stepped, h, ap (λ (x : Client). x.mine) stepped ∙ not_mine v.held k above)
+  pub held_shown : IsHeld n → (k ≡ k) × (w.attempt.last ≡ probed k n) × IsHeld n × (w.attempt.mine ≡ false)
+  held_shown h = (refl, ap (λ (x : Client). x.attempt.last) stepped, h, ap (λ (x : Client). x.attempt.mine) stepped ∙ not_mine v.attempt.held k above)
 
-  pub may_lock : v.spent ≡ false → IsReading v → k < b.stripes → (u : ℕ) → n ≡ free_word u → May lawful lk b (lock k) w
+  pub may_lock : v.spent ≡ false → IsReading v.attempt → k < b.stripes → (u : ℕ) → n ≡ free_word u → May lawful lk b (lock k) w
   may_lock unspent reading range u free =
       let is_free : IsFree n = omega arith in (
         ap (λ (x : Client). x.spent) stepped ∙ unspent,
         (
-          (ap (λ (x : Client). x.phase) stepped ∙ reading.0, ap (λ (x : Client). x.wv) stepped ∙ reading.1),
+          (ap (λ (x : Client). x.attempt.phase) stepped ∙ reading.0, ap (λ (x : Client). x.attempt.wv) stepped ∙ reading.1),
           range,
-          subst (λ (l : Step). HasFoundFree k l) (sym (ap (λ (x : Client). x.last) stepped)) (refl, is_free),
-          λ j u' i. above j u' (subst (λ (h : List (ℕ × ℕ)). In (j, u') h) (ap (λ (x : Client). x.held) stepped) i),
+          subst (λ (l : Step). HasFoundFree k l) (sym (ap (λ (x : Client). x.attempt.last) stepped)) (refl, is_free),
+          λ j u' i. above j u' (subst (λ (h : List (ℕ × ℕ)). In (j, u') h) (ap (λ (x : Client). x.attempt.held) stepped) i),
         ),
       )

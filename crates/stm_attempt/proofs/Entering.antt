@@ -48,10 +48,10 @@ pub inside : (running : Bool) (region : RegionShown) (fits : List ℕ → Type 0
 inside true region fits v writes a l = l
 inside false region fits v writes a l = absurd (omega arith)
 
-pub has_entered : (running : Bool) (region : RegionShown) (fits : List ℕ → Type 0) (v v' : Client) (writes : LogValue) (a x : ℕ) → running ≡ true → get writes.words a ≡ None → HasReadWord v v' a x → StandsOn fits region.size v'.reads → HasRead (memory_of running region fits v writes) (memory_of running region fits v' writes) a x
+pub has_entered : (running : Bool) (region : RegionShown) (fits : List ℕ → Type 0) (v v' : Client) (writes : LogValue) (a x : ℕ) → running ≡ true → get writes.words a ≡ None → HasReadWord v v' a x → StandsOn fits region.size v'.attempt.reads → HasRead (memory_of running region fits v writes) (memory_of running region fits v' writes) a x
 has_entered true region fits v v' writes a x runs none read stands = record {
   own = λ w e. none_not_some w (sym none ∙ e);
-  entered = λ _. (ap map_of read.reads ∙ with_pairs-append empty v.reads a x, λ w e. one_value stands.image v.reads a x w (subst (λ (rs : List (ℕ × ℕ)). Agrees stands.image rs) read.reads stands.agrees) e);
+  entered = λ _. (ap map_of read.reads ∙ with_pairs-append empty v.attempt.reads a x, λ w e. one_value stands.image v.attempt.reads a x w (subst (λ (rs : List (ℕ × ℕ)). Agrees stands.image rs) read.reads stands.agrees) e);
 }
 has_entered false region fits v v' writes a x runs none read stands = cc
 
@@ -69,12 +69,12 @@ has_written (Ok u) true region fits v w w' a lock x runs e = ap (λ (o : LogValu
 has_written (Err f) true region fits v w w' a lock x runs e = ap (λ (o : LogValue). o.words) e
 has_written r false region fits v w w' a lock x runs e = cc
 
-has_entered_now : (runs : Bool) (region : RegionShown) (fits : List ℕ → Type 0) (v v' : Client) (writes : LogValue) (a x : ℕ) → runs ≡ true → get writes.words a ≡ None → HasReadWord v v' a x → StandsOn fits region.size v'.reads → HasRead (memory_of runs region fits v writes) (memory_of true region fits v' writes) a x
+has_entered_now : (runs : Bool) (region : RegionShown) (fits : List ℕ → Type 0) (v v' : Client) (writes : LogValue) (a x : ℕ) → runs ≡ true → get writes.words a ≡ None → HasReadWord v v' a x → StandsOn fits region.size v'.attempt.reads → HasRead (memory_of runs region fits v writes) (memory_of true region fits v' writes) a x
 has_entered_now true region fits v v' writes a x r none read stands = has_entered true region fits v v' writes a x r none read stands
 has_entered_now false region fits v v' writes a x r none read stands = cc
 
 -- the same, of a memory that tells by its client's phase whether it runs
-pub has_entered_also : (runs runs' : Bool) (region : RegionShown) (fits : List ℕ → Type 0) (v v' : Client) (writes : LogValue) (a x : ℕ) → runs ≡ true → runs' ≡ true → get writes.words a ≡ None → HasReadWord v v' a x → StandsOn fits region.size v'.reads → HasRead (memory_of runs region fits v writes) (memory_of runs' region fits v' writes) a x
+pub has_entered_also : (runs runs' : Bool) (region : RegionShown) (fits : List ℕ → Type 0) (v v' : Client) (writes : LogValue) (a x : ℕ) → runs ≡ true → runs' ≡ true → get writes.words a ≡ None → HasReadWord v v' a x → StandsOn fits region.size v'.attempt.reads → HasRead (memory_of runs region fits v writes) (memory_of runs' region fits v' writes) a x
 has_entered_also runs true region fits v v' writes a x r r' none read stands = has_entered_now runs region fits v v' writes a x r none read stands
 has_entered_also runs false region fits v v' writes a x r r' none read stands = cc
 
@@ -83,7 +83,7 @@ same_frame true true region fits v v' writes r r' = record { size = refl; fits =
 same_frame true false region fits v v' writes r r' = cc
 same_frame false runs' region fits v v' writes r r' = cc
 
-pub same_reads : (runs runs' : Bool) (region : RegionShown) (fits : List ℕ → Type 0) (v v' : Client) (writes : LogValue) → runs ≡ true → runs' ≡ true → v'.reads ≡ v.reads → (memory_of runs' region fits v' writes).reads ≡ (memory_of runs region fits v writes).reads
+pub same_reads : (runs runs' : Bool) (region : RegionShown) (fits : List ℕ → Type 0) (v v' : Client) (writes : LogValue) → runs ≡ true → runs' ≡ true → v'.attempt.reads ≡ v.attempt.reads → (memory_of runs' region fits v' writes).reads ≡ (memory_of runs region fits v writes).reads
 same_reads true true region fits v v' writes r r' e = ap map_of e
 same_reads true false region fits v v' writes r r' e = cc
 same_reads false runs' region fits v v' writes r r' e = cc

@@ -17,9 +17,9 @@ unwritten : (image : List ℕ) (a : ℕ) → memory image (empty {K = ℕ} {X = 
 unwritten image a = ap (λ (o : Option ℕ). unwrap_or o (slice_index image a)) (get-empty nat_cmp a)
 
 module _ (fits : List ℕ → Type 0) (P Q : Property) (local_p : IsLocal P) (local_q : IsLocal Q) where
-  leads_on : (region region' : RegionShown) (v v' : Client) (w w' : LogValue) → w ≡ empty_log → Carries P Q (memory_of true region fits v w) (memory_of true region' fits v' w') → Leads fits P Q v'.reads (log_pairs w')
+  leads_on : (region region' : RegionShown) (v v' : Client) (w w' : LogValue) → w ≡ empty_log → Carries P Q (memory_of true region fits v w) (memory_of true region' fits v' w') → Leads fits P Q v'.attempt.reads (log_pairs w')
   leads_on region region' v v' w w' e carries image f agrees p =
-      let seen : Sees (memory_of true region' fits v' w') image = record { fits = f; agrees = agrees-map_of image v'.reads agrees } in
+      let seen : Sees (memory_of true region' fits v' w') image = record { fits = f; agrees = agrees-map_of image v'.attempt.reads agrees } in
       let before : P (memory image w.words) (length image) = local_p (words_of image) (memory image w.words) (length image) (λ a less. rw e (unwritten image a)) p in
       let after : Q (memory image w'.words) (length image) = carries image seen before in
       let long = length-laid image (log_pairs w') in
@@ -32,7 +32,7 @@ module _ (fits : List ℕ → Type 0) (P Q : Property) (local_p : IsLocal P) (lo
 
   pub readings_lead : ReadingsLead fits P Q
   readings_lead running running' region region' name name' c c' runs origin carries =
-      subst (λ (ps : List (ℕ × ℕ)). Leads fits P Q c'.value.reads ps) (no_pairs empty_log (len-empty nat_cmp ℕ))
+      subst (λ (ps : List (ℕ × ℕ)). Leads fits P Q c'.value.attempt.reads ps) (no_pairs empty_log (len-empty nat_cmp ℕ))
       (records_lead running running' region region' name name' 0 0 c c' empty_log empty_log runs refl origin carries)
 
 module _ (fits : List ℕ → Type 0) where

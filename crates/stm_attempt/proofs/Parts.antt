@@ -13,7 +13,7 @@ use Rattle.stm_region.specs.Told.{StandsOn}
 use Rattle.stm_region.specs.Shown.{RegionShown, stripe_of, unplaced}
 use Rattle.stm_attempt.specs.Begun.{addresses, IsBegun, AreInside}
 use Rattle.stm_attempt.specs.Conflicts.{IsLockConflict, IsValidateConflict, IsTickConflict, IsReadLock, IsCommitConflict}
-use Rattle.stm_attempt.specs.Committing.{settling, writer_record, commit_record, IsCommitVersion, IsCommitStop, IsCounted, HasCommitted, HasStopped}
+use Rattle.stm_attempt.specs.Committing.{settling, ticked_record, commit_record, IsCommitVersion, IsCommitStop, IsCounted, HasCommitted, HasStopped}
 use Rattle.stm_attempt.specs.CommitParts.{IsReady, CanValidate, returned, is_at_once, HasFailedLocking, HasFailedDeciding, HasTicked, HasValidated, IsDecided, HasSettled}
 use Rattle.stm_attempt.proofs.Named.{apart, same_attempt, same_on}
 use Rattle.stm_attempt.specs.declared.conflict.Conflict.{Conflict}
@@ -33,20 +33,20 @@ inside_same size reads reads' e inside = λ a x i. inside a x (subst (λ (rs : L
 pub still_ready : (region : RegionShown) (v l : Client) (rv : ℕ) → settling l ≡ settling v → IsReady region v rv → IsReady region l rv
 still_ready region v l rv e ready = record {
   unspent = ap (λ (x : Client). x.spent) e ∙ ready.unspent;
-  reading = (ap (λ (x : Client). x.phase) e ∙ ready.reading.0, ap (λ (x : Client). x.wv) e ∙ ready.reading.1);
-  begun_at = ap (λ (x : Client). x.rv) e ∙ ready.begun_at;
+  reading = (ap (λ (x : Client). x.attempt.phase) e ∙ ready.reading.0, ap (λ (x : Client). x.attempt.wv) e ∙ ready.reading.1);
+  begun_at = ap (λ (x : Client). x.attempt.rv) e ∙ ready.begun_at;
   known = ap (λ (x : Client). x.floor) e ∙ ready.known;
-  unticked = ap (λ (x : Client). x.ticks) e ∙ ready.unticked;
-  from = ap (λ (x : Client). x.next_from) e ∙ ready.from;
+  unticked = ap (λ (x : Client). x.attempt.ticks) e ∙ ready.unticked;
+  from = ap (λ (x : Client). x.attempt.next_from) e ∙ ready.from;
   range = ready.range;
-  inside = inside_same region.size v.reads l.reads (ap (λ (x : Client). x.reads) e) ready.inside;
+  inside = inside_same region.size v.attempt.reads l.attempt.reads (ap (λ (x : Client). x.attempt.reads) e) ready.inside;
 }
 
 none_read : (reads : List (ℕ × ℕ)) → eqb (length (addresses reads)) 0 ≡ is_empty reads
 none_read [] = refl
 none_read (p ∷ ps) = ne_eqb (length (addresses (p ∷ ps))) 0 (λ e. absurd (omega arith))
 
-some_read : (v : Client) (version : ℕ) → is_at_once v version ≡ false → v.reads ≢ []
+some_read : (v : Client) (version : ℕ) → is_at_once v version ≡ false → v.attempt.reads ≢ []
 some_read v version later none = let at_once : is_at_once v version ≡ true = rw none refl in cc
 
 -- a ticked attempt that is not decided may validate its reads
@@ -59,16 +59,16 @@ may_validate region tag writes v t rv version ticked ready less later = record {
   unplaced = ticked.unplaced;
   begun_at = ticked.same.rv ∙ ready.begun_at;
   some = λ none. some_read v version later (sym ticked.same.reads ∙ none);
-  inside = inside_same region.size v.reads t.reads ticked.same.reads ready.inside;
+  inside = inside_same region.size v.attempt.reads t.attempt.reads ticked.same.reads ready.inside;
 }
 
 -- the code's test is whether the tick decides
-pub once_is : (v : Client) (logged : List ℕ) (n rv version : ℕ) → n ≡ length logged → logged ≡ addresses v.reads → v.rv ≡ rv → (eqb n 0 || eqb version (rv + 1)) ≡ is_at_once v version
+pub once_is : (v : Client) (logged : List ℕ) (n rv version : ℕ) → n ≡ length logged → logged ≡ addresses v.attempt.reads → v.attempt.rv ≡ rv → (eqb n 0 || eqb version (rv + 1)) ≡ is_at_once v version
 once_is v logged n rv version e l r =
-    let count : eqb n 0 ≡ is_empty v.reads = ap (λ (k : ℕ). eqb k 0) (e ∙ ap length l) ∙ none_read v.reads in
+    let count : eqb n 0 ≡ is_empty v.attempt.reads = ap (λ (k : ℕ). eqb k 0) (e ∙ ap length l) ∙ none_read v.attempt.reads in
     rw (count, r) refl
 
-module _ (region : RegionShown) (tag : List ℕ) (writes : List (ℕ × ℕ)) (v t : Client) (version : ℕ) (ticked : HasTicked region tag writes v t version) (later : v.rv < version) (few : t.steps ≤ v.steps + 16) where
+module _ (region : RegionShown) (tag : List ℕ) (writes : List (ℕ × ℕ)) (v t : Client) (version : ℕ) (ticked : HasTicked region tag writes v t version) (later : v.attempt.rv < version) (few : t.attempt.steps ≤ v.attempt.steps + 16) where
   pub decided_at_once : is_at_once v version ≡ true → IsDecided region tag writes v t version
   decided_at_once once = record {
     same = ticked.same;
@@ -77,22 +77,22 @@ module _ (region : RegionShown) (tag : List ℕ) (writes : List (ℕ × ℕ)) (v
     known = ticked.known;
     unstored = ticked.unstored;
     phase = ticked.phase ∙ ap (λ (b : Bool). cond b committed running) once;
-    records = ticked.records ∙ ap (λ (b : Bool). cond b (inserted (writer_record region tag v writes version) v.records) v.records) once;
+    records = ticked.records ∙ ap (λ (b : Bool). cond b (inserted (ticked_record region tag v writes version) v.records) v.records) once;
     later = later;
     steps = omega (arith, few);
   }
 
   module _ (d : Client) (validated : HasValidated region t d) (not_once : is_at_once v version ≡ false) where
-    reads_same : t.reads ≡ v.reads
+    reads_same : t.attempt.reads ≡ v.attempt.reads
     reads_same = ticked.same.reads
 
-    attempt_same : t.attempt ≡ v.attempt
-    attempt_same = ticked.same.attempt
+    attempt_same : t.attempt.number ≡ v.attempt.number
+    attempt_same = ticked.same.number
 
     old_records : t.records ≡ v.records
-    old_records = ticked.records ∙ ap (λ (b : Bool). cond b (inserted (writer_record region tag v writes version) v.records) v.records) not_once
+    old_records = ticked.records ∙ ap (λ (b : Bool). cond b (inserted (ticked_record region tag v writes version) v.records) v.records) not_once
 
-    same_record : writer_record region t.tag t t.writes t.wv ≡ writer_record region tag v writes version
+    same_record : ticked_record region t.attempt.tag t t.attempt.writes t.attempt.wv ≡ ticked_record region tag v writes version
     same_record = rw (ticked.tagged, ticked.writing, ticked.versioned, reads_same, attempt_same) refl
 
     pub decided_after_validation : IsDecided region tag writes v d version
@@ -103,9 +103,9 @@ module _ (region : RegionShown) (tag : List ℕ) (writes : List (ℕ × ℕ)) (v
       known = validated.known ∙ ticked.known;
       unstored = validated.unstored;
       phase = validated.phase;
-      records = validated.records ∙ ap (λ (r : Record). inserted r t.records) same_record ∙ ap (inserted (writer_record region tag v writes version)) old_records;
+      records = validated.records ∙ ap (λ (r : Record). inserted r t.records) same_record ∙ ap (inserted (ticked_record region tag v writes version)) old_records;
       later = later;
-      steps = let n : length t.reads ≡ length v.reads = ap length reads_same in omega (arith, few, validated.steps, n);
+      steps = let n : length t.attempt.reads ≡ length v.attempt.reads = ap length reads_same in omega (arith, few, validated.steps, n);
     }
 
 no_length : {A : Type 0} (xs : List A) → length xs ≡ 0 → xs ≡ []
@@ -144,11 +144,11 @@ pub err_not_ok : {X E A : Type 0} (r : Result X E) (e : E) → r ≡ Err e → i
 err_not_ok (Ok x) e same is = cc
 err_not_ok (Err f) e same is = cc
 
-record_of_writer : (region : RegionShown) (tag : List ℕ) (v : Client) (writes : List (ℕ × ℕ)) (version : ℕ) → writes ≢ [] → writer_record region tag v writes version ≡ commit_record region tag v writes version
+record_of_writer : (region : RegionShown) (tag : List ℕ) (v : Client) (writes : List (ℕ × ℕ)) (version : ℕ) → writes ≢ [] → ticked_record region tag v writes version ≡ commit_record region tag v writes version
 record_of_writer region tag v [] version some = absurd (some refl)
 record_of_writer region tag v (p ∷ ps) version some = refl
 
-version_of_writer : (v : Client) (writes : List (ℕ × ℕ)) (version : ℕ) → writes ≢ [] → v.rv < version → IsCommitVersion v writes version
+version_of_writer : (v : Client) (writes : List (ℕ × ℕ)) (version : ℕ) → writes ≢ [] → v.attempt.rv < version → IsCommitVersion v writes version
 version_of_writer v [] version some later = absurd (some refl)
 version_of_writer v (p ∷ ps) version some later = later
 
@@ -159,29 +159,29 @@ short (suc n) (x ∷ xs) = let l = short n xs in omega (arith, l)
 
 -- the first of the parts left the client as it was but for its locks
 module _ (region : RegionShown) (tag : List ℕ) (writes : List (ℕ × ℕ)) (v l d e : Client) (version : ℕ) (locked : settling l ≡ settling v) (decided : IsDecided region tag writes l d version) (settled : HasSettled d e) (some : writes ≢ []) where
-  record_same : writer_record region tag l writes version ≡ commit_record region tag v writes version
+  record_same : ticked_record region tag l writes version ≡ commit_record region tag v writes version
   record_same =
-      let reads : l.reads ≡ v.reads = ap (λ (x : Client). x.reads) locked in
-      let attempt : l.attempt ≡ v.attempt = ap (λ (x : Client). x.attempt) locked in
-      let same : writer_record region tag l writes version ≡ writer_record region tag v writes version = rw (reads, attempt) refl in
+      let reads : l.attempt.reads ≡ v.attempt.reads = ap (λ (x : Client). x.attempt.reads) locked in
+      let attempt : l.attempt.number ≡ v.attempt.number = ap (λ (x : Client). x.attempt.number) locked in
+      let same : ticked_record region tag l writes version ≡ ticked_record region tag v writes version = rw (reads, attempt) refl in
       same ∙ record_of_writer region tag v writes version some
 
   pub has_committed : HasCommitted region tag writes v e version
   has_committed = record {
     records = ap (λ (x : Client). x.records) settled.same ∙ decided.records ∙ ap (λ (r : Record). inserted r l.records) record_same ∙ ap (λ (x : Client). inserted (commit_record region tag v writes version) x.records) locked;
-    versioned = version_of_writer v writes version some (subst (λ (n : ℕ). n < version) (ap (λ (x : Client). x.rv) locked) decided.later);
+    versioned = version_of_writer v writes version some (subst (λ (n : ℕ). n < version) (ap (λ (x : Client). x.attempt.rv) locked) decided.later);
     known = ap (λ (x : Client). x.floor) settled.same ∙ decided.known;
     free = settled.free;
     same = same_on v l e (same_attempt v l (ap apart locked)) (same_on l d e decided.same (same_attempt d e (ap apart settled.same)));
   }
 
-  module _ (w : LogValue) (taken : ℕ) (pairs : writes ≡ log_pairs w) (addressed : SameAddresses w) (holds : addresses l.held ≡ take taken (log_locks w)) (all : taken ≡ length (log_locks w)) (stepped : l.steps ≡ v.steps + 2 * taken) where
-    pub steps_committed : e.steps ≤ v.steps + length v.reads + 4 * len w.words + 16
+  module _ (w : LogValue) (taken : ℕ) (pairs : writes ≡ log_pairs w) (addressed : SameAddresses w) (holds : addresses l.attempt.held ≡ take taken (log_locks w)) (all : taken ≡ length (log_locks w)) (stepped : l.attempt.steps ≡ v.attempt.steps + 2 * taken) where
+    pub steps_committed : e.attempt.steps ≤ v.attempt.steps + length v.attempt.reads + 4 * len w.words + 16
     steps_committed =
         let few = locks_few w addressed in
-        let words : length d.writes ≡ len w.words = ap length (decided.writing ∙ pairs) ∙ count_pairs w in
-        let locks : length d.held ≤ length (log_locks w) = subst (λ (n : ℕ). n ≤ length (log_locks w)) (sym (ap length holds) ∙ count_addresses l.held ∙ ap length (sym decided.held)) (short taken (log_locks w)) in
-        let reads : length l.reads ≡ length v.reads = ap (λ (x : Client). length x.reads) locked in
+        let words : length d.attempt.writes ≡ len w.words = ap length (decided.writing ∙ pairs) ∙ count_pairs w in
+        let locks : length d.attempt.held ≤ length (log_locks w) = subst (λ (n : ℕ). n ≤ length (log_locks w)) (sym (ap length holds) ∙ count_addresses l.attempt.held ∙ ap length (sym decided.held)) (short taken (log_locks w)) in
+        let reads : length l.attempt.reads ≡ length v.attempt.reads = ap (λ (x : Client). length x.attempt.reads) locked in
         omega (arith, few, words, locks, reads, settled.steps, decided.steps, stepped, all)
 
 -- a conflict stays shown where locks are given back
@@ -208,23 +208,23 @@ tick_kept (LostTick found) l g e i = subst (λ (x : Client). IsTickConflict (Los
 
 conflict_kept : (lk : ℕ → ℕ) (log : LogValue) (c : Conflict) (l g : Client) → returned g ≡ returned l → IsCommitConflict lk log c l → IsCommitConflict lk log c g
 conflict_kept lk log c l g e (inl (k, own, i)) = inl (k, own, lock_kept k c l g e i)
-conflict_kept lk log c l g e (inr (inl (k, own, i))) = inr (inl (k, subst (λ (x : Client). IsReadLock lk x.reads k) (sym e) own, validate_kept k c l g e i))
+conflict_kept lk log c l g e (inr (inl (k, own, i))) = inr (inl (k, subst (λ (x : Client). IsReadLock lk x.attempt.reads k) (sym e) own, validate_kept k c l g e i))
 conflict_kept lk log c l g e (inr (inr i)) = inr (inr (tick_kept c l g e i))
 
 stop_kept : (region : RegionShown) (log : LogValue) (stop : Stop) (l g : Client) → returned g ≡ returned l → IsCommitStop region log stop l → IsCommitStop region log stop g
 stop_kept region log Memory l g e i = absurd i
 stop_kept region log (Conflicting c) l g e i = conflict_kept (stripe_of region.stripes) log c l g e i
-stop_kept region log (Spent version) l g e i = (i.0, ap (λ (x : Client). x.next_from) e ∙ i.1, subst (λ (n : ℕ). n < 16) (sym (ap (λ (x : Client). x.ticks) e)) i.2)
+stop_kept region log (Spent version) l g e i = (i.0, ap (λ (x : Client). x.attempt.next_from) e ∙ i.1, subst (λ (n : ℕ). n < 16) (sym (ap (λ (x : Client). x.attempt.ticks) e)) i.2)
 
 -- the steps of a spent clock are counted on where so many locks are given back
-counted_kept : (stop : Stop) (locks : ℕ) (v l f g : Client) → l.steps ≡ v.steps + 2 * locks → returned g ≡ returned f → g.steps ≡ f.steps + locks → IsCounted stop l.steps f → IsCounted stop (v.steps + 3 * locks) g
+counted_kept : (stop : Stop) (locks : ℕ) (v l f g : Client) → l.attempt.steps ≡ v.attempt.steps + 2 * locks → returned g ≡ returned f → g.attempt.steps ≡ f.attempt.steps + locks → IsCounted stop l.attempt.steps f → IsCounted stop (v.attempt.steps + 3 * locks) g
 counted_kept Memory locks v l f g up back down i = tt
 counted_kept (Conflicting c) locks v l f g up back down i = tt
-counted_kept (Spent version) locks v l f g up back down i = let ticks : g.ticks ≡ f.ticks = ap (λ (x : Client). x.ticks) back in omega (arith, up, down, ticks, i)
+counted_kept (Spent version) locks v l f g up back down i = let ticks : g.attempt.ticks ≡ f.attempt.ticks = ap (λ (x : Client). x.attempt.ticks) back in omega (arith, up, down, ticks, i)
 
 module _ (region : RegionShown) (log : LogValue) (v l : Client) (some : log_pairs log ≢ []) where
   -- a lock was not taken, and all others were given back
-  pub stopped_locking : (c : Conflict) (g : Client) (taken : ℕ) → HasFailedLocking v l taken → IsCommitConflict (stripe_of region.stripes) log c l → returned g ≡ returned l → g.held ≡ [] → HasStopped region log (Conflicting c) v g
+  pub stopped_locking : (c : Conflict) (g : Client) (taken : ℕ) → HasFailedLocking v l taken → IsCommitConflict (stripe_of region.stripes) log c l → returned g ≡ returned l → g.attempt.held ≡ [] → HasStopped region log (Conflicting c) v g
   stopped_locking c g taken failed shown back free = record {
     written = some;
     shown = conflict_kept (stripe_of region.stripes) log c l g back shown;
@@ -236,7 +236,7 @@ module _ (region : RegionShown) (log : LogValue) (v l : Client) (some : log_pair
   }
 
   -- the attempt was not decided, and all locks were given back
-  pub stopped_deciding : (stop : Stop) (f g : Client) → settling l ≡ settling v → l.steps ≡ v.steps + 2 * length (log_locks log) → HasFailedDeciding region log stop l f → returned g ≡ returned f → g.steps ≡ f.steps + length (log_locks log) → g.held ≡ [] → HasStopped region log stop v g
+  pub stopped_deciding : (stop : Stop) (f g : Client) → settling l ≡ settling v → l.attempt.steps ≡ v.attempt.steps + 2 * length (log_locks log) → HasFailedDeciding region log stop l f → returned g ≡ returned f → g.attempt.steps ≡ f.attempt.steps + length (log_locks log) → g.attempt.held ≡ [] → HasStopped region log stop v g
   stopped_deciding stop f g locked up failed back down free = record {
     written = some;
     shown = stop_kept region log stop f g back failed.shown;
@@ -253,7 +253,7 @@ has_finished region tag [] v e rv found none begun is = record {
   records = ap (λ (x : Client). x.records) is;
   versioned = sym begun.begun_at;
   known = ap (λ (x : Client). x.floor) is ∙ begun.known;
-  free = ap (λ (x : Client). x.held) is ∙ begun.free;
+  free = ap (λ (x : Client). x.attempt.held) is ∙ begun.free;
   same = same_attempt v e (ap apart is);
 }
 has_finished region tag (p ∷ ps) v e rv found none begun is = cc

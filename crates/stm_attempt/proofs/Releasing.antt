@@ -18,9 +18,9 @@ pub record IsReleasing (v v' : Client) (rest all : List ℕ) : Type 0 where
   pub gone : List ℕ
   pub order : gone ++ rest ≡ all
   pub same : settling v' ≡ settling v
-  pub stored : v'.stored ≡ v.stored
-  pub held : addresses v'.held ≡ rest
-  pub steps : v'.steps + length rest ≡ v.steps + length v.held
+  pub stored : v'.attempt.stored ≡ v.attempt.stored
+  pub held : addresses v'.attempt.held ≡ rest
+  pub steps : v'.attempt.steps + length rest ≡ v.attempt.steps + length v.attempt.held
 
 module _ (lawful : List ℕ → List (ℕ × ℕ) → List (ℕ × ℕ) → Type 0) (t : Stamp) (lk : ℕ → ℕ) (b : Bounds) (w : LogValue) (v0 v : Client) (k : ℕ) (now rest : List ℕ) (releasing : IsReleasing v0 v now (log_locks w)) (next : now ≡ k ∷ rest) where
   order : releasing.gone ++ k ∷ rest ≡ log_locks w
@@ -29,22 +29,22 @@ module _ (lawful : List ℕ → List (ℕ × ℕ) → List (ℕ × ℕ) → Type
   rises : Rising (λ (x : ℕ). x) (k ∷ rest)
   rises = rising_behind releasing.gone (k ∷ rest) (subst (λ (xs : List ℕ). Rising (λ (x : ℕ). x) xs) (sym order) (locks_rise w))
 
-  first : Holds v.held k × (addresses (without v.held k) ≡ rest)
+  first : Holds v.attempt.held k × (addresses (without v.attempt.held k) ≡ rest)
   first =
-      let given = gives_first v.held k (suc (length rest)) rest (λ e. absurd (omega arith)) (releasing.held ∙ next ∙ ap (λ (xs : List ℕ). k ∷ xs) (sym (take-length rest))) rises in
+      let given = gives_first v.attempt.held k (suc (length rest)) rest (λ e. absurd (omega arith)) (releasing.held ∙ next ∙ ap (λ (xs : List ℕ). k ∷ xs) (sym (take-length rest))) rises in
       let one : suc (length rest) - 1 ≡ length rest = omega arith in
       (given.0, given.1 ∙ ap (λ (n : ℕ). take n rest) one ∙ take-length rest)
 
   pub release_logged : (a : ℕ) × (get w.locks a ≡ Some k)
   release_logged = locks_in w k (subst (λ (xs : List ℕ). Among k xs) order (among_middle releasing.gone k rest))
 
-  pub may_release : (v0.spent ≡ false) × (v0.phase ≡ committed) → IsAllStored v0 → May lawful lk b (release k) v
+  pub may_release : (v0.spent ≡ false) × (v0.attempt.phase ≡ committed) → IsAllStored v0 → May lawful lk b (release k) v
   may_release decided stored =
-      let writes : v.writes ≡ v0.writes = ap (λ (x : Client). x.writes) releasing.same in
-      let kept : v.stored ≡ v0.stored = releasing.stored in (
+      let writes : v.attempt.writes ≡ v0.attempt.writes = ap (λ (x : Client). x.attempt.writes) releasing.same in
+      let kept : v.attempt.stored ≡ v0.attempt.stored = releasing.stored in (
         ap (λ (x : Client). x.spent) releasing.same ∙ decided.0,
         (
-          ap (λ (x : Client). x.phase) releasing.same ∙ decided.1,
+          ap (λ (x : Client). x.attempt.phase) releasing.same ∙ decided.1,
           first.0,
           λ a is written. subst (In a) (sym kept) (stored a (ap (λ (ps : List (ℕ × ℕ)). writes_to ps a) (sym writes) ∙ written)),
         ),
@@ -55,10 +55,10 @@ module _ (lawful : List ℕ → List (ℕ × ℕ) → List (ℕ × ℕ) → Type
     gone = releasing.gone ++ k ∷ [];
     order = append_assoc releasing.gone (k ∷ []) rest ∙ order;
     same = ap settling e ∙ releasing.same;
-    stored = ap (λ (x : Client). x.stored) e ∙ releasing.stored;
-    held = ap (λ (x : Client). addresses x.held) e ∙ first.1;
+    stored = ap (λ (x : Client). x.attempt.stored) e ∙ releasing.stored;
+    held = ap (λ (x : Client). addresses x.attempt.held) e ∙ first.1;
     steps =
-        let s : v'.steps ≡ v.steps + 1 = ap (λ (x : Client). x.steps) e in
+        let s : v'.attempt.steps ≡ v.attempt.steps + 1 = ap (λ (x : Client). x.attempt.steps) e in
         let n : length now ≡ suc (length rest) = ap length next in
         omega (arith, releasing.steps);
   }

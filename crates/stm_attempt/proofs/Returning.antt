@@ -17,8 +17,8 @@ module _ (lawful : List ℕ → List (ℕ × ℕ) → List (ℕ × ℕ) → Type
   rises : Rising (λ (x : ℕ). x) (k ∷ rest)
   rises = rising_behind returning.gone (k ∷ rest) (subst (λ (xs : List ℕ). Rising (λ (x : ℕ). x) xs) (sym order) (locks_rise w))
 
-  first : Holds v.held k × (addresses (without v.held k) ≡ take (left - 1) rest)
-  first = gives_first v.held k left rest some_left (returning.held ∙ ap (take left) next) rises
+  first : Holds v.attempt.held k × (addresses (without v.attempt.held k) ≡ take (left - 1) rest)
+  first = gives_first v.attempt.held k left rest some_left (returning.held ∙ ap (take left) next) rises
 
   pub return_logged : (a : ℕ) × (get w.locks a ≡ Some k)
   return_logged = locks_in w k (subst (λ (xs : List ℕ). Among k xs) order (among_middle returning.gone k rest))
@@ -31,8 +31,8 @@ module _ (lawful : List ℕ → List (ℕ × ℕ) → List (ℕ × ℕ) → Type
     gone = returning.gone ++ k ∷ [];
     order = append_assoc returning.gone (k ∷ []) rest ∙ order;
     same = ap returned e ∙ returning.same;
-    able = (ap (λ (x : Client). x.spent) e ∙ returning.able.0, inr (ap (λ (x : Client). x.phase) e));
-    held = ap (λ (x : Client). addresses x.held) e ∙ first.1;
+    able = (ap (λ (x : Client). x.spent) e ∙ returning.able.0, inr (ap (λ (x : Client). x.attempt.phase) e));
+    held = ap (λ (x : Client). addresses x.attempt.held) e ∙ first.1;
     few = let l : length now ≡ suc (length rest) = ap length next in omega (arith, l, returning.few, some_left);
-    steps = let s : v'.steps ≡ v.steps + 1 = ap (λ (x : Client). x.steps) e in omega (arith, s, some_left, returning.steps);
+    steps = let s : v'.attempt.steps ≡ v.attempt.steps + 1 = ap (λ (x : Client). x.attempt.steps) e in omega (arith, s, some_left, returning.steps);
   }

@@ -104,7 +104,7 @@ has_more : (v u v' : Client) (xs ys : List (ℕ × ℕ)) → HasStoredPairs v u 
 has_more v u v' xs ys first next = record {
   same = next.same ∙ first.same;
   held = next.held ∙ first.held;
-  stored = next.stored ∙ ap (λ (zs : List ℕ). zs ++ addresses ys) first.stored ∙ append_assoc v.stored (addresses xs) (addresses ys) ∙ ap (λ (zs : List ℕ). v.stored ++ zs) (sym (map-append address_of xs ys));
+  stored = next.stored ∙ ap (λ (zs : List ℕ). zs ++ addresses ys) first.stored ∙ append_assoc v.attempt.stored (addresses xs) (addresses ys) ∙ ap (λ (zs : List ℕ). v.attempt.stored ++ zs) (sym (map-append address_of xs ys));
   steps = omega (arith, first.steps, next.steps, length-append xs ys);
 }
 
@@ -124,19 +124,19 @@ module _ (lawful : List ℕ → List (ℕ × ℕ) → List (ℕ × ℕ) → Type
   pub put_inside : a < region.size
   put_inside = placed.inside a lock (pair_logged w lock a x here).1
 
-  pub may_put : (v0.spent ≡ false) × (v0.phase ≡ committed) → v0.writes ≡ log_pairs w → Holds v0.held lock → IsUnstored (pairs_of w lock) v0.stored → May lawful (stripe_of region.stripes) (bounds region) (put a x) v
+  pub may_put : (v0.spent ≡ false) × (v0.attempt.phase ≡ committed) → v0.attempt.writes ≡ log_pairs w → Holds v0.attempt.held lock → IsUnstored (pairs_of w lock) v0.attempt.stored → May lawful (stripe_of region.stripes) (bounds region) (put a x) v
   may_put decided writes holds unstored =
       let got = pair_logged w lock a x here in
-      let same_writes : log_pairs w ≡ v.writes = sym (ap (λ (c : Client). c.writes) storing.has.same ∙ writes) in
-      let same_held : v0.held ≡ v.held = sym (storing.has.held) in
-      let held_here : Holds v.held lock = subst (λ (h : List (ℕ × ℕ)). Holds h lock) same_held holds in (
+      let same_writes : log_pairs w ≡ v.attempt.writes = sym (ap (λ (c : Client). c.attempt.writes) storing.has.same ∙ writes) in
+      let same_held : v0.attempt.held ≡ v.attempt.held = sym (storing.has.held) in
+      let held_here : Holds v.attempt.held lock = subst (λ (h : List (ℕ × ℕ)). Holds h lock) same_held holds in (
         ap (λ (c : Client). c.spent) storing.has.same ∙ decided.0,
         (
-          ap (λ (c : Client). c.phase) storing.has.same ∙ decided.1,
+          ap (λ (c : Client). c.attempt.phase) storing.has.same ∙ decided.1,
           subst (In (a, x)) same_writes (among_in (a, x) (log_pairs w) (get_in w.words a x got.0)),
-          subst (Holds v.held) (placed.lock a lock got.1) held_here,
-          λ i. elim (among_either v0.stored (addresses storing.done) a (in_among a _ (subst (In a) storing.has.stored i))) [
-            | inl before ↦ unstored a x (among_in (a, x) (pairs_of w lock) here) (among_in a v0.stored before)
+          subst (Holds v.attempt.held) (placed.lock a lock got.1) held_here,
+          λ i. elim (among_either v0.attempt.stored (addresses storing.done) a (in_among a _ (subst (In a) storing.has.stored i))) [
+            | inl before ↦ unstored a x (among_in (a, x) (pairs_of w lock) here) (among_in a v0.attempt.stored before)
             | inr since ↦ later since
           ],
         ),
@@ -148,9 +148,9 @@ module _ (lawful : List ℕ → List (ℕ × ℕ) → List (ℕ × ℕ) → Type
     order = append_assoc storing.done ((a, x) ∷ []) rest ∙ order;
     has = has_more v0 v v' storing.done ((a, x) ∷ []) storing.has (record {
       same = ap settling e;
-      held = ap (λ (c : Client). c.held) e;
-      stored = ap (λ (c : Client). c.stored) e;
-      steps = ap (λ (c : Client). c.steps) e;
+      held = ap (λ (c : Client). c.attempt.held) e;
+      stored = ap (λ (c : Client). c.attempt.stored) e;
+      steps = ap (λ (c : Client). c.attempt.steps) e;
     });
   }
 
@@ -164,14 +164,14 @@ module _ (w : LogValue) (v0 v : Client) (k : ℕ) (now rest : List ℕ) (storing
   all_order : storing.done ++ k ∷ rest ≡ log_locks w
   all_order = ap (λ (ks : List ℕ). storing.done ++ ks) (sym next) ∙ storing.order
 
-  pub next_held : addresses v0.held ≡ log_locks w → Holds v.held k
+  pub next_held : addresses v0.attempt.held ≡ log_locks w → Holds v.attempt.held k
   next_held held =
-      let same_held : v0.held ≡ v.held = sym (storing.has.held) in
-      subst (λ (h : List (ℕ × ℕ)). Holds h k) same_held (among_held v0.held k (subst (Among k) (all_order ∙ sym held) (among_middle storing.done k rest)))
+      let same_held : v0.attempt.held ≡ v.attempt.held = sym (storing.has.held) in
+      subst (λ (h : List (ℕ × ℕ)). Holds h k) same_held (among_held v0.attempt.held k (subst (Among k) (all_order ∙ sym held) (among_middle storing.done k rest)))
 
-  pub next_unstored : v0.stored ≡ [] → IsUnstored (pairs_of w k) v.stored
+  pub next_unstored : v0.attempt.stored ≡ [] → IsUnstored (pairs_of w k) v.attempt.stored
   next_unstored none a x i m =
-      let stored : v.stored ≡ addresses (flat_map (pairs_of w) storing.done) = storing.has.stored ∙ ap (λ (zs : List ℕ). zs ++ addresses (flat_map (pairs_of w) storing.done)) none in
+      let stored : v.attempt.stored ≡ addresses (flat_map (pairs_of w) storing.done) = storing.has.stored ∙ ap (λ (zs : List ℕ). zs ++ addresses (flat_map (pairs_of w) storing.done)) none in
       let s = map_in address_of (flat_map (pairs_of w) storing.done) a (in_among a _ (subst (In a) stored m)) in
       let f = flat_among w storing.done s.0 s.1.0 in
       let less : f.0 < k = rising_before storing.done k rest f.0 (subst (λ (ks : List ℕ). Rising (λ (y : ℕ). y) ks) (sym all_order) (locks_rise w)) f.1.0 in
@@ -188,7 +188,7 @@ module _ (w : LogValue) (v0 v : Client) (k : ℕ) (now rest : List ℕ) (storing
     has = subst (HasStoredPairs v0 v') (ap (λ (ps : List (ℕ × ℕ)). flat_map (pairs_of w) storing.done ++ ps) (sym (append-nil (pairs_of w k))) ∙ sym (flat_map-append (pairs_of w) storing.done (k ∷ []))) (has_more v0 v v' _ _ storing.has has);
   }
 
-module _ (w : LogValue) (v0 v : Client) (now : List ℕ) (storing : IsStoringAll w v0 v now) (none_left : now ≡ []) (same_addresses : SameAddresses w) (writes : v0.writes ≡ log_pairs w) where
+module _ (w : LogValue) (v0 v : Client) (now : List ℕ) (storing : IsStoringAll w v0 v now) (none_left : now ≡ []) (same_addresses : SameAddresses w) (writes : v0.attempt.writes ≡ log_pairs w) where
   all_done : storing.done ≡ log_locks w
   all_done = sym (append-nil storing.done) ∙ ap (λ (ks : List ℕ). storing.done ++ ks) (sym none_left) ∙ storing.order
 
@@ -197,19 +197,19 @@ module _ (w : LogValue) (v0 v : Client) (now : List ℕ) (storing : IsStoringAll
 
   all_stored : IsAllStored v
   all_stored a written =
-      let same_writes : v.writes ≡ log_pairs w = ap (λ (c : Client). c.writes) all_has.same ∙ writes in
+      let same_writes : v.attempt.writes ≡ log_pairs w = ap (λ (c : Client). c.attempt.writes) all_has.same ∙ writes in
       let logged : writes_to (log_pairs w) a ≡ true = subst (λ (ps : List (ℕ × ℕ)). writes_to ps a ≡ true) same_writes written in
       let x : ℕ = old_version (log_pairs w) a in
       let pair : Among (a, x) (log_pairs w) = in_among (a, x) _ (old_in (log_pairs w) a logged) in
       let lock = lock_of_pair w same_addresses (a, x) pair in
       let stands = pair_stands w lock.0 a x pair lock.1 in
       let flat = among_flat w (log_locks w) lock.0 (a, x) (in_locks w a lock.0 lock.1) stands in
-      subst (In a) (sym all_has.stored) (among_in a _ (among_back v0.stored _ a (in_map address_of _ (a, x) flat)))
+      subst (In a) (sym all_has.stored) (among_in a _ (among_back v0.attempt.stored _ a (in_map address_of _ (a, x) flat)))
 
   pub has_stored : HasStored v0 v
   has_stored = record {
     same = all_has.same;
     held = all_has.held;
     every = all_stored;
-    steps = all_has.steps ∙ ap (λ (n : ℕ). v0.steps + n) (pairs_counted w same_addresses ∙ ap length (sym writes));
+    steps = all_has.steps ∙ ap (λ (n : ℕ). v0.attempt.steps + n) (pairs_counted w same_addresses ∙ ap length (sym writes));
   }

@@ -7,8 +7,8 @@ use Rattle.std.specs.FinMap.{get}
 use Rattle.stm_words.specs.LockWord.{free_word, held_word}
 use Rattle.stm_logs.specs.Log.{LogValue, log_locks}
 use Rattle.stm_logs.proofs.TableLemmas.{true_false}
-use Rattle.stm_core.specs.Client.{Client, looked, version_of, is_free, writes_to}
-use Rattle.stm_core.specs.Event.{validate, after, passing, failing, stepping}
+use Rattle.stm_core.specs.Client.{Client, validated, version_of, is_free, writes_to}
+use Rattle.stm_core.specs.Event.{validate, after, passing, failing, stepping, marking}
 use Rattle.stm_region.specs.Shown.{RegionShown, ClientShown, acted, stripe_of, unplaced}
 use Rattle.stm_attempt.specs.Begun.{addresses}
 use Rattle.stm_attempt.specs.Conflicts.{IsValidateConflict}
@@ -18,8 +18,8 @@ use Rattle.stm_attempt.proofs.Parity.{parity, says_held}
 use Rattle.stm_attempt.proofs.Writing.{own_lock}
 
 -- what the client is after the step, by whether it passed
-pub by_validate : (region : RegionShown) (lock : ℕ) (passed : Bool) (v v' : Client) (step : HasValidatedLock region lock passed v v') → v' ≡ record (stepping (looked lock step.0) (cond passed (passing (unplaced region.renewal) v) (failing v))) { mine = writes_to v.held lock }
-by_validate region lock passed v v' step = step.1 ∙ ap (λ (t : Bool). record (stepping (looked lock step.0) (cond t (passing (unplaced region.renewal) v) (failing v))) { mine = writes_to v.held lock }) step.2
+pub by_validate : (region : RegionShown) (lock : ℕ) (passed : Bool) (v v' : Client) (step : HasValidatedLock region lock passed v v') → v' ≡ marking (writes_to v.attempt.held lock) (stepping (validated lock step.0) (cond passed (passing (unplaced region.renewal) v) (failing v)))
+by_validate region lock passed v v' step = step.1 ∙ ap (λ (t : Bool). marking (writes_to v.attempt.held lock) (stepping (validated lock step.0) (cond t (passing (unplaced region.renewal) v) (failing v)))) step.2
 
 -- the word is free, or held by the client itself
 pub own_passes : (word : ℕ) (held : List (ℕ × ℕ)) (lock : ℕ) (w : LogValue) → addresses held ≡ log_locks w → (has : Bool) → IsTrue has ↔ ((a : ℕ) × (get w.locks a ≡ Some lock)) → has ≡ true → (is_free word || writes_to held lock) ≡ true
@@ -39,38 +39,38 @@ module _ (word version : ℕ) (held : Bool) (free : (u : ℕ) → word ≡ free_
   pub free_passes : (locks : List (ℕ × ℕ)) (lock : ℕ) → held ≡ false → (is_free word || writes_to locks lock) ≡ true
   free_passes locks lock is = ap (λ (t : Bool). t || writes_to locks lock) (free_said is)
 
-  module _ (region : RegionShown) (c c' : ClientShown) (lock : ℕ) (stepped : c' ≡ acted region (validate lock) word c) (w : LogValue) (held_are : addresses c.value.held ≡ log_locks w) where
+  module _ (region : RegionShown) (c c' : ClientShown) (lock : ℕ) (stepped : c' ≡ acted region (validate lock) word c) (w : LogValue) (held_are : addresses c.value.attempt.held ≡ log_locks w) where
     abbrev Validates : Bool → Type 0
     Validates passed = HasValidatedLock region lock passed c.value c'.value
 
     value_is : c'.value ≡ after (unplaced region.renewal) (stripe_of region.stripes) (validate lock) word c.value
     value_is = ap (λ (x : ClientShown). x.value) stepped
 
-    mine : c'.value.mine ≡ writes_to c.value.held lock
-    mine = ap (λ (x : Client). x.mine) value_is
+    mine : c'.value.attempt.mine ≡ writes_to c.value.attempt.held lock
+    mine = ap (λ (x : Client). x.attempt.mine) value_is
 
-    last : c'.value.last ≡ looked lock word
-    last = ap (λ (x : Client). x.last) value_is
+    last : c'.value.attempt.last ≡ validated lock word
+    last = ap (λ (x : Client). x.attempt.last) value_is
 
     -- the word is held, and not by the client itself
     module _ (is : held ≡ true) (has : Bool) (told : IsTrue has ↔ ((a : ℕ) × (get w.locks a ≡ Some lock))) (none : has ≡ false) where
-      other : writes_to c.value.held lock ≡ false
-      other = own_lock w c.value.held lock held_are has told ∙ none
+      other : writes_to c.value.attempt.held lock ≡ false
+      other = own_lock w c.value.attempt.held lock held_are has told ∙ none
 
       pub refused_held : Validates false
-      refused_held = (word, value_is, ap (λ (t : Bool). (t || writes_to c.value.held lock) && leb (version_of word) c.value.rv) (held_said is) ∙ ap (λ (t : Bool). t && leb (version_of word) c.value.rv) other)
+      refused_held = (word, value_is, ap (λ (t : Bool). (t || writes_to c.value.attempt.held lock) && leb (version_of word) c.value.attempt.rv) (held_said is) ∙ ap (λ (t : Bool). t && leb (version_of word) c.value.attempt.rv) other)
 
       pub shown_held : IsValidateConflict lock (Held lock word) c'.value
       shown_held = (refl, last, says_held word version held free is, mine ∙ other)
 
-    module _ (ours : (is_free word || writes_to c.value.held lock) ≡ true) (rv : ℕ) (from : c.value.rv ≡ rv) where
+    module _ (ours : (is_free word || writes_to c.value.attempt.held lock) ≡ true) (rv : ℕ) (from : c.value.attempt.rv ≡ rv) where
       pub refused_newer : rv < version → Validates false
-      refused_newer newer = (word, value_is, ap (λ (t : Bool). t && leb (version_of word) c.value.rv) ours ∙ lt-leb (version_of word) c.value.rv (omega (arith, version_said)))
+      refused_newer newer = (word, value_is, ap (λ (t : Bool). t && leb (version_of word) c.value.attempt.rv) ours ∙ lt-leb (version_of word) c.value.attempt.rv (omega (arith, version_said)))
 
       pub shown_newer : rv < version → IsValidateConflict lock (Newer lock version rv) c'.value
       shown_newer newer =
-          let same : c'.value.rv ≡ c.value.rv = ap (λ (x : Client). x.rv) (by_validate region lock false c.value c'.value (refused_newer newer)) in
+          let same : c'.value.attempt.rv ≡ c.value.attempt.rv = ap (λ (x : Client). x.attempt.rv) (by_validate region lock false c.value c'.value (refused_newer newer)) in
           (refl, (word, last, ap (λ (t : Bool). is_free word || t) mine ∙ ours, version_said, sym from ∙ sym same, newer))
 
       pub has_passed : version ≤ rv → Validates true
-      has_passed old = (word, value_is, ap (λ (t : Bool). t && leb (version_of word) c.value.rv) ours ∙ le-leb (version_of word) c.value.rv (omega (arith, version_said)))
+      has_passed old = (word, value_is, ap (λ (t : Bool). t && leb (version_of word) c.value.attempt.rv) ours ∙ le-leb (version_of word) c.value.attempt.rv (omega (arith, version_said)))

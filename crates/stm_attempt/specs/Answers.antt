@@ -18,8 +18,8 @@ IsSpent (Spent version) = Unit {0}
 -- a read showed a conflict, which the attempt keeps, and read nothing
 abbrev pub HasMetOne : (ℕ → ℕ) → ℕ → Client → Client → Option Conflict → Conflict → Type 0
 HasMetOne lk address v v' stopped conflict =
-    IsReadConflict lk address conflict v' × (v'.reads ≡ v.reads) × (v'.steps ≤ v.steps + 3) ×
-    (stopped ≡ Some conflict)
+    IsReadConflict lk address conflict v' × (v'.attempt.reads ≡ v.attempt.reads) ×
+    (v'.attempt.steps ≤ v.attempt.steps + 3) × (stopped ≡ Some conflict)
 
 -- a read of the region answered a value that entered the reads; or nothing but the log's growth
 -- was refused; or a conflict was shown

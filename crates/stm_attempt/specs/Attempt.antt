@@ -76,7 +76,7 @@ module _ {L R A : Type 0} {l : Law.Ghosts L} where
   -- how many steps it takes at most
   abbrev pub step_bound : Attempt L R A l → ℕ
   step_bound s =
-      most_steps (length (client_of s).reads + refused s.stopped) (len (log_of s).words)
+      most_steps (length (client_of s).attempt.reads + refused s.stopped) (len (log_of s).words)
 
 -- the client that an attempt leaves where it ends
 abbrev pub client_left : {B C : Type 0} → B × (MutBor ClientShown × C) → ClientShown

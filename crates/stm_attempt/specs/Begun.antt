@@ -2,7 +2,8 @@
 use Rattle.std.specs.Prelude.{◌≡◌, ℕ, ◌+◌, ◌*◌, ◌<◌, ◌≤◌, Bool, List, [], ◌∷◌, ◌++◌, length, map, true, false, Option, None, Some}
 use Rattle.std.specs.FinMap.{get}
 use Rattle.stm_words.specs.Image.{In}
-use Rattle.stm_core.specs.Client.{Client, Phase, idle, running, ending, committed, finished, nothing}
+use Rattle.stm_core.specs.Client.{Client, Phase, idle, running, ending, committed, finished}
+use Rattle.stm_core.specs.Event.{forgetting}
 use Rattle.stm_logs.specs.Log.{LogValue}
 use Rattle.stm_region.specs.Shown.{RegionShown, stripe_of}
 use Rattle.stm_attempt.specs.Conflicts.{HasMet, refused}
@@ -11,33 +12,28 @@ use Rattle.stm_attempt.specs.declared.conflict.Conflict.{Conflict}
 -- the client's value without what a read changes
 abbrev pub still : Client → Client
 still v = record v {
-  phase = running;
-  reads = [];
-  last = nothing;
-  gave_back = false;
-  mine = false;
-  steps = 0;
+  attempt = record (forgetting v.attempt) { phase = running; reads = []; steps = 0 };
 }
 
 -- the client's attempt began with the read version rv, and has done nothing but read
 pub record IsBegun (v : Client) (rv : ℕ) : Type 0 where
   pub unspent : v.spent ≡ false
-  pub begun_at : v.rv ≡ rv
+  pub begun_at : v.attempt.rv ≡ rv
   pub known : v.floor ≡ rv
-  pub free : v.held ≡ []
-  pub unversioned : v.wv ≡ 0
-  pub unticked : v.ticks ≡ 0
-  pub from : v.next_from ≡ rv
+  pub free : v.attempt.held ≡ []
+  pub unversioned : v.attempt.wv ≡ 0
+  pub unticked : v.attempt.ticks ≡ 0
+  pub from : v.attempt.next_from ≡ rv
 
 -- the value is as before, but that x was read at the address, in three steps
 pub record HasReadWord (v v' : Client) (address x : ℕ) : Type 0 where
-  pub reads : v'.reads ≡ v.reads ++ (address, x) ∷ []
-  pub runs : v'.phase ≡ running
-  pub steps : v'.steps ≡ v.steps + 3
+  pub reads : v'.attempt.reads ≡ v.attempt.reads ++ (address, x) ∷ []
+  pub runs : v'.attempt.phase ≡ running
+  pub steps : v'.attempt.steps ≡ v.attempt.steps + 3
 
 -- an attempt that is lone was not stopped
 abbrev pub IsUnstopped : {A : Type 0} → Client → Option A → Type 0
-IsUnstopped v stopped = v.lone ≡ true → stopped ≡ None
+IsUnstopped v stopped = v.attempt.lone ≡ true → stopped ≡ None
 
 -- every address of the reads is one of the region
 abbrev pub AreInside : ℕ → List (ℕ × ℕ) → Type 0
@@ -71,7 +67,7 @@ is_unfinished finished = false
 pub record IsRunning (region : RegionShown) (v : Client) (rv : ℕ)
     (stopped : Option Conflict) : Type 0 where
   pub begun : IsBegun v rv
-  pub runs : stopped ≡ None → v.phase ≡ running
+  pub runs : stopped ≡ None → v.attempt.phase ≡ running
   pub shown : HasMet (stripe_of region.stripes) stopped v
   pub lone : IsUnstopped v stopped
-  pub steps : v.steps ≤ 1 + 3 * (length v.reads + refused stopped)
+  pub steps : v.attempt.steps ≤ 1 + 3 * (length v.attempt.reads + refused stopped)

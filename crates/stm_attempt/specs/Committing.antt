@@ -1,8 +1,9 @@
 -- What a commit leaves.
 use Rattle.std.specs.Prelude.{◌≡◌, ◌≢◌, ℕ, ◌+◌, ◌*◌, ◌<◌, ◌≤◌, true, false, List, [], ◌∷◌, length}
-use Rattle.stm_core.specs.Client.{Client, Record, nothing, inserted}
+use Rattle.stm_core.specs.Client.{Client, Record, inserted}
+use Rattle.stm_core.specs.Event.{forgetting, versioned, writer_record, reader_record}
 use Rattle.stm_logs.specs.Log.{LogValue, log_pairs, log_locks}
-use Rattle.stm_region.specs.Shown.{RegionShown, stripe_of}
+use Rattle.stm_region.specs.Shown.{RegionShown, stripe_of, unplaced}
 use Rattle.stm_region.specs.Told.{Decides}
 use Rattle.stm_attempt.specs.Conflicts.{IsCommitConflict}
 use Rattle.stm_attempt.specs.declared.conflict.Stop.{Stop}
@@ -12,60 +13,33 @@ use Rattle.stm_attempt.specs.declared.conflict.Stop.TheVariants.{Memory, Spent, 
 pub record IsSameAttempt (v v' : Client) : Type 0 where
   pub grants : v'.grants ≡ v.grants
   pub spent : v'.spent ≡ v.spent
-  pub attempt : v'.attempt ≡ v.attempt
-  pub rv : v'.rv ≡ v.rv
-  pub reads : v'.reads ≡ v.reads
-  pub lone : v'.lone ≡ v.lone
-  pub began_at : v'.began_at ≡ v.began_at
+  pub number : v'.attempt.number ≡ v.attempt.number
+  pub rv : v'.attempt.rv ≡ v.attempt.rv
+  pub reads : v'.attempt.reads ≡ v.attempt.reads
+  pub lone : v'.attempt.lone ≡ v.attempt.lone
+  pub began_at : v'.attempt.began_at ≡ v.attempt.began_at
 
 -- the client's value without its last step, what it stored, the locks it holds and its steps
 abbrev pub settling : Client → Client
 settling v = record v {
-  last = nothing;
-  gave_back = false;
-  mine = false;
-  stored = [];
-  held = [];
-  steps = 0;
+  attempt = record (forgetting v.attempt) { stored = []; held = []; steps = 0 };
 }
 
--- the record of a writer
-abbrev pub writer_record : RegionShown → List ℕ → Client → List (ℕ × ℕ) → ℕ → Record
-writer_record region tag v writes version = record {
-  tag = tag;
-  reads = v.reads;
-  writes = writes;
-  writer = true;
-  version = version;
-  attempt = v.attempt;
-  renewal = region.renewal;
-  point = 0;
-  client = 0;
-}
-
--- the record of an attempt that wrote nothing
-abbrev pub reader_record : RegionShown → List ℕ → Client → Record
-reader_record region tag v = record {
-  tag = tag;
-  reads = v.reads;
-  writes = [];
-  writer = false;
-  version = v.rv;
-  attempt = v.attempt;
-  renewal = region.renewal;
-  point = v.began_at;
-  client = 0;
-}
+-- the writer's record of an attempt after a tick to this version, with this tag and these writes
+abbrev pub ticked_record : RegionShown → List ℕ → Client → List (ℕ × ℕ) → ℕ → Record
+ticked_record region tag v writes version =
+    let stamp = unplaced region.renewal in
+    writer_record stamp (versioned stamp version tag writes v).attempt
 
 -- the record of a commit: a reader's where nothing was written
 abbrev pub commit_record : RegionShown → List ℕ → Client → List (ℕ × ℕ) → ℕ → Record
-commit_record region tag v [] version = reader_record region tag v
-commit_record region tag v (p ∷ ps) version = writer_record region tag v (p ∷ ps) version
+commit_record region tag v [] version = reader_record (unplaced region.renewal) tag v.attempt
+commit_record region tag v (p ∷ ps) version = ticked_record region tag v (p ∷ ps) version
 
 -- the version of a commit: the read version where nothing was written, else a later one
 abbrev pub IsCommitVersion : Client → List (ℕ × ℕ) → ℕ → Type 0
-IsCommitVersion v [] version = version ≡ v.rv
-IsCommitVersion v (p ∷ ps) version = v.rv < version
+IsCommitVersion v [] version = version ≡ v.attempt.rv
+IsCommitVersion v (p ∷ ps) version = v.attempt.rv < version
 
 -- why a commit stopped: a conflict that is shown, or a clock that was found at the last version
 -- while ticks were left, so that no tick is made from it
@@ -74,13 +48,13 @@ IsCommitStop region log Memory v = ⊥
 IsCommitStop region log (Conflicting conflict) v =
     IsCommitConflict (stripe_of region.stripes) log conflict v
 IsCommitStop region log (Spent version) v =
-    (version ≡ region.last) × (v.next_from ≡ region.last) × (v.ticks < 16)
+    (version ≡ region.last) × (v.attempt.next_from ≡ region.last) × (v.attempt.ticks < 16)
 
 -- a spent clock was found after these steps and the lost ticks alone
 abbrev pub IsCounted : Stop → ℕ → Client → Type 0
 IsCounted Memory steps v = Unit {0}
 IsCounted (Conflicting conflict) steps v = Unit {0}
-IsCounted (Spent version) steps v = v.steps ≡ steps + v.ticks
+IsCounted (Spent version) steps v = v.attempt.steps ≡ steps + v.attempt.ticks
 
 -- the commit added exactly one record, and no lock is held
 pub record HasCommitted (region : RegionShown) (tag : List ℕ) (writes : List (ℕ × ℕ))
@@ -88,7 +62,7 @@ pub record HasCommitted (region : RegionShown) (tag : List ℕ) (writes : List (
   pub records : v'.records ≡ inserted (commit_record region tag v writes version) v.records
   pub versioned : IsCommitVersion v writes version
   pub known : v'.floor ≡ version
-  pub free : v'.held ≡ []
+  pub free : v'.attempt.held ≡ []
   pub same : IsSameAttempt v v'
 
 -- the commit was refused: it added no record, and no lock is held. Something was written. A spent
@@ -98,8 +72,8 @@ pub record HasStopped (region : RegionShown) (log : LogValue) (stop : Stop)
     (v v' : Client) : Type 0 where
   pub written : log_pairs log ≢ []
   pub shown : IsCommitStop region log stop v'
-  pub counted : IsCounted stop (v.steps + 3 * length (log_locks log)) v'
-  pub free : v'.held ≡ []
+  pub counted : IsCounted stop (v.attempt.steps + 3 * length (log_locks log)) v'
+  pub free : v'.attempt.held ≡ []
   pub floor : v.floor ≤ v'.floor
   pub same : IsSameAttempt v v'
   pub records : v'.records ≡ v.records

@@ -4,7 +4,7 @@ use Rattle.std.specs.Prelude.{◌≡◌, ◌≢◌, ℕ, ◌+◌, ◌*◌, ◌<�
 use Rattle.std.specs.FinMap.{get}
 use Rattle.stm_words.specs.Image.{In}
 use Rattle.stm_words.specs.LockWord.{free_word, held_word}
-use Rattle.stm_core.specs.Client.{Client, probed, checked, locked, ticked, looked, version_of, is_free}
+use Rattle.stm_core.specs.Client.{Client, probed, checked, locked, ticked, validated, version_of, is_free}
 use Rattle.stm_logs.specs.Log.{LogValue}
 use Rattle.stm_attempt.specs.declared.conflict.Conflict.{Conflict}
 use Rattle.stm_attempt.specs.declared.conflict.Conflict.TheVariants.{Held, Newer, Moved, LostLock, LostTick}
@@ -17,11 +17,13 @@ IsHeld word = word ≡ held_word (version_of word)
 -- itself, or free with a version above the read version; or the check found another word
 abbrev pub IsReadConflict : (ℕ → ℕ) → ℕ → Conflict → Client → Type 0
 IsReadConflict lk address (Held lock word) v =
-    (lock ≡ lk address) × (v.last ≡ probed lock word) × IsHeld word × (v.mine ≡ false)
+    (lock ≡ lk address) × (v.attempt.last ≡ probed lock word) × IsHeld word
+    × (v.attempt.mine ≡ false)
 IsReadConflict lk address (Newer lock version rv) v =
-    (lock ≡ lk address) × (v.last ≡ probed lock (free_word version)) × (rv ≡ v.rv) × (rv < version)
+    (lock ≡ lk address) × (v.attempt.last ≡ probed lock (free_word version))
+    × (rv ≡ v.attempt.rv) × (rv < version)
 IsReadConflict lk address (Moved lock first second) v =
-    (lock ≡ lk address) × (v.last ≡ checked address first second) × (first ≢ second)
+    (lock ≡ lk address) × (v.attempt.last ≡ checked address first second) × (first ≢ second)
 IsReadConflict lk address (LostLock lock found) v = ⊥
 IsReadConflict lk address (LostTick found) v = ⊥
 
@@ -29,21 +31,23 @@ IsReadConflict lk address (LostTick found) v = ⊥
 -- by the client itself, or the exchange lost
 abbrev pub IsLockConflict : ℕ → Conflict → Client → Type 0
 IsLockConflict wanted (Held lock word) v =
-    (lock ≡ wanted) × (v.last ≡ probed lock word) × IsHeld word × (v.mine ≡ false)
+    (lock ≡ wanted) × (v.attempt.last ≡ probed lock word) × IsHeld word × (v.attempt.mine ≡ false)
 IsLockConflict wanted (Newer lock version rv) v = ⊥
 IsLockConflict wanted (Moved lock first second) v = ⊥
 IsLockConflict wanted (LostLock lock found) v =
-    (lock ≡ wanted) × ((word : ℕ) × (v.last ≡ locked lock word found) × (word ≢ found))
+    (lock ≡ wanted) × ((word : ℕ) × (v.attempt.last ≡ locked lock word found) × (word ≢ found))
 IsLockConflict wanted (LostTick found) v = ⊥
 
 -- a conflict of the validation of a read word's lock: it was held by another, or it was free, or
 -- the client's own, with a version above the read version
 abbrev pub IsValidateConflict : ℕ → Conflict → Client → Type 0
 IsValidateConflict wanted (Held lock word) v =
-    (lock ≡ wanted) × (v.last ≡ looked lock word) × IsHeld word × (v.mine ≡ false)
+    (lock ≡ wanted) × (v.attempt.last ≡ validated lock word) × IsHeld word
+    × (v.attempt.mine ≡ false)
 IsValidateConflict wanted (Newer lock version rv) v =
-    (lock ≡ wanted) × ((word : ℕ) × (v.last ≡ looked lock word) ×
-    ((is_free word || v.mine) ≡ true) × (version ≡ version_of word) × (rv ≡ v.rv) × (rv < version))
+    (lock ≡ wanted) × ((word : ℕ) × (v.attempt.last ≡ validated lock word) ×
+    ((is_free word || v.attempt.mine) ≡ true) × (version ≡ version_of word) ×
+    (rv ≡ v.attempt.rv) × (rv < version))
 IsValidateConflict wanted (Moved lock first second) v = ⊥
 IsValidateConflict wanted (LostLock lock found) v = ⊥
 IsValidateConflict wanted (LostTick found) v = ⊥
@@ -55,7 +59,7 @@ IsTickConflict (Newer lock version rv) v = ⊥
 IsTickConflict (Moved lock first second) v = ⊥
 IsTickConflict (LostLock lock found) v = ⊥
 IsTickConflict (LostTick found) v =
-    (from : ℕ) × (v.last ≡ ticked from found) × (from ≢ found) × (v.ticks ≡ 16)
+    (from : ℕ) × (v.attempt.last ≡ ticked from found) × (from ≢ found) × (v.attempt.ticks ≡ 16)
 
 -- it is the lock of an address that is written
 abbrev pub IsWriteLock : LogValue → ℕ → Type 0
@@ -70,7 +74,7 @@ IsReadLock lk reads lock = (address x : ℕ) × In (address, x) reads × (lock �
 abbrev pub IsCommitConflict : (ℕ → ℕ) → LogValue → Conflict → Client → Type 0
 IsCommitConflict lk log conflict v =
     ((lock : ℕ) × IsWriteLock log lock × IsLockConflict lock conflict v) ⊎
-    (((lock : ℕ) × IsReadLock lk v.reads lock × IsValidateConflict lock conflict v) ⊎
+    (((lock : ℕ) × IsReadLock lk v.attempt.reads lock × IsValidateConflict lock conflict v) ⊎
     IsTickConflict conflict v)
 
 -- a read of the attempt met the conflict, and it is shown

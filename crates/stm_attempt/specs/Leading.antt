@@ -39,7 +39,7 @@ RecordsLead fits P Q =
     origin_of in_use' region' name' logs' c' ≡ origin_of in_use region name logs c →
     Carries P Q (memory_of in_use region fits c.value w)
     (memory_of in_use' region' fits c'.value w') →
-    Leads fits P Q c'.value.reads (log_pairs w')
+    Leads fits P Q c'.value.attempt.reads (log_pairs w')
 
 -- the same of a transaction that only reads
 abbrev pub ReadingsLead : (fits : List ℕ → Type 0) (P Q : Property) → Type 0
@@ -49,7 +49,7 @@ ReadingsLead fits P Q =
     origin_of running' region' name' 0 c' ≡ origin_of running region name 0 c →
     Carries P Q (memory_of running region fits c.value empty_log)
     (memory_of running' region' fits c'.value empty_log) →
-    Leads fits P Q c'.value.reads []
+    Leads fits P Q c'.value.attempt.reads []
 
 -- they are the words of a fitting image
 pub record IsFitting (fits : List ℕ → Type 0) (m : ℕ → ℕ) (n : ℕ) : Type 0 where

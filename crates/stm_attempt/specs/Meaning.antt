@@ -18,7 +18,8 @@ use Rattle.stm_words.proofs.Paired.{agrees-map_of}
 -- its attempt is over
 abbrev pub memory_of : Bool → RegionShown → (List ℕ → Type 0) → Client → LogValue → View
 memory_of true region fits v writes =
-    record { size = region.size; fits = fits; reads = map_of v.reads; writes = writes.words }
+    let reads = map_of v.attempt.reads in
+    record { size = region.size; fits = fits; reads = reads; writes = writes.words }
 memory_of false region fits v writes =
     record { size = 0; fits = λ _. Unit {0}; reads = empty; writes = empty }
 
@@ -46,7 +47,7 @@ none_agrees a x e = absurd (let n = get-empty {X = ℕ} nat_cmp a in cc)
 -- some image of the region's size agrees with the reads, while the attempt runs
 abbrev pub IsStanding : Bool → RegionShown → Client → ℕ → List (ℕ × ℕ) → Type 0
 IsStanding in_use region v size reads =
-    in_use ≡ true → (size ≡ region.size) × (reads ≡ v.reads)
+    in_use ≡ true → (size ≡ region.size) × (reads ≡ v.attempt.reads)
 
 -- the memory may stand on an image that agrees with the reads
 pub attempt_seen :
@@ -61,7 +62,7 @@ attempt_seen true region fits v writes size reads same stands =
         size = s.length_is ∙ (same refl).0;
         sees = record {
           fits = s.fitting;
-          agrees = agrees-map_of s.image v.reads
+          agrees = agrees-map_of s.image v.attempt.reads
               (subst (λ (rs : List (ℕ × ℕ)). Agrees s.image rs) (same refl).1 s.agrees);
         };
       },

@@ -15,7 +15,7 @@ use Rattle.stm_attempt.specs.declared.read_attempt.ReadAttempt.{ReadAttempt}
 module _ {L R : Type 0} {l : Law.Ghosts L} where
   -- it has not finished
   abbrev pub runs : ReadAttempt L R l → Bool
-  runs s = is_unfinished s.client.now.value.phase
+  runs s = is_unfinished s.client.now.value.attempt.phase
 
   -- its client's value
   abbrev pub client_of : ReadAttempt L R l → Client
@@ -44,4 +44,4 @@ module _ {L R : Type 0} {l : Law.Ghosts L} where
 
   -- how many steps it takes at most
   abbrev pub step_bound : ReadAttempt L R l → ℕ
-  step_bound s = most_steps (length (client_of s).reads + refused s.stopped) 0
+  step_bound s = most_steps (length (client_of s).attempt.reads + refused s.stopped) 0

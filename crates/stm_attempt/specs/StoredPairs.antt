@@ -12,6 +12,6 @@ IsUnstored pairs stored = (address x : ℕ) → In (address, x) pairs → In add
 -- the pairs were stored in their order, one step each
 pub record HasStoredPairs (v v' : Client) (pairs : List (ℕ × ℕ)) : Type 0 where
   pub same : settling v' ≡ settling v
-  pub held : v'.held ≡ v.held
-  pub stored : v'.stored ≡ v.stored ++ addresses pairs
-  pub steps : v'.steps ≡ v.steps + length pairs
+  pub held : v'.attempt.held ≡ v.attempt.held
+  pub stored : v'.attempt.stored ≡ v.attempt.stored ++ addresses pairs
+  pub steps : v'.attempt.steps ≡ v.attempt.steps + length pairs

@@ -32,12 +32,12 @@ pub struct Attempt<'a, L: Law, R: Allocator = Global, A: Allocator + Copy = Glob
     ghost own: { client.now.table ≡ region.now.table },
     ghost known: { rv ≤ region.now.last },
     ghost running: { logs.now.in_use ≡ true → IsRunning region.now client.now.value rv stopped },
-    ghost inside: { logs.now.in_use ≡ true → AreInside region.now.size client.now.value.reads },
+    ghost inside: { logs.now.in_use ≡ true → AreInside region.now.size client.now.value.attempt.reads },
     ghost logged: { logs.now.in_use ≡ true → stopped ≡ None →
-        logs.now.reads ≡ addresses client.now.value.reads },
+        logs.now.reads ≡ addresses client.now.value.attempt.reads },
     ghost placed: { logs.now.in_use ≡ true → IsPlaced region.now logs.now.writes },
     ghost stands: { IsStanding logs.now.in_use region.now client.now.value
-        standing.size.value standing.client.value.value.reads },
+        standing.size.value standing.client.value.value.attempt.reads },
 }
 
 // The value that the attempt has written at an address. An empty log costs one test.
@@ -71,7 +71,7 @@ impl<'a, L: Law, R: Allocator, A: Allocator + Copy> Attempt<'a, L, R, A> {
         ensures earlier { AreEarlier region.now.renewal result.rv client.old.value.records }
         ensures empty { IsFresh result }
         ensures running { result.stopped ≡ None }
-        ensures lone { ((client_of result).lone ≡ true) ↔ (client.old.value.grants ≡ 63) }
+        ensures lone { ((client_of result).attempt.lone ≡ true) ↔ (client.old.value.grants ≡ 63) }
     {
         logs.clear();
         logs.in_use = true;
@@ -103,7 +103,7 @@ impl<'a, L: Law, R: Allocator, A: Allocator + Copy> Attempt<'a, L, R, A> {
         requires { runs self ≡ true }
         ensures client { client_left self.exit ≡ self.entry.client.now }
         ensures free_handed { IsFreeHanded (client_of self.entry) }
-        ensures steps { (client_of self.entry).steps ≤ step_bound self.entry }
+        ensures steps { (client_of self.entry).attempt.steps ≤ step_bound self.entry }
     {
         let Self {
             region: _,
@@ -154,7 +154,8 @@ impl<'a, L: Law, R: Allocator, A: Allocator + Copy> TxRead for Attempt<'a, L, R,
             (result ≡ Err (conflicting conflict)) × IsAsBefore self.old self.new }
         ensures own { self.old.stopped ≡ None → (v : ℕ) → written_at self.old addr.0 ≡ Some v →
             (result ≡ Ok v) × IsAsBefore self.old self.new }
-        ensures lone { (client_of self.old).lone ≡ true → IfErr result (λ stop. stop ≡ Memory) }
+        ensures lone { (client_of self.old).attempt.lone ≡ true
+            → IfErr result (λ stop. stop ≡ Memory) }
         ensures region { self.old.stopped ≡ None → written_at self.old addr.0 ≡ None →
             Reads self.old self.new addr.0 result }
     {
@@ -179,7 +180,7 @@ impl<'a, L: Law, R: Allocator, A: Allocator + Copy> TxRead for Attempt<'a, L, R,
     }
 
     ghost seen = { λ s. attempt_seen s.logs.now.in_use s.region.now L.fits s.client.now.value
-        s.logs.now.writes s.standing.size.value s.standing.client.value.value.reads
+        s.logs.now.writes s.standing.size.value s.standing.client.value.value.attempt.reads
         s.stands s.standing.stands };
 }
 

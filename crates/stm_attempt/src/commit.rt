@@ -47,16 +47,16 @@ fn decide<L: Law, R: Allocator, A: Allocator + Copy, T: Tag, G: Gate>(
     requires own { client.old.table ≡ region.now.table }
     requires ready { IsReady region.now client.old.value rv }
     requires logged { IsLogged region.now client.old.value logs.now.reads logs.now.writes }
-    requires lawful { L.lawful (T.numbers tag.now) client.old.value.reads
+    requires lawful { L.lawful (T.numbers tag.now) client.old.value.attempt.reads
         (log_pairs logs.now.writes) }
-    requires held { addresses client.old.value.held ≡ log_locks logs.now.writes }
+    requires held { addresses client.old.value.attempt.held ≡ log_locks logs.now.writes }
     requires same { SameAddresses logs.now.writes }
     ensures own { client.new.table ≡ client.old.table }
     ensures ok { IfOk result (λ version. IsDecided region.now (T.numbers tag.now)
         (log_pairs logs.now.writes) client.old.value client.new.value version) }
     ensures version { IfOk result (λ version. version ≤ region.now.last) }
     ensures decides { IfOk result (λ _. Decides L.fits L.lawful region.now client.new.value) }
-    ensures lone { client.old.value.lone ≡ true → IfErr result (λ stop. IsSpent stop) }
+    ensures lone { client.old.value.attempt.lone ≡ true → IfErr result (λ stop. IsSpent stop) }
     ensures failed { IfErr result (λ stop. HasFailedDeciding region.now logs.now.writes stop
         client.old.value client.new.value) }
 {
@@ -101,19 +101,20 @@ fn commit_writes<L: Law, R: Allocator, A: Allocator + Copy, T: Tag, G: Gate>(
 ) -> Result<Version, Stop>
     requires own { client.old.table ≡ region.now.table }
     requires ready { IsReady region.now client.old.value rv }
-    requires free { client.old.value.held ≡ [] }
+    requires free { client.old.value.attempt.held ≡ [] }
     requires logged { IsLogged region.now client.old.value logs.now.reads logs.now.writes }
-    requires lawful { L.lawful (T.numbers tag.now) client.old.value.reads
+    requires lawful { L.lawful (T.numbers tag.now) client.old.value.attempt.reads
         (log_pairs logs.now.writes) }
     ensures own { client.new.table ≡ client.old.table }
     ensures ok { IfOk result (λ version. HasCommitted region.now (T.numbers tag.now)
         (log_pairs logs.now.writes) client.old.value client.new.value version) }
     ensures version { IfOk result (λ version. version ≤ region.now.last) }
     ensures decides { IfOk result (λ _. WasDecided L.fits L.lawful region.now client.new.value) }
-    ensures lone { client.old.value.lone ≡ true → IfErr result (λ stop. IsSpent stop) }
+    ensures lone { client.old.value.attempt.lone ≡ true → IfErr result (λ stop. IsSpent stop) }
     ensures stopped { IfErr result (λ stop. HasStopped region.now logs.now.writes stop
         client.old.value client.new.value) }
-    ensures steps { client.new.value.steps ≤ commit_bound client.old.value logs.now.writes }
+    ensures steps { client.new.value.attempt.steps
+        ≤ commit_bound client.old.value logs.now.writes }
 {
     logs.writes.same_addresses();
     let mut taken = 0;
@@ -142,11 +143,11 @@ fn end<L: Law, R: Allocator, A: Allocator + Copy, T: Tag, G: Gate>(
     requires own { client.old.table ≡ region.now.table }
     requires running { IsRunning region.now client.old.value rv stopped }
     requires known { rv ≤ region.now.last }
-    requires inside { AreInside region.now.size client.old.value.reads }
-    requires logged { stopped ≡ None → logs.old.reads ≡ addresses client.old.value.reads }
+    requires inside { AreInside region.now.size client.old.value.attempt.reads }
+    requires logged { stopped ≡ None → logs.old.reads ≡ addresses client.old.value.attempt.reads }
     requires placed { IsPlaced region.now logs.old.writes }
     requires lawful { stopped ≡ None →
-        L.lawful (T.numbers tag.now) client.old.value.reads (log_pairs logs.old.writes) }
+        L.lawful (T.numbers tag.now) client.old.value.attempt.reads (log_pairs logs.old.writes) }
     ensures own { client.new.table ≡ client.old.table }
     ensures free_handed { IsFreeHanded client.new.value }
     ensures over { logs.new.in_use ≡ false }
@@ -158,9 +159,10 @@ fn end<L: Law, R: Allocator, A: Allocator + Copy, T: Tag, G: Gate>(
     ensures decides { IfOk result (λ _. WasDecided L.fits L.lawful region.now client.new.value) }
     ensures refused { stopped ≡ None → IfErr result (λ stop.
         HasStopped region.now logs.old.writes stop client.old.value client.new.value) }
-    ensures lone { client.old.value.lone ≡ true → IfErr result (λ stop. IsSpent stop) }
+    ensures lone { client.old.value.attempt.lone ≡ true → IfErr result (λ stop. IsSpent stop) }
     ensures logs { IfErr result (λ _. AreEmpty logs.new) }
-    ensures steps { client.new.value.steps ≤ commit_bound client.old.value logs.old.writes }
+    ensures steps { client.new.value.attempt.steps
+        ≤ commit_bound client.old.value logs.old.writes }
 {
     logs.in_use = false;
     let answer = match stopped {
@@ -190,14 +192,15 @@ impl<'a, L: Law, R: Allocator, A: Allocator + Copy> Attempt<'a, L, R, A> {
     pub fn commit<T: Tag, G: Gate>(self, tag: &T, gate: &mut G) -> Result<Version, Stop>
         requires running { runs self ≡ true }
         requires lawful { self.stopped ≡ None →
-            L.lawful (T.numbers tag.now) (client_of self).reads (log_pairs (log_of self)) }
+            L.lawful (T.numbers tag.now) (client_of self).attempt.reads (log_pairs (log_of self)) }
         ensures own { (client_left self.exit).table ≡ self.entry.client.now.table }
         ensures free_handed { IsFreeHanded (value_left self.exit) }
         ensures again { (conflict : Conflict) → self.entry.stopped ≡ Some conflict →
             (result ≡ Err (conflicting conflict)) ×
             (client_left self.exit ≡ self.entry.client.now) }
         ensures met { HasMet (lock_of self.entry) self.entry.stopped (value_left self.exit) }
-        ensures lone { (client_of self.entry).lone ≡ true → IfErr result (λ stop. IsSpent stop) }
+        ensures lone { (client_of self.entry).attempt.lone ≡ true
+            → IfErr result (λ stop. IsSpent stop) }
         ensures ok { IfOk result (λ version.
             Commits self.entry (T.numbers tag.now) (value_left self.exit) version) }
         ensures version { IfOk result (λ version. version ≤ self.entry.region.now.last) }
@@ -206,7 +209,7 @@ impl<'a, L: Law, R: Allocator, A: Allocator + Copy> Attempt<'a, L, R, A> {
         ensures refused { self.entry.stopped ≡ None →
             IfErr result (λ stop. Stops self.entry (value_left self.exit) stop) }
         ensures logs { IfErr result (λ _. AreEmpty (logs_left self.exit)) }
-        ensures steps { (value_left self.exit).steps ≤ step_bound self.entry }
+        ensures steps { (value_left self.exit).attempt.steps ≤ step_bound self.entry }
     {
         let Self {
             region,

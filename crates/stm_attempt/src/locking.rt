@@ -22,15 +22,16 @@ fn lock_one<L: Law, R: Allocator>(
     lock: u32,
 ) -> Result<(), Conflict>
     requires own { client.old.table ≡ region.now.table }
-    requires ready { (client.old.value.spent ≡ false) × IsReading client.old.value }
+    requires ready { (client.old.value.spent ≡ false) × IsReading client.old.value.attempt }
     requires range { lock < region.now.stripes }
     requires above { IsAbove client.old.value lock }
     ensures own { client.new.table ≡ client.old.table }
     ensures taken { IfOk result (λ _. HasTaken client.old.value client.new.value lock) }
     ensures failed { IfErr result (λ _. HasFailed client.old.value client.new.value) }
     ensures shown { IfErr result (λ conflict. IsLockConflict lock conflict client.new.value) }
-    ensures lone { client.old.value.lone ≡ true → IsOk result }
-    ensures steps { IfErr result (λ _. client.new.value.steps ≤ client.old.value.steps + 2) }
+    ensures lone { client.old.value.attempt.lone ≡ true → IsOk result }
+    ensures steps { IfErr result (λ _.
+        client.new.value.attempt.steps ≤ client.old.value.attempt.steps + 2) }
 {
     let word = region.probe(client, lock);
     let Some(_version) = free_version(word) else {
@@ -50,11 +51,12 @@ pub(crate) fn lock_all<L: Law, R: Allocator, A: Allocator + Copy>(
     taken: &mut usize,
 ) -> Result<(), Conflict>
     requires own { client.old.table ≡ region.now.table }
-    requires ready { (client.old.value.spent ≡ false) × IsReading client.old.value }
-    requires none { (client.old.value.held ≡ []) × (taken.old ≡ 0) }
+    requires ready { (client.old.value.spent ≡ false) × IsReading client.old.value.attempt }
+    requires none { (client.old.value.attempt.held ≡ []) × (taken.old ≡ 0) }
     requires placed { IsPlaced region.now writes.now }
     ensures own { client.new.table ≡ client.old.table }
-    ensures held { addresses client.new.value.held ≡ take taken.new (log_locks writes.now) }
+    ensures held { addresses client.new.value.attempt.held
+        ≡ take taken.new (log_locks writes.now) }
     ensures all { IfOk result (λ _.
         HasTakenAll client.old.value client.new.value writes.now taken.new) }
     ensures failed { IfErr result (λ _.
@@ -62,7 +64,7 @@ pub(crate) fn lock_all<L: Law, R: Allocator, A: Allocator + Copy>(
     ensures few { IfErr result (λ _. taken.new < length (log_locks writes.now)) }
     ensures shown { IfErr result (λ conflict. IsCommitConflict (stripe_of region.now.stripes)
         writes.now conflict client.new.value) }
-    ensures lone { client.old.value.lone ≡ true → IsOk result }
+    ensures lone { client.old.value.attempt.lone ≡ true → IsOk result }
 {
     let count = writes.lock_count();
     for lock in writes.locks() {
@@ -82,13 +84,13 @@ pub(crate) fn give_back_first<L: Law, R: Allocator, A: Allocator + Copy>(
 )
     requires own { client.old.table ≡ region.now.table }
     requires able { CanGiveBack client.old.value }
-    requires held { addresses client.old.value.held ≡ take count (log_locks writes.now) }
+    requires held { addresses client.old.value.attempt.held ≡ take count (log_locks writes.now) }
     requires few { count ≤ length (log_locks writes.now) }
     requires placed { IsPlaced region.now writes.now }
     ensures own { client.new.table ≡ client.old.table }
-    ensures free { client.new.value.held ≡ [] }
+    ensures free { client.new.value.attempt.held ≡ [] }
     ensures same { returned client.new.value ≡ returned client.old.value }
-    ensures steps { client.new.value.steps ≡ client.old.value.steps + count }
+    ensures steps { client.new.value.attempt.steps ≡ client.old.value.attempt.steps + count }
 {
     let mut left = count;
     for lock in writes.locks() {

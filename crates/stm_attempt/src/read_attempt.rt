@@ -26,10 +26,10 @@ pub struct ReadAttempt<'a, L: Law, R: Allocator = Global> {
     pub(crate) stopped: Option<Conflict>,
     pub(crate) standing: Standing<L>,
     ghost own: { client.now.table ≡ region.now.table },
-    ghost running: { is_unfinished client.now.value.phase ≡ true →
+    ghost running: { is_unfinished client.now.value.attempt.phase ≡ true →
         IsRunning region.now client.now.value rv stopped },
-    ghost stands: { IsStanding (is_unfinished client.now.value.phase) region.now client.now.value
-        standing.size.value standing.client.value.value.reads },
+    ghost stands: { IsStanding (is_unfinished client.now.value.attempt.phase) region.now
+        client.now.value standing.size.value standing.client.value.value.attempt.reads },
 }
 
 impl<'a, L: Law, R: Allocator> ReadAttempt<'a, L, R> {
@@ -46,7 +46,7 @@ impl<'a, L: Law, R: Allocator> ReadAttempt<'a, L, R> {
         ensures version { client.old.value.floor ≤ result.rv }
         ensures earlier { AreEarlier region.now.renewal result.rv client.old.value.records }
         ensures running { result.stopped ≡ None }
-        ensures lone { ((client_of result).lone ≡ true) ↔ (client.old.value.grants ≡ 63) }
+        ensures lone { ((client_of result).attempt.lone ≡ true) ↔ (client.old.value.grants ≡ 63) }
     {
         let rv = region.begin(client);
         let standing = Standing::of(region, client);
@@ -75,15 +75,15 @@ impl<'a, L: Law, R: Allocator> ReadAttempt<'a, L, R> {
     pub fn finish<T: Tag>(self, tag: &T) -> Version
         requires running { runs self ≡ true }
         requires unrefused { self.stopped ≡ None }
-        requires lawful { L.lawful (T.numbers tag.now) (client_of self).reads [] }
+        requires lawful { L.lawful (T.numbers tag.now) (client_of self).attempt.reads [] }
         ensures version { result ≡ self.entry.rv }
         ensures client { (found : ℕ) × (client_left self.exit ≡ acted self.entry.region.now
             (finishes (T.numbers tag.now)) found self.entry.client.now) }
         ensures free_handed { IsFreeHanded (value_left self.exit) }
         ensures decides { Decides L.fits L.lawful self.entry.region.now
             (value_left self.exit) }
-        ensures steps { (value_left self.exit).steps ≤
-            most_steps (length (client_of self.entry).reads) 0 }
+        ensures steps { (value_left self.exit).attempt.steps ≤
+            most_steps (length (client_of self.entry).attempt.reads) 0 }
     {
         let Self {
             region,
@@ -101,7 +101,7 @@ impl<'a, L: Law, R: Allocator> ReadAttempt<'a, L, R> {
         requires { runs self ≡ true }
         ensures client { client_left self.exit ≡ self.entry.client.now }
         ensures free_handed { IsFreeHanded (client_of self.entry) }
-        ensures steps { (client_of self.entry).steps ≤ step_bound self.entry }
+        ensures steps { (client_of self.entry).attempt.steps ≤ step_bound self.entry }
     {
         let Self {
             region: _,
@@ -145,7 +145,7 @@ impl<'a, L: Law, R: Allocator> TxRead for ReadAttempt<'a, L, R> {
         ensures stopped { IfErr result (λ conflict. self.new.stopped ≡ Some conflict) }
         ensures again { (conflict : Conflict) → self.old.stopped ≡ Some conflict →
             (result ≡ Err conflict) × IsAsBefore self.old self.new }
-        ensures lone { (client_of self.old).lone ≡ true → IsOk result }
+        ensures lone { (client_of self.old).attempt.lone ≡ true → IsOk result }
         ensures region { self.old.stopped ≡ None → Reads self.old self.new addr.0 result }
     {
         if let Some(conflict) = self.stopped {
@@ -165,5 +165,6 @@ impl<'a, L: Law, R: Allocator> TxRead for ReadAttempt<'a, L, R> {
     }
 
     ghost seen = { λ s. attempt_seen (runs s) s.region.now L.fits s.client.now.value empty_log
-        s.standing.size.value s.standing.client.value.value.reads s.stands s.standing.stands };
+        s.standing.size.value s.standing.client.value.value.attempt.reads s.stands
+        s.standing.stands };
 }

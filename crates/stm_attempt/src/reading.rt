@@ -34,18 +34,21 @@ pub(crate) fn read_word<L: Law, R: Allocator>(
 ) -> Result<u64, Conflict>
     requires own { client.old.table ≡ region.now.table }
     requires begun { IsBegun client.old.value rv }
-    requires runs { client.old.value.phase ≡ running }
+    requires runs { client.old.value.attempt.phase ≡ running }
     requires range { addr.0 < region.now.size }
     ensures own { client.new.table ≡ client.old.table }
     ensures same { still client.new.value ≡ still client.old.value }
-    ensures unfinished { is_unfinished client.new.value.phase ≡ true }
+    ensures unfinished { is_unfinished client.new.value.attempt.phase ≡ true }
     ensures ok { IfOk result (λ x. HasReadWord client.old.value client.new.value addr.0 x) }
-    ensures stands { IfOk result (λ _. StandsOn L.fits region.now.size client.new.value.reads) }
+    ensures stands { IfOk result (λ _.
+        StandsOn L.fits region.now.size client.new.value.attempt.reads) }
     ensures conflict { IfErr result (λ conflict.
         IsReadConflict (stripe_of region.now.stripes) addr.0 conflict client.new.value) }
-    ensures reads { IfErr result (λ _. client.new.value.reads ≡ client.old.value.reads) }
-    ensures lone { client.old.value.lone ≡ true → IsOk result }
-    ensures steps { IfErr result (λ _. client.new.value.steps ≤ client.old.value.steps + 3) }
+    ensures reads { IfErr result (λ _.
+        client.new.value.attempt.reads ≡ client.old.value.attempt.reads) }
+    ensures lone { client.old.value.attempt.lone ≡ true → IsOk result }
+    ensures steps { IfErr result (λ _.
+        client.new.value.attempt.steps ≤ client.old.value.attempt.steps + 3) }
 {
     let lock = region.lock_of(addr);
     let first = region.probe(client, lock);

@@ -13,13 +13,13 @@ use stm_words::Law;
 pub(crate) struct Standing<L: Law> {
     pub(crate) size: Snapshot<usize>,
     pub(crate) client: Snapshot<Client<L>>,
-    ghost stands: { ∥ StandsOn L.fits size.value client.value.value.reads ∥₁ },
+    ghost stands: { ∥ StandsOn L.fits size.value client.value.value.attempt.reads ∥₁ },
 }
 
 impl<L: Law> Standing<L> {
     #[inline]
     pub(crate) fn of<R: Allocator>(region: &Region<L, R>, client: &Client<L>) -> Standing<L>
-        requires { StandsOn L.fits region.now.size client.now.value.reads }
+        requires { StandsOn L.fits region.now.size client.now.value.attempt.reads }
         ensures size { result.size.value ≡ region.now.size }
         ensures client { result.client.value ≡ client.now }
     {

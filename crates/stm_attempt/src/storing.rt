@@ -20,11 +20,12 @@ fn store_words<L: Law, R: Allocator, A: Allocator + Copy>(
     writes: &WriteLog<A>,
 )
     requires own { client.old.table ≡ region.now.table }
-    requires committed { (client.old.value.spent ≡ false) × (client.old.value.phase ≡ committed) }
-    requires writes { client.old.value.writes ≡ log_pairs writes.now }
-    requires held { Holds client.old.value.held lock }
+    requires committed { (client.old.value.spent ≡ false)
+        × (client.old.value.attempt.phase ≡ committed) }
+    requires writes { client.old.value.attempt.writes ≡ log_pairs writes.now }
+    requires held { Holds client.old.value.attempt.held lock }
     requires placed { IsPlaced region.now writes.now }
-    requires unstored { IsUnstored (pairs_of writes.now lock) client.old.value.stored }
+    requires unstored { IsUnstored (pairs_of writes.now lock) client.old.value.attempt.stored }
     ensures own { client.new.table ≡ client.old.table }
     ensures stored { HasStoredPairs client.old.value client.new.value (pairs_of writes.now lock) }
 {
@@ -58,9 +59,10 @@ pub(crate) fn release_all<L: Law, R: Allocator, A: Allocator + Copy>(
     writes: &WriteLog<A>,
 )
     requires own { client.old.table ≡ region.now.table }
-    requires committed { (client.old.value.spent ≡ false) × (client.old.value.phase ≡ committed) }
+    requires committed { (client.old.value.spent ≡ false)
+        × (client.old.value.attempt.phase ≡ committed) }
     requires stored { IsAllStored client.old.value }
-    requires held { addresses client.old.value.held ≡ log_locks writes.now }
+    requires held { addresses client.old.value.attempt.held ≡ log_locks writes.now }
     requires placed { IsPlaced region.now writes.now }
     ensures own { client.new.table ≡ client.old.table }
     ensures released { HasReleased client.old.value client.new.value }

@@ -41,8 +41,9 @@ pub(crate) fn tick<L: Law, R: Allocator, A: Allocator + Copy, T: Tag>(
     requires own { client.old.table ≡ region.now.table }
     requires ready { IsReady region.now client.old.value rv }
     requires writes { MayWrite (stripe_of region.now.stripes) region.now.size
-        client.old.value.held (log_pairs writes.now) }
-    requires lawful { L.lawful (T.numbers tag.now) client.old.value.reads (log_pairs writes.now) }
+        client.old.value.attempt.held (log_pairs writes.now) }
+    requires lawful { L.lawful (T.numbers tag.now) client.old.value.attempt.reads
+        (log_pairs writes.now) }
     ensures own { client.new.table ≡ client.old.table }
     ensures won { IfOk result (λ version. HasTicked region.now (T.numbers tag.now)
         (log_pairs writes.now) client.old.value client.new.value version) }
@@ -53,10 +54,10 @@ pub(crate) fn tick<L: Law, R: Allocator, A: Allocator + Copy, T: Tag>(
     ensures shown { IfErr result (λ stop.
         IsCommitStop region.now writes.now stop client.new.value) }
     ensures counted { IfErr result (λ stop.
-        IsCounted stop client.old.value.steps client.new.value) }
-    ensures lone { client.old.value.lone ≡ true →
+        IsCounted stop client.old.value.attempt.steps client.new.value) }
+    ensures lone { client.old.value.attempt.lone ≡ true →
         MatchResult result (λ _. decided client.new.value ≡ true) (λ stop. IsSpent stop) }
-    ensures steps { client.new.value.steps ≤ client.old.value.steps + 16 }
+    ensures steps { client.new.value.attempt.steps ≤ client.old.value.attempt.steps + 16 }
 {
     let last = region.last();
     let mut from = rv.get();

@@ -28,8 +28,8 @@ fn validate_lock<L: Law, R: Allocator, A: Allocator + Copy>(
 ) -> Result<(), Conflict>
     requires own { client.old.table ≡ region.now.table }
     requires allowed { IsAllowed L.lawful region.now (validates lock) client.old }
-    requires version { client.old.value.rv ≡ rv }
-    requires held { addresses client.old.value.held ≡ log_locks writes.now }
+    requires version { client.old.value.attempt.rv ≡ rv }
+    requires held { addresses client.old.value.attempt.held ≡ log_locks writes.now }
     ensures own { client.new.table ≡ client.old.table }
     ensures passed { IfOk result (λ _.
         HasValidatedLock region.now lock true client.old.value client.new.value) }
@@ -59,14 +59,14 @@ pub(crate) fn validate_reads<L: Law, R: Allocator, A: Allocator + Copy>(
 ) -> Result<(), Conflict>
     requires own { client.old.table ≡ region.now.table }
     requires ready { CanValidate region.now client.old.value rv }
-    requires logged { logs.now.reads ≡ addresses client.old.value.reads }
-    requires held { addresses client.old.value.held ≡ log_locks logs.now.writes }
+    requires logged { logs.now.reads ≡ addresses client.old.value.attempt.reads }
+    requires held { addresses client.old.value.attempt.held ≡ log_locks logs.now.writes }
     ensures own { client.new.table ≡ client.old.table }
     ensures ok { IfOk result (λ _. HasValidated region.now client.old.value client.new.value) }
     ensures decides { IfOk result (λ _. Decides L.fits L.lawful region.now client.new.value) }
     ensures failed { IfErr result (λ _. HasFailedValidating client.old.value client.new.value) }
     ensures shown { IfErr result (λ conflict. (lock : ℕ) ×
-        IsReadLock (stripe_of region.now.stripes) client.new.value.reads lock ×
+        IsReadLock (stripe_of region.now.stripes) client.new.value.attempt.reads lock ×
         IsValidateConflict lock conflict client.new.value) }
 {
     for i in 0..logs.reads.len() {

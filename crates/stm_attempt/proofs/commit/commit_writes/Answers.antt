@@ -17,7 +17,7 @@ decide-answer-requires-clause-ready g c =
 
 pub decide-answer-requires-clause-logged : goal.decide-answer-requires-clause-logged
 decide-answer-requires-clause-logged g c = record {
-  reads = c.requires.logged.reads ∙ ap (λ (x : Client). addresses x.reads) (sym c.in-Ok.ensures.all.same);
+  reads = c.requires.logged.reads ∙ ap (λ (x : Client). addresses x.attempt.reads) (sym c.in-Ok.ensures.all.same);
   placed = c.requires.logged.placed;
   written = c.requires.logged.written;
 }
@@ -66,9 +66,9 @@ returns-else-is_ok-clause-stopped g c =
       | in-Ok w ↦ subst (λ r. IfErr r (λ stop. HasStopped region log stop v e)) (sym w.answer-is)
           (map_err w.decide-answer.result (λ stop. HasFailedDeciding region log stop l w.decide-answer.new.client.value) (λ stop. HasStopped region log stop v e)
           (λ stop failed. stopped_deciding region log v l some stop w.decide-answer.new.client.value e w.in-Ok.ensures.all.same
-          (w.in-Ok.ensures.all.steps ∙ ap (λ n. v.steps + 2 * n) w.in-Ok.ensures.all.count) failed
+          (w.in-Ok.ensures.all.steps ∙ ap (λ n. v.attempt.steps + 2 * n) w.in-Ok.ensures.all.count) failed
           (subst (λ (s : ClientShown). returned e ≡ returned s.value) w.client-is c.give_back_first.ensures.same)
-          (c.give_back_first.ensures.steps ∙ ap (λ (s : ClientShown). s.value.steps + c.lock_all.new.taken) w.client-is ∙ ap (λ n. w.decide-answer.new.client.value.steps + n) w.in-Ok.ensures.all.count)
+          (c.give_back_first.ensures.steps ∙ ap (λ (s : ClientShown). s.value.attempt.steps + c.lock_all.new.taken) w.client-is ∙ ap (λ n. w.decide-answer.new.client.value.attempt.steps + n) w.in-Ok.ensures.all.count)
           c.give_back_first.ensures.free)
           w.decide-answer.ensures.failed)
       | in-Err w ↦ subst (λ r. IfErr r (λ stop. HasStopped region log stop v e)) (sym w.answer-is)
@@ -83,10 +83,10 @@ returns-else-is_ok-clause-steps g c =
     elim c.match-lock_all.branch [
       | in-Ok w ↦
           (let failed = err_of w.decide-answer.result (λ stop. HasFailedDeciding c.args.region.now c.args.logs.now.writes stop l w.decide-answer.new.client.value) (ap is_ok (sym w.answer-is) ∙ sym c.if-is_ok.ensures.value) w.decide-answer.ensures.failed in
-          let at = ap (λ (s : ClientShown). s.value.steps) w.client-is in
-          let reads = ap (λ (x : Client). length x.reads) w.in-Ok.ensures.all.same in
+          let at = ap (λ (s : ClientShown). s.value.attempt.steps) w.client-is in
+          let reads = ap (λ (x : Client). length x.attempt.reads) w.in-Ok.ensures.all.same in
           omega (arith, few, failed.1.steps, at, reads, w.in-Ok.ensures.all.count, w.in-Ok.ensures.all.steps, c.give_back_first.ensures.steps))
       | in-Err w ↦
-          (let at = ap (λ (s : ClientShown). s.value.steps) w.client-is in
+          (let at = ap (λ (s : ClientShown). s.value.attempt.steps) w.client-is in
           omega (arith, few, w.in-Err.ensures.failed.steps, w.in-Err.ensures.few, at, c.give_back_first.ensures.steps))
     ]

@@ -8,7 +8,7 @@ use Rattle.stm_attempt.proofs.commit.decide.Goals as goal
 use Rattle.stm_attempt.proofs.commit.decide.Goals.{then-not-decides_at_once+in_default, else-not-decides_at_once}
 
 pub tick-requires-clause-writes : goal.tick-requires-clause-writes
-tick-requires-clause-writes g c = may_write c.args.region.now c.args.logs.now.writes c.args.client.now.value.held c.requires.logged.placed c.requires.same c.requires.held c.requires.logged.written
+tick-requires-clause-writes g c = may_write c.args.region.now c.args.logs.now.writes c.args.client.now.value.attempt.held c.requires.logged.placed c.requires.same c.requires.held c.requires.logged.written
 
 pub validate_reads-requires-clause-ready : goal.validate_reads-requires-clause-ready
 validate_reads-requires-clause-ready g c =
@@ -18,7 +18,7 @@ validate_reads-requires-clause-ready g c =
 pub returns-clause-ok : goal.returns-clause-ok
 returns-clause-ok g c =
     let once = once_is c.args.client.now.value c.args.logs.now.reads _ _ c.in_ok-version.version c.len.ensures c.requires.logged.reads c.requires.ready.begun_at in
-    let later : c.args.client.now.value.rv < c.in_ok-version.version = omega (arith, c.in_ok-version.ensures.version.0, c.requires.ready.begun_at) in
+    let later : c.args.client.now.value.attempt.rv < c.in_ok-version.version = omega (arith, c.in_ok-version.ensures.version.0, c.requires.ready.begun_at) in
     elim c.if-not-decides_at_once.branch [
       | then-not-decides_at_once+in_default w ↦
           subst (λ (s : ClientShown). IsDecided c.args.region.now (g.T.Tag.numbers c.args.tag.now) (log_pairs c.args.logs.now.writes) c.args.client.now.value s.value c.in_ok-version.version) (sym w.client-is)

@@ -13,7 +13,7 @@ finish-requires-clause-allowed g c =
       (
         (c.requires.running.runs c.in-None.is, c.requires.running.begun.unversioned),
         c.requires.running.begun.free,
-        subst (λ ps. g.L.Law.lawful (g.T.Tag.numbers c.args.tag.now) c.args.client.now.value.reads ps) none (c.requires.lawful c.in-None.is),
+        subst (λ ps. g.L.Law.lawful (g.T.Tag.numbers c.args.tag.now) c.args.client.now.value.attempt.reads ps) none (c.requires.lawful c.in-None.is),
       ),
     )
 

@@ -15,27 +15,27 @@ returns-then-not-has_lock-clause-shown g c =
 
 pub returns-then-gt-clause-failed : goal.returns-then-gt-clause-failed
 returns-then-gt-clause-failed g c =
-    let ours : (is_free c.validate-word.result || writes_to c.args.client.now.value.held c.args.lock) ≡ true =
+    let ours : (is_free c.validate-word.result || writes_to c.args.client.now.value.attempt.held c.args.lock) ≡ true =
     elim c.else-held.branch [
-      | else-held-via-then-held+else-not-has_lock w ↦ own_passes _ c.args.client.now.value.held c.args.lock c.args.writes.now c.requires.held w.has_lock.result w.has_lock.ensures w.if-not-has_lock.false
-      | else-held-via-else-held w ↦ free_passes _ _ _ c.decode-version.ensures.free c.decode-version.ensures.held c.args.client.now.value.held c.args.lock w.if-held.false
+      | else-held-via-then-held+else-not-has_lock w ↦ own_passes _ c.args.client.now.value.attempt.held c.args.lock c.args.writes.now c.requires.held w.has_lock.result w.has_lock.ensures w.if-not-has_lock.false
+      | else-held-via-else-held w ↦ free_passes _ _ _ c.decode-version.ensures.free c.decode-version.ensures.held c.args.client.now.value.attempt.held c.args.lock w.if-held.false
     ] in
     refused_newer _ _ _ c.decode-version.ensures.free c.decode-version.ensures.held c.args.region.now c.args.client.now c.validate-word.new.client c.args.lock c.validate-word.ensures.client c.args.writes.now c.requires.held ours c.args.rv c.requires.version (grind (arith, nat_tests))
 
 pub returns-then-gt-clause-shown : goal.returns-then-gt-clause-shown
 returns-then-gt-clause-shown g c =
-    let ours : (is_free c.validate-word.result || writes_to c.args.client.now.value.held c.args.lock) ≡ true =
+    let ours : (is_free c.validate-word.result || writes_to c.args.client.now.value.attempt.held c.args.lock) ≡ true =
     elim c.else-held.branch [
-      | else-held-via-then-held+else-not-has_lock w ↦ own_passes _ c.args.client.now.value.held c.args.lock c.args.writes.now c.requires.held w.has_lock.result w.has_lock.ensures w.if-not-has_lock.false
-      | else-held-via-else-held w ↦ free_passes _ _ _ c.decode-version.ensures.free c.decode-version.ensures.held c.args.client.now.value.held c.args.lock w.if-held.false
+      | else-held-via-then-held+else-not-has_lock w ↦ own_passes _ c.args.client.now.value.attempt.held c.args.lock c.args.writes.now c.requires.held w.has_lock.result w.has_lock.ensures w.if-not-has_lock.false
+      | else-held-via-else-held w ↦ free_passes _ _ _ c.decode-version.ensures.free c.decode-version.ensures.held c.args.client.now.value.attempt.held c.args.lock w.if-held.false
     ] in
     shown_newer _ _ _ c.decode-version.ensures.free c.decode-version.ensures.held c.args.region.now c.args.client.now c.validate-word.new.client c.args.lock c.validate-word.ensures.client c.args.writes.now c.requires.held ours c.args.rv c.requires.version (grind (arith, nat_tests))
 
 pub returns-clause-passed : goal.returns-clause-passed
 returns-clause-passed g c =
-    let ours : (is_free c.validate-word.result || writes_to c.args.client.now.value.held c.args.lock) ≡ true =
+    let ours : (is_free c.validate-word.result || writes_to c.args.client.now.value.attempt.held c.args.lock) ≡ true =
     elim c.else-held.branch [
-      | else-held-via-then-held+else-not-has_lock w ↦ own_passes _ c.args.client.now.value.held c.args.lock c.args.writes.now c.requires.held w.has_lock.result w.has_lock.ensures w.if-not-has_lock.false
-      | else-held-via-else-held w ↦ free_passes _ _ _ c.decode-version.ensures.free c.decode-version.ensures.held c.args.client.now.value.held c.args.lock w.if-held.false
+      | else-held-via-then-held+else-not-has_lock w ↦ own_passes _ c.args.client.now.value.attempt.held c.args.lock c.args.writes.now c.requires.held w.has_lock.result w.has_lock.ensures w.if-not-has_lock.false
+      | else-held-via-else-held w ↦ free_passes _ _ _ c.decode-version.ensures.free c.decode-version.ensures.held c.args.client.now.value.attempt.held c.args.lock w.if-held.false
     ] in
     has_passed _ _ _ c.decode-version.ensures.free c.decode-version.ensures.held c.args.region.now c.args.client.now c.validate-word.new.client c.args.lock c.validate-word.ensures.client c.args.writes.now c.requires.held ours c.args.rv c.requires.version (grind (arith, nat_tests))

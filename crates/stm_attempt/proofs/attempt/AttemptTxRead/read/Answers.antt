@@ -13,10 +13,10 @@ pub returns-in-Some-own_write-clause-own : goal.returns-in-Some-own_write-clause
 returns-in-Some-own_write-clause-own g c = λ none value is. (ap Ok (same_some _ _ (c.in-Some-own_write.ensures ∙ is)), (refl, refl))
 
 pub invariant_of-self-in-Ok-clause-inside : goal.invariant_of-self-in-Ok-clause-inside
-invariant_of-self-in-Ok-clause-inside g c = λ _. inside_of g.L.Law.fits c.args.self.now.region.now.size c.read_word.new.client.value.reads c.in-Ok.ensures.stands
+invariant_of-self-in-Ok-clause-inside g c = λ _. inside_of g.L.Law.fits c.args.self.now.region.now.size c.read_word.new.client.value.attempt.reads c.in-Ok.ensures.stands
 
 pub invariant_of-self-in-Err-clause-inside : goal.invariant_of-self-in-Err-clause-inside
-invariant_of-self-in-Err-clause-inside g c = λ in_use. inside_same c.args.self.now.region.now.size c.args.self.now.client.now.value.reads c.read_word.new.client.value.reads c.in-Err.ensures.reads (c.args.self.now.inside in_use)
+invariant_of-self-in-Err-clause-inside g c = λ in_use. inside_same c.args.self.now.region.now.size c.args.self.now.client.now.value.attempt.reads c.read_word.new.client.value.attempt.reads c.in-Err.ensures.reads (c.args.self.now.inside in_use)
 
 pub invariant_of-self-in-Ok-clause-logged : goal.invariant_of-self-in-Ok-clause-logged
-invariant_of-self-in-Ok-clause-logged g c = λ in_use none. logged_too c.args.self.now.client.now.value.reads c.read_word.new.client.value.reads c.args.self.now.logs.now.reads c.push.new.self _ _ (c.args.self.now.logged in_use none) c.in_ok-push.ensures c.in-Ok.ensures.ok.reads
+invariant_of-self-in-Ok-clause-logged g c = λ in_use none. logged_too c.args.self.now.client.now.value.attempt.reads c.read_word.new.client.value.attempt.reads c.args.self.now.logs.now.reads c.push.new.self _ _ (c.args.self.now.logged in_use none) c.in_ok-push.ensures c.in-Ok.ensures.ok.reads
