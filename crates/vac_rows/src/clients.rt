@@ -2,11 +2,14 @@
 ghost use Rattle.std.specs.Prelude.{◌≡◌, ◌*◌, All};
 
 use crate::caller::{Caller, LAST};
-use crate::scripts::{audit, drop_customer, new_customer, report};
+use crate::scripts::{
+    add, audit, cancel, delete, drop_customer, new_customer, report, reserve,
+};
 use std::alloc::Global;
 use std::process::Abort;
 use stm_region::RegionFault;
 use vac_manager::{Client, Manager};
+use vac_model::Kind::Car;
 use vac_model::Reply::{Done, No};
 use vac_model::Why::Full;
 
@@ -107,6 +110,47 @@ fn one_block_and_two_clients(rt: HostRuntime) {
     assert_eq!(rt; words.get(4), Some(&16));
     assert_eq!(rt; words.get(16), Some(&4));
     assert_eq!(rt; version, 3);
+}
+
+/// Words of a manager that its one client closes.
+fn closed_words(rt: &impl Abort, manager: Manager, client: Client) -> Vec<u64>
+    requires { client.table ≡ manager.table }
+{
+    let Ok((words, _)) = manager.close(client) else {
+        panic!(rt; "it stayed open")
+    };
+    words
+}
+
+// The second client's entries take their blocks from the second list, blocks 1 and 9, and then
+// from the next one, which begins with block 2. All that it frees goes to the second list, whose
+// blocks are at last 9, 1 and 2. Block 0, of the first list, is the first client's.
+#[test]
+fn each_client_has_a_list_of_its_own(rt: HostRuntime) {
+    let alloc = rt.alloc();
+    let (manager, client) = Manager::new(alloc, 16, LAST).expect(&rt, "it opens");
+    let mut a = Caller {
+        manager: &manager,
+        client,
+    };
+    let mut b = a.split().expect(&rt, "there are grants");
+    let script = [
+        (add(Car, 5, 1, Some(10)), Ok(Done)),
+        (new_customer(6), Ok(Done)),
+        (reserve(6, Car, 5, 1), Ok(Done)),
+        (cancel(6, Car, 5), Ok(Done)),
+        (new_customer(8), Ok(Done)),
+        (drop_customer(8), Ok(Done)),
+        (delete(Car, 5, 1), Ok(Done)),
+        (drop_customer(6), Ok(Done)),
+    ];
+    b.expect(&rt, alloc, 1, &script);
+    a.expect(&rt, alloc, 1, &[(new_customer(7), Ok(Done))]);
+    a.gather(b);
+    let client = a.client;
+    let words = closed_words(&rt, manager, client);
+    let found = [1, 4, 8, 9, 88, 24, 32, 10].map(|place| words.get(place).copied());
+    assert_eq!(rt; found, [0, 16, 80, 88, 24, 32, 0, 96].map(Some));
 }
 
 // A client that is taken in gives a grant back, to the one that takes it in.
