@@ -88,7 +88,7 @@ impl Player {
         self.stage == Stage::Running && self.wv == 0
     }
 
-    /// Whether its last event was a look at this lock that found it free.
+    /// Whether its last event was a probe of this lock that found it free.
     fn found_free(&self, lock: u32) -> bool {
         self.fetched.is_none()
             && self
@@ -96,7 +96,7 @@ impl Player {
                 .is_some_and(|(probed, word)| probed == lock && word % 2 == 0)
     }
 
-    /// Whether its last look found a version that is not too new.
+    /// Whether its last probe found a version that is not too new.
     fn found_old(&self) -> bool {
         self.probed.is_some_and(|probe| probe.1 / 2 <= self.rv)
     }
@@ -156,7 +156,7 @@ impl Player {
             .any(|pair| shape.lock_of(pair.0) == lock && self.owes(pair.0))
     }
 
-    /// The lock of the next read word to be looked at.
+    /// The lock of the next read word to be validated.
     fn next_read(&self, shape: &Shape) -> Option<u32> {
         self.reads
             .get(self.passed)
@@ -226,13 +226,13 @@ impl Player {
         self.seen = None;
     }
 
-    /// The look and the value that its last event may have found are of no use any more.
+    /// The probe and the value that its last event may have found are of no use any more.
     fn forgets(&mut self) {
         self.probed = None;
         self.fetched = None;
     }
 
-    /// A second look: the value is read where the word is as it was.
+    /// A check: the value is read where the word is as it was.
     fn checks(&mut self, word: u64) -> Result<(), AllocError> {
         let read = self.fetched;
         let found = self.probed.map_or(word, |probe| probe.1);
@@ -274,7 +274,7 @@ impl Player {
         Ok(decides)
     }
 
-    /// A look at the lock of a read word. True where it decides.
+    /// A validation of the lock of a read word. True where it decides.
     fn looks(&mut self, lock: u32, word: u64) -> bool {
         let mine = word % 2 == 0 || self.holds(lock);
         if !mine || self.rv < word / 2 {

@@ -21,8 +21,8 @@ struct Tally {
     refused: u64,
     readers: u64,
     writers: u64,
-    /// Writers that their last look decided.
-    looked: u64,
+    /// Writers that their last validation decided.
+    validated: u64,
     lost_locks: u64,
     lost_ticks: u64,
     lost_looks: u64,
@@ -43,7 +43,7 @@ impl Tally {
             refused: 0,
             readers: 0,
             writers: 0,
-            looked: 0,
+            validated: 0,
             lost_locks: 0,
             lost_ticks: 0,
             lost_looks: 0,
@@ -60,7 +60,7 @@ impl Tally {
             self.refused,
             self.readers,
             self.writers,
-            self.looked,
+            self.validated,
             self.lost_locks,
             self.lost_ticks,
             self.lost_looks,
@@ -81,7 +81,7 @@ impl Tally {
         let kind = turn.kind;
         add(&mut self.readers, kind == Kind::Finish);
         add(&mut self.writers, decides && kind != Kind::Finish);
-        add(&mut self.looked, decides && kind == Kind::Validate);
+        add(&mut self.validated, decides && kind == Kind::Validate);
         add(&mut self.lost_locks, ends && kind == Kind::Lock);
         add(&mut self.lost_looks, ends && kind == Kind::Validate);
         add(&mut self.lost_checks, ends && kind == Kind::Check);

@@ -13,7 +13,8 @@ pub record Record : Type 0 where
   pub attempt : ℕ
   -- how many renewals of the clock came before
   pub renewal : ℕ
-  -- the place of the point step in the list of events: a writer's won tick, a reader's begin
+  -- the place of the point step in the list of events: a writer's won tick, a reader's begin. A
+  -- region keeps no places: there it is 0, as is the client
   pub point : ℕ
   -- the client that decided it
   pub client : ℕ
@@ -87,7 +88,8 @@ pub record Client : Type 0 where
   pub grants : ℕ
   -- it was gathered, and is no client any more
   pub spent : Bool
-  -- the greatest version that the client knows
+  -- a version that the clock has reached: what the last begin found or the last won tick made, or
+  -- what was handed on. The next begin finds at least this
   pub floor : ℕ
   pub records : List Record
   pub attempt : Attempt
@@ -103,7 +105,8 @@ abbrev pub is_committed : Phase → Bool
 is_committed committed = true
 is_committed _ = false
 
--- the client is a decided writer
+-- the client is a decided writer. A reader that finished is settled (`is_settled`), and not decided
+-- in this sense
 abbrev pub decided : Client → Bool
 decided c = is_committed c.attempt.phase
 

@@ -27,7 +27,7 @@ pub record Core : Type 0 where
 abbrev pub bounds_of : Core → Bounds
 bounds_of c = record { last = c.last; stripes = length c.locks; size = length c.cells }
 
--- the word that a load or an exchange finds
+-- the word that stands there before the step
 abbrev pub found : (ℕ → ℕ) → Core → Action → ℕ
 found lk c begin = c.clock
 found lk c (probe k) = slice_index c.locks k

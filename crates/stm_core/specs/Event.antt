@@ -6,7 +6,7 @@ use lib.ListN.{get_elem?}
 use Rattle.stm_core.specs.Client.{Attempt, Client, Record, idle, running, ending, committed, finished, Step, nothing, began, probed, fetched, checked, locked, ticked, validated, ended, Stamp, version_of, IsFree, is_free, writes_to, without, word_before, value_fetched, inserted, merged}
 use Rattle.stm_core.specs.declared.limits.TheConstants.{MOST_GRANTS, MOST_TICKS}
 
--- one step of one client: an atomic load, store or exchange of one word
+-- one step of one client: an atomic load, store or read-modify-write of one word
 pub data Action : Type 0 where
   begin : Action
   probe : (lock : ℕ) → Action
@@ -21,7 +21,7 @@ pub data Action : Type 0 where
   finish : (tag : List ℕ) → Action
 
 -- the numbers of a region that bound its events: the last version, how many locks it has and how
--- many words. The lock of an address and the law of records are parameters beside them
+-- many words. The lock of an address (`lk`) and the law of records are parameters beside them
 pub record Bounds : Type 0 where
   pub last : ℕ
   pub stripes : ℕ

@@ -19,11 +19,11 @@ world c story = record {
   wrote = wrote_in story;
 }
 
--- a client's share of the seats: its grants and its own, none once it is spent
+-- what a client counts: its grants and itself, nothing once it is spent
 abbrev pub share : Client → ℕ
 share v = cond v.spent 0 (v.grants + 1)
 
--- the rule within one renewal, of a core that has no records of earlier ones. The law says which
+-- the version invariant within one renewal, of a core that has no records of earlier ones. The law says which
 -- records are lawful, lk which lock an address has
 pub record Inv
     (lawful : List ℕ → List (ℕ × ℕ) → List (ℕ × ℕ) → Type 0) (lk : ℕ → ℕ) (c : Core)

@@ -1,5 +1,5 @@
 -- Lists of events, and the cores that they lead to, with a number in the place of each tag. No
--- rule but the law looks at a tag.
+-- condition but the law looks at a tag.
 use Rattle.std.specs.Prelude.{◌≡◌, ℕ, ◌<◌, cond, eqb, true, List, [], ◌∷◌, length, map}
 use Rattle.stm_words.specs.Image.{In}
 use Rattle.stm_core.specs.Client.{Client, Record}

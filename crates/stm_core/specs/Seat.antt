@@ -3,8 +3,8 @@ use Rattle.std.specs.Prelude.{ℕ, false, [], ◌∷◌, List}
 use Rattle.stm_core.specs.Client.{Client}
 use Rattle.stm_core.specs.Event.{Action, after}
 
--- a client's value without what no rule looks at: its attempt's number, its steps, its floor,
--- whether it is lone and whether a lock was its own, and its records
+-- a client's value without what no condition of an event looks at: its attempt's number, its steps,
+-- its floor, whether it is lone and whether a lock was its own, and its records
 abbrev pub blank : Client → Client
 blank c = record c {
   floor = 0;

@@ -49,13 +49,13 @@ pub record Stands (lk : ℕ → ℕ) (image : List ℕ) (c : Core) : Type 0 wher
   -- read version
   pub one_version : (i : ℕ) (v : Client) → At c.clients i v
       → Agrees (image_at c.opening v.attempt.rv present) v.attempt.reads
-  -- nothing fails a lone attempt that is not decided
+  -- nothing fails a lone attempt that is no decided writer
   pub lone : (i : ℕ) (v : Client) → At c.clients i v → v.attempt.lone ≡ true → decided v ≡ false
       → GoesOn free_law lk c v
   -- when no lock is held the data words are the newest image
   pub words : ((i : ℕ) (v : Client) → At c.clients i v → v.attempt.held ≡ [])
       → c.cells ≡ image_after image (earlier ++ present)
-  -- an attempt that is not decided is in no history, and so in no image
+  -- an attempt that is not settled is in no history, and so in no image
   pub no_trace : (i : ℕ) (v : Client) (r : Record) → At c.clients i v → v.spent ≡ false
       → is_settled v.attempt.phase ≡ false → In r (earlier ++ present) → r.client ≡ suc i
       → r.attempt ≢ v.attempt.number

@@ -21,16 +21,16 @@ At cs i v = get_elem? cs i ≡ some v
 abbrev pub IsOpen : Client → Type 0
 IsOpen v = (0 < v.attempt.wv) × (decided v ≡ false)
 
--- the client has read x at a, in the image of version b: in its running attempt, as a read that
--- passed its validation, or in a record
+-- the client has read x at a, in the image of version b: in its running attempt or its last one, as
+-- a read that passed its validation, or in a record
 pub data Claims (v : Client) (b a x : ℕ) : Type 0 where
   runs : b ≡ v.attempt.rv → In (a, x) v.attempt.reads → Claims v b a x
   passes : suc b ≡ v.attempt.wv → (j : ℕ) → j < v.attempt.passed
       → get_elem? v.attempt.reads j ≡ some (a, x) → Claims v b a x
   noted : (r : Record) → In r v.records → b ≡ base r → In (a, x) r.reads → Claims v b a x
 
--- what the last step saw still holds, or was overtaken: a probed lock does not go back, and a
--- fetched value is the newest or a newer decided writer wrote the word
+-- what the last step saw still holds, or was overtaken: the version of a probed lock does not go
+-- back, and a fetched value is the newest or a newer decided writer wrote the word
 abbrev pub Saw : (ℕ → ℕ) → World → ℕ → Step → Type 0
 Saw lk s rv (probed k n) = version_of n ≤ version_of (s.lock k)
 Saw lk s rv (fetched a n x) =
@@ -51,7 +51,7 @@ module _ (lk : ℕ → ℕ) where
     -- that of the version before its own; what a record has read in that of the reader's version,
     -- or of the version before the writer's
     pub agrees : (b a x : ℕ) → Claims v b a x → (s.val b a ≡ x) × (b ≤ s.clock)
-    -- undecided, it holds the locks of all that it is to write
+    -- with a write version and undecided, it holds the locks of all that it is to write
     pub locked : IsOpen v → (a : ℕ) → writes_to v.attempt.writes a ≡ true
         → (u : ℕ) × In (lk a, u) v.attempt.held
     -- decided, it holds the locks of all that is not yet stored
@@ -108,7 +108,7 @@ module _ (lk : ℕ → ℕ) where
     pub later : 0 < v.attempt.wv → v.attempt.rv < v.attempt.wv
     -- each lock in its list is a held word with the listed version
     pub listed : (k u : ℕ) → In (k, u) v.attempt.held → s.lock k ≡ 2 * u + 1
-    -- undecided, its version has written nothing in the story
+    -- with a write version and undecided, that version has written nothing in the story
     pub unwritten : IsOpen v → (a : ℕ) → s.wrote v.attempt.wv a ≡ false
     -- decided, its version has written its writes in the story
     pub told : decided v ≡ true → (0 < v.attempt.wv)

@@ -430,7 +430,7 @@ impl Seat {
             && self.has_probed(address % stripes)
     }
 
-    /// Whether it may look at the lock of a fetched address again.
+    /// Whether it may check a fetched address.
     pub(crate) fn may_check(&self, address: u32, stripes: u32, size: usize) -> bool
         ensures { result ≡ may_act
             (record { last = 0; stripes = stripes; size = size })

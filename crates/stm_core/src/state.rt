@@ -215,7 +215,7 @@ impl State {
         Ok(())
     }
 
-    /// Looks at the lock of a read word.
+    /// Validates the lock of a read word.
     fn validate(&mut self, client: u32, stripe: u32) -> Result<(), AllocError>
         requires out { is_out self.old.core client ≡ true }
         requires inside { stripe < length self.old.core.locks }
