@@ -2,9 +2,7 @@
 ghost use Rattle.std.specs.Prelude.{◌≡◌, ◌*◌, All};
 
 use crate::caller::{Caller, LAST};
-use crate::scripts::{
-    add, audit, cancel, delete, drop_customer, new_customer, report, reserve,
-};
+use crate::scripts::{add, audit, cancel, delete, drop_customer, new_customer, report, reserve};
 use std::alloc::Global;
 use std::process::Abort;
 use stm_region::RegionFault;
