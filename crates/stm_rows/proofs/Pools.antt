@@ -41,7 +41,7 @@ heap_took (Some b) address s s' start t = λ image i h. record {
 pub heap_lawful : (in_use in_use' : Bool) (region region' : RegionShown) (name name' logs logs' : ℕ) (c c' : ClientShown) (w w' : LogValue) →
     in_use ≡ true → w ≡ empty_log → origin_of in_use' region' name' logs' c' ≡ origin_of in_use region name logs c →
     Carries IsHeapOfTen IsHeapOfTen (memory_of in_use region (λ (image : List ℕ). Fits IsHeapOfTen image) c.value w) (memory_of in_use' region' (λ (image : List ℕ). Fits IsHeapOfTen image) c'.value w') →
-    KeepsFitting (λ (image : List ℕ). Fits IsHeapOfTen image) c'.value.reads (log_pairs w')
+    KeepsFitting (λ (image : List ℕ). Fits IsHeapOfTen image) c'.value.attempt.reads (log_pairs w')
 heap_lawful in_use in_use' region region' name name' logs logs' c c' w w' runs e origin carries = λ image f a.
     records_lead (λ (image : List ℕ). Fits IsHeapOfTen image) IsHeapOfTen IsHeapOfTen heap_local heap_local in_use in_use' region region' name name' logs logs' c c' w w' runs e origin carries image f a f
 

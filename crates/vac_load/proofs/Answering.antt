@@ -82,7 +82,7 @@ answered_both n ts us v w u p q = record {
   grants = q.grants ∙ p.grants;
 }
 
-pub ran_one : (region : RegionShown) (t : Task) (tries : ℕ) (result : Result Reply Fault) (v v' : Client) → Records region t result v v' → Attempts tries v.attempt v'.attempt result → v.floor ≤ v'.floor → v'.grants ≡ v.grants → RanOne {E = Fault} region.renewal (Ok t) tries result v v'
+pub ran_one : (region : RegionShown) (t : Task) (tries : ℕ) (result : Result Reply Fault) (v v' : Client) → Records region t result v v' → Attempts tries v.attempt.number v'.attempt.number result → v.floor ≤ v'.floor → v'.grants ≡ v.grants → RanOne {E = Fault} region.renewal (Ok t) tries result v v'
 ran_one region t tries (Ok reply) v v' a n floor grants = (answered_one region.renewal t reply v v' a floor grants, omega (arith, n))
 ran_one region t tries (Err fault.Arguments) v v' a n floor grants = (answered_quiet region.renewal v v' a floor grants, omega (arith, n))
 ran_one region t tries (Err fault.Memory) v v' a n floor grants = (answered_quiet region.renewal v v' a floor grants, omega (arith, n))
@@ -123,7 +123,7 @@ attempts_counted tries (Err (fault.Spent version)) t = omega arith
 -- what one task adds to a loop
 record Turn (n : ℕ) (t : Task) (end : Result Reply Fault) (tries : ℕ) (v v' : Client) : Type 0 where
   pub answered : Answered n (answered_by t end) v v'
-  pub attempts : v.attempt + attempts_of tries end ≤ v'.attempt
+  pub attempts : v.attempt.number + attempts_of tries end ≤ v'.attempt.number
 
 -- what one task adds to a loop, also one that was not built
 turn_of : {E : Type 0} (n : ℕ) (built : Result Task E) (t : Task) (end : Result Reply Fault) (tries : ℕ) (v v' : Client) → IfOk built (λ b. b ≡ t) → RanOne n built tries end v v' → Turn n t end tries v v'

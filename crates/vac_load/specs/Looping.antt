@@ -74,7 +74,7 @@ pub record Looped {D : Type 0} (leads : D → ℕ → D → Type 0) (s : Setting
   pub number : length done ≡ t.answered
   pub answered : Answered renewal done v v'
   pub all : total t ≡ n
-  pub attempts : v.attempt + least_attempts s.tries t ≤ v'.attempt
+  pub attempts : v.attempt.number + least_attempts s.tries t ≤ v'.attempt.number
 
 -- how many attempts a task made at least that ended so, with so many tries
 abbrev pub attempts_of : {R : Type 0} → ℕ → Result R Fault → ℕ
@@ -90,5 +90,5 @@ answered_by t (Err e) = []
 abbrev pub RanOne : {R E : Type 0} → ℕ → Result Task E → ℕ → Result R Fault → Client → Client
     → Type 0
 RanOne renewal (Ok t) tries end v v' = Answered renewal (answered_by t end) v v'
-    × (v.attempt + attempts_of tries end ≤ v'.attempt)
+    × (v.attempt.number + attempts_of tries end ≤ v'.attempt.number)
 RanOne renewal (Err e) tries end v v' = (end ≡ Err fault.Memory) × (v' ≡ v)

@@ -22,11 +22,11 @@ record_tag : (region : RegionShown) (tag : List ℕ) (v : Client) (pairs : List 
 record_tag region tag v [] version = refl
 record_tag region tag v (p ∷ ps) version = refl
 
-record_attempt : (region : RegionShown) (tag : List ℕ) (v : Client) (pairs : List (ℕ × ℕ)) (version : ℕ) → (commit_record region tag v pairs version).attempt ≡ v.attempt
+record_attempt : (region : RegionShown) (tag : List ℕ) (v : Client) (pairs : List (ℕ × ℕ)) (version : ℕ) → (commit_record region tag v pairs version).attempt ≡ v.attempt.number
 record_attempt region tag v [] version = refl
 record_attempt region tag v (p ∷ ps) version = refl
 
-record_later : (region : RegionShown) (tag : List ℕ) (v : Client) (pairs : List (ℕ × ℕ)) (version floor : ℕ) → IsCommitVersion v pairs version → floor ≤ v.rv → floor ≤ (commit_record region tag v pairs version).version
+record_later : (region : RegionShown) (tag : List ℕ) (v : Client) (pairs : List (ℕ × ℕ)) (version floor : ℕ) → IsCommitVersion v pairs version → floor ≤ v.attempt.rv → floor ≤ (commit_record region tag v pairs version).version
 record_later region tag v [] version floor h l = l
 record_later region tag v (p ∷ ps) version floor h l = omega (arith, h, l)
 
@@ -34,11 +34,11 @@ record_renewal : (region : RegionShown) (tag : List ℕ) (v : Client) (pairs : L
 record_renewal region tag v [] version = refl
 record_renewal region tag v (p ∷ ps) version = refl
 
-record_behind : (region : RegionShown) (tag : List ℕ) (v : Client) (pairs : List (ℕ × ℕ)) (version floor : ℕ) → IsCommitVersion v pairs version → floor ≤ v.rv → 2 * floor < rank (commit_record region tag v pairs version)
+record_behind : (region : RegionShown) (tag : List ℕ) (v : Client) (pairs : List (ℕ × ℕ)) (version floor : ℕ) → IsCommitVersion v pairs version → floor ≤ v.attempt.rv → 2 * floor < rank (commit_record region tag v pairs version)
 record_behind region tag v [] version floor h l = omega (arith, l)
 record_behind region tag v (p ∷ ps) version floor h l = omega (arith, h, l)
 
-version_later : (v : Client) (pairs : List (ℕ × ℕ)) (version floor : ℕ) → IsCommitVersion v pairs version → floor ≤ v.rv → floor ≤ version
+version_later : (v : Client) (pairs : List (ℕ × ℕ)) (version floor : ℕ) → IsCommitVersion v pairs version → floor ≤ v.attempt.rv → floor ≤ version
 version_later v [] version floor h l = omega (arith, h, l)
 version_later v (p ∷ ps) version floor h l = omega (arith, h, l)
 
@@ -73,10 +73,10 @@ pub rank_small : (x : Record) → rank x ≤ 2 * x.version + 1
 rank_small x = let h = half x.writer in omega arith
 
 -- the record of a commit stands before none that its client had
-pub stands_last : (region : RegionShown) (tag : List ℕ) (v : Client) (pairs : List (ℕ × ℕ)) (version : ℕ) → v.began_at ≡ 0 →
-    IsCommitVersion v pairs version → (x : Record) → IsEarlier region.renewal v.rv x → x.point ≡ 0 → before (commit_record region tag v pairs version) x ≡ false
+pub stands_last : (region : RegionShown) (tag : List ℕ) (v : Client) (pairs : List (ℕ × ℕ)) (version : ℕ) → v.attempt.began_at ≡ 0 →
+    IsCommitVersion v pairs version → (x : Record) → IsEarlier region.renewal v.attempt.rv x → x.point ≡ 0 → before (commit_record region tag v pairs version) x ≡ false
 stands_last region tag v [] version p h x k u =
-    not_earlier region.renewal (2 * v.rv + 1) v.began_at x.renewal (rank x) x.point k.present
+    not_earlier region.renewal (2 * v.attempt.rv + 1) v.attempt.began_at x.renewal (rank x) x.point k.present
     (λ e. (let q = k.version e in let s = rank_small x in omega arith, omega (arith, p, u)))
 stands_last region tag v (w ∷ ws) version p h x k u =
     not_earlier region.renewal (2 * version + 0) 0 x.renewal (rank x) x.point k.present
@@ -86,7 +86,7 @@ record_small : (region : RegionShown) (tag : List ℕ) (v : Client) (pairs : Lis
 record_small region tag v [] version h = omega (arith, h)
 record_small region tag v (w ∷ ws) version h = omega arith
 
-record_unplaced : (region : RegionShown) (tag : List ℕ) (v : Client) (pairs : List (ℕ × ℕ)) (version : ℕ) → v.began_at ≡ 0 → (commit_record region tag v pairs version).point ≡ 0
+record_unplaced : (region : RegionShown) (tag : List ℕ) (v : Client) (pairs : List (ℕ × ℕ)) (version : ℕ) → v.attempt.began_at ≡ 0 → (commit_record region tag v pairs version).point ≡ 0
 record_unplaced region tag v [] version p = p
 record_unplaced region tag v (w ∷ ws) version p = refl
 
@@ -98,22 +98,22 @@ pub record Decided (region : RegionShown) (t : Task) (r : Reply) (v v' : Client)
 pub committed : (region region' : RegionShown) (t : Task) (r : Reply) (pairs : List (ℕ × ℕ)) (rv version : ℕ) (c c0 : ClientShown) (v1 v2 v' : Client) → region'.renewal ≡ region.renewal → AreEarlier region.renewal rv c.value.records → IsUnplaced c.value →
     c0 ≡ acted region begin rv c → still v1 ≡ still c0.value → c.value.floor ≤ rv → HasCommitted region' (code t r) pairs v1 v2 version → v' ≡ v2 → Decided region t r c.value v'
 committed region region' t r pairs rv version c c0 v1 v2 v' renewed earlier unplaced begun same low done end =
-    let attempt0 : c0.value.attempt ≡ c.value.attempt + 1 = ap (λ (x : ClientShown). x.value.attempt) begun in
+    let attempt0 : c0.value.attempt.number ≡ c.value.attempt.number + 1 = ap (λ (x : ClientShown). x.value.attempt.number) begun in
     let grants0 : c0.value.grants ≡ c.value.grants = ap (λ (x : ClientShown). x.value.grants) begun in
-    let rv0 : c0.value.rv ≡ rv = ap (λ (x : ClientShown). x.value.rv) begun in
-    let place0 : c0.value.began_at ≡ 0 = ap (λ (x : ClientShown). x.value.began_at) begun in
+    let rv0 : c0.value.attempt.rv ≡ rv = ap (λ (x : ClientShown). x.value.attempt.rv) begun in
+    let place0 : c0.value.attempt.began_at ≡ 0 = ap (λ (x : ClientShown). x.value.attempt.began_at) begun in
     let records0 : c0.value.records ≡ c.value.records = ap (λ (x : ClientShown). x.value.records) begun in
-    let attempt1 : v1.attempt ≡ c0.value.attempt = ap (λ (x : Client). x.attempt) same in
+    let attempt1 : v1.attempt.number ≡ c0.value.attempt.number = ap (λ (x : Client). x.attempt.number) same in
     let grants1 : v1.grants ≡ c0.value.grants = ap (λ (x : Client). x.grants) same in
-    let rv1 : v1.rv ≡ c0.value.rv = ap (λ (x : Client). x.rv) same in
-    let place1 : v1.began_at ≡ 0 = ap (λ (x : Client). x.began_at) same ∙ place0 in
+    let rv1 : v1.attempt.rv ≡ c0.value.attempt.rv = ap (λ (x : Client). x.attempt.rv) same in
+    let place1 : v1.attempt.began_at ≡ 0 = ap (λ (x : Client). x.attempt.began_at) same ∙ place0 in
     let records1 : v1.records ≡ c0.value.records = ap (λ (x : Client). x.records) same in
-    let attempt2 : v2.attempt ≡ v1.attempt = done.same.attempt in
+    let attempt2 : v2.attempt.number ≡ v1.attempt.number = done.same.number in
     let grants2 : v2.grants ≡ v1.grants = done.same.grants in
-    let early : c.value.floor ≤ v1.rv = omega (arith, low, rv0, rv1) in
+    let early : c.value.floor ≤ v1.attempt.rv = omega (arith, low, rv0, rv1) in
     let later = version_later v1 pairs version c.value.floor done.versioned early in
-    let known : (x : Record) → In x c.value.records → IsEarlier region'.renewal v1.rv x = λ x i.
-    subst (λ (n : ℕ). IsEarlier n v1.rv x) (sym renewed) (subst (λ (n : ℕ). IsEarlier region.renewal n x) (sym (rv1 ∙ rv0)) (earlier x i)) in
+    let known : (x : Record) → In x c.value.records → IsEarlier region'.renewal v1.attempt.rv x = λ x i.
+    subst (λ (n : ℕ). IsEarlier n v1.attempt.rv x) (sym renewed) (subst (λ (n : ℕ). IsEarlier region.renewal n x) (sym (rv1 ∙ rv0)) (earlier x i)) in
     let added = commit_record region' (code t r) v1 pairs version in
     let records : v2.records ≡ c.value.records ++ (added ∷ []) =
     done.records ∙ (ap (λ (rs : List Record). inserted added rs) (records1 ∙ records0)
@@ -146,17 +146,17 @@ committed region region' t r pairs rv version c c0 v1 v2 v' renewed earlier unpl
 
 -- the same of a task that only read
 pub finished : (region region' : RegionShown) (t : Task) (r : Reply) (rv n : ℕ) (c c0 : ClientShown) (c1 c2 : ClientShown) (v' : Client) → region'.renewal ≡ region.renewal → AreEarlier region.renewal rv c.value.records → IsUnplaced c.value →
-    c0 ≡ acted region begin rv c → still c1.value ≡ still c0.value → c.value.floor ≤ rv → c2 ≡ acted region' (finish (code t r)) n c1 → c2.value.held ≡ [] → v' ≡ c2.value → Decided region t r c.value v'
+    c0 ≡ acted region begin rv c → still c1.value ≡ still c0.value → c.value.floor ≤ rv → c2 ≡ acted region' (finish (code t r)) n c1 → c2.value.attempt.held ≡ [] → v' ≡ c2.value → Decided region t r c.value v'
 finished region region' t r rv n c c0 c1 c2 v' renewed earlier unplaced begun same low ended free end =
-    let floor1 : c1.value.floor ≡ c1.value.rv = ap (λ (x : Client). x.floor) same ∙ (ap (λ (x : ClientShown). x.value.floor) begun ∙ (sym (ap (λ (x : ClientShown). x.value.rv) begun) ∙ sym (ap (λ (x : Client). x.rv) same))) in
-    let done : HasCommitted region' (code t r) [] c1.value c2.value c1.value.rv = record {
+    let floor1 : c1.value.floor ≡ c1.value.attempt.rv = ap (λ (x : Client). x.floor) same ∙ (ap (λ (x : ClientShown). x.value.floor) begun ∙ (sym (ap (λ (x : ClientShown). x.value.attempt.rv) begun) ∙ sym (ap (λ (x : Client). x.attempt.rv) same))) in
+    let done : HasCommitted region' (code t r) [] c1.value c2.value c1.value.attempt.rv = record {
       records = ap (λ (x : ClientShown). x.value.records) ended;
       versioned = refl;
       known = ap (λ (x : ClientShown). x.value.floor) ended ∙ floor1;
       free = free;
       same = same_attempt c1.value c2.value (ap (λ (x : ClientShown). apart x.value) ended);
     } in
-    committed region region' t r [] rv c1.value.rv c c0 c1.value c2.value v' renewed earlier unplaced begun same low done end
+    committed region region' t r [] rv c1.value.attempt.rv c c0 c1.value c2.value v' renewed earlier unplaced begun same low done end
 
 -- what an attempt that made no record keeps
 pub unplaced_still : (v v' : Client) → IsUnplaced v → v'.records ≡ v.records → IsUnplaced v'

@@ -57,7 +57,7 @@ pub no_pairs : log_pairs empty_log ≡ []
 no_pairs = no_entries (entries (empty {K = ℕ} {X = ℕ} {R = nat_cmp})) (sym (len-entries (empty {K = ℕ} {X = ℕ} {R = nat_cmp})) ∙ len-empty nat_cmp ℕ)
 
 lawful_in : (region region' : RegionShown) (v v' : Client) (w w' : LogValue) (t : Task) (r : Reply) → w ≡ empty_log → IsTrue (is_task t) →
-    RanTask (memory_of true region (λ (image : List ℕ). IsFitting image) v w) (memory_of true region' (λ (image : List ℕ). IsFitting image) v' w') t r → IsLawful (code t r) v'.reads (log_pairs w')
+    RanTask (memory_of true region (λ (image : List ℕ). IsFitting image) v w) (memory_of true region' (λ (image : List ℕ). IsFitting image) v' w') t r → IsLawful (code t r) v'.attempt.reads (log_pairs w')
 lawful_in region region' v v' w w' t r e range ran = record {
   task = t;
   reply = r;
@@ -66,7 +66,7 @@ lawful_in region region' v v' w w' t r e range ran = record {
   runs = λ image s shown agrees.
       let i : Sees (memory_of true region' (λ (image : List ℕ). IsFitting image) v' w') image = record {
         fits = record { state = s; shown = shown };
-        agrees = agrees-map_of image v'.reads agrees;
+        agrees = agrees-map_of image v'.attempt.reads agrees;
       } in
       let before : IsState (memory image w.words) (length image) s = rw e (rw (unwritten image) shown) in
       let o = ran.outcome image s i before in
@@ -77,7 +77,7 @@ lawful_in region region' v v' w w' t r e range ran = record {
 
 pub lawful : (in_use in_use' : Bool) (region region' : RegionShown) (c c' l l' : ℕ) (v v' : ClientShown) (w w' : LogValue) (t : Task) (r : Reply) → in_use ≡ true → w ≡ empty_log → IsTrue (is_task t) →
     origin_of in_use' region' c' l' v' ≡ origin_of in_use region c l v →
-    RanTask (memory_of in_use region (λ (image : List ℕ). IsFitting image) v.value w) (memory_of in_use' region' (λ (image : List ℕ). IsFitting image) v'.value w') t r → IsLawful (code t r) v'.value.reads (log_pairs w')
+    RanTask (memory_of in_use region (λ (image : List ℕ). IsFitting image) v.value w) (memory_of in_use' region' (λ (image : List ℕ). IsFitting image) v'.value w') t r → IsLawful (code t r) v'.value.attempt.reads (log_pairs w')
 lawful true true region region' c c' l l' v v' w w' t r u e range o ran = lawful_in region region' v.value v'.value w w' t r e range ran
 lawful true false region region' c c' l l' v v' w w' t r u e range o ran = absurd (let n : false ≡ true = ap (λ (x : Origin). x.in_use) o in cc)
 lawful false in_use' region region' c c' l l' v v' w w' t r u e range o ran = absurd (let n = u in cc)
@@ -85,6 +85,6 @@ lawful false in_use' region region' c c' l l' v v' w w' t r u e range o ran = ab
 -- the same of a task that only read
 pub lawful_read : (in_use in_use' : Bool) (region region' : RegionShown) (c c' l l' : ℕ) (v v' : ClientShown) (t : Task) (r : Reply) → in_use ≡ true → IsTrue (is_task t) →
     origin_of in_use' region' c' l' v' ≡ origin_of in_use region c l v →
-    RanTask (memory_of in_use region (λ (image : List ℕ). IsFitting image) v.value empty_log) (memory_of in_use' region' (λ (image : List ℕ). IsFitting image) v'.value empty_log) t r → IsLawful (code t r) v'.value.reads []
+    RanTask (memory_of in_use region (λ (image : List ℕ). IsFitting image) v.value empty_log) (memory_of in_use' region' (λ (image : List ℕ). IsFitting image) v'.value empty_log) t r → IsLawful (code t r) v'.value.attempt.reads []
 lawful_read in_use in_use' region region' c c' l l' v v' t r u range o ran =
-    subst (λ (ps : List (ℕ × ℕ)). IsLawful (code t r) v'.value.reads ps) no_pairs (lawful in_use in_use' region region' c c' l l' v v' empty_log empty_log t r u refl range o ran)
+    subst (λ (ps : List (ℕ × ℕ)). IsLawful (code t r) v'.value.attempt.reads ps) no_pairs (lawful in_use in_use' region region' c c' l l' v v' empty_log empty_log t r u refl range o ran)

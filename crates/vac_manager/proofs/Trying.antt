@@ -16,7 +16,7 @@ use Rattle.vac_manager.specs.Called.{Tried, WasShown, IsStop}
 
 -- of so many tries this many are left, and all others met a conflict
 pub record Trying (v v' : Client) (left tries : ℕ) : Type 0 where
-  pub attempt : v'.attempt + left ≡ v.attempt + tries
+  pub attempt : v'.attempt.number + left ≡ v.attempt.number + tries
   pub grants : v'.grants ≡ v.grants
   pub floor : v.floor ≤ v'.floor
   pub records : v'.records ≡ v.records

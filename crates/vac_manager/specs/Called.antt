@@ -62,7 +62,7 @@ is_call t tries = is_task t && is_try_count tries
 pub record Adds (renewal : ℕ) (tag : List ℕ) (v v' : Client) : Type 0 where
   pub added : Record
   pub tag_is : added.tag ≡ tag
-  pub attempt_is : added.attempt ≡ v'.attempt
+  pub attempt_is : added.attempt ≡ v'.attempt.number
   pub renewal_is : added.renewal ≡ renewal
   pub unplaced : added.point ≡ 0
   pub later : v.floor ≤ added.version
@@ -97,7 +97,7 @@ IsWhole region v = (last : State) × IsHistory region v.records last
 -- one attempt was made
 pub record Tried {E : Type 0} (region : RegionShown) (t : Task) (v v' : Client)
     (result : Result Reply E) : Type 0 where
-  pub attempt : v'.attempt ≡ v.attempt + 1
+  pub attempt : v'.attempt.number ≡ v.attempt.number + 1
   pub grants : v'.grants ≡ v.grants
   pub floor : v.floor ≤ v'.floor
   pub records : Records region t result v v'
@@ -111,7 +111,7 @@ WasShown region conflict v =
 -- the clock was found at the last version
 pub record IsSpent (region : RegionShown) (version : ℕ) (v : Client) : Type 0 where
   pub version_is : version ≡ region.last
-  pub from : v.next_from ≡ region.last
+  pub from : v.attempt.next_from ≡ region.last
 
 -- why an attempt of a task stopped: for a conflict that was shown, or, where the task may write,
 -- for want of memory or a spent clock
@@ -137,7 +137,7 @@ IsCount tries before now (Err (stop.Spent version)) = (before < now) × (now ≤
 -- some attempts were made, one after the other
 pub record Repeated (region : RegionShown) (t : Task) (tries : ℕ) (v v' : Client)
     (result : Result Reply Stop) : Type 0 where
-  pub count : IsCount tries v.attempt v'.attempt result
+  pub count : IsCount tries v.attempt.number v'.attempt.number result
   pub grants : v'.grants ≡ v.grants
   pub floor : v.floor ≤ v'.floor
   pub records : Records region t result v v'

@@ -116,7 +116,7 @@ impl Manager {
         ensures records { Records self.now task.now result
             client.old.value client.new.value }
         ensures attempts { Attempts tries
-            client.old.value.attempt client.new.value.attempt result }
+            client.old.value.attempt.number client.new.value.attempt.number result }
         ensures legal { IfOk result (λ _. WasLegal self.now client.new.value) }
         ensures whole { HasAllGrants client.old.value
             → IfOk result (λ _. IsWhole self.now client.new.value) }
@@ -147,7 +147,7 @@ impl Manager {
         ensures records { Records self.now task.now result
             client.old.value client.new.value }
         ensures attempts { Attempts tries
-            client.old.value.attempt client.new.value.attempt result }
+            client.old.value.attempt.number client.new.value.attempt.number result }
         ensures legal { IfOk result (λ _. WasLegal self.now client.new.value) }
         ensures whole { HasAllGrants client.old.value
             → IfOk result (λ _. IsWhole self.now client.new.value) }

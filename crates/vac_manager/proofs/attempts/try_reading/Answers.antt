@@ -10,11 +10,11 @@ use Rattle.vac_manager.proofs.attempts.try_reading.Goals as goal
 
 pub read_task-answer-requires-clause-state : goal.read_task-answer-requires-clause-state
 read_task-answer-requires-clause-state g c =
-    holds_begun _ _ _ _ _ (ap (λ (x : ClientShown). is_unfinished x.value.phase) c.begin-attempt.ensures.value) c.begin-attempt.ensures.region c.requires.opened refl
+    holds_begun _ _ _ _ _ (ap (λ (x : ClientShown). is_unfinished x.value.attempt.phase) c.begin-attempt.ensures.value) c.begin-attempt.ensures.region c.requires.opened refl
 
 pub finish-requires-clause-lawful : goal.finish-requires-clause-lawful
 finish-requires-clause-lawful g c =
-    lawful_read _ _ _ _ _ _ _ _ _ _ _ _ (ap (λ (x : ClientShown). is_unfinished x.value.phase) c.begin-attempt.ensures.value) c.requires.range
+    lawful_read _ _ _ _ _ _ _ _ _ _ _ _ (ap (λ (x : ClientShown). is_unfinished x.value.attempt.phase) c.begin-attempt.ensures.value) c.requires.range
     c.in-Ok.ensures.origin c.in-Ok.ensures.answer
 
 pub returns-clause-legal : goal.returns-clause-legal
