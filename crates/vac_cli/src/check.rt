@@ -1,7 +1,7 @@
 //! The audit of words that are read as text.
 
 ghost use Rattle.std.specs.Prelude.{◌≡◌, ◌≢◌, ◌≤◌, ◌++◌, ◌⊎◌, true, false, OnOk, OnErr, IfOk, IfErr};
-ghost use Rattle.vac_cli.specs.declared.script.RunFault.TheVariants.{Busy};
+ghost use Rattle.vac_cli.specs.declared.script.RunFault.TheVariants.{Busy, Spent};
 ghost use Rattle.vac_cli.specs.Check.{flaw_name, flaw_text, verdict_text, is_sound};
 ghost use Rattle.vac_cli.specs.Check.{Judged, IsVerdict, Checked, CheckStopped};
 ghost use Rattle.vac_cli.specs.Ending.{NamedAfter};
@@ -97,6 +97,7 @@ fn is_sound(verdict: Verdict) -> bool
 fn judge(alloc: Global, words: &[u64]) -> Result<Verdict, RunFault>
     ensures judged { IfOk result (λ verdict. Judged words.now verdict) }
     ensures not_busy { IfErr result (λ fault. fault ≢ Busy) }
+    ensures not_spent { IfErr result (λ fault. fault ≢ Spent) }
 {
     match audit_words(alloc, words) {
         Ok(report) => Ok(Verdict::Sound(report)),
@@ -112,6 +113,7 @@ fn read_verdict<R: Read>(alloc: Global, input: &mut R) -> Result<Verdict, RunFau
     ensures ok { IfOk result (λ verdict.
         IsVerdict (R.remaining input.old) (R.remaining input.new) verdict) }
     ensures not_busy { IfErr result (λ fault. fault ≢ Busy) }
+    ensures not_spent { IfErr result (λ fault. fault ≢ Spent) }
 {
     match read_memory(alloc, input)? {
         None => Ok(Verdict::BadWords),
@@ -138,6 +140,7 @@ pub fn check_words<R: Read, W: Write>(
     ensures err { OnErr result (CheckStopped (R.remaining input.old) (R.remaining input.new)
         (W.contents output.old) (W.contents output.new)) }
     ensures not_busy { IfErr result (λ fault. fault ≢ Busy) }
+    ensures not_spent { IfErr result (λ fault. fault ≢ Spent) }
 {
     let verdict = read_verdict(alloc, input)?;
     let mut line = Vec::new(alloc);

@@ -2,7 +2,7 @@
 
 ghost use Rattle.std.specs.Prelude.{◌≡◌, ◌≢◌, ◌≤◌, ◌+◌, ◌++◌, [], length};
 ghost use Rattle.std.specs.Prelude.{OnOk, IfOk, IfErr, MatchOption, MatchBool};
-ghost use Rattle.vac_cli.specs.declared.script.RunFault.TheVariants.{Busy};
+ghost use Rattle.vac_cli.specs.declared.script.RunFault.TheVariants.{Busy, Spent};
 ghost use Rattle.vac_cli.specs.Script.{HasBegun};
 ghost use Rattle.vac_cli.specs.Reading.{TookLine, RefusedLine, Took, TookNone};
 ghost use Rattle.vac_cli.specs.Reading.{TookLast, TookNoLast, ReadWords, ReadNone};
@@ -104,6 +104,7 @@ pub fn read_memory<R: Read>(alloc: Global, input: &mut R) -> Result<Option<Vec<u
         (ReadNone (R.remaining input.old) (R.remaining input.new))
         (λ words. ReadWords (R.remaining input.old) (R.remaining input.new) words.items)) }
     ensures not_busy { IfErr result (λ fault. fault ≢ Busy) }
+    ensures not_spent { IfErr result (λ fault. fault ≢ Spent) }
 {
     let mut text = MemoryText {
         words: Vec::new(alloc),

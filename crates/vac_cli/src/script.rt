@@ -8,7 +8,7 @@ ghost use Rattle.vac_model.specs.Ranges.{is_task};
 ghost use Rattle.vac_manager.specs.Opening.{is_block_count};
 ghost use Rattle.vac_lines.specs.Text.{Extends};
 ghost use Rattle.vac_lines.specs.LineTable.{line_task};
-ghost use Rattle.vac_cli.specs.declared.script.RunFault.TheVariants.{Busy};
+ghost use Rattle.vac_cli.specs.declared.script.RunFault.TheVariants.{Busy, Spent};
 ghost use Rattle.vac_cli.specs.System.{StandsAt, Answered, AnsweredInPart, Ran, RanInPart};
 ghost use Rattle.vac_cli.specs.System.{Wrote, WroteInPart, WroteEnd, WroteEndInPart, RanAll};
 ghost use Rattle.vac_cli.specs.Script.{pending, leaves, HasBegun, AppendsPrefix};
@@ -121,6 +121,7 @@ pub(crate) fn write_all<W: Write>(output: &mut W, text: &[u8]) -> Result<(), Run
     ensures err { OnErr result
         (AppendsPrefix (W.contents output.old) (W.contents output.new) text.now) }
     ensures not_busy { IfErr result (λ fault. fault ≢ Busy) }
+    ensures not_spent { IfErr result (λ fault. fault ≢ Spent) }
 {
     let mut sent = 0;
     'writes: for _ in 0..u64::MAX {
