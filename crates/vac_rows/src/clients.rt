@@ -2,12 +2,16 @@
 ghost use Rattle.std.specs.Prelude.{◌≡◌, ◌*◌, All};
 
 use crate::caller::{Caller, LAST};
-use crate::scripts::{add, audit, cancel, delete, drop_customer, new_customer, report, reserve};
+use crate::scripts::{
+    Line, add, add_command, audit, cancel, delete, delete_command, drop_customer, new_customer,
+    number, pick, report, reserve, trip, update,
+};
 use std::alloc::Global;
 use std::process::Abort;
 use stm_region::RegionFault;
 use vac_manager::{Client, Manager};
-use vac_model::Kind::Car;
+use vac_model::Joined;
+use vac_model::Kind::{Car, Room};
 use vac_model::Reply::{Done, No};
 use vac_model::Why::Full;
 
@@ -149,6 +153,35 @@ fn each_client_has_a_list_of_its_own(rt: HostRuntime) {
     let words = closed_words(&rt, manager, client);
     let found = [1, 4, 8, 9, 88, 24, 32, 10].map(|place| words.get(place).copied());
     assert_eq!(rt; found, [0, 16, 80, 88, 24, 32, 0, 96].map(Some));
+}
+
+// The same of tasks of several commands: an update, a trip and a leave of the second client.
+#[test]
+fn tasks_keep_to_the_list_of_their_client(rt: HostRuntime) {
+    let alloc = rt.alloc();
+    let (manager, client) = Manager::new(alloc, 16, LAST).expect(&rt, "it opens");
+    let mut a = Caller {
+        manager: &manager,
+        client,
+    };
+    let mut b = a.split().expect(&rt, "there are grants");
+    let changes = [
+        add_command(Car, 5, 1, Some(10)),
+        add_command(Room, 5, 1, Some(20)),
+        delete_command(Room, 5, 1),
+    ];
+    let picks = [pick(5, 10, None), None, None];
+    let script = [
+        (Line::Update(&changes), Ok(update(None, None, None))),
+        (Line::Trip(6, &[(Car, 5)]), Ok(trip(Joined::Added, picks))),
+        (Line::Leave(6), Ok(number(10))),
+    ];
+    b.expect(&rt, alloc, 1, &script);
+    a.gather(b);
+    let client = a.client;
+    let words = closed_words(&rt, manager, client);
+    let found = [1, 9, 88, 32, 8, 10].map(|place| words.get(place).copied());
+    assert_eq!(rt; found, [24, 88, 32, 0, 16, 96].map(Some));
 }
 
 // A client that is taken in gives a grant back, to the one that takes it in.
