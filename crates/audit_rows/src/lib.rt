@@ -1,5 +1,5 @@
-//! Tests of what walks over a state in words and of what changes it: reports, audits and tasks, with
-//! words and answers that were worked out by hand.
+//! Tests of what walks over a state in words and of what changes it: reports, audits and tasks,
+//! with words and answers that were worked out by hand.
 #![tactic(auto)]
 
 #[cfg(test)]

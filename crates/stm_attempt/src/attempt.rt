@@ -32,7 +32,8 @@ pub struct Attempt<'a, L: Law, R: Allocator = Global, A: Allocator + Copy = Glob
     ghost own: { client.now.table ≡ region.now.table },
     ghost known: { rv ≤ region.now.last },
     ghost running: { logs.now.in_use ≡ true → IsRunning region.now client.now.value rv stopped },
-    ghost inside: { logs.now.in_use ≡ true → AreInside region.now.size client.now.value.attempt.reads },
+    ghost inside: { logs.now.in_use ≡ true
+        → AreInside region.now.size client.now.value.attempt.reads },
     ghost logged: { logs.now.in_use ≡ true → stopped ≡ None →
         logs.now.reads ≡ addresses client.now.value.attempt.reads },
     ghost placed: { logs.now.in_use ≡ true → IsPlaced region.now logs.now.writes },

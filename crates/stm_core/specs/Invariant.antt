@@ -23,8 +23,8 @@ world c story = record {
 abbrev pub share : Client → ℕ
 share v = cond v.spent 0 (v.grants + 1)
 
--- the version invariant within one renewal, of a core that has no records of earlier ones. The law says which
--- records are lawful, lk which lock an address has
+-- the version invariant within one renewal, of a core that has no records of earlier ones. The law
+-- says which records are lawful, lk which lock an address has
 pub record Inv
     (lawful : List ℕ → List (ℕ × ℕ) → List (ℕ × ℕ) → Type 0) (lk : ℕ → ℕ) (c : Core)
     : Type 0 where
