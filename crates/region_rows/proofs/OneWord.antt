@@ -6,13 +6,15 @@ use lib.ListN.{get_elem?}
 use Rattle.stm_words.specs.Image.{In}
 use Rattle.stm_core.specs.Client.{Client, running, committed, locked, ticked, word_before, without, writes_to}
 use Rattle.stm_core.specs.Core.{IsFreeHanded}
-use Rattle.stm_core.specs.Event.{begin, probe, lock, tick, put as put_word, release, give_back, MayWrite, Holds, after, stepping, holding, committed_by, versioned, with_ticks}
-use Rattle.stm_region.specs.Shown.{RegionShown, ClientShown, IsAllowed, acted, unplaced, stripe_of}
+use Rattle.stm_core.specs.Event.{begin, probe, lock, tick, put as put_word, release, give_back, after, stepping, holding, committed_by, versioned, with_ticks}
+use Rattle.stm_region.specs.Shown.{RegionShown, ClientShown, IsAllowed, acted, bounds, unplaced, stripe_of}
 use Rattle.std.specs.FinMap.{empty, get, get-empty, entries, entries-insert, len-entries, len-empty, put}
 use Rattle.std.specs.Ordering.{nat_cmp}
 use Rattle.std.proofs.lemmas.Cmp.{nat_cmp_total}
 use Rattle.stm_logs.specs.Log.{log_pairs, empty_log}
 use Rattle.stm_logs.specs.Held.{with_word}
+use Rattle.stm_core.proofs.Conditions.{MayWrite, may_act_so}
+use Rattle.stm_core.specs.Guards.{Holds}
 
 no_length : (xs : List (ℕ × ℕ)) → length xs ≡ 0 → xs ≡ []
 no_length [] e = refl
@@ -61,10 +63,10 @@ one_there p q (suc j, e) = absurd (some-ne-none q (sym e))
 eqb_or : (a b : ℕ) → (eqb a b || false) ≡ true → a ≡ b
 eqb_or a b e = grind (arith, nat_tests)
 
-may_write : (lk : ℕ → ℕ) (size k old a x : ℕ) → a < size → k ≡ lk a → MayWrite lk size ((k, old) ∷ []) ((a, x) ∷ [])
-may_write lk size k old a x l e = record {
+one_may_write : (lk : ℕ → ℕ) (size k old a x : ℕ) → a < size → k ≡ lk a → MayWrite lk size ((k, old) ∷ []) ((a, x) ∷ [])
+one_may_write lk size k old a x l e = record {
   some = λ z. cc;
-  once = (refl, tt);
+  once = refl;
   inside = λ b t. (let q = eqb_or a b t in omega arith);
   locks = record {
     every = λ b t. (old, (0, ap (λ (n : ℕ). some (n, old)) (e ∙ ap lk (eqb_or a b t))));
@@ -75,7 +77,7 @@ may_write lk size k old a x l e = record {
 pub may_tick : (r : RegionShown) (d : ClientShown) (k n a x : ℕ) (tag : List ℕ) (pairs : List (ℕ × ℕ)) → HasOne k n d.value → n < r.last → a < r.size → k ≡ stripe_of r.stripes a → pairs ≡ (a, x) ∷ [] → IsAllowed Free r (tick n tag pairs) d
 may_tick r d k n a x tag pairs h below inside is one = (
   h.alive,
-  ((h.phase, h.none), sym h.next, below, (let t = h.ticks in omega arith), rw (h.held, one) (may_write (stripe_of r.stripes) r.size k h.old a x inside is), tt),
+  may_act_so (stripe_of r.stripes) Free (bounds r) d.value.attempt (tick n tag pairs) ((h.phase, h.none), sym h.next, below, (let t = h.ticks in omega arith), rw (h.held, one) (one_may_write (stripe_of r.stripes) r.size k h.old a x inside is), tt),
 )
 
 -- a running client that holds one lock
@@ -92,7 +94,7 @@ pub has_lock : (k n : ℕ) (v : Client) → HasOne k n v → HasLock k v
 has_lock k n v h = record { alive = h.alive; phase = h.phase; old = h.old; held = h.held }
 
 pub may_give_back : (r : RegionShown) (d : ClientShown) (k : ℕ) → HasLock k d.value → IsAllowed Free r (give_back k) d
-may_give_back r d k h = (h.alive, (inl h.phase, holds_one d.value.attempt.held k h.old h.held))
+may_give_back r d k h = (h.alive, may_act_so (stripe_of r.stripes) Free (bounds r) d.value.attempt (give_back k) (inl h.phase, holds_one d.value.attempt.held k h.old h.held))
 
 pub lost_one : (r : RegionShown) (c d : ClientShown) (k n m : ℕ) (tag : List ℕ) (pairs : List (ℕ × ℕ)) → HasOne k n c.value → m ≢ n → d ≡ acted r (tick n tag pairs) m c → HasLock k d.value
 lost_one r c d k n m tag pairs h ne e = subst (λ (x : ClientShown). HasLock k x.value) (sym e) (subst (λ v. HasLock k v) (sym lost) record { alive = h.alive; phase = h.phase; old = h.old; held = h.held })
@@ -118,7 +120,7 @@ won_one r c d k n a x tag pairs h one e = subst (λ (y : ClientShown). HasDecide
 pub may_put : (r : RegionShown) (d : ClientShown) (k a x : ℕ) → HasDecided k a x d.value → k ≡ stripe_of r.stripes a → IsAllowed Free r (put_word a x) d
 may_put r d k a x h is = (
   h.alive,
-  (
+  may_act_so (stripe_of r.stripes) Free (bounds r) d.value.attempt (put_word a x) (
     h.phase,
     (0, ap (λ (w : List (ℕ × ℕ)). get_elem? w 0) h.writes),
     subst (Holds d.value.attempt.held) is (holds_one d.value.attempt.held k h.old h.held),
@@ -129,7 +131,7 @@ may_put r d k a x h is = (
 pub may_release : (r : RegionShown) (d e : ClientShown) (k a x : ℕ) → HasDecided k a x d.value → e ≡ acted r (put_word a x) 0 d → IsAllowed Free r (release k) e
 may_release r d e k a x h q = subst (λ (y : ClientShown). IsAllowed Free r (release k) y) (sym q) (
   h.alive,
-  (
+  may_act_so (stripe_of r.stripes) Free (bounds r) (acted r (put_word a x) 0 d).value.attempt (release k) (
     h.phase,
     holds_one d.value.attempt.held k h.old h.held,
     λ b z t. (0, rw h.stored (ap some (eqb_or a b (subst (λ w. writes_to w b ≡ true) h.writes t)))),

@@ -5,9 +5,11 @@ use Rattle.stm_words.specs.Image.{In}
 use Rattle.stm_words.specs.LockWord.{free_word}
 use Rattle.stm_words.proofs.Paired.{in_later}
 use Rattle.stm_core.specs.Client.{Client, Step, probed, writes_to, IsFree, Stamp}
-use Rattle.stm_core.specs.Event.{probe, lock, after, May, Bounds, IsReading, HasFoundFree}
+use Rattle.stm_core.specs.Event.{probe, lock, after, Bounds}
 use Rattle.stm_attempt.specs.Conflicts.{IsHeld}
 use Rattle.stm_attempt.specs.CommitParts.{IsAbove}
+use Rattle.stm_core.proofs.Conditions.{IsReading, may_act_so}
+use Rattle.stm_core.specs.Guards.{May}
 
 pub not_mine : (held : List (ℕ × ℕ)) (k : ℕ) → ((j u : ℕ) → In (j, u) held → j < k) → writes_to held k ≡ false
 not_mine [] k above = refl
@@ -24,10 +26,10 @@ module _ (lawful : List ℕ → List (ℕ × ℕ) → List (ℕ × ℕ) → Type
   may_lock unspent reading range u free =
       let is_free : IsFree n = omega arith in (
         ap (λ (x : Client). x.spent) stepped ∙ unspent,
-        (
+        may_act_so lk lawful b w.attempt (lock k) (
           (ap (λ (x : Client). x.attempt.phase) stepped ∙ reading.0, ap (λ (x : Client). x.attempt.wv) stepped ∙ reading.1),
           range,
-          subst (λ (l : Step). HasFoundFree k l) (sym (ap (λ (x : Client). x.attempt.last) stepped)) (refl, is_free),
+          (n, ap (λ (x : Client). x.attempt.last) stepped, is_free),
           λ j u' i. above j u' (subst (λ (h : List (ℕ × ℕ)). In (j, u') h) (ap (λ (x : Client). x.attempt.held) stepped) i),
         ),
       )

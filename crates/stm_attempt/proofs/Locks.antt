@@ -8,8 +8,8 @@ use Rattle.stm_logs.specs.Log.{LogValue, log_locks}
 use Rattle.stm_logs.proofs.RisingLemmas.{Rising, In as Among}
 use Rattle.stm_logs.proofs.LockLemmas.{locks_rise, locks_in}
 use Rattle.stm_core.specs.Client.{without}
-use Rattle.stm_core.specs.Event.{Holds}
 use Rattle.stm_attempt.specs.Begun.{addresses}
+use Rattle.stm_core.specs.Guards.{Holds}
 
 pub among_middle : {X : Type 0} (xs : List X) (k : X) (rest : List X) → Among k (xs ++ k ∷ rest)
 among_middle [] k rest = inl refl

@@ -1,10 +1,11 @@
 -- What a lone attempt finds: nothing that could stop it.
 use Rattle.std.proofs.Common.{◌≡◌, ◌⊎◌, inl, inr, ap, ℕ, ◌<◌, true, arith}
 use Rattle.stm_core.specs.Client.{Client, IsFree, is_committed}
-use Rattle.stm_core.specs.Event.{Holds, IsReading}
 use Rattle.stm_region.specs.Told.{IsLoneOpen}
 use Rattle.stm_attempt.specs.Conflicts.{IsHeld}
 use Rattle.stm_attempt.specs.CommitParts.{IsAbove}
+use Rattle.stm_core.proofs.Conditions.{IsReading}
+use Rattle.stm_core.specs.Guards.{Holds}
 
 -- an attempt that reads is not decided
 pub open_reading : (v : Client) → v.attempt.lone ≡ true → IsReading v.attempt → IsLoneOpen v

@@ -4,7 +4,7 @@ use Rattle.std.proofs.Math.Seq.{take-length}
 use Rattle.std.specs.FinMap.{get}
 use Rattle.stm_words.specs.Image.{In}
 use Rattle.stm_core.specs.Client.{Client, Stamp, without, writes_to, committed}
-use Rattle.stm_core.specs.Event.{release, after, May, Bounds, Holds}
+use Rattle.stm_core.specs.Event.{release, after, Bounds}
 use Rattle.stm_logs.specs.Log.{LogValue, log_locks}
 use Rattle.stm_logs.proofs.RisingLemmas.{Rising, In as Among}
 use Rattle.stm_attempt.specs.Begun.{addresses}
@@ -12,6 +12,8 @@ use Rattle.stm_attempt.specs.Committing.{settling}
 use Rattle.stm_attempt.specs.CommitParts.{IsAllStored}
 use Rattle.stm_logs.proofs.LockLemmas.{locks_rise, locks_in}
 use Rattle.stm_attempt.proofs.Locks.{rising_behind, gives_first, among_middle}
+use Rattle.stm_core.proofs.Conditions.{may_act_so}
+use Rattle.stm_core.specs.Guards.{Holds, May}
 
 -- the locks of the rest are still to be released, after those that are gone
 pub record IsReleasing (v v' : Client) (rest all : List ℕ) : Type 0 where
@@ -43,7 +45,7 @@ module _ (lawful : List ℕ → List (ℕ × ℕ) → List (ℕ × ℕ) → Type
       let writes : v.attempt.writes ≡ v0.attempt.writes = ap (λ (x : Client). x.attempt.writes) releasing.same in
       let kept : v.attempt.stored ≡ v0.attempt.stored = releasing.stored in (
         ap (λ (x : Client). x.spent) releasing.same ∙ decided.0,
-        (
+        may_act_so lk lawful b v.attempt (release k) (
           ap (λ (x : Client). x.attempt.phase) releasing.same ∙ decided.1,
           first.0,
           λ a is written. subst (In a) (sym kept) (stored a (ap (λ (ps : List (ℕ × ℕ)). writes_to ps a) (sym writes) ∙ written)),

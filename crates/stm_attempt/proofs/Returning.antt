@@ -2,13 +2,15 @@
 use Rattle.std.proofs.Common.{◌≡◌, ◌≢◌, inr, sym, ap, subst, ◌∙◌, ℕ, suc, ◌+◌, ◌-◌, List, [], ◌∷◌, ◌++◌, append_assoc, length, take, arith, Some}
 use Rattle.std.specs.FinMap.{get}
 use Rattle.stm_core.specs.Client.{Client, Stamp, without}
-use Rattle.stm_core.specs.Event.{give_back, after, May, Bounds, Holds}
+use Rattle.stm_core.specs.Event.{give_back, after, Bounds}
 use Rattle.stm_logs.specs.Log.{LogValue, log_locks}
 use Rattle.stm_logs.proofs.RisingLemmas.{Rising, In as Among}
 use Rattle.stm_attempt.specs.Begun.{addresses}
 use Rattle.stm_attempt.specs.CommitParts.{returned, IsReturning}
 use Rattle.stm_logs.proofs.LockLemmas.{locks_rise, locks_in}
 use Rattle.stm_attempt.proofs.Locks.{rising_behind, gives_first, among_middle}
+use Rattle.stm_core.proofs.Conditions.{may_act_so}
+use Rattle.stm_core.specs.Guards.{Holds, May}
 
 module _ (lawful : List ℕ → List (ℕ × ℕ) → List (ℕ × ℕ) → Type 0) (t : Stamp) (lk : ℕ → ℕ) (b : Bounds) (w : LogValue) (v0 v : Client) (count left k : ℕ) (now rest : List ℕ) (returning : IsReturning v0 v count left now (log_locks w)) (next : now ≡ k ∷ rest) (some_left : left ≢ 0) where
   order : returning.gone ++ k ∷ rest ≡ log_locks w
@@ -24,7 +26,7 @@ module _ (lawful : List ℕ → List (ℕ × ℕ) → List (ℕ × ℕ) → Type
   return_logged = locks_in w k (subst (λ (xs : List ℕ). Among k xs) order (among_middle returning.gone k rest))
 
   pub may_return : May lawful lk b (give_back k) v
-  may_return = (returning.able.0, (returning.able.1, first.0))
+  may_return = (returning.able.0, may_act_so lk lawful b v.attempt (give_back k) (returning.able.1, first.0))
 
   pub returned_one : (v' : Client) → v' ≡ after t lk (give_back k) 0 v → IsReturning v0 v' count (left - 1) rest (log_locks w)
   returned_one v' e = record {

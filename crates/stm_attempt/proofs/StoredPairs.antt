@@ -9,7 +9,7 @@ use mathlib.Core.Option.{some}
 use Rattle.stm_words.specs.Image.{In}
 use Rattle.stm_words.proofs.Paired.{in_later}
 use Rattle.stm_core.specs.Client.{Client, Stamp, committed, writes_to, old_version}
-use Rattle.stm_core.specs.Event.{put, after, May, Holds}
+use Rattle.stm_core.specs.Event.{put, after}
 use Rattle.stm_core.proofs.Held.{old_in}
 use Rattle.stm_logs.specs.Log.{LogValue, log_pairs, log_locks, is_number, pairs_of, SameAddresses}
 use Rattle.stm_logs.proofs.LockLemmas.{in_locks, locks_rise}
@@ -21,6 +21,8 @@ use Rattle.stm_attempt.specs.CommitParts.{IsAllStored, HasStored}
 use Rattle.stm_attempt.specs.StoredPairs.{IsUnstored, HasStoredPairs}
 use Rattle.stm_attempt.proofs.Locks.{among_held, rising_before, among_middle, among_front}
 use Rattle.stm_attempt.proofs.Counting.{count_shares, one_kept}
+use Rattle.stm_core.proofs.Conditions.{may_act_so}
+use Rattle.stm_core.specs.Guards.{Holds, May}
 
 pub among_in : {X : Type 0} (x : X) (xs : List X) → Among x xs → In x xs
 among_in x [] i = absurd i
@@ -131,7 +133,7 @@ module _ (lawful : List ℕ → List (ℕ × ℕ) → List (ℕ × ℕ) → Type
       let same_held : v0.attempt.held ≡ v.attempt.held = sym (storing.has.held) in
       let held_here : Holds v.attempt.held lock = subst (λ (h : List (ℕ × ℕ)). Holds h lock) same_held holds in (
         ap (λ (c : Client). c.spent) storing.has.same ∙ decided.0,
-        (
+        may_act_so (stripe_of region.stripes) lawful (bounds region) v.attempt (put a x) (
           ap (λ (c : Client). c.attempt.phase) storing.has.same ∙ decided.1,
           subst (In (a, x)) same_writes (among_in (a, x) (log_pairs w) (get_in w.words a x got.0)),
           subst (Holds v.attempt.held) (placed.lock a lock got.1) held_here,

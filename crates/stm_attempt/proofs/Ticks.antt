@@ -1,11 +1,12 @@
 -- Ticks that were lost, and the one that is won.
 use Rattle.std.proofs.Common.{◌≡◌, ◌≢◌, refl, ap, ◌∙◌, ℕ, ◌+◌, ◌<◌, Bool, true, false, cond, List, eq-eqb}
 use Rattle.stm_core.specs.Client.{Client, running, committed, ticked, inserted}
-use Rattle.stm_core.specs.Event.{tick, after, won, versioned, committed_by, stepping, with_ticks, forgetting, IsReading}
+use Rattle.stm_core.specs.Event.{tick, after, won, versioned, committed_by, stepping, with_ticks, forgetting}
 use Rattle.stm_region.specs.Shown.{RegionShown, stripe_of, unplaced}
 use Rattle.stm_attempt.specs.Committing.{ticked_record}
 use Rattle.stm_attempt.specs.CommitParts.{HasTicked, is_at_once}
 use Rattle.stm_attempt.proofs.Named.{apart, same_attempt}
+use Rattle.stm_core.proofs.Conditions.{IsReading}
 
 -- the client's value without what a lost tick changes
 abbrev pub unticked : Client → Client

@@ -5,7 +5,7 @@ use Rattle.std.proofs.lemmas.List.{length-map}
 use mathlib.Core.Option.{some}
 use lib.ListN.{get_elem?}
 use Rattle.stm_core.specs.Client.{Client, Record, running, validated, inserted, writes_to}
-use Rattle.stm_core.specs.Event.{Bounds, May, validate, committed_by, stepping, marking, counting, forgetting}
+use Rattle.stm_core.specs.Event.{Bounds, validate, committed_by, stepping, marking, counting, forgetting}
 use Rattle.stm_region.specs.Shown.{RegionShown, stripe_of, unplaced}
 use Rattle.stm_attempt.specs.Begun.{addresses, address_of, AreInside}
 use Rattle.stm_attempt.specs.Committing.{ticked_record}
@@ -14,6 +14,8 @@ use Rattle.stm_attempt.proofs.Named.{apart, same_attempt}
 use Rattle.stm_attempt.specs.Conflicts.{IsReadLock}
 use Rattle.stm_attempt.specs.Validating.{HasValidatedLock}
 use Rattle.stm_attempt.proofs.ValidateOne.{by_validate}
+use Rattle.stm_core.proofs.Conditions.{may_act_so}
+use Rattle.stm_core.specs.Guards.{May}
 
 -- the client's value without what the validation of a lock changes that passes
 abbrev pub unvalidated : Client → Client
@@ -54,7 +56,7 @@ module _ (region : RegionShown) (v w : Client) (count : ℕ) (validating : IsVal
       let here : get_elem? w.attempt.reads w.attempt.passed ≡ some (a, at.0) =
       ap (λ (x : Client). get_elem? x.attempt.reads w.attempt.passed) validating.same ∙ ap (get_elem? v.attempt.reads) validating.passed ∙ at.1 ∙ ap (λ (n : ℕ). some (n, at.0)) (sym address) in
       let version : w.attempt.wv ≡ v.attempt.wv = ap (λ (x : Client). x.attempt.wv) validating.same in
-      (ap (λ (x : Client). x.spent) validating.same ∙ unspent, ((validating.runs less).0, omega (arith, version), (a, at.0, here, sym lock)))
+      (ap (λ (x : Client). x.spent) validating.same ∙ unspent, may_act_so lk lawful b w.attempt (validate k) ((validating.runs less).0, omega (arith, version), (a, at.0, here, sym lock)))
 
   -- one lock more passed, by whether it was the last of all
   validated_by : (d : Bool) (w' : Client) (lock word : ℕ) → w' ≡ marking (writes_to w.attempt.held lock) (stepping (validated lock word) (let x = counting w in cond d (committed_by (unplaced region.renewal) x) x)) → eqb (count + 1) (length v.attempt.reads) ≡ d → v.attempt.ticked_at ≡ 0 → IsValidating region v w' (count + 1)

@@ -8,10 +8,11 @@ use Rattle.stm_logs.proofs.RisingLemmas.{Rising, rising_entries, in_map, get_in,
 use Rattle.stm_logs.proofs.LockLemmas.{in_locks, locks_in}
 use Rattle.stm_logs.proofs.TableLemmas.{both_bool, some_none}
 use Rattle.stm_core.specs.Client.{writes_to}
-use Rattle.stm_core.specs.Event.{IsMap, LocksMatch, MayWrite}
 use Rattle.stm_region.specs.Shown.{RegionShown, stripe_of}
 use Rattle.stm_attempt.specs.Begun.{IsPlaced, addresses}
 use Rattle.stm_attempt.proofs.Locks.{held_among, among_held}
+use Rattle.stm_core.proofs.Conditions.{LocksMatch, write_test}
+use Rattle.stm_core.specs.Guards.{is_map, may_write}
 
 -- the pairs name an address exactly where it is among their addresses
 pub written_among : (ps : List (ℕ × ℕ)) (a : ℕ) → writes_to ps a ≡ true → (x : ℕ) × Among (a, x) ps
@@ -48,9 +49,9 @@ not_later (p ∷ ps) a above =
     let less : a < p.0 = above p (inl refl) in
     ap (λ (t : Bool). t || writes_to ps a) (ne_eqb p.0 a (λ e. absurd (omega arith))) ∙ not_later ps a (λ q i. above q (inr i))
 
-each_once : (ps : List (ℕ × ℕ)) → Rising (λ (p : ℕ × ℕ). p.0) ps → IsMap ps
-each_once [] rises = tt
-each_once (p ∷ ps) rises = (not_later ps p.0 rises.0, each_once ps rises.1)
+each_once : (ps : List (ℕ × ℕ)) → Rising (λ (p : ℕ × ℕ). p.0) ps → is_map ps ≡ true
+each_once [] rises = refl
+each_once (p ∷ ps) rises = rw (not_later ps p.0 rises.0, each_once ps rises.1) refl
 
 some_there : (o : Option ℕ) → (o ≡ None → ⊥) → (x : ℕ) × (o ≡ Some x)
 some_there None not_none = absurd (not_none refl)
@@ -79,10 +80,10 @@ module _ (region : RegionShown) (w : LogValue) (held : List (ℕ × ℕ)) (place
   }
 
   -- the log may be written where all its locks are held
-  pub may_write : len w.words ≢ 0 → MayWrite (stripe_of region.stripes) region.size held (log_pairs w)
-  may_write some = record {
+  pub log_may_write : len w.words ≢ 0 → may_write (stripe_of region.stripes) region.size held (log_pairs w) ≡ true
+  log_may_write some = (write_test (stripe_of region.stripes) region.size held (log_pairs w)).complete (record {
     some = λ e. some (len-entries w.words ∙ ap length e);
     once = each_once (log_pairs w) (rising_entries w.words);
     inside = λ a written. (let there = lock_there a written in placed.inside a there.0 there.1);
     locks = locks_match;
-  }
+  })

@@ -3,7 +3,7 @@ use Rattle.std.specs.Prelude.{◌≡◌, ◌≢◌, ◌⊎◌, ℕ, ◌+◌, ◌
 use Rattle.std.specs.FinMap.{len}
 use Rattle.stm_words.specs.Image.{In}
 use Rattle.stm_core.specs.Client.{Client, running, ending, committed, inserted, writes_to}
-use Rattle.stm_core.specs.Event.{IsReading, is_empty}
+use Rattle.stm_core.specs.Event.{is_empty}
 use Rattle.stm_logs.specs.Log.{LogValue, log_pairs, log_locks}
 use Rattle.stm_region.specs.Shown.{RegionShown}
 use Rattle.stm_attempt.specs.Begun.{AreInside, IsPlaced, addresses}
@@ -13,7 +13,7 @@ use Rattle.stm_attempt.specs.declared.conflict.Stop.{Stop}
 -- the attempt may commit what it wrote: it has begun at rv and only read, inside the region
 pub record IsReady (region : RegionShown) (v : Client) (rv : ℕ) : Type 0 where
   pub unspent : v.spent ≡ false
-  pub reading : IsReading v.attempt
+  pub reading : (v.attempt.phase ≡ running) × (v.attempt.wv ≡ 0)
   pub begun_at : v.attempt.rv ≡ rv
   pub known : v.floor ≡ rv
   pub unticked : v.attempt.ticks ≡ 0
@@ -50,6 +50,10 @@ pub record CanSettle (v : Client) (log : LogValue) : Type 0 where
 -- how many steps the client has made at most when a commit ends that wrote
 abbrev pub commit_bound : Client → LogValue → ℕ
 commit_bound v log = v.attempt.steps + length v.attempt.reads + 4 * len log.words + 16
+
+-- it may take locks
+abbrev pub CanLock : Client → Type 0
+CanLock v = (v.spent ≡ false) × ((v.attempt.phase ≡ running) × (v.attempt.wv ≡ 0))
 
 -- it holds no lock from this one on
 abbrev pub IsAbove : Client → ℕ → Type 0

@@ -1,11 +1,10 @@
 //! The locks of a commit: taken in ascending order, and given back.
 ghost use Rattle.std.specs.Prelude.{◌≡◌, ◌+◌, ◌<◌, ◌≤◌, ◌*◌, ◌⊎◌, [], true, false, length, take, IfOk, IfErr, IsOk};
-ghost use Rattle.stm_core.specs.Event.{IsReading};
 ghost use Rattle.stm_logs.specs.Log.{log_locks};
 ghost use Rattle.stm_region.specs.Shown.{stripe_of};
 ghost use Rattle.stm_attempt.specs.Begun.{IsPlaced, addresses};
 ghost use Rattle.stm_attempt.specs.Conflicts.{IsLockConflict, IsCommitConflict};
-ghost use Rattle.stm_attempt.specs.CommitParts.{returned, IsAbove, HasTaken, HasTakenAll, CanGiveBack, HasFailed, HasFailedLocking};
+ghost use Rattle.stm_attempt.specs.CommitParts.{returned, IsAbove, CanLock, HasTaken, HasTakenAll, CanGiveBack, HasFailed, HasFailedLocking};
 
 use crate::conflict::Conflict;
 use crate::reading::free_version;
@@ -22,7 +21,7 @@ fn lock_one<L: Law, R: Allocator>(
     lock: u32,
 ) -> Result<(), Conflict>
     requires own { client.old.table ≡ region.now.table }
-    requires ready { (client.old.value.spent ≡ false) × IsReading client.old.value.attempt }
+    requires ready { CanLock client.old.value }
     requires range { lock < region.now.stripes }
     requires above { IsAbove client.old.value lock }
     ensures own { client.new.table ≡ client.old.table }
@@ -51,7 +50,7 @@ pub(crate) fn lock_all<L: Law, R: Allocator, A: Allocator + Copy>(
     taken: &mut usize,
 ) -> Result<(), Conflict>
     requires own { client.old.table ≡ region.now.table }
-    requires ready { (client.old.value.spent ≡ false) × IsReading client.old.value.attempt }
+    requires ready { CanLock client.old.value }
     requires none { (client.old.value.attempt.held ≡ []) × (taken.old ≡ 0) }
     requires placed { IsPlaced region.now writes.now }
     ensures own { client.new.table ≡ client.old.table }

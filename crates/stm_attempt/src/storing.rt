@@ -1,7 +1,7 @@
 //! The end of a decided commit: its values are stored, and its locks released.
 ghost use Rattle.std.specs.Prelude.{◌≡◌, false};
 ghost use Rattle.stm_core.specs.Client.{committed};
-ghost use Rattle.stm_core.specs.Event.{Holds};
+ghost use Rattle.stm_core.specs.Guards.{Holds};
 ghost use Rattle.stm_logs.specs.Log.{log_pairs, log_locks, pairs_of};
 ghost use Rattle.stm_attempt.specs.Begun.{IsPlaced, addresses};
 ghost use Rattle.stm_attempt.specs.CommitParts.{CanSettle, HasStored, HasReleased, IsAllStored};

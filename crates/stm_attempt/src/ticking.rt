@@ -1,7 +1,7 @@
 //! The tick of a commit.
 ghost use Rattle.std.specs.Prelude.{◌≡◌, ◌+◌, ◌<◌, ◌≤◌, ◌^◌, true, IfOk, IfErr, MatchResult};
 ghost use Rattle.stm_core.specs.Client.{decided};
-ghost use Rattle.stm_core.specs.Event.{MayWrite};
+ghost use Rattle.stm_core.specs.Guards.{may_write};
 ghost use Rattle.stm_words.specs.declared.version.TheConstants.{VERSION_LIMIT};
 ghost use Rattle.stm_logs.specs.Log.{log_pairs};
 ghost use Rattle.stm_region.specs.Shown.{stripe_of};
@@ -40,8 +40,8 @@ pub(crate) fn tick<L: Law, R: Allocator, A: Allocator + Copy, T: Tag>(
 ) -> Result<Version, Stop>
     requires own { client.old.table ≡ region.now.table }
     requires ready { IsReady region.now client.old.value rv }
-    requires writes { MayWrite (stripe_of region.now.stripes) region.now.size
-        client.old.value.attempt.held (log_pairs writes.now) }
+    requires writes { may_write (stripe_of region.now.stripes) region.now.size
+        client.old.value.attempt.held (log_pairs writes.now) ≡ true }
     requires lawful { L.lawful (T.numbers tag.now) client.old.value.attempt.reads
         (log_pairs writes.now) }
     ensures own { client.new.table ≡ client.old.table }

@@ -1,5 +1,5 @@
 -- A decided writer's record beside the story, and a reader's.
-use Rattle.std.proofs.Common.{◌≡◌, ◌≢◌, ℕ, suc, ◌-◌, ◌<◌, inl, inr, ⊎_elim, true, false, List, [], length-set, set, sym, ap, ◌∙◌, subst, arith}
+use Rattle.std.proofs.Common.{◌≡◌, ◌≢◌, ℕ, suc, ◌-◌, ◌<◌, inl, inr, ⊎_elim, true, false, List, [], length-set, set, sym, ap, ◌∙◌, subst, arith, refl}
 use mathlib.Core.Option.{some}
 use mathlib.Core.Logic.{dite}
 use native.Mathlib.Decide.{ℕ_discrete}
@@ -94,7 +94,7 @@ module _ (lawful : List ℕ → List (ℕ × ℕ) → List (ℕ × ℕ) → Type
       present = r_renewal;
       reads = rw r_reads it.reads;
       writes = rw r_writes nothing_inside;
-      once = rw r_writes tt;
+      once = rw r_writes refl;
       writer = λ t. clash t r_writer;
       reader = λ f. r_writes;
     }

@@ -6,7 +6,6 @@ use native.Mathlib.Decide.{ℕ_discrete}
 use Rattle.std.proofs.lemmas.Bool.Decides.{nat_tests}
 use Rattle.stm_words.specs.Image.{In}
 use Rattle.stm_core.specs.Client.{Client, Record, rank, inserted}
-use Rattle.stm_core.specs.Event.{IsReading}
 use Rattle.stm_core.specs.Version.{At, IsOpen}
 use Rattle.stm_core.specs.History.{ByPoint}
 use Rattle.stm_core.specs.Theorem.{is_settled}
@@ -14,6 +13,7 @@ use Rattle.stm_core.proofs.Lists.{at_set, set_here, set_else, same_at, by_bool, 
 use Rattle.stm_core.specs.Event.{taking, gone}
 use Rattle.stm_core.proofs.Orders.{in_cons, in_inserted, inserted_in, inserted_old, in_merged, merged_left, merged_right}
 use Rattle.stm_core.proofs.Histories.{Ranked, rank_writer, rank_reader}
+use Rattle.stm_core.proofs.Conditions.{IsReading}
 
 -- the place of a begin that may still become a reader's point step, or of a won tick that may still become a writer's
 abbrev pub Mark : Client → ℕ → Type 0

@@ -6,24 +6,24 @@ use Rattle.std.proofs.lemmas.Bool.Decides.{nat_tests}
 use Rattle.std.proofs.lemmas.List.{length-replicate}
 use Rattle.stm_words.specs.Image.{In}
 use Rattle.stm_core.specs.Client.{shed, Client, Record, Stamp, checked, locked, ticked, validated, version_of, word_before, value_fetched, writes_to, old_version, is_committed}
-use Rattle.stm_core.specs.Event.{Action, begin, probe, fetch, check, lock, tick, validate, put, release, give_back, finish, committed_by, stepping, failing, read_too, holding, versioned, decides_at_once, won, passes, passing, after, giving, fresh, taking, renewing, gone, MayAct, with_ticks, marking, counting}
+use Rattle.stm_core.specs.Event.{Action, begin, probe, fetch, check, lock, tick, validate, put, release, give_back, finish, committed_by, stepping, failing, read_too, holding, versioned, decides_at_once, won, passes, passing, after, giving, fresh, taking, renewing, gone, with_ticks, marking, counting}
 use Rattle.stm_core.specs.History.{ByPoint}
-use Rattle.stm_core.specs.Core.{Core, bounds_of, found, left, written, Event, acts, splits, gathers, renews, IsClient, IsAlone, Allowed, client_of, played, Leads, opened}
+use Rattle.stm_core.specs.Core.{Core, bounds_of, found, left, written, Event, acts, splits, gathers, renews, Allowed, client_of, played, Leads, opened, is_out, are_spent, others_spent, may_play}
 use Rattle.stm_core.specs.Theorem.{stripe_of, free_law, IsHistory}
 use Rattle.stm_core.specs.Invariant.{Inv, now, Rule}
 use Rattle.stm_core.specs.Seat.{blank, seat_after}
-use Rattle.stm_core.specs.Tests.{may_act}
-use Rattle.stm_core.specs.Running.{Running, IsSane, stripes_of, is_out, may_play, are_spent, others_spent, decision, entered, stamp_of, run_acts, run_played, run_opened, found_of, shown, ran}
+use Rattle.stm_core.specs.Running.{Running, IsSane, stripes_of, decision, entered, stamp_of, run_acts, run_played, run_opened, found_of, shown, ran}
 use Rattle.stm_core.specs.Placing.{Placed}
 use Rattle.stm_core.specs.Follows.{IsOrderOf, IsReached, FollowsCore, RunningFollows}
 use Rattle.stm_core.proofs.Lists.{clash, nothing_in, by_bool, in_range}
 use Rattle.stm_core.proofs.Steps.{by_case, word_inside}
 use Rattle.stm_core.proofs.Held.{old_in}
-use Rattle.stm_core.proofs.Simulating.{Decides, through, and2, and3, and4, and5, eq_test, lt_test, le_test, false_test, not_test, empty_test, act_test}
-use Rattle.stm_core.proofs.Playing.{get_is, filed, earlier_after, history_after, Beside, event_beside, opening_beside, is_history, every_list_stands}
+use Rattle.stm_core.proofs.Playing.{filed, earlier_after, history_after, Beside, event_beside, opening_beside, is_history, every_list_stands}
 use Rattle.stm_core.proofs.Dating.{placed, placed_in}
 use Rattle.stm_core.proofs.Placing.{order_of, as_kept, decision_shown, entered_order, one_history}
 use Rattle.stm_core.proofs.Facts.{grants_of_two}
+use Rattle.stm_core.proofs.Conditions.{can_play, free_event, out_test}
+use Rattle.stm_core.specs.Guards.{may_act}
 
 get_map : (l : List Client) (i : ℕ) → get_or (map blank l) i gone ≡ blank (get_or l i gone)
 get_map [] i = refl
@@ -120,21 +120,16 @@ play_order (acts k e) c s old h same by o f =
 play_order (renews k last) c s old h same by o f = o ∙ ap order_of (sym (append-nil (old ++ h)))
 play_order _ c s old h same by o f = o
 
-at_of : (l : List Client) (i : ℕ) → i < length l → get_elem? l i ≡ some (get_or l i gone)
-at_of [] i h = absurd (omega arith)
-at_of (x ∷ l) zero h = refl
-at_of (x ∷ l) (suc i) h = at_of l i (omega arith)
-
 out_shown : (c : Core) (k : ℕ) → is_out (shown c) k ≡ is_out c k
 out_shown c k = rw (map_length c.clients, client_shown c k) refl
 
 last_found_shown : (c : Core) (k : ℕ) → found_of (shown c) k ≡ found_of c k
 last_found_shown c k = rw (map_length c.clients, client_shown c k) refl
 
-may_shown : (e : Event) (c : Core) → may_play e (shown c) ≡ may_play e c
-may_shown (acts k e) c = rw (out_shown c k, client_shown c k) (ap (λ b. is_out c k && b) (same e))
+may_shown : (lk : ℕ → ℕ) (e : Event) (c : Core) → may_play lk e (shown c) ≡ may_play lk e c
+may_shown lk (acts k e) c = rw (out_shown c k, client_shown c k) (ap (λ b. is_out c k && b) (same e))
   where
-    same : (e : Action) → may_act (bounds_of c) e (blank (client_of c k)).attempt ≡ may_act (bounds_of c) e (client_of c k).attempt
+    same : (e : Action) → may_act lk (bounds_of c) e (blank (client_of c k)).attempt ≡ may_act lk (bounds_of c) e (client_of c k).attempt
     same begin = refl
     same (probe n) = refl
     same (fetch a) = refl
@@ -146,9 +141,9 @@ may_shown (acts k e) c = rw (out_shown c k, client_shown c k) (ap (λ b. is_out 
     same (release n) = refl
     same (give_back n) = refl
     same (finish t) = refl
-may_shown (splits k) c = rw (out_shown c k, client_shown c k, map_length c.clients) refl
-may_shown (gathers k j) c = rw (out_shown c k, out_shown c j, client_shown c k, client_shown c j) refl
-may_shown (renews k last) c = rw (out_shown c k, client_shown c k, others_shown c.clients (k - 1)) refl
+may_shown lk (splits k) c = rw (out_shown c k, client_shown c k, map_length c.clients) refl
+may_shown lk (gathers k j) c = rw (out_shown c k, out_shown c j, client_shown c k, client_shown c j) refl
+may_shown lk (renews k last) c = rw (out_shown c k, client_shown c k, others_shown c.clients (k - 1)) refl
   where
     are_shown : (l : List Client) → are_spent (map blank l) ≡ are_spent l
     are_shown [] = refl
@@ -158,59 +153,6 @@ may_shown (renews k last) c = rw (out_shown c k, client_shown c k, others_shown 
     others_shown [] i = refl
     others_shown (v ∷ vs) zero = are_shown vs
     others_shown (v ∷ vs) (suc i) = ap (λ b. v.spent && b) (others_shown vs i)
-
-bool_test : (b : Bool) → Decides b (b ≡ true)
-bool_test b = record { sound = λ h. h; complete = λ h. h }
-
-spent_test : (l : List Client) → Decides (are_spent l) ((j : ℕ) (w : Client) → get_elem? l j ≡ some w → w.spent ≡ true)
-spent_test [] = record { sound = λ h j w e. absurd (nothing_in w (j, e)); complete = λ f. refl }
-spent_test (v ∷ vs) = through (λ q j w e. go q.0 q.1 j w e) (λ f. (f 0 v refl, λ j w e. f (suc j) w e)) (and2 (bool_test v.spent) (spent_test vs))
-  where
-    go : v.spent ≡ true → ((j : ℕ) (w : Client) → get_elem? vs j ≡ some w → w.spent ≡ true) → (j : ℕ) (w : Client) → get_elem? (v ∷ vs) j ≡ some w → w.spent ≡ true
-    go s f zero w e = subst (λ (z : Client). z.spent ≡ true) (some-injective v w e) s
-    go s f (suc j) w e = f j w e
-
-others_test : (l : List Client) (i : ℕ) → Decides (others_spent l i) ((j : ℕ) (w : Client) → get_elem? l j ≡ some w → j ≢ i → w.spent ≡ true)
-others_test [] i = record { sound = λ h j w e n. absurd (nothing_in w (j, e)); complete = λ f. refl }
-others_test (v ∷ vs) zero = through (λ f j w e n. go f j w e n) (λ f j w e. f (suc j) w e (λ z. (let q : suc j ≡ 0 = z in omega arith))) (spent_test vs)
-  where
-    go : ((j : ℕ) (w : Client) → get_elem? vs j ≡ some w → w.spent ≡ true) → (j : ℕ) (w : Client) → get_elem? (v ∷ vs) j ≡ some w → j ≢ 0 → w.spent ≡ true
-    go f zero w e n = absurd (n refl)
-    go f (suc j) w e n = f j w e
-others_test (v ∷ vs) (suc i) = through (λ q j w e n. go q.0 q.1 j w e n) (λ f. (f 0 v refl (λ z. (let q : 0 ≡ suc i = z in omega arith)), λ j w e n. f (suc j) w e (λ z. n (let q : j ≡ i = omega arith in q))))
-    (and2 (bool_test v.spent) (others_test vs i))
-  where
-    go : v.spent ≡ true → ((j : ℕ) (w : Client) → get_elem? vs j ≡ some w → j ≢ i → w.spent ≡ true) → (j : ℕ) (w : Client) → get_elem? (v ∷ vs) j ≡ some w → j ≢ suc i → w.spent ≡ true
-    go s f zero w e n = subst (λ (z : Client). z.spent ≡ true) (some-injective v w e) s
-    go s f (suc j) w e n = f j w e (λ z. n (ap suc z))
-
-pub out_test : (c : Core) (k : ℕ) → Decides (is_out c k) (IsClient c k (client_of c k) × ((client_of c k).spent ≡ false))
-out_test c k = through (λ q. ((q.0, at_of c.clients (k - 1) q.1), q.2)) (λ q. (q.0.0, in_range c.clients (k - 1) (client_of c k) q.0.1, q.1))
-    (and3 (lt_test 0 k) (lt_test (k - 1) (length c.clients)) (false_test (client_of c k).spent))
-
-client_is : (c : Core) (k : ℕ) (v : Client) → IsClient c k v → v ≡ client_of c k
-client_is c k v h = sym (get_is c.clients (k - 1) v gone h.1)
-
--- the running core allows just the events that are allowed
-pub play_test : (e : Event) (c : Core) → Decides (may_play e c) (Allowed free_law (stripes_of c) e c)
-play_test (acts k e) c = through (λ p. (client_of c k, p.0.0, (p.0.1, p.1)))
-    (λ p. subst (λ (v : Client). (IsClient c k v × (v.spent ≡ false)) × MayAct free_law (stripes_of c) (bounds_of c) e v.attempt) (client_is c k p.0 p.1) ((p.1, p.2.0), p.2.1))
-    (and2 (out_test c k) (act_test (bounds_of c) (client_of c k) e))
-play_test (splits k) c = through (λ p. (client_of c k, p.0.0, (p.0.1, p.1), p.2, p.3))
-    (λ p. subst (λ (v : Client). (IsClient c k v × (v.spent ≡ false)) × (v.attempt.held ≡ []) × (0 < v.grants) × (length c.clients < 2 ^ 32 - 1)) (client_is c k p.0 p.1) ((p.1, p.2.0), p.2.1, p.3, p.4))
-    (and4 (out_test c k) (empty_test (client_of c k).attempt.held) (lt_test 0 (client_of c k).grants) (lt_test (length c.clients) (2 ^ 32 - 1)))
-play_test (gathers k j) c = through (λ p. (client_of c k, client_of c j, p.0.0, p.1.0, p.2, (p.0.1, p.3), (p.1.1, p.4)))
-    (λ p. (
-      subst (λ (v : Client). IsClient c k v × (v.spent ≡ false)) (client_is c k p.0 p.2) (p.2, p.5.0),
-      subst (λ (v : Client). IsClient c j v × (v.spent ≡ false)) (client_is c j p.1 p.3) (p.3, p.6.0),
-      p.4,
-      subst (λ (v : Client). v.attempt.held ≡ []) (client_is c k p.0 p.2) p.5.1,
-      subst (λ (v : Client). v.attempt.held ≡ []) (client_is c j p.1 p.3) p.6.1,
-    ))
-    (and5 (out_test c k) (out_test c j) (not_test (eq_test k j)) (empty_test (client_of c k).attempt.held) (empty_test (client_of c j).attempt.held))
-play_test (renews k last) c = through (λ p. (client_of c k, p.0.0.0, (p.0.0.1, p.0.1), p.0.2, p.0.3, p.0.4, p.1))
-    (λ p. (subst (λ (v : Client). (IsClient c k v × (v.spent ≡ false)) × (v.attempt.held ≡ []) × IsAlone c (k - 1) × (1 ≤ last) × (last < 2 ^ 62)) (client_is c k p.0 p.1) ((p.1, p.2.0), p.2.1, p.3, p.4, p.5), p.6))
-    (and2 (and5 (out_test c k) (empty_test (client_of c k).attempt.held) (others_test c.clients (k - 1)) (le_test 1 last) (lt_test last (2 ^ 62))) (lt_test c.renewal 65535))
 
 locks_stay : (lk : ℕ → ℕ) (e : Event) (c : Core) → length (played lk e c).locks ≡ length c.locks
 locks_stay lk (acts k begin) c = refl
@@ -223,7 +165,7 @@ locks_stay lk _ c = refl
 -- the last version stays small
 last_small : (lk : ℕ → ℕ) (e : Event) (c : Core) → Allowed free_law lk e c → c.last < 2 ^ 62 → (played lk e c).last < 2 ^ 62
 last_small lk (acts k begin) c h l = l
-last_small lk (renews k last) c h l = h.5
+last_small lk (renews k last) c h l = (can_play free_law lk (renews k last) c h).4
 last_small lk _ c h l = l
 
 replicated : (n : ℕ) → length (replicate n (let z : ℕ = 0 in z)) ≡ n
@@ -267,7 +209,7 @@ module _ (c : Core) (h : Inv free_law (stripes_of c) c) (low : c.last < 2 ^ 62) 
       (λ f. (let e = old_none (client_of c k).attempt.held j f in omega arith))
 
   few_grants : (k j : ℕ) → k ≢ j → is_out c k ≡ true → is_out c j ≡ true → (client_of c k).grants + (client_of c j).grants + 1 ≤ 63
-  few_grants k j n o p = let a = (out_test c k).sound o in let b = (out_test c j).sound p in grants_of_two free_law (stripes_of c) c h (k - 1) (j - 1) (client_of c k) (client_of c j) (λ e. n (let x = a.0.0 in let y = b.0.0 in omega arith)) a.0.1 b.0.1 a.1 b.1
+  few_grants k j n o p = let a = (out_test c k).sound o in let b = (out_test c j).sound p in grants_of_two free_law (stripes_of c) c h (k - 1) (j - 1) (client_of c k) (client_of c j) (λ e. n (let x = a.0 in let y = b.0 in omega arith)) a.1 b.1 a.2 b.2
 
   sane_shown : IsSane (shown c)
   sane_shown = record {
@@ -297,7 +239,7 @@ record RunsBeside (old h : List Record) (s : Running) (c : Core) : Type 0 where
 
 runs_next : (e : Event) (old h : List Record) (s : Running) (c : Core) → RunsBeside old h s c → Allowed free_law (stripes_of c) e c → RunsBeside (earlier_after e old h) (history_after (stripes_of c) e c h) (run_played e s) (played (stripes_of c) e c)
 runs_next e old h s c b may =
-    let g = event_beside free_law (stripes_of c) c e old h b.beside may in record {
+    let g = event_beside free_law (stripes_of c) c e old h b.beside (can_play free_law (stripes_of c) e c may) in record {
       shows = play_shown e c s b.shows;
       orders = play_order e c s old h b.shows (is_history (stripes_of c) c old h b.beside).ascending b.orders (λ x y m n. g.dated.old_before x y m n);
       beside = subst (λ m. Beside free_law (stripe_of m) (earlier_after e old h) (history_after (stripes_of c) e c h) (played (stripes_of c) e c)) (sym (locks_stay (stripes_of c) e c)) g;
@@ -320,13 +262,14 @@ running_follows image last stripes es c leads =
     let n = replicated stripes in
     let m : length c.locks ≡ stripes = leads_stays (stripe_of stripes) es (opened image last stripes) c leads ∙ n in
     let q = ran_beside es [] [] (run_opened image last stripes) (opened image last stripes) c (record { shows = refl; orders = refl; beside = opening_beside free_law (stripes_of (opened image last stripes)) image last stripes }) (subst (λ k. Leads free_law (stripe_of k) (opened image last stripes) es c) (sym n) leads) in
-    let same = q.2.shows in record {
+    let same = q.2.shows in
+    let may_now : (e : Event) → may_play (stripes_of (ran es (run_opened image last stripes)).core) e (ran es (run_opened image last stripes)).core ≡ may_play (stripes_of c) e c = (λ e. ap (λ x. may_play (stripes_of x) e x) same ∙ may_shown (stripes_of c) e c) in record {
       shows = same;
       finds = λ k. ap (λ x. found_of x k) same ∙ last_found_shown c k;
       order = order_beside q.0 q.1 (ran es (run_opened image last stripes)) c q.2;
       allows = λ e. (
-        (λ t. subst (λ k. Allowed free_law (stripe_of k) e c) m ((play_test e c).sound (sym (may_shown e c) ∙ (ap (may_play e) (sym same) ∙ t)))),
-        (λ a. ap (may_play e) same ∙ (may_shown e c ∙ (play_test e c).complete (subst (λ k. Allowed free_law (stripe_of k) e c) (sym m) a))),
+        (λ t. subst (λ k. Allowed free_law (stripe_of k) e c) m (sym (may_now e) ∙ t, free_event e c)),
+        (λ a. may_now e ∙ (subst (λ k. Allowed free_law (stripe_of k) e c) (sym m) a).0),
       );
     }
 
@@ -348,7 +291,7 @@ ran_snoc : (es : List Event) (e : Event) (s : Running) → ran (es ++ e ∷ []) 
 ran_snoc [] e s = refl
 ran_snoc (a ∷ es) e s = ran_snoc es e (run_played a s)
 
-pub reached_next : (e : Event) (s : Running) → IsReached s → may_play e s.core ≡ true → IsReached (run_played e s)
+pub reached_next : (e : Event) (s : Running) → IsReached s → may_play (stripes_of s.core) e s.core ≡ true → IsReached (run_played e s)
 reached_next e s r may = record {
   image = r.image;
   last = r.last;

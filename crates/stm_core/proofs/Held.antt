@@ -4,22 +4,9 @@ use mathlib.Core.Option.{some}
 use Rattle.std.proofs.lemmas.Bool.Decides.{nat_tests}
 use Rattle.stm_words.specs.Image.{In}
 use Rattle.stm_core.specs.Client.{Step, probed, fetched, version_of, IsFree, writes_to, without, old_version}
-use Rattle.stm_core.specs.Event.{HasProbed, HasFoundFree, HasFetched}
 use Rattle.stm_core.proofs.Lists.{clash, nothing_in}
 use Rattle.stm_core.proofs.Orders.{in_cons}
 use Rattle.stm_core.proofs.Releasing.{Drops}
-
-pub probed_is : (k rv : ℕ) (l : Step) → HasProbed k rv l → (n : ℕ) × (l ≡ probed k n) × IsFree n × (version_of n ≤ rv)
-probed_is k rv (probed j n) h = (n, ap (λ z. probed z n) h.0, h.1, h.2)
-probed_is k rv _ h = absurd h
-
-pub free_is : (k : ℕ) (l : Step) → HasFoundFree k l → (n : ℕ) × (l ≡ probed k n) × IsFree n
-free_is k (probed j n) h = (n, ap (λ z. probed z n) h.0, h.1)
-free_is k _ h = absurd h
-
-pub fetched_is : (a rv : ℕ) (l : Step) → HasFetched a rv l → (n : ℕ) × (x : ℕ) × (l ≡ fetched a n x) × IsFree n × (version_of n ≤ rv)
-fetched_is a rv (fetched b n x) h = (n, x, ap (λ z. fetched z n x) h.0, h.1, h.2)
-fetched_is a rv _ h = absurd h
 
 -- the pair of a lock that is held
 pub old_in : (held : List (ℕ × ℕ)) (k : ℕ) → writes_to held k ≡ true → In (k, old_version held k) held

@@ -27,7 +27,7 @@ pub mod Facts
 pub mod Dating
 pub mod Playing
 pub mod Meanings
-pub mod Simulating
+pub mod Conditions
 pub mod Placing
 pub mod Following
 pub mod Making

@@ -7,14 +7,15 @@ use lib.ListN.{get_elem?}
 use Rattle.std.proofs.lemmas.Bool.Decides.{nat_tests}
 use Rattle.stm_words.specs.Image.{In}
 use Rattle.stm_core.specs.Client.{Client, running, ending, checked, locked, ticked, validated, Stamp, decided, is_committed, version_of, IsFree, word_before, value_fetched, shed}
-use Rattle.stm_core.specs.Event.{Action, begin, probe, fetch, check, lock, tick, validate, put, release, give_back, finish, Holds, MayAct, committed_by, stepping, failing, read_too, holding, versioned, is_empty, decides_at_once, won, passes, passing, after, giving, fresh, taking, gone, with_ticks, counting}
+use Rattle.stm_core.specs.Event.{Action, begin, probe, fetch, check, lock, tick, validate, put, release, give_back, finish, committed_by, stepping, failing, read_too, holding, versioned, is_empty, decides_at_once, won, passes, passing, after, giving, fresh, taking, gone, with_ticks, counting}
 use Rattle.stm_core.specs.Core.{Core, bounds_of, stepped, divided, gathered}
 use Rattle.stm_core.specs.Version.{At}
 use Rattle.stm_core.specs.Invariant.{Inv, now, Unmoved, IsLone, Lone, GoesOn}
 use Rattle.stm_core.proofs.Lists.{at_set, at_snoc, clash, nothing_in}
 use Rattle.stm_core.proofs.Facts.{grants_of_two, others_spent}
-use Rattle.stm_core.proofs.Held.{probed_is, free_is, fetched_is}
 use Rattle.stm_core.proofs.Steps.{by_case, undecided_at, undecided_end}
+use Rattle.stm_core.proofs.Conditions.{CanAct, can_act}
+use Rattle.stm_core.specs.Guards.{Holds}
 
 pub at_map : {A B : Type 0} (f : A → B) (l : List A) (i : ℕ) (v : A) → get_elem? l i ≡ some v → get_elem? (map f l) i ≡ some (f v)
 at_map f [] i v e = absurd (some-ne-none v (sym e))
@@ -44,11 +45,11 @@ module _ (lawful : List ℕ → List (ℕ × ℕ) → List (ℕ × ℕ) → Type
     it : v.attempt.lone ≡ true → IsLone lk c.clock c.locks v
     it y = l i v at y
 
-    pub act_lone : (t : Stamp) (e : Action) → MayAct lawful lk (bounds_of c) e v.attempt → Lone lk (stepped t lk e i v c).clock (stepped t lk e i v c).locks (stepped t lk e i v c).clients
+    pub act_lone : (t : Stamp) (e : Action) → CanAct lawful lk (bounds_of c) e v.attempt → Lone lk (stepped t lk e i v c).clock (stepped t lk e i v c).locks (stepped t lk e i v c).clients
     act_lone t begin may = turn_lone c.clock c.locks (after t lk begin c.clock v) (λ y. record { out = live; all = grind (arith, nat_tests); still = λ d. (refl, refl, refl); seen = λ r. tt })
     act_lone t (probe k) may = turn_lone c.clock c.locks (after t lk (probe k) (slice_index c.locks k) v) (λ y. record { out = live; all = (it y).all; still = (it y).still; seen = λ r. refl })
     act_lone t (fetch a) may =
-        let p = probed_is (lk a) v.attempt.rv v.attempt.last may.3 in
+        let p = may.3 in
         let word : p.0 ≡ word_before v.attempt.last = sym (ap word_before p.1) in
         turn_lone c.clock c.locks (after t lk (fetch a) (slice_index c.cells a) v) (λ y. record {
           out = live;
@@ -116,9 +117,9 @@ module _ (lawful : List ℕ → List (ℕ × ℕ) → List (ℕ × ℕ) → Type
     pub goes_on : GoesOn lawful lk c v
     goes_on = record {
       probes = λ k. (free_or_mine k, (let q = h.version.versions k in let s = (this.still undecided).1 in omega arith));
-      checks = λ a may. let p = fetched_is a v.attempt.rv v.attempt.last may.3 in (let q : slice_index c.locks (lk a) ≡ p.0 = subst (Unmoved lk c.locks) p.2 (this.seen may.0.0) in q ∙ sym (ap word_before p.2));
-      locks = λ k may. let p = free_is k v.attempt.last may.2 in (let q : slice_index c.locks k ≡ p.0 = subst (Unmoved lk c.locks) p.1 (this.seen may.0.0) in q ∙ sym (ap word_before p.1));
-      ticks = λ from tag writes may. let s : c.clock ≡ from = sym (this.still undecided).2 ∙ sym may.1 in (s, λ t. decides t from tag writes may s);
+      checks = λ a may. let m = can_act lk lawful (bounds_of c) v.attempt (check a) may in let p = m.3 in (let q : slice_index c.locks (lk a) ≡ p.0 = subst (Unmoved lk c.locks) p.2 (this.seen m.0.0) in q ∙ sym (ap word_before p.2));
+      locks = λ k may. let m = can_act lk lawful (bounds_of c) v.attempt (lock k) may in let p = m.2 in (let q : slice_index c.locks k ≡ p.0 = subst (Unmoved lk c.locks) p.1 (this.seen m.0.0) in q ∙ sym (ap word_before p.1));
+      ticks = λ from tag writes may. let m = can_act lk lawful (bounds_of c) v.attempt (tick from tag writes) may in let s : c.clock ≡ from = sym (this.still undecided).2 ∙ sym m.1 in (s, λ t. decides t from tag writes m s);
     }
       where
         free_or_mine : (k : ℕ) → IsFree (slice_index c.locks k) ⊎ Holds v.attempt.held k
@@ -131,7 +132,7 @@ module _ (lawful : List ℕ → List (ℕ × ℕ) → List (ℕ × ℕ) → Type
             (λ ne. let gone' = others_spent lawful lk (now c) h i (shed c.renewal v) (at_map (shed c.renewal) c.clients i v at) this.out this.all q.0 q.1 q.2 ne in
             absurd (nothing_in (k, version_of (slice_index c.locks k)) (subst (In (k, version_of (slice_index c.locks k))) ((h.filed.filed q.0 q.1 q.2).gone gone').1 q.3))))
 
-        decides : (t : Stamp) (from : ℕ) (tag : List ℕ) (writes : List (ℕ × ℕ)) → MayAct lawful lk (bounds_of c) (tick from tag writes) v.attempt → c.clock ≡ from → decided (after t lk (tick from tag writes) c.clock v) ≡ true
+        decides : (t : Stamp) (from : ℕ) (tag : List ℕ) (writes : List (ℕ × ℕ)) → CanAct lawful lk (bounds_of c) (tick from tag writes) v.attempt → c.clock ≡ from → decided (after t lk (tick from tag writes) c.clock v) ≡ true
         decides t from tag writes may s =
             let b : eqb c.clock from ≡ true = grind (arith, nat_tests) in
             let w0 : Client = versioned t (from + 1) tag writes v in

@@ -1,18 +1,19 @@
 -- Numbers in the place of tags: each step does the same but for the tags.
-use Rattle.std.proofs.Common.{◌≡◌, ℕ, zero, suc, ◌+◌, ◌-◌, ◌<◌, Bool, true, false, cond, eqb, List, [], ◌∷◌, ◌++◌, length, set, map, refl, sym, ap, ◌∙◌, subst, arith}
+use Rattle.std.proofs.Common.{◌≡◌, ℕ, zero, suc, ◌+◌, ◌-◌, ◌<◌, Bool, true, false, cond, eqb, ◌&&◌, List, [], ◌∷◌, ◌++◌, length, set, map, refl, sym, ap, ◌∙◌, subst, arith}
 use Rattle.std.proofs.lemmas.List.{map-set, map-append, length-map}
 use Rattle.std.proofs.Math.ListN.{get_or-map}
 use Rattle.std.proofs.lemmas.Bool.Decides.{nat_tests}
 use mathlib.Core.Option.{some, some-injective, some-ne-none}
 use lib.ListN.{get_elem?}
 use Rattle.stm_core.specs.Client.{Client, Record, Stamp, checked, locked, ticked, validated, version_of, word_before, value_fetched, writes_to, before, inserted, merged}
-use Rattle.stm_core.specs.Event.{Action, begin, check, lock, tick, validate, finish, Bounds, MayAct, committed_by, stepping, failing, read_too, holding, versioned, decides_at_once, won, passes, passing, after, giving, fresh, taking, renewing, gone, writer_record, reader_record, with_ticks, marking, counting}
-use Rattle.stm_core.specs.Core.{Core, bounds_of, found, left, written, stepped, divided, gathered, renewed, Event, acts, splits, gathers, renews, IsClient, Allowed, client_of, played, Leads, opened}
+use Rattle.stm_core.specs.Event.{Action, begin, check, lock, tick, validate, finish, Bounds, committed_by, stepping, failing, read_too, holding, versioned, decides_at_once, won, passes, passing, after, giving, fresh, taking, renewing, gone, writer_record, reader_record, with_ticks, marking, counting}
+use Rattle.stm_core.specs.Core.{Core, bounds_of, found, left, written, stepped, divided, gathered, renewed, Event, acts, splits, gathers, renews, Allowed, client_of, played, Leads, opened, is_out, are_spent, others_spent, may_play}
 use Rattle.stm_core.specs.Version.{At}
 use Rattle.stm_core.specs.Theorem.{stripe_of, free_law}
 use Rattle.stm_core.specs.Numbered.{AllowedWithNumbers, SameButTags, numbered_action, numbered_event, numbered_record, numbered_client, numbered_core}
 use Rattle.stm_core.proofs.Steps.{by_case}
-use Rattle.stm_core.proofs.Playing.{get_is}
+use Rattle.stm_core.proofs.Conditions.{CanAct, can_play, free_event}
+use Rattle.stm_core.specs.Guards.{may_act}
 
 pub elem_map : {A B : Type 0} (f : A → B) (l : List A) (i : ℕ) (x : A) → get_elem? l i ≡ some x → get_elem? (map f l) i ≡ some (f x)
 elem_map f [] i x e = absurd (some-ne-none x (sym e))
@@ -77,12 +78,7 @@ module _ (number : List ℕ → ℕ) where
   written_numbered _ m c cs = refl
 
   module _ (lawful : List ℕ → List (ℕ × ℕ) → List (ℕ × ℕ) → Type 0) (lk : ℕ → ℕ) where
-    may_numbered : (b : Bounds) (e : Action) (v : Client) → MayAct lawful lk b e v.attempt → MayAct free_law lk b (numbered_action number e) (numbered_client number v).attempt
-    may_numbered b (tick from tag writes) v m = (m.0, m.1, m.2, m.3, m.4, tt)
-    may_numbered b (finish tag) v m = (m.0, m.1, tt)
-    may_numbered b _ v m = m
-
-    after_numbered : (t : Stamp) (b : Bounds) (e : Action) (n : ℕ) (v : Client) → MayAct lawful lk b e v.attempt → numbered_client number (after t lk e n v) ≡ after t lk (numbered_action number e) n (numbered_client number v)
+    after_numbered : (t : Stamp) (b : Bounds) (e : Action) (n : ℕ) (v : Client) → CanAct lawful lk b e v.attempt → numbered_client number (after t lk e n v) ≡ after t lk (numbered_action number e) n (numbered_client number v)
     after_numbered t b (check a) n v m =
         let l = checked a (word_before v.attempt.last) n in
         by_case (λ z. numbered_client number (stepping l (cond z (read_too a (value_fetched v.attempt.last) v) (failing v))) ≡ stepping l (cond z (read_too a (value_fetched v.attempt.last) (numbered_client number v)) (failing (numbered_client number v)))) (eqb n (word_before v.attempt.last)) (λ e. refl) (λ e. refl)
@@ -129,29 +125,33 @@ module _ (number : List ℕ → ℕ) where
   renewed_numbered i last v c = ap (λ l. record (renewed i last (numbered_client number v) (numbered_core number c)) { clients = l }) (map-set (numbered_client number) c.clients i (renewing v))
 
   module _ (lawful : List ℕ → List (ℕ × ℕ) → List (ℕ × ℕ) → Type 0) (lk : ℕ → ℕ) where
-    is_numbered : (c : Core) (k : ℕ) (v : Client) → IsClient c k v → IsClient (numbered_core number c) k (numbered_client number v)
-    is_numbered c k v h = (h.0, elem_map (numbered_client number) c.clients (k - 1) v h.1)
+    out_numbered : (c : Core) (k : ℕ) → is_out (numbered_core number c) k ≡ is_out c k
+    out_numbered c k = rw (length-map c.clients (numbered_client number), client_numbered c k) refl
 
-    event_allowed : (e : Event) (c : Core) → Allowed lawful lk e c → Allowed free_law lk (numbered_event number e) (numbered_core number c)
-    event_allowed (acts k e) c h = (numbered_client number h.0, is_numbered c k h.0 h.1, (h.2.0, may_numbered lawful lk (bounds_of c) e h.0 h.2.1))
-    event_allowed (splits k) c h = (numbered_client number h.0, is_numbered c k h.0 h.1, h.2, h.3, rw (length-map c.clients (numbered_client number)) h.4)
-    event_allowed (gathers k j) c h = (numbered_client number h.0, numbered_client number h.1, is_numbered c k h.0 h.2, is_numbered c j h.1 h.3, h.4, h.5, h.6)
-    event_allowed (renews k last) c h = (
-      numbered_client number h.0,
-      is_numbered c k h.0 h.1,
-      h.2,
-      (λ j w e n. let q = elem_unmap (numbered_client number) c.clients j w e in sym (ap (λ (z : Client). z.spent) q.2) ∙ h.3 j q.0 q.1 n),
-      h.4,
-      h.5,
-      h.6,
-    )
+    may_numbered : (e : Event) (c : Core) → may_play lk (numbered_event number e) (numbered_core number c) ≡ may_play lk e c
+    may_numbered (acts k e) c = rw (out_numbered c k, client_numbered c k) (ap (λ b. is_out c k && b) (same e))
+      where
+        same : (e : Action) → may_act lk (bounds_of (numbered_core number c)) (numbered_action number e) (numbered_client number (client_of c k)).attempt ≡ may_act lk (bounds_of c) e (client_of c k).attempt
+        same begin = refl
+        same _ = refl
+    may_numbered (splits k) c = rw (out_numbered c k, client_numbered c k, length-map c.clients (numbered_client number)) refl
+    may_numbered (gathers k j) c = rw (out_numbered c k, out_numbered c j, client_numbered c k, client_numbered c j) refl
+    may_numbered (renews k last) c = rw (out_numbered c k, client_numbered c k, others_numbered c.clients (k - 1)) refl
+      where
+        are_numbered : (l : List Client) → are_spent (map (numbered_client number) l) ≡ are_spent l
+        are_numbered [] = refl
+        are_numbered (v ∷ vs) = ap (λ b. v.spent && b) (are_numbered vs)
+
+        others_numbered : (l : List Client) (i : ℕ) → others_spent (map (numbered_client number) l) i ≡ others_spent l i
+        others_numbered [] i = refl
+        others_numbered (v ∷ vs) zero = are_numbered vs
+        others_numbered (v ∷ vs) (suc i) = ap (λ b. v.spent && b) (others_numbered vs i)
 
     event_played : (e : Event) (c : Core) → Allowed lawful lk e c → numbered_core number (played lk e c) ≡ played lk (numbered_event number e) (numbered_core number c)
     event_played (acts k e) c h =
         let t : Stamp = record { client = k; place = c.events; renewal = c.renewal } in
         let v = client_of c k in
-        let same : v ≡ h.0 = get_is c.clients (k - 1) h.0 gone h.1.1 in
-        let may : MayAct lawful lk (bounds_of c) e v.attempt = subst (λ (w : Client). MayAct lawful lk (bounds_of c) e w.attempt) (sym same) h.2.1 in
+        let may : CanAct lawful lk (bounds_of c) e v.attempt = (can_play lawful lk (acts k e) c h).1 in
         stepped_numbered t lk e (k - 1) v c (λ n. after_numbered lawful lk t (bounds_of c) e n v may)
         ∙ ap (λ w. stepped t lk (numbered_action number e) (k - 1) w (numbered_core number c)) (sym (client_numbered c k))
     event_played (splits k) c h = divided_numbered (k - 1) (client_of c k) c ∙ ap (λ w. divided (k - 1) w (numbered_core number c)) (sym (client_numbered c k))
@@ -164,7 +164,7 @@ module _ (number : List ℕ → ℕ) where
     pub leads_numbered : (es : List Event) (c d : Core) → Leads lawful lk c es d → Leads free_law lk (numbered_core number c) (map (numbered_event number) es) (numbered_core number d)
     leads_numbered [] c d h = ap (numbered_core number) h
     leads_numbered (e ∷ es) c d h = (
-      event_allowed e c h.0,
+      (may_numbered e c ∙ h.0.0, free_event (numbered_event number e) (numbered_core number c)),
       subst (λ m. Leads free_law lk m (map (numbered_event number) es) (numbered_core number d)) (event_played e c h.0) (leads_numbered es (played lk e c) d h.1),
     )
 

@@ -8,8 +8,8 @@ use Rattle.std.proofs.lemmas.Bool.Decides.{nat_tests}
 use Rattle.stm_words.specs.Image.{In}
 use Rattle.stm_core.specs.History.{Serial, image_after, ByPoint}
 use Rattle.stm_core.specs.Client.{shed, Client, Record, idle, running, ending, committed, checked, locked, ticked, validated, Stamp, version_of, word_before, value_fetched, writes_to}
-use Rattle.stm_core.specs.Event.{Action, begin, probe, fetch, check, lock, tick, validate, put, release, give_back, finish, IsReading, MayAct, committed_by, stepping, failing, read_too, holding, versioned, decides_at_once, won, passes, passing, after, giving, fresh, renewing, gone, opener, writer_record, reader_record, with_ticks, marking, counting}
-use Rattle.stm_core.specs.Core.{Core, bounds_of, found, stepped, divided, gathered, renewed, IsFreeHanded, IsAlone, Event, acts, splits, gathers, renews, Allowed, client_of, played, Leads, opened}
+use Rattle.stm_core.specs.Event.{Action, begin, probe, fetch, check, lock, tick, validate, put, release, give_back, finish, committed_by, stepping, failing, read_too, holding, versioned, decides_at_once, won, passes, passing, after, giving, fresh, renewing, gone, opener, writer_record, reader_record, with_ticks, marking, counting}
+use Rattle.stm_core.specs.Core.{Core, bounds_of, found, stepped, divided, gathered, renewed, IsFreeHanded, Event, acts, splits, gathers, renews, Allowed, client_of, played, Leads, opened}
 use Rattle.stm_core.specs.Version.{At, IsOpen}
 use Rattle.stm_core.specs.Invariant.{now, Rule}
 use Rattle.stm_core.specs.Theorem.{stripe_of, free_law, IsHistory, is_settled, Stands, EveryListStands}
@@ -23,6 +23,7 @@ use Rattle.stm_core.proofs.Lones.{at_map, at_unmap, goes_on}
 use Rattle.stm_core.proofs.Renewals.{step_rules, now_stepped, may_shed, pre, map_length, eqb_yes}
 use Rattle.stm_core.proofs.Renewing.{split_rules, gather_rules, renew_rules, opening_rules, now_divided, now_gathered, whole, at_below, serial_append, image_append}
 use Rattle.stm_core.proofs.Dating.{Mark, IsStamped, IsDated, Dated, placed, date_step, date_decide, date_longer, date_join, ranked_by}
+use Rattle.stm_core.proofs.Conditions.{IsReading, CanAct, CanPlay, IsAlone, can_play}
 
 not_running : (c : Client) → c.attempt.phase ≡ ending → IsReading c.attempt → ⊥
 not_running c e r = (let z : ending ≡ running = sym e ∙ r.0 in cc)
@@ -35,11 +36,6 @@ unsettled_end v e s = clash s (ap is_settled e)
 
 settled_at : (v : Client) → v.attempt.phase ≡ committed → is_settled v.attempt.phase ≡ true
 settled_at v e = ap is_settled e
-
-pub get_is : {A : Type 0} (l : List A) (i : ℕ) (v d : A) → get_elem? l i ≡ some v → get_or l i d ≡ v
-get_is [] i v d e = absurd (some-ne-none v (sym e))
-get_is (x ∷ l) zero v d e = some-injective x v e
-get_is (x ∷ l) (suc i) v d e = get_is l i v d e
 
 set_same : {A : Type 0} (l : List A) (i : ℕ) (v : A) → get_elem? l i ≡ some v → set l i v ≡ l
 set_same [] i v e = refl
@@ -161,7 +157,7 @@ module _ (lawful : List ℕ → List (ℕ × ℕ) → List (ℕ × ℕ) → Type
       date_decide old c.clock (c.events + 1) c.clients h k i v w at r (inl (may, refl)) refl refl (λ p m. ⊎_elim (λ s. (let z = s.0.0 in cc)) (λ s. (let z = s.0.0 in closed may z)) m)
       (record { past = q.0; writer = λ t. clash t refl; reader = λ t. (q.1, q.2) }) refl refl refl refl
 
-  act_dates : (e : Action) → MayAct lawful lk (bounds_of c) e v.attempt → Next e
+  act_dates : (e : Action) → CanAct lawful lk (bounds_of c) e v.attempt → Next e
   act_dates begin may = begin_dates
   act_dates (probe k) may = probe_dates k
   act_dates (fetch a) may = fetch_dates a
@@ -301,17 +297,13 @@ module _ (lawful : List ℕ → List (ℕ × ℕ) → List (ℕ × ℕ) → Type
     renew_beside = record { rule = renew_rules lawful lk c b.rule i v at free others last; dated = renew_dates; earlier = renew_earlier }
 
   -- an allowed event keeps the whole rule
-  pub event_keeps : (c : Core) (e : Event) → Rule lawful lk c → Allowed lawful lk e c → Rule lawful lk (played lk e c)
+  pub event_keeps : (c : Core) (e : Event) → Rule lawful lk c → CanPlay lawful lk e c → Rule lawful lk (played lk e c)
   event_keeps c (acts k e) h may =
-      let v = may.0 in
-      let same : client_of c k ≡ v = get_is c.clients (k - 1) v gone may.1.1 in
-      rw same (step_rules lawful lk c h (k - 1) v may.1.1 may.2.0 (record { client = k; place = c.events; renewal = c.renewal }) refl e may.2.1)
-  event_keeps c (splits k) h may = let same : client_of c k ≡ may.0 = get_is c.clients (k - 1) may.0 gone may.1.1 in rw same (split_rules lawful lk c h (k - 1) may.0 may.1.1 may.2 may.3)
+      step_rules lawful lk c h (k - 1) (client_of c k) may.0.1 may.0.2 (record { client = k; place = c.events; renewal = c.renewal }) refl e may.1
+  event_keeps c (splits k) h may = split_rules lawful lk c h (k - 1) (client_of c k) may.0.1 (may.0.2, may.1) may.2
   event_keeps c (gathers k j) h may =
-      let same : client_of c k ≡ may.0 = get_is c.clients (k - 1) may.0 gone may.2.1 in
-      let same' : client_of c j ≡ may.1 = get_is c.clients (j - 1) may.1 gone may.3.1 in
-      rw (same, same') (gather_rules lawful lk c h (k - 1) may.0 may.2.1 (j - 1) may.1 may.3.1 (λ e. may.4 (let a = may.2.0 in let b = may.3.0 in omega arith)) may.5 may.6)
-  event_keeps c (renews k last) h may = let same : client_of c k ≡ may.0 = get_is c.clients (k - 1) may.0 gone may.1.1 in rw same (renew_rules lawful lk c h (k - 1) may.0 may.1.1 may.2 may.3 last)
+      gather_rules lawful lk c h (k - 1) (client_of c k) may.0.1 (j - 1) (client_of c j) may.1.1 (λ e. may.2 (let a = may.0.0 in let b = may.1.0 in omega arith)) (may.0.2, may.3) (may.1.2, may.4)
+  event_keeps c (renews k last) h may = renew_rules lawful lk c h (k - 1) (client_of c k) may.0.1 (may.0.2, may.1) may.2 last
 
   found_now : (c : Core) (e : Action) → found lk (now c) e ≡ found lk c e
   found_now c begin = refl
@@ -322,44 +314,43 @@ module _ (lawful : List ℕ → List (ℕ × ℕ) → List (ℕ × ℕ) → Type
   decision_now t m _ n v = refl
 
   -- and leads to a core beside the histories with its decision
-  pub event_beside : (c : Core) (e : Event) (old h : List Record) → Beside old h c → Allowed lawful lk e c → Beside (earlier_after e old h) (history_after lk e c h) (played lk e c)
+  pub event_beside : (c : Core) (e : Event) (old h : List Record) → Beside old h c → CanPlay lawful lk e c → Beside (earlier_after e old h) (history_after lk e c h) (played lk e c)
   event_beside c (acts k e) old h b may =
-      let v = may.0 in
+      let v = client_of c k in
       let v' : Client = shed c.renewal v in
-      let same : client_of c k ≡ v = get_is c.clients (k - 1) v gone may.1.1 in
-      let number : suc (k - 1) ≡ k = (let a = may.1.0 in omega arith) in
+      let number : suc (k - 1) ≡ k = (let a = may.0.0 in omega arith) in
       let t : Stamp = record { client = k; place = c.events; renewal = c.renewal } in
-      let r = act_dates lawful lk old (now c) h b.dated (k - 1) v' (at_map (shed c.renewal) c.clients (k - 1) v may.1.1) may.2.0 e (may_shed lawful lk c e v may.2.1) in
+      let r = act_dates lawful lk old (now c) h b.dated (k - 1) v' (at_map (shed c.renewal) c.clients (k - 1) v may.0.1) may.0.2 e (may_shed lawful lk c e v may.1) in
       let r' : IsDatedBy old (filed (decision t e (found lk (now c) e) v') h) (stepped t lk e (k - 1) v' (now c)) =
       subst (λ n. let s : Stamp = record { client = n; place = c.events; renewal = c.renewal } in IsDatedBy old (filed (decision s e (found lk (now c) e) v') h) (stepped s lk e (k - 1) v' (now c))) number r in
       let made : decision t e (found lk (now c) e) v' ≡ decision t e (found lk c e) v = ap (λ n. decision t e n v') (found_now c e) ∙ decision_now t c.renewal e (found lk c e) v in
-      rw same (record {
-        rule = step_rules lawful lk c b.rule (k - 1) v may.1.1 may.2.0 t refl e may.2.1;
-        dated = subst (λ rs. IsDatedBy old (filed rs h) (now (stepped t lk e (k - 1) v c))) made (subst (λ x. IsDatedBy old (filed (decision t e (found lk (now c) e) v') h) x) (sym (now_stepped lawful lk c b.rule (k - 1) v may.1.1 may.2.0 t refl e may.2.1)) r');
+      record {
+        rule = step_rules lawful lk c b.rule (k - 1) v may.0.1 may.0.2 t refl e may.1;
+        dated = subst (λ rs. IsDatedBy old (filed rs h) (now (stepped t lk e (k - 1) v c))) made (subst (λ x. IsDatedBy old (filed (decision t e (found lk (now c) e) v') h) x) (sym (now_stepped lawful lk c b.rule (k - 1) v may.0.1 may.0.2 t refl e may.1)) r');
         earlier = subst (Earlier old) (frame_stays t lk e (k - 1) v c) b.earlier;
-      })
+      }
   event_beside c (splits k) old h b may =
-      let v = may.0 in
-      let same : client_of c k ≡ v = get_is c.clients (k - 1) v gone may.1.1 in
-      rw same (record {
-        rule = split_rules lawful lk c b.rule (k - 1) v may.1.1 may.2 may.3;
-        dated = subst (λ x. IsDatedBy old h x) (sym (now_divided lawful lk c b.rule (k - 1) v may.1.1 may.2 may.3)) (split_dates lawful lk old (now c) h b.dated (k - 1) (shed c.renewal v) (at_map (shed c.renewal) c.clients (k - 1) v may.1.1) may.2.0);
+      let v = client_of c k in
+      let free : IsFreeHanded v = (may.0.2, may.1) in
+      record {
+        rule = split_rules lawful lk c b.rule (k - 1) v may.0.1 free may.2;
+        dated = subst (λ x. IsDatedBy old h x) (sym (now_divided lawful lk c b.rule (k - 1) v may.0.1 free may.2)) (split_dates lawful lk old (now c) h b.dated (k - 1) (shed c.renewal v) (at_map (shed c.renewal) c.clients (k - 1) v may.0.1) may.0.2);
         earlier = b.earlier;
-      })
+      }
   event_beside c (gathers k j) old h b may =
-      let v = may.0 in
-      let w = may.1 in
-      let same : client_of c k ≡ v = get_is c.clients (k - 1) v gone may.2.1 in
-      let same' : client_of c j ≡ w = get_is c.clients (j - 1) w gone may.3.1 in
-      let ne : (k - 1) ≢ (j - 1) = λ e. may.4 (let a = may.2.0 in let b' = may.3.0 in omega arith) in
-      rw (same, same') (record {
-        rule = gather_rules lawful lk c b.rule (k - 1) v may.2.1 (j - 1) w may.3.1 ne may.5 may.6;
-        dated = subst (λ x. IsDatedBy old h x) (sym (now_gathered lawful lk c b.rule (k - 1) v may.2.1 (j - 1) w may.3.1 ne may.5 may.6))
-            (gather_dates lawful lk old (now c) h b.dated (k - 1) (shed c.renewal v) (at_map (shed c.renewal) c.clients (k - 1) v may.2.1) may.5.0 (j - 1) (shed c.renewal w) (at_map (shed c.renewal) c.clients (j - 1) w may.3.1) ne);
+      let v = client_of c k in
+      let w = client_of c j in
+      let ne : (k - 1) ≢ (j - 1) = λ e. may.2 (let a = may.0.0 in let b' = may.1.0 in omega arith) in
+      let free : IsFreeHanded v = (may.0.2, may.3) in
+      let free' : IsFreeHanded w = (may.1.2, may.4) in
+      record {
+        rule = gather_rules lawful lk c b.rule (k - 1) v may.0.1 (j - 1) w may.1.1 ne free free';
+        dated = subst (λ x. IsDatedBy old h x) (sym (now_gathered lawful lk c b.rule (k - 1) v may.0.1 (j - 1) w may.1.1 ne free free'))
+            (gather_dates lawful lk old (now c) h b.dated (k - 1) (shed c.renewal v) (at_map (shed c.renewal) c.clients (k - 1) v may.0.1) may.0.2 (j - 1) (shed c.renewal w) (at_map (shed c.renewal) c.clients (j - 1) w may.1.1) ne);
         earlier = b.earlier;
-      })
+      }
   event_beside c (renews k last) old h b may =
-      let same : client_of c k ≡ may.0 = get_is c.clients (k - 1) may.0 gone may.1.1 in rw same (renew_beside old h c b (k - 1) may.0 may.1.1 may.2 may.3 last)
+      renew_beside old h c b (k - 1) (client_of c k) may.0.1 (may.0.2, may.1) may.2 last
 
   pub opening_dates : (image : List ℕ) (last stripes : ℕ) → Dated [] 0 0 (opener ∷ []) []
   opening_dates image last stripes = record {
@@ -404,7 +395,7 @@ module _ (lawful : List ℕ → List (ℕ × ℕ) → List (ℕ × ℕ) → Type
   pub leads_beside : (es : List Event) (c e : Core) (old h : List Record) → Beside old h c → Leads lawful lk c es e → ((old' : List Record) × (h' : List Record) × Beside old' h' e) × (e.first ≡ c.first)
   leads_beside [] c e old h b same = ((old, h, subst (λ x. Beside old h x) same b), ap (λ (x : Core). x.first) (sym same))
   leads_beside (a ∷ es) c e old h b may =
-      let r = leads_beside es (played lk a c) e (earlier_after a old h) (history_after lk a c h) (event_beside c a old h b may.0) may.1 in (r.0, r.1 ∙ first_stays a c)
+      let r = leads_beside es (played lk a c) e (earlier_after a old h) (history_after lk a c h) (event_beside c a old h b (can_play lawful lk a c may.0)) may.1 in (r.0, r.1 ∙ first_stays a c)
 
 -- the history of the core
 pub is_history : (lk : ℕ → ℕ) (c : Core) (old h : List Record) → Beside free_law lk old h c → IsHistory c (old ++ h)

@@ -4,7 +4,7 @@ use Rattle.std.proofs.lemmas.Bool.Decides.{nat_tests}
 use Rattle.std.proofs.lemmas.List.{map-set}
 use Rattle.stm_words.specs.Image.{In}
 use Rattle.stm_core.specs.Client.{Client, Record, Stamp, of_renewal, shed, validated, ticked, checked, locked, word_before, value_fetched, version_of}
-use Rattle.stm_core.specs.Event.{Action, begin, probe, fetch, check, lock, tick, validate, put, release, give_back, finish, MayAct, committed_by, stepping, failing, read_too, holding, versioned, decides_at_once, won, passes, passing, after, counting}
+use Rattle.stm_core.specs.Event.{Action, begin, probe, fetch, check, lock, tick, validate, put, release, give_back, finish, committed_by, stepping, failing, read_too, holding, versioned, decides_at_once, won, passes, passing, after, counting}
 use Rattle.stm_core.specs.Core.{Core, bounds_of, found, stepped}
 use Rattle.stm_core.specs.Version.{At}
 use Rattle.stm_core.specs.Invariant.{Inv, now, Past, Rule}
@@ -13,6 +13,7 @@ use Rattle.stm_core.proofs.Eras.{AllOf, AllBefore, of_is, of_padded, pad, shed_p
 use Rattle.stm_core.proofs.Lones.{at_map, act_lone}
 use Rattle.stm_core.proofs.Knowing.{act_known}
 use Rattle.stm_core.proofs.Steps.{by_case, step_keeps}
+use Rattle.stm_core.proofs.Conditions.{CanAct}
 
 -- the core with other clients
 abbrev with_clients : Core → List Client → Core
@@ -27,7 +28,7 @@ clients_stay t lk begin i v c = refl
 clients_stay t lk _ i v c = refl
 
 -- a step does not look at the records
-pub may_shed : (lawful : List ℕ → List (ℕ × ℕ) → List (ℕ × ℕ) → Type 0) (lk : ℕ → ℕ) (c : Core) (e : Action) (v : Client) → MayAct lawful lk (bounds_of c) e v.attempt → MayAct lawful lk (bounds_of (now c)) e (shed c.renewal v).attempt
+pub may_shed : (lawful : List ℕ → List (ℕ × ℕ) → List (ℕ × ℕ) → Type 0) (lk : ℕ → ℕ) (c : Core) (e : Action) (v : Client) → CanAct lawful lk (bounds_of c) e v.attempt → CanAct lawful lk (bounds_of (now c)) e (shed c.renewal v).attempt
 may_shed lawful lk c begin v m = m
 may_shed lawful lk c _ v m = m
 
@@ -98,7 +99,7 @@ module _ (lawful : List ℕ → List (ℕ × ℕ) → List (ℕ × ℕ) → Type
       spent = λ j o e y. ⊎_elim (λ p. clash y (sym (ap (λ (z : Client). z.spent) p.1) ∙ s)) (λ p. h.past.spent j o p.1 y) (at_set c.clients i j (pad (pre i) w) o e);
     }
 
-    module _ (t : Stamp) (era : t.renewal ≡ c.renewal) (e : Action) (may : MayAct lawful lk (bounds_of c) e v.attempt) where
+    module _ (t : Stamp) (era : t.renewal ≡ c.renewal) (e : Action) (may : CanAct lawful lk (bounds_of c) e v.attempt) where
       abbrev word : ℕ
       word = found lk c e
 
@@ -119,17 +120,17 @@ module _ (lawful : List ℕ → List (ℕ × ℕ) → List (ℕ × ℕ) → Type
   v' = shed c.renewal v
 
   -- the clients as they are within the present renewal, after a step
-  step_clients : (e : Action) → MayAct lawful lk (bounds_of c) e v.attempt → found lk (now c) e ≡ found lk c e → map (shed c.renewal) (set c.clients i (after t lk e (found lk c e) v)) ≡ set (map (shed c.renewal) c.clients) i (after t lk e (found lk c e) v')
+  step_clients : (e : Action) → CanAct lawful lk (bounds_of c) e v.attempt → found lk (now c) e ≡ found lk c e → map (shed c.renewal) (set c.clients i (after t lk e (found lk c e) v)) ≡ set (map (shed c.renewal) c.clients) i (after t lk e (found lk c e) v')
   step_clients e may same =
       ap (λ z. map (shed c.renewal) (set c.clients i z)) (after_is lawful lk c h i v at live t era e may (found lk c e))
       ∙ set_now lawful lk c h i v at live (after t lk e (found lk c e) v') (subst (λ n. AllOf c.renewal (after t lk e n v').records) same (after_of lawful lk c h i v at live t era e may))
 
-  step_past : (e : Action) → MayAct lawful lk (bounds_of c) e v.attempt → found lk (now c) e ≡ found lk c e → Past lawful c.first c.opening c.past c.renewal (set c.clients i (after t lk e (found lk c e) v))
+  step_past : (e : Action) → CanAct lawful lk (bounds_of c) e v.attempt → found lk (now c) e ≡ found lk c e → Past lawful c.first c.opening c.past c.renewal (set c.clients i (after t lk e (found lk c e) v))
   step_past e may same =
       subst (λ z. Past lawful c.first c.opening c.past c.renewal (set c.clients i z)) (sym (after_is lawful lk c h i v at live t era e may (found lk c e)))
       (set_past lawful lk c h i v at live (after t lk e (found lk c e) v') (subst (λ n. AllOf c.renewal (after t lk e n v').records) same (after_of lawful lk c h i v at live t era e may)) (after_spent t lk e (found lk c e) v' ∙ live))
 
-  pub now_stepped : (e : Action) → MayAct lawful lk (bounds_of c) e v.attempt → now (stepped t lk e i v c) ≡ stepped t lk e i v' (now c)
+  pub now_stepped : (e : Action) → CanAct lawful lk (bounds_of c) e v.attempt → now (stepped t lk e i v c) ≡ stepped t lk e i v' (now c)
   now_stepped begin may = ap (with_clients (stepped t lk begin i v' (now c))) (step_clients begin may refl)
   now_stepped (probe k) may = ap (with_clients (stepped t lk (probe k) i v' (now c))) (step_clients (probe k) may refl)
   now_stepped (fetch a) may = ap (with_clients (stepped t lk (fetch a) i v' (now c))) (step_clients (fetch a) may refl)
@@ -142,7 +143,7 @@ module _ (lawful : List ℕ → List (ℕ × ℕ) → List (ℕ × ℕ) → Type
   now_stepped (give_back k) may = ap (with_clients (stepped t lk (give_back k) i v' (now c))) (step_clients (give_back k) may refl)
   now_stepped (finish g) may = ap (with_clients (stepped t lk (finish g) i v' (now c))) (step_clients (finish g) may refl)
 
-  past_stepped : (e : Action) → MayAct lawful lk (bounds_of c) e v.attempt → Past lawful (stepped t lk e i v c).first (stepped t lk e i v c).opening (stepped t lk e i v c).past (stepped t lk e i v c).renewal (stepped t lk e i v c).clients
+  past_stepped : (e : Action) → CanAct lawful lk (bounds_of c) e v.attempt → Past lawful (stepped t lk e i v c).first (stepped t lk e i v c).opening (stepped t lk e i v c).past (stepped t lk e i v c).renewal (stepped t lk e i v c).clients
   past_stepped begin may = step_past begin may refl
   past_stepped (probe k) may = step_past (probe k) may refl
   past_stepped (fetch a) may = step_past (fetch a) may refl
@@ -156,7 +157,7 @@ module _ (lawful : List ℕ → List (ℕ × ℕ) → List (ℕ × ℕ) → Type
   past_stepped (finish g) may = step_past (finish g) may refl
 
   -- a step of a client keeps the whole rule
-  pub step_rules : (e : Action) → MayAct lawful lk (bounds_of c) e v.attempt → Rule lawful lk (stepped t lk e i v c)
+  pub step_rules : (e : Action) → CanAct lawful lk (bounds_of c) e v.attempt → Rule lawful lk (stepped t lk e i v c)
   step_rules e may = record {
     inv = subst (Inv lawful lk) (sym (now_stepped e may)) (now_keeps lawful lk c h i v at live t era e may);
     lone = act_lone lawful lk c h.inv h.lone i v at live t e may;

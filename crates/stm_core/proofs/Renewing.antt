@@ -8,7 +8,7 @@ use Rattle.std.proofs.lemmas.List.Sums.{sum_by-cons}
 use Rattle.stm_words.specs.Image.{In, laid}
 use Rattle.stm_core.specs.Client.{Client, Record, nothing, decided, before, merged, of_renewal, shed}
 use Rattle.stm_core.specs.Event.{giving, fresh, taking, renewing, gone, opener}
-use Rattle.stm_core.specs.Core.{Core, divided, gathered, renewed, IsFreeHanded, IsAlone, opened, begun_on}
+use Rattle.stm_core.specs.Core.{Core, divided, gathered, renewed, IsFreeHanded, opened, begun_on}
 use Rattle.stm_core.specs.Version.{World, At}
 use Rattle.stm_core.specs.Records.{Ordered, Filed}
 use Rattle.stm_core.specs.History.{Serial, image_after}
@@ -22,6 +22,7 @@ use Rattle.stm_core.proofs.Turns.{Heart}
 use Rattle.stm_core.proofs.Sums.{sum_set, share_of}
 use Rattle.stm_core.proofs.Facts.{alone, alone_serial}
 use Rattle.stm_core.proofs.Joining.{longer_keeps, longer_files, split_keeps, gather_keeps, opening_keeps, nobody_yet}
+use Rattle.stm_core.proofs.Conditions.{IsAlone}
 
 pub at_last : {A : Type 0} (l : List A) (w o : A) (j : ℕ) → get_elem? (l ++ w ∷ []) j ≡ some o → (get_elem? l j ≡ some o) ⊎ ((j ≡ length l) × (w ≡ o))
 at_last [] w o zero e = inr (refl, some-injective w o e)

@@ -3,7 +3,7 @@ use Rattle.std.proofs.Common.{◌≡◌, ◌≢◌, ℕ, suc, ◌+◌, ◌-◌, 
 use Rattle.std.proofs.lemmas.Bool.Decides.{nat_tests}
 use Rattle.stm_words.specs.Image.{In}
 use Rattle.stm_core.specs.Client.{Client, Record, running, ending, committed, probed, fetched, checked, locked, ticked, validated, Stamp, is_committed, decided, version_of, IsFree, is_free, writes_to, old_version, word_before, value_fetched}
-use Rattle.stm_core.specs.Event.{Action, begin, probe, fetch, check, lock, tick, validate, put, release, give_back, finish, IsReading, MayWrite, MayAct, May, committed_by, begun, stepping, failing, read_too, holding, versioned, is_empty, decides_at_once, won, passes, passing, after, writer_record, reader_record, with_ticks, marking, counting}
+use Rattle.stm_core.specs.Event.{Action, begin, probe, fetch, check, lock, tick, validate, put, release, give_back, finish, committed_by, begun, stepping, failing, read_too, holding, versioned, is_empty, decides_at_once, won, passes, passing, after, writer_record, reader_record, with_ticks, marking, counting}
 use Rattle.stm_core.specs.Core.{Core, bounds_of, stepped}
 use Rattle.stm_core.specs.Version.{World, At, IsOpen, Claims, runs, Saw, IsSound, IsBooked, Version, Books}
 use Rattle.stm_core.specs.Version as version
@@ -21,8 +21,9 @@ use Rattle.stm_core.proofs.Releasing.{release_keeps, give_back_keeps}
 use Rattle.stm_core.proofs.Stories.{decides, tick_value, tick_wrote, is_written}
 use Rattle.stm_core.proofs.Filing.{stay_keeps, ticked_keeps, filed_on}
 use Rattle.stm_core.proofs.Committing.{commit_keeps, reader_keeps}
-use Rattle.stm_core.proofs.Held.{probed_is, free_is, fetched_is, old_in, held_has, drops}
+use Rattle.stm_core.proofs.Held.{old_in, held_has, drops}
 use Rattle.stm_core.proofs.Sums.{sum_set}
+use Rattle.stm_core.proofs.Conditions.{IsReading, MayWrite, CanAct}
 
 pub by_case : (P : Bool → Type 0) (b : Bool) → (b ≡ true → P true) → (b ≡ false → P false) → P b
 by_case P true f g = f refl
@@ -120,14 +121,14 @@ module _ (lawful : List ℕ → List (ℕ × ℕ) → List (ℕ × ℕ) → Type
           size = h.size;
         }
 
-    probe_inv : (t : Stamp) (k : ℕ) → MayAct lawful lk (bounds_of c) (probe k) v.attempt → Inv lawful lk (stepped t lk (probe k) i v c)
+    probe_inv : (t : Stamp) (k : ℕ) → CanAct lawful lk (bounds_of c) (probe k) v.attempt → Inv lawful lk (stepped t lk (probe k) i v c)
     probe_inv t k may =
         let w : Client = after t lk (probe k) (slice_index c.locks k) v in
         quiet w refl (same_keeps lk (world c h.story) c.clients i v heart at w refl refl refl refl refl refl me.floor refl refl refl (le_refl _)) (same_files w live refl refl refl refl refl refl)
 
-    fetch_inv : (t : Stamp) (a : ℕ) → MayAct lawful lk (bounds_of c) (fetch a) v.attempt → Inv lawful lk (stepped t lk (fetch a) i v c)
+    fetch_inv : (t : Stamp) (a : ℕ) → CanAct lawful lk (bounds_of c) (fetch a) v.attempt → Inv lawful lk (stepped t lk (fetch a) i v c)
     fetch_inv t a may =
-        let p = probed_is (lk a) v.attempt.rv v.attempt.last may.3 in
+        let p = may.3 in
         let saw : Saw lk (world c h.story) v.attempt.rv (probed (lk a) p.0) = subst (Saw lk (world c h.story) v.attempt.rv) p.1 me.saw in
         let w : Client = after t lk (fetch a) (slice_index c.cells a) v in
         let word : p.0 ≡ word_before v.attempt.last = sym (ap word_before p.1) in
@@ -137,9 +138,9 @@ module _ (lawful : List ℕ → List (ℕ × ℕ) → List (ℕ × ℕ) → Type
     reads_inside : (a x : ℕ) → a < length c.cells → AllInside (length c.opening) (v.attempt.reads ++ (a, x) ∷ [])
     reads_inside a x l b y m = ⊎_elim (λ old. it.reads b y old) (λ (new : (a, x) ≡ (b, y)). (let e : a ≡ b = ap (λ (q : ℕ × ℕ). q.0) new in let s = h.size in omega arith)) (in_snoc v.attempt.reads (a, x) (b, y) m)
 
-    check_inv : (t : Stamp) (a : ℕ) → MayAct lawful lk (bounds_of c) (check a) v.attempt → Inv lawful lk (stepped t lk (check a) i v c)
+    check_inv : (t : Stamp) (a : ℕ) → CanAct lawful lk (bounds_of c) (check a) v.attempt → Inv lawful lk (stepped t lk (check a) i v c)
     check_inv t a may =
-        let p = fetched_is a v.attempt.rv v.attempt.last may.3 in
+        let p = may.3 in
         let n = slice_index c.locks (lk a) in
         let word : p.0 ≡ word_before v.attempt.last = sym (ap word_before p.2) in
         let value : p.1 ≡ value_fetched v.attempt.last = sym (ap value_fetched p.2) in
@@ -151,9 +152,9 @@ module _ (lawful : List ℕ → List (ℕ × ℕ) → List (ℕ × ℕ) → Type
         (λ e. let w : Client = stepping (checked a (word_before v.attempt.last) n) (failing v) in
         quiet w refl (same_keeps lk (world c h.story) c.clients i v heart at w refl refl refl refl (sym undecided) refl me.floor refl refl refl tt) (idle_files w live may.0.1 refl refl it.reads))
 
-    lock_inv : (t : Stamp) (k : ℕ) → MayAct lawful lk (bounds_of c) (lock k) v.attempt → Inv lawful lk (stepped t lk (lock k) i v c)
+    lock_inv : (t : Stamp) (k : ℕ) → CanAct lawful lk (bounds_of c) (lock k) v.attempt → Inv lawful lk (stepped t lk (lock k) i v c)
     lock_inv t k may =
-        let p = free_is k v.attempt.last may.2 in
+        let p = may.2 in
         let n = slice_index c.locks k in
         let word : p.0 ≡ word_before v.attempt.last = sym (ap word_before p.1) in
         let undecided = undecided_at v may.0.0 in
@@ -181,7 +182,7 @@ module _ (lawful : List ℕ → List (ℕ × ℕ) → List (ℕ × ℕ) → Type
             last_false true y = y
             last_false false y = refl
 
-    put_inv : (t : Stamp) (a x : ℕ) → MayAct lawful lk (bounds_of c) (put a x) v.attempt → Inv lawful lk (stepped t lk (put a x) i v c)
+    put_inv : (t : Stamp) (a x : ℕ) → CanAct lawful lk (bounds_of c) (put a x) v.attempt → Inv lawful lk (stepped t lk (put a x) i v c)
     put_inv t a x may =
         let is_decided = decided_at v may.0 in
         let z = (mine.told is_decided).0 in
@@ -191,7 +192,7 @@ module _ (lawful : List ℕ → List (ℕ × ℕ) → List (ℕ × ℕ) → Type
         (record { here = get_or-set_same c.cells a x 0 inside; else = λ b ne. get_or-set_other c.cells a b x 0 ne }) refl refl refl refl refl refl refl refl refl refl tt in
         record { bounded = h.bounded; grants = seats w refl; story = h.story; version = k.version; books = k.books; filed = same_files w live refl refl refl refl refl refl; size = length-set c.cells a x ∙ h.size }
 
-    release_inv : (t : Stamp) (k : ℕ) → MayAct lawful lk (bounds_of c) (release k) v.attempt → Inv lawful lk (stepped t lk (release k) i v c)
+    release_inv : (t : Stamp) (k : ℕ) → CanAct lawful lk (bounds_of c) (release k) v.attempt → Inv lawful lk (stepped t lk (release k) i v c)
     release_inv t k may =
         let is_decided = decided_at v may.0 in
         let u = may.1.0 in
@@ -203,7 +204,7 @@ module _ (lawful : List ℕ → List (ℕ × ℕ) → List (ℕ × ℕ) → Type
         (record { here = get_or-set_same c.locks k (2 * v.attempt.wv) 0 inside; else = λ j ne. get_or-set_other c.locks k j (2 * v.attempt.wv) 0 ne }) (let b = me.above k u g z in omega arith) me.wv refl is_decided may.2 refl refl refl refl refl refl refl refl refl tt in
         record { bounded = h.bounded; grants = seats w refl; story = h.story; version = k'.version; books = k'.books; filed = same_files w live refl refl refl refl refl refl; size = h.size }
 
-    give_back_inv : (t : Stamp) (k : ℕ) → MayAct lawful lk (bounds_of c) (give_back k) v.attempt → Inv lawful lk (stepped t lk (give_back k) i v c)
+    give_back_inv : (t : Stamp) (k : ℕ) → CanAct lawful lk (bounds_of c) (give_back k) v.attempt → Inv lawful lk (stepped t lk (give_back k) i v c)
     give_back_inv t k may =
         let undecided : decided v ≡ false = ⊎_elim (λ e. undecided_at v e) (λ e. undecided_end v e) may.0 in
         let u = old_version v.attempt.held k in
@@ -215,7 +216,7 @@ module _ (lawful : List ℕ → List (ℕ × ℕ) → List (ℕ × ℕ) → Type
         (record { here = get_or-set_same c.locks k (2 * u) 0 inside; else = λ j ne. get_or-set_other c.locks k j (2 * u) 0 ne }) (le_refl _) (let b = h.version.versions k in omega arith) refl undecided refl refl refl refl refl refl refl me.saw in
         record { bounded = h.bounded; grants = seats w refl; story = h.story; version = k'.version; books = k'.books; filed = idle_files w live refl refl refl it.reads; size = h.size }
 
-    finish_inv : (t : Stamp) (tag : List ℕ) → t.renewal ≡ c.renewal → MayAct lawful lk (bounds_of c) (finish tag) v.attempt → Inv lawful lk (stepped t lk (finish tag) i v c)
+    finish_inv : (t : Stamp) (tag : List ℕ) → t.renewal ≡ c.renewal → CanAct lawful lk (bounds_of c) (finish tag) v.attempt → Inv lawful lk (stepped t lk (finish tag) i v c)
     finish_inv t tag era may =
         let undecided = undecided_at v may.0.0 in
         let r : Record = reader_record t tag v.attempt in
@@ -223,7 +224,7 @@ module _ (lawful : List ℕ → List (ℕ × ℕ) → List (ℕ × ℕ) → Type
         quiet w refl (finish_keeps lk (world c h.story) c.clients i v heart at w r refl refl refl refl refl refl refl refl refl refl refl (sym undecided) refl tt)
         (reader_keeps lawful (length c.opening) c.renewal h.story c.clock c.clients i v w r h.filed at refl live refl refl may.0.1 refl may.2 refl refl refl era)
 
-    begin_inv : (t : Stamp) → MayAct lawful lk (bounds_of c) begin v.attempt → Inv lawful lk (stepped t lk begin i v c)
+    begin_inv : (t : Stamp) → CanAct lawful lk (bounds_of c) begin v.attempt → Inv lawful lk (stepped t lk begin i v c)
     begin_inv t may =
         let w : Client = begun t c.clock v in
         quiet w refl (clear_keeps lk (world c h.story) c.clients i v w heart at may may refl refl (le_refl _) (le_refl _) fewer (λ r m. m) tt) (idle_files w live refl refl refl (λ a x m. absurd (nothing_in (a, x) m)))
@@ -284,7 +285,7 @@ module _ (lawful : List ℕ → List (ℕ × ℕ) → List (ℕ × ℕ) → Type
         none [] z m = nothing_in (a, x) m
         none (p ∷ ps) z m = clash z refl
 
-    tick_inv : (from : ℕ) (tag : List ℕ) (writes : List (ℕ × ℕ)) → MayAct lawful lk (bounds_of c) (tick from tag writes) v.attempt → Inv lawful lk (stepped t lk (tick from tag writes) i v c)
+    tick_inv : (from : ℕ) (tag : List ℕ) (writes : List (ℕ × ℕ)) → CanAct lawful lk (bounds_of c) (tick from tag writes) v.attempt → Inv lawful lk (stepped t lk (tick from tag writes) i v c)
     tick_inv from tag writes may =
         let undecided = undecided_at v may.0.0 in
         by_case (λ b. Inv lawful lk (record c { clock = cond b (from + 1) c.clock; clients = slice_set c.clients i (with_ticks (v.attempt.ticks + 1) c.clock (stepping (ticked from c.clock) (cond b (won t (from + 1) tag writes v) v))); events = c.events + 1 })) (eqb c.clock from)
@@ -299,7 +300,7 @@ module _ (lawful : List ℕ → List (ℕ × ℕ) → List (ℕ × ℕ) → Type
         (λ e. let w : Client = with_ticks (v.attempt.ticks + 1) c.clock (stepping (ticked from c.clock) v) in
         quiet c i v h at live w refl (same_keeps lk (world c h.story) c.clients i v (heart_of c h) at w refl refl refl refl refl refl (h.version.sound i v at).floor refl refl refl tt) (idle_files c i v h at live w live may.0.1 undecided refl (h.filed.filed i v at).reads))
 
-    validate_inv : (k : ℕ) → MayAct lawful lk (bounds_of c) (validate k) v.attempt → Inv lawful lk (stepped t lk (validate k) i v c)
+    validate_inv : (k : ℕ) → CanAct lawful lk (bounds_of c) (validate k) v.attempt → Inv lawful lk (stepped t lk (validate k) i v c)
     validate_inv k may =
         let n = slice_index c.locks k in
         let undecided = undecided_at v may.0 in
@@ -319,7 +320,7 @@ module _ (lawful : List ℕ → List (ℕ × ℕ) → List (ℕ × ℕ) → Type
         (λ e. let w : Client = marking (writes_to v.attempt.held k) (stepping (validated k n) (failing v)) in
         quiet c i v h at live w refl (same_keeps lk (world c h.story) c.clients i v (heart_of c h) at w refl refl refl refl (sym undecided) refl (h.version.sound i v at).floor refl refl refl tt) (same_files c i v h at live w live refl refl refl (sym undecided) refl refl))
 
-    pub act_keeps : (e : Action) → MayAct lawful lk (bounds_of c) e v.attempt → Inv lawful lk (stepped t lk e i v c)
+    pub act_keeps : (e : Action) → CanAct lawful lk (bounds_of c) e v.attempt → Inv lawful lk (stepped t lk e i v c)
     act_keeps begin may = begin_inv c i v h at live t may
     act_keeps (probe k) may = probe_inv c i v h at live t k may
     act_keeps (fetch a) may = fetch_inv c i v h at live t a may
@@ -333,5 +334,5 @@ module _ (lawful : List ℕ → List (ℕ × ℕ) → List (ℕ × ℕ) → Type
     act_keeps (finish tag) may = finish_inv c i v h at live t tag era may
 
   -- each step that is allowed keeps the invariant
-  pub step_keeps : (t : Stamp) (c : Core) (e : Action) (i : ℕ) (v : Client) → t.renewal ≡ c.renewal → Inv lawful lk c → At c.clients i v → May lawful lk (bounds_of c) e v → Inv lawful lk (stepped t lk e i v c)
+  pub step_keeps : (t : Stamp) (c : Core) (e : Action) (i : ℕ) (v : Client) → t.renewal ≡ c.renewal → Inv lawful lk c → At c.clients i v → (v.spent ≡ false) × CanAct lawful lk (bounds_of c) e v.attempt → Inv lawful lk (stepped t lk e i v c)
   step_keeps t c e i v era h at may = act_keeps t c i v h at may.0 era e may.1

@@ -1,13 +1,13 @@
 -- The laws of the story, the list of the writes of each version's decided writer.
-use Rattle.std.proofs.Common.{◌≡◌, ◌≢◌, ℕ, zero, suc, ◌≤◌, ◌<◌, Bool, true, false, cond, eqb, ◌||◌, List, [], ◌∷◌, ◌++◌, length, set, slice_index, refl, sym, ap, ◌∙◌, subst, arith, zero-le}
+use Rattle.std.proofs.Common.{◌≡◌, ◌≢◌, ℕ, zero, suc, ◌≤◌, ◌<◌, Bool, true, false, not, cond, eqb, ◌||◌, ◌&&◌, List, [], ◌∷◌, ◌++◌, length, set, slice_index, refl, sym, ap, ◌∙◌, subst, arith, zero-le}
 use mathlib.Core.Option.{some, some-injective, some-ne-none}
 use lib.ListN.{get_elem?}
 use Rattle.std.proofs.lemmas.Bool.Decides.{nat_tests}
 use Rattle.stm_core.specs.Client.{writes_to}
-use Rattle.stm_core.specs.Event.{IsMap}
 use Rattle.stm_core.specs.Records.{over, value_in, value_of, wrote_in}
 use Rattle.stm_core.proofs.Lists.{clash}
 use Rattle.stm_core.proofs.Deciding.{Decides}
+use Rattle.stm_core.specs.Guards.{is_map}
 
 -- writes that do not name an address leave it
 pub over_else : (w : List (ℕ × ℕ)) (d a : ℕ) → writes_to w a ≡ false → over d w a ≡ d
@@ -71,14 +71,21 @@ is_written (p ∷ ps) a x (suc j) e = go (eqb p.0 a) (is_written ps a x j e)
     go true k = refl
     go false k = k
 
+once : (p : ℕ × ℕ) (ps : List (ℕ × ℕ)) → is_map (p ∷ ps) ≡ true → (writes_to ps p.0 ≡ false) × (is_map ps ≡ true)
+once p ps h = go (writes_to ps p.0) (is_map ps) h
+  where
+    go : (a b : Bool) → (not a && b) ≡ true → (a ≡ false) × (b ≡ true)
+    go false b h = (refl, h)
+    go true b h = clash h refl
+
 -- the value of a pair, where no address stands twice
-pub over_pair : (w : List (ℕ × ℕ)) (d a x j : ℕ) → IsMap w → get_elem? w j ≡ some (a, x) → over d w a ≡ x
+pub over_pair : (w : List (ℕ × ℕ)) (d a x j : ℕ) → is_map w ≡ true → get_elem? w j ≡ some (a, x) → over d w a ≡ x
 over_pair [] d a x j m e = absurd (some-ne-none (a, x) (sym e))
 over_pair (p ∷ ps) d a x zero m e =
     let same : p.0 ≡ a = ap (λ (q : ℕ × ℕ). q.0) (some-injective p (a, x) e) in
     let value : p.1 ≡ x = ap (λ (q : ℕ × ℕ). q.1) (some-injective p (a, x) e) in
-    let hit : eqb p.0 a ≡ true = grind (arith, nat_tests) in over_else ps (cond (eqb p.0 a) p.1 d) a (subst (λ y. writes_to ps y ≡ false) same m.0) ∙ (ap (λ b. cond b p.1 d) hit ∙ value)
-over_pair (p ∷ ps) d a x (suc j) m e = over_pair ps (cond (eqb p.0 a) p.1 d) a x j m.1 e
+    let hit : eqb p.0 a ≡ true = grind (arith, nat_tests) in over_else ps (cond (eqb p.0 a) p.1 d) a (subst (λ y. writes_to ps y ≡ false) same (once p ps m).0) ∙ (ap (λ b. cond b p.1 d) hit ∙ value)
+over_pair (p ∷ ps) d a x (suc j) m e = over_pair ps (cond (eqb p.0 a) p.1 d) a x j (once p ps m).1 e
 
 -- the image of a version is that of the version before with its writes
 pub value_next : (ws : List (List (ℕ × ℕ))) (n : ℕ) (w : List (ℕ × ℕ)) (d a : ℕ) → get_elem? ws n ≡ some w → value_in ws d (suc n) a ≡ over (value_in ws d n a) w a
@@ -105,7 +112,7 @@ nobody_above (w ∷ ws) (suc zero) a l = absurd (omega arith)
 nobody_above (w ∷ ws) (suc (suc u)) a l = nobody_above ws (suc u) a (omega arith)
 
 -- where the place of version n + 1 is empty, writes that are put there are a decision
-pub decides : (clock : ℕ) (lock cell : ℕ → ℕ) (image : List ℕ) (story : List (List (ℕ × ℕ))) (n : ℕ) (w : List (ℕ × ℕ)) → IsMap w → get_elem? story n ≡ some []
+pub decides : (clock : ℕ) (lock cell : ℕ → ℕ) (image : List ℕ) (story : List (List (ℕ × ℕ))) (n : ℕ) (w : List (ℕ × ℕ)) → is_map w ≡ true → get_elem? story n ≡ some []
     → Decides (record { clock = clock; lock = lock; cell = cell; val = value_of image story; wrote = wrote_in story }) (value_of image (set story n w)) (wrote_in (set story n w)) (suc n) w
 decides clock lock cell image story n w m e =
     let l : n < length story = below story n [] e in record {

@@ -21,6 +21,7 @@ use Rattle.stm_core.proofs.Renewing.{opening_rules}
 use Rattle.stm_core.proofs.Playing.{event_keeps, every_list_stands}
 use Rattle.stm_core.proofs.Steps.{by_case}
 use Rattle.stm_core.proofs.Numbering.{elem_map, elem_unmap, allowed_with_numbers}
+use Rattle.stm_core.proofs.Conditions.{can_play}
 
 in_tail : {A : Type 0} (x y : A) (l : List A) → x ≢ y → In y (x ∷ l) → In y l
 in_tail x y l n (zero, e) = absurd (n (some-injective x y e))
@@ -64,8 +65,8 @@ module _ (lawful : List ℕ → List (ℕ × ℕ) → List (ℕ × ℕ) → Type
   tagged tag reads writes = lawful tag reads writes × In tag tags
 
   event_tagged : (lk : ℕ → ℕ) (e : Event) (es : List Event) (c : Core) → ((t : List ℕ) → In t (tags_of (e ∷ es)) → In t tags) → Allowed lawful lk e c → Allowed tagged lk e c
-  event_tagged lk (acts k (tick from tag writes)) es c f h = let m = h.2.1 in (h.0, h.1, (h.2.0, (m.0, m.1, m.2, m.3, m.4, (m.5, f tag (0, refl)))))
-  event_tagged lk (acts k (finish tag)) es c f h = let m = h.2.1 in (h.0, h.1, (h.2.0, (m.0, m.1, (m.2, f tag (0, refl)))))
+  event_tagged lk (acts k (tick from tag writes)) es c f h = (h.0, (h.1, f tag (0, refl)))
+  event_tagged lk (acts k (finish tag)) es c f h = (h.0, (h.1, f tag (0, refl)))
   event_tagged lk e es c f h = h
 
   leads_tagged : (lk : ℕ → ℕ) (es : List Event) (c d : Core) → ((t : List ℕ) → In t (tags_of es) → In t tags) → Leads lawful lk c es d → Leads tagged lk c es d
@@ -74,7 +75,7 @@ module _ (lawful : List ℕ → List (ℕ × ℕ) → List (ℕ × ℕ) → Type
 
 kept : (lawful : List ℕ → List (ℕ × ℕ) → List (ℕ × ℕ) → Type 0) (lk : ℕ → ℕ) (es : List Event) (c d : Core) → Rule lawful lk c → Leads lawful lk c es d → Rule lawful lk d
 kept lawful lk [] c d k h = subst (Rule lawful lk) h k
-kept lawful lk (e ∷ es) c d k h = kept lawful lk es (played lk e c) d (event_keeps lawful lk c e k h.0) h.1
+kept lawful lk (e ∷ es) c d k h = kept lawful lk es (played lk e c) d (event_keeps lawful lk c e k (can_play lawful lk e c h.0)) h.1
 
 module _ (number : List ℕ → ℕ) where
   points_back : (rs : List Record) → ByPoint (map (numbered_record number) rs) → ByPoint rs

@@ -7,7 +7,7 @@ use Rattle.stm_words.specs.Image.{In, Agrees, laid}
 use Rattle.stm_core.specs.Client.{Client, Record, before, inserted, merged, of_renewal, shed}
 use Rattle.stm_core.specs.Client.{Stamp, version_of, word_before, value_fetched, checked, locked, ticked, validated}
 use Rattle.stm_core.specs.Event.{Action, check, lock, tick, validate, finish, committed_by, stepping, failing, read_too, holding, versioned, decides_at_once, won, passes, passing, after, taking, counting}
-use Rattle.stm_core.specs.Core.{Core, IsFreeHanded, IsAlone}
+use Rattle.stm_core.specs.Core.{Core, IsFreeHanded}
 use Rattle.stm_core.proofs.Steps.{by_case}
 use Rattle.stm_core.specs.Version.{At}
 use Rattle.stm_core.specs.History.{Serial, image_after, Sub, done, keep, skip, all_records, IsShared}
@@ -22,6 +22,7 @@ use Rattle.stm_core.proofs.Lones.{at_map}
 use Rattle.stm_core.proofs.Knowing.{its_floor}
 use Rattle.stm_core.proofs.Renewals.{pre, pre_before, own_of, eqb_no, eqb_yes}
 use Rattle.stm_core.proofs.Renewing.{serial_append, past_serial, past_leads, past_lawful, sorted_of, sorted_append}
+use Rattle.stm_core.proofs.Conditions.{IsAlone}
 
 -- an inserted record keeps a sorted list sorted, and of two sorted lists joined to one each keeps its order
 pub inserted_sorted : (r : Record) (l : List Record) → Sorted l → Sorted (inserted r l)

@@ -1,9 +1,8 @@
 -- The state of a whole region as plain data, and what a list of events makes of it.
-use Rattle.std.specs.Prelude.{◌≡◌, ◌≢◌, ℕ, ◌+◌, ◌*◌, ◌-◌, ◌<◌, ◌≤◌, cond, eqb, true, false, List, [], ◌∷◌, ◌++◌, length, slice_index, slice_set, get_or, replicate}
-use mathlib.Core.Option.{some}
-use lib.ListN.{get_elem?}
+use Rattle.std.specs.Prelude.{◌≡◌, ℕ, zero, suc, ◌+◌, ◌*◌, ◌-◌, Bool, true, false, not, ◌&&◌, ◌==◌, nat_lt, nat_le, cond, eqb, List, [], ◌∷◌, ◌++◌, length, slice_index, slice_set, get_or, replicate}
 use Rattle.stm_core.specs.Client.{Client, Record, Stamp, word_before, old_version}
-use Rattle.stm_core.specs.Event.{Action, begin, probe, fetch, check, lock, tick, validate, put, release, give_back, finish, Bounds, May, after, giving, fresh, taking, renewing, gone, opener}
+use Rattle.stm_core.specs.Event.{Action, begin, probe, fetch, check, lock, tick, validate, put, release, give_back, finish, is_empty, Bounds, after, giving, fresh, taking, renewing, gone, opener}
+use Rattle.stm_core.specs.Guards.{may_act, IsLawful}
 use Rattle.stm_core.specs.declared.limits.TheConstants.{MOST_CLIENTS, MOST_RENEWALS}
 use Rattle.stm_words.specs.declared.version.TheConstants.{VERSION_LIMIT}
 
@@ -98,33 +97,49 @@ pub data Event : Type 0 where
   gathers : (client other : ℕ) → Event
   renews : (client last : ℕ) → Event
 
--- v is the value of the client with this number
-abbrev pub IsClient : Core → ℕ → Client → Type 0
-IsClient c k v = (0 < k) × (get_elem? c.clients (k - 1) ≡ some v)
-
 -- it is out, and holds no lock
 abbrev pub IsFreeHanded : Client → Type 0
 IsFreeHanded v = (v.spent ≡ false) × (v.attempt.held ≡ [])
 
--- every other client is spent
-abbrev pub IsAlone : Core → ℕ → Type 0
-IsAlone c i = (j : ℕ) (w : Client) → get_elem? c.clients j ≡ some w → j ≢ i → w.spent ≡ true
-
-module _ (lawful : List ℕ → List (ℕ × ℕ) → List (ℕ × ℕ) → Type 0) (lk : ℕ → ℕ) where
-  abbrev pub Allowed : Event → Core → Type 0
-  Allowed (acts k e) c = (v : Client) × IsClient c k v × May lawful lk (bounds_of c) e v
-  Allowed (splits k) c =
-      (v : Client) × IsClient c k v × IsFreeHanded v × (0 < v.grants)
-      × (length c.clients < MOST_CLIENTS)
-  Allowed (gathers k j) c =
-      (v : Client) × (w : Client) × IsClient c k v × IsClient c j w × (k ≢ j) × IsFreeHanded v
-      × IsFreeHanded w
-  Allowed (renews k last) c =
-      (v : Client) × IsClient c k v × IsFreeHanded v × IsAlone c (k - 1) × (1 ≤ last)
-      × (last < VERSION_LIMIT) × (c.renewal < MOST_RENEWALS)
-
+-- the value of the client with this number
 abbrev pub client_of : Core → ℕ → Client
 client_of c k = get_or c.clients (k - 1) gone
+
+-- whether this number was given to a client, and that client is not spent
+abbrev pub is_out : Core → ℕ → Bool
+is_out c k = nat_lt 0 k && nat_lt (k - 1) (length c.clients) && not (client_of c k).spent
+
+abbrev pub are_spent : List Client → Bool
+are_spent [] = true
+are_spent (v ∷ vs) = v.spent && are_spent vs
+
+-- every client but the one at a place is spent
+abbrev pub others_spent : List Client → ℕ → Bool
+others_spent [] i = true
+others_spent (v ∷ vs) zero = are_spent vs
+others_spent (v ∷ vs) (suc i) = v.spent && others_spent vs i
+
+-- whether an event may happen, but for what the law asks of records
+abbrev pub may_play : (ℕ → ℕ) → Event → Core → Bool
+may_play lk (acts k e) c = is_out c k && may_act lk (bounds_of c) e (client_of c k).attempt
+may_play lk (splits k) c =
+    is_out c k && is_empty (client_of c k).attempt.held && nat_lt 0 (client_of c k).grants
+    && nat_lt (length c.clients) MOST_CLIENTS
+may_play lk (gathers k j) c =
+    is_out c k && is_out c j && not (k == j) && is_empty (client_of c k).attempt.held
+    && is_empty (client_of c j).attempt.held
+may_play lk (renews k last) c =
+    is_out c k && is_empty (client_of c k).attempt.held && others_spent c.clients (k - 1)
+    && nat_le 1 last && nat_lt last VERSION_LIMIT && nat_lt c.renewal MOST_RENEWALS
+
+module _ (lawful : List ℕ → List (ℕ × ℕ) → List (ℕ × ℕ) → Type 0) where
+  -- the record that the event would make is lawful
+  abbrev pub MakesLawful : Event → Core → Type 0
+  MakesLawful (acts k e) c = IsLawful lawful e (client_of c k).attempt
+  MakesLawful _ c = Unit {0}
+
+  abbrev pub Allowed : (ℕ → ℕ) → Event → Core → Type 0
+  Allowed lk e c = (may_play lk e c ≡ true) × MakesLawful e c
 
 -- the core after an event
 abbrev pub played : (ℕ → ℕ) → Event → Core → Core

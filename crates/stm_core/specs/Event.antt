@@ -1,10 +1,7 @@
--- The steps of one client on a word: when each is allowed, and what it does to the client's value.
-use Rattle.std.specs.Prelude.{◌≡◌, ◌≢◌, ℕ, ◌+◌, ◌-◌, ◌<◌, ◌≤◌, max, ◌⊎◌, Bool, true, false, cond, eqb, leb, ◌||◌, ◌&&◌, List, [], ◌∷◌, ◌++◌, length}
-use Rattle.stm_words.specs.Image.{In}
-use mathlib.Core.Option.{some}
-use lib.ListN.{get_elem?}
-use Rattle.stm_core.specs.Client.{Attempt, Client, Record, idle, running, ending, committed, finished, Step, nothing, began, probed, fetched, checked, locked, ticked, validated, ended, Stamp, version_of, IsFree, is_free, writes_to, without, word_before, value_fetched, inserted, merged}
-use Rattle.stm_core.specs.declared.limits.TheConstants.{MOST_GRANTS, MOST_TICKS}
+-- The steps of one client on a word, and what each does to the client's value.
+use Rattle.std.specs.Prelude.{ℕ, ◌+◌, ◌-◌, max, Bool, true, false, cond, eqb, leb, ◌||◌, ◌&&◌, List, [], ◌∷◌, ◌++◌, length}
+use Rattle.stm_core.specs.Client.{Attempt, Client, Record, idle, running, ending, committed, finished, Step, nothing, began, probed, fetched, checked, locked, ticked, validated, ended, Stamp, version_of, is_free, writes_to, without, word_before, value_fetched, inserted, merged}
+use Rattle.stm_core.specs.declared.limits.TheConstants.{MOST_GRANTS}
 
 -- one step of one client: an atomic load, store or read-modify-write of one word
 pub data Action : Type 0 where
@@ -26,76 +23,6 @@ pub record Bounds : Type 0 where
   pub last : ℕ
   pub stripes : ℕ
   pub size : ℕ
-
--- the last step was a probe of this lock that found it free, with a version of at most rv
-abbrev pub HasProbed : ℕ → ℕ → Step → Type 0
-HasProbed k rv (probed j n) = (j ≡ k) × IsFree n × (version_of n ≤ rv)
-HasProbed k rv _ = ⊥
-
--- the last step was a probe of this lock that found it free
-abbrev pub HasFoundFree : ℕ → Step → Type 0
-HasFoundFree k (probed j n) = (j ≡ k) × IsFree n
-HasFoundFree k _ = ⊥
-
--- the last step was a fetch of this address, after a probe that found its lock free with a version
--- of at most rv
-abbrev pub HasFetched : ℕ → ℕ → Step → Type 0
-HasFetched a rv (fetched b n x) = (b ≡ a) × IsFree n × (version_of n ≤ rv)
-HasFetched a rv _ = ⊥
-
--- the client holds the lock
-abbrev pub Holds : List (ℕ × ℕ) → ℕ → Type 0
-Holds held k = (u : ℕ) × In (k, u) held
-
--- an attempt runs that has no write version
-abbrev pub IsReading : Attempt → Type 0
-IsReading t = (t.phase ≡ running) × (t.wv ≡ 0)
-
--- no address stands twice
-abbrev pub IsMap : List (ℕ × ℕ) → Type 0
-IsMap [] = Unit {0}
-IsMap (p ∷ ps) = (writes_to ps p.0 ≡ false) × IsMap ps
-
--- the locks of the written words are exactly those held
-pub record LocksMatch (lk : ℕ → ℕ) (held writes : List (ℕ × ℕ)) : Type 0 where
-  pub every : (a : ℕ) → writes_to writes a ≡ true → Holds held (lk a)
-  pub only : (k u : ℕ) → In (k, u) held → (a : ℕ) × (writes_to writes a ≡ true) × (lk a ≡ k)
-
--- what a tick asks of its writes
-pub record MayWrite (lk : ℕ → ℕ) (size : ℕ) (held writes : List (ℕ × ℕ)) : Type 0 where
-  pub some : writes ≢ []
-  pub once : IsMap writes
-  pub inside : (a : ℕ) → writes_to writes a ≡ true → a < size
-  pub locks : LocksMatch lk held writes
-
--- the validation of lock k stands next
-abbrev pub IsNext : (ℕ → ℕ) → ℕ → Attempt → Type 0
-IsNext lk k t = (a x : ℕ) × (get_elem? t.reads t.passed ≡ some (a, x)) × (lk a ≡ k)
-
-module _ (lawful : List ℕ → List (ℕ × ℕ) → List (ℕ × ℕ) → Type 0) (lk : ℕ → ℕ) (b : Bounds) where
-  -- when an attempt of a client that is not spent may make a step, or the next one begin
-  abbrev pub MayAct : Action → Attempt → Type 0
-  MayAct begin t = t.held ≡ []
-  MayAct (probe k) t = IsReading t × (k < b.stripes)
-  MayAct (fetch a) t = IsReading t × (a < b.size) × (t.held ≡ []) × HasProbed (lk a) t.rv t.last
-  MayAct (check a) t = IsReading t × (a < b.size) × (t.held ≡ []) × HasFetched a t.rv t.last
-  MayAct (lock k) t =
-      IsReading t × (k < b.stripes) × HasFoundFree k t.last
-      × ((j u : ℕ) → In (j, u) t.held → j < k)
-  MayAct (tick from tag writes) t =
-      IsReading t × (from ≡ t.next_from) × (from < b.last) × (t.ticks < MOST_TICKS)
-      × MayWrite lk b.size t.held writes × lawful tag t.reads writes
-  MayAct (validate k) t = (t.phase ≡ running) × (0 < t.wv) × IsNext lk k t
-  MayAct (put a x) t =
-      (t.phase ≡ committed) × In (a, x) t.writes × Holds t.held (lk a) × (In a t.stored → ⊥)
-  MayAct (release k) t =
-      (t.phase ≡ committed) × Holds t.held k
-      × ((a : ℕ) → lk a ≡ k → writes_to t.writes a ≡ true → In a t.stored)
-  MayAct (give_back k) t = ((t.phase ≡ running) ⊎ (t.phase ≡ ending)) × Holds t.held k
-  MayAct (finish tag) t = IsReading t × (t.held ≡ []) × lawful tag t.reads []
-
-  abbrev pub May : Action → Client → Type 0
-  May e c = (c.spent ≡ false) × MayAct e c.attempt
 
 -- the record that an attempt makes as a writer, and as a reader with this tag
 abbrev pub writer_record : Stamp → Attempt → Record

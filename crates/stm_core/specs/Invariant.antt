@@ -2,7 +2,8 @@
 use Rattle.std.specs.Prelude.{◌≡◌, ℕ, ◌+◌, ◌≤◌, ◌<◌, ◌⊎◌, cond, eqb, true, false, List, [], ◌∷◌, ◌++◌, length, map, slice_index, sum_by}
 use Rattle.stm_core.specs.Client.{Client, Record, Stamp, Step, probed, fetched, decided, running, version_of, IsFree, word_before, before, shed, of_renewal}
 use Rattle.stm_words.specs.Image.{In}
-use Rattle.stm_core.specs.Event.{check, lock, tick, after, MayAct, Holds, gone}
+use Rattle.stm_core.specs.Event.{check, lock, tick, after, gone}
+use Rattle.stm_core.specs.Guards.{MayAct, Holds}
 use Rattle.stm_core.specs.Core.{Core, bounds_of}
 use Rattle.stm_core.specs.Version.{World, At, Version, Books}
 use Rattle.stm_core.specs.Records.{value_of, wrote_in, Filed}

@@ -1,12 +1,12 @@
 pub mod Client
 pub mod Event
+pub mod Guards
 pub mod Core
 pub mod Version
 pub mod Records
 pub mod Invariant
 pub mod History
 pub mod Theorem
-pub mod Tests
 pub mod Seat
 pub mod SeatView
 pub mod Placing

@@ -4,11 +4,11 @@ use Rattle.std.specs.Prelude.{◌≡◌, ℕ, ◌<◌, cond, eqb, true, List, []
 use Rattle.stm_words.specs.Image.{In}
 use Rattle.stm_core.specs.Client.{Client, Record}
 use Rattle.stm_core.specs.Event.{Action, tick, finish}
-use Rattle.stm_core.specs.Core.{Core, Event, acts}
+use Rattle.stm_core.specs.Core.{Core, Event, acts, may_play}
 use Rattle.stm_core.specs.Version.{At}
 use Rattle.stm_core.specs.History.{Serial}
 use Rattle.stm_core.specs.Theorem.{free_law, Reaches, IsHistory}
-use Rattle.stm_core.specs.Running.{Running, may_play, run_played, run_opened, ran, shown}
+use Rattle.stm_core.specs.Running.{Running, stripes_of, run_played, run_opened, ran, shown}
 use Rattle.stm_core.specs.Played.{event_of}
 use Rattle.stm_core.specs.declared.event.Event as declared
 
@@ -71,7 +71,7 @@ EveryEventIsPlayable =
 -- each event may be played in its turn
 abbrev pub MayRun : List Event → Running → Type 0
 MayRun [] s = Unit {0}
-MayRun (e ∷ es) s = (may_play e s.core ≡ true) × MayRun es (run_played e s)
+MayRun (e ∷ es) s = (may_play (stripes_of s.core) e s.core ≡ true) × MayRun es (run_played e s)
 
 module _ (lawful : List ℕ → List (ℕ × ℕ) → List (ℕ × ℕ) → Type 0) where
   -- a list of events that the law allows is allowed with any numbers for its tags where every

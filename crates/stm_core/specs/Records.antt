@@ -5,7 +5,7 @@ use Rattle.stm_words.specs.Image.{In}
 use mathlib.Core.Option.{some}
 use lib.ListN.{get_elem?}
 use Rattle.stm_core.specs.Client.{Client, Record, decided, writes_to, before}
-use Rattle.stm_core.specs.Event.{IsMap}
+use Rattle.stm_core.specs.Guards.{is_map}
 use Rattle.stm_core.specs.Version.{At, IsOpen}
 
 -- the value at a, where d stood before the pairs
@@ -59,7 +59,7 @@ module _
     -- what it read and wrote is in the region, no written address twice
     pub reads : AllInside size r.reads
     pub writes : AllInside size r.writes
-    pub once : IsMap r.writes
+    pub once : is_map r.writes ≡ true
     -- a writer's writes are the story's at its version, and a reader writes nothing
     pub writer : r.writer ≡ true
         → (0 < r.version) × (get_elem? story (r.version - 1) ≡ some r.writes)
@@ -74,7 +74,7 @@ module _
     pub reads : AllInside size v.attempt.reads
     -- with a write version, what it is to write is in the region, no address twice; undecided it
     -- is lawful, decided it is the story's at its version
-    pub writes : 0 < v.attempt.wv → AllInside size v.attempt.writes × IsMap v.attempt.writes
+    pub writes : 0 < v.attempt.wv → AllInside size v.attempt.writes × (is_map v.attempt.writes ≡ true)
     pub abides : IsOpen v → lawful v.attempt.tag v.attempt.reads v.attempt.writes
     pub commits : decided v ≡ true → get_elem? story (v.attempt.wv - 1) ≡ some v.attempt.writes
     -- spent, it holds and records nothing

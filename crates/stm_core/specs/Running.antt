@@ -2,11 +2,10 @@
 use Rattle.std.specs.Prelude.{◌≡◌, ℕ, ◌+◌, ◌-◌, ◌<◌, Bool, true, not, ◌&&◌, ◌==◌, nat_lt, nat_le, zero, suc, cond, eqb, List, [], ◌∷◌, ◌++◌, length, map, slice_set, replicate, ◌≢◌, ◌≤◌, Option, None}
 use Rattle.stm_words.specs.Image.{In}
 use Rattle.stm_core.specs.Client.{Client, Record, Stamp, found_by, old_version, writes_to, is_committed}
-use Rattle.stm_core.specs.Event.{Action, tick, validate, finish, is_empty, versioned, decides_at_once, passes, counting, writer_record, reader_record, giving, fresh, taking, renewing, gone, opener}
-use Rattle.stm_core.specs.Core.{Core, bounds_of, found, left, written, client_of, Event, acts, splits, gathers, renews}
+use Rattle.stm_core.specs.Event.{Action, tick, validate, finish, versioned, decides_at_once, passes, counting, writer_record, reader_record, giving, fresh, taking, renewing, gone, opener}
+use Rattle.stm_core.specs.Core.{Core, found, left, written, client_of, is_out, Event, acts, splits, gathers, renews}
 use Rattle.stm_core.specs.Theorem.{stripe_of}
 use Rattle.stm_core.specs.Seat.{blank, seat_after, tag_number}
-use Rattle.stm_core.specs.Tests.{may_act}
 use Rattle.stm_core.specs.Placing.{Placed, put_in}
 use Rattle.stm_core.specs.declared.event.Entry.{Entry}
 use Rattle.stm_core.specs.declared.limits.TheConstants.{MOST_CLIENTS, MOST_GRANTS, MOST_RENEWALS}
@@ -20,32 +19,6 @@ pub record Running : Type 0 where
 
 abbrev pub stripes_of : Core → ℕ → ℕ
 stripes_of c = stripe_of (length c.locks)
-
--- whether this number was given to a client, and that client is not spent
-abbrev pub is_out : Core → ℕ → Bool
-is_out c k = nat_lt 0 k && nat_lt (k - 1) (length c.clients) && not (client_of c k).spent
-
-abbrev pub are_spent : List Client → Bool
-are_spent [] = true
-are_spent (v ∷ vs) = v.spent && are_spent vs
-
--- every client but the one at a place is spent
-abbrev pub others_spent : List Client → ℕ → Bool
-others_spent [] i = true
-others_spent (v ∷ vs) zero = are_spent vs
-others_spent (v ∷ vs) (suc i) = v.spent && others_spent vs i
-
-abbrev pub may_play : Event → Core → Bool
-may_play (acts k e) c = is_out c k && may_act (bounds_of c) e (client_of c k).attempt
-may_play (splits k) c =
-    is_out c k && is_empty (client_of c k).attempt.held && nat_lt 0 (client_of c k).grants
-    && nat_lt (length c.clients) MOST_CLIENTS
-may_play (gathers k j) c =
-    is_out c k && is_out c j && not (k == j) && is_empty (client_of c k).attempt.held
-    && is_empty (client_of c j).attempt.held
-may_play (renews k last) c =
-    is_out c k && is_empty (client_of c k).attempt.held && others_spent c.clients (k - 1)
-    && nat_le 1 last && nat_lt last VERSION_LIMIT && nat_lt c.renewal MOST_RENEWALS
 
 -- the record that a step decides
 abbrev pub decision : Stamp → Action → ℕ → Client → List Record

@@ -2,7 +2,8 @@ ghost use Rattle.std.specs.Prelude.{◌≡◌, ◌==◌, ◌<◌, ◌%◌, ◌&&
 ghost use Rattle.std.specs.List.{list_any, list_all};
 ghost use Rattle.stm_core.specs.Client.{writes_to, old_version, is_free, without};
 ghost use Rattle.stm_core.specs.Event.{is_empty};
-ghost use Rattle.stm_core.specs.Tests.{is_map, is_next, are_stored, may_write};
+ghost use Rattle.stm_core.specs.Guards.{is_map, is_next, are_stored, may_write};
+ghost use Rattle.stm_core.specs.Theorem.{stripe_of};
 
 /// Whether some pair has this number in front.
 pub(crate) fn names(pairs: &[(u32, u64)], number: u32) -> bool
@@ -62,7 +63,7 @@ pub(crate) fn all_touched(held: &[(u32, u64)], writes: &[(u32, u64)], stripes: u
 /// Whether every pair whose address has this stripe is stored.
 pub(crate) fn all_stored(writes: &[(u32, u64)], stored: &[u32], lock: u32, stripes: u32) -> bool
     requires { 0 < stripes }
-    ensures { result ≡ are_stored stripes lock stored.now writes.now }
+    ensures { result ≡ are_stored (stripe_of stripes) lock stored.now writes.now }
 {
     writes
         .iter()
@@ -82,7 +83,7 @@ pub(crate) fn once(pairs: &[(u32, u64)]) -> bool
 /// Whether the stripe of the pair at a place is this one.
 pub(crate) fn is_next(reads: &[(u32, u64)], place: usize, lock: u32, stripes: u32) -> bool
     requires { 0 < stripes }
-    ensures { result ≡ is_next stripes lock reads.now place }
+    ensures { result ≡ is_next (stripe_of stripes) lock reads.now place }
 {
     match reads {
         [] => false,
@@ -103,7 +104,7 @@ pub(crate) fn may_write(
     size: usize,
 ) -> bool
     requires { 0 < stripes }
-    ensures { result ≡ may_write stripes size held.now writes.now }
+    ensures { result ≡ may_write (stripe_of stripes) size held.now writes.now }
 {
     !none(writes)
         && once(writes)

@@ -2,9 +2,10 @@ ghost use Rattle.std.specs.Prelude.{◌≡◌, ℕ, ◌<◌, ◌≤◌, ◌+◌,
 ghost use Rattle.stm_core.specs.Client.{Client};
 ghost use Rattle.stm_core.specs.Seat.{blank, seat_after, tag_number};
 ghost use Rattle.stm_core.specs.Client.{word_before, value_fetched, found_by, is_committed, old_version};
-ghost use Rattle.stm_core.specs.Tests.{is_reading, has_probed, has_found_free, has_fetched, may_act};
+ghost use Rattle.stm_core.specs.Guards.{is_reading, has_probed, has_found_free, has_fetched, may_act};
 ghost use Rattle.stm_core.specs.Event.{is_empty, passes, begin, probe, fetch, check, lock, tick, validate, put, release, give_back, finish, giving, taking, renewing, opener, fresh, gone, forgetting};
-ghost use Rattle.stm_core.specs.Running.{are_spent, others_spent};
+ghost use Rattle.stm_core.specs.Core.{are_spent, others_spent};
+ghost use Rattle.stm_core.specs.Theorem.{stripe_of};
 ghost use Rattle.stm_core.specs.declared.limits.TheConstants.{MOST_GRANTS, MOST_TICKS};
 ghost use Rattle.stm_words.specs.declared.version.TheConstants.{VERSION_LIMIT};
 
@@ -403,7 +404,7 @@ impl Seat {
 
     /// Whether it may begin an attempt.
     pub(crate) fn may_begin(&self) -> bool
-        ensures { result ≡ may_act
+        ensures { result ≡ may_act (stripe_of 0)
             (record { last = 0; stripes = 0; size = 0 }) begin self.now.attempt }
     {
         none(&self.held)
@@ -411,7 +412,7 @@ impl Seat {
 
     /// Whether it may load the word of a lock.
     pub(crate) fn may_probe(&self, lock: u32, stripes: u32) -> bool
-        ensures { result ≡ may_act
+        ensures { result ≡ may_act (stripe_of stripes)
             (record { last = 0; stripes = stripes; size = 0 }) (probe lock) self.now.attempt }
     {
         self.is_reading() && lock < stripes
@@ -420,7 +421,7 @@ impl Seat {
     /// Whether it may load the value of an address.
     pub(crate) fn may_fetch(&self, address: u32, stripes: u32, size: usize) -> bool
         requires { 0 < stripes }
-        ensures { result ≡ may_act
+        ensures { result ≡ may_act (stripe_of stripes)
             (record { last = 0; stripes = stripes; size = size })
             (fetch address) self.now.attempt }
     {
@@ -432,7 +433,7 @@ impl Seat {
 
     /// Whether it may check a fetched address.
     pub(crate) fn may_check(&self, address: u32, stripes: u32, size: usize) -> bool
-        ensures { result ≡ may_act
+        ensures { result ≡ may_act (stripe_of stripes)
             (record { last = 0; stripes = stripes; size = size })
             (check address) self.now.attempt }
     {
@@ -445,7 +446,7 @@ impl Seat {
 
     /// Whether it may try to take a lock.
     pub(crate) fn may_lock(&self, stripe: u32, stripes: u32) -> bool
-        ensures { result ≡ may_act
+        ensures { result ≡ may_act (stripe_of stripes)
             (record { last = 0; stripes = stripes; size = 0 }) (lock stripe) self.now.attempt }
     {
         self.is_reading()
@@ -464,7 +465,7 @@ impl Seat {
         size: usize,
     ) -> bool
         requires { 0 < stripes }
-        ensures { result ≡ may_act
+        ensures { result ≡ may_act (stripe_of stripes)
             (record { last = last; stripes = stripes; size = size })
             (tick from [] writes.now) self.now.attempt }
     {
@@ -478,7 +479,7 @@ impl Seat {
     /// Whether its next validation is of this lock.
     pub(crate) fn may_validate(&self, stripe: u32, stripes: u32) -> bool
         requires { 0 < stripes }
-        ensures { result ≡ may_act
+        ensures { result ≡ may_act (stripe_of stripes)
             (record { last = 0; stripes = stripes; size = 0 }) (validate stripe) self.now.attempt }
     {
         matches!(self.phase, Phase::Running)
@@ -489,7 +490,7 @@ impl Seat {
     /// Whether it may store this value.
     pub(crate) fn may_put(&self, address: u32, value: u64, stripes: u32) -> bool
         requires { 0 < stripes }
-        ensures { result ≡ may_act
+        ensures { result ≡ may_act (stripe_of stripes)
             (record { last = 0; stripes = stripes; size = 0 })
             (put address value) self.now.attempt }
     {
@@ -502,7 +503,7 @@ impl Seat {
     /// Whether it may release this lock.
     pub(crate) fn may_release(&self, lock: u32, stripes: u32) -> bool
         requires { 0 < stripes }
-        ensures { result ≡ may_act
+        ensures { result ≡ may_act (stripe_of stripes)
             (record { last = 0; stripes = stripes; size = 0 }) (release lock) self.now.attempt }
     {
         self.is_committed()
@@ -512,7 +513,7 @@ impl Seat {
 
     /// Whether it may give this lock back.
     pub(crate) fn may_give_back(&self, lock: u32) -> bool
-        ensures { result ≡ may_act
+        ensures { result ≡ may_act (stripe_of 0)
             (record { last = 0; stripes = 0; size = 0 }) (give_back lock) self.now.attempt }
     {
         matches!(self.phase, Phase::Running | Phase::Ending) && names(&self.held, lock)
@@ -520,7 +521,7 @@ impl Seat {
 
     /// Whether it may end as a reader.
     pub(crate) fn may_end(&self) -> bool
-        ensures { result ≡ may_act
+        ensures { result ≡ may_act (stripe_of 0)
             (record { last = 0; stripes = 0; size = 0 }) (finish []) self.now.attempt }
     {
         self.is_reading() && none(&self.held)

@@ -1,9 +1,9 @@
 ghost use Rattle.std.specs.Prelude.{◌≡◌, ◌≢◌, ℕ, ◌<◌, ◌≤◌, ◌+◌, ◌-◌, ◌*◌, ◌^◌, ◌&&◌, true, length, OnOk, OnErr, IfOk, List, [], ◌∷◌};
-ghost use Rattle.stm_core.specs.Core.{client_of, bounds_of, splits, gathers, renews};
+ghost use Rattle.stm_core.specs.Core.{client_of, is_out, may_play, bounds_of, splits, gathers, renews};
 ghost use Rattle.stm_core.specs.Event.{begin, probe, fetch, check, lock, tick, validate, put, release, give_back, finish};
 ghost use Rattle.stm_core.specs.Client.{old_version, word_before, IsFree};
 ghost use Rattle.stm_core.specs.Played.{event_of};
-ghost use Rattle.stm_core.specs.Running.{Running, IsSane, is_out, may_play, run_acts, run_played, run_opened, found_of};
+ghost use Rattle.stm_core.specs.Running.{Running, IsSane, stripes_of, run_acts, run_played, run_opened, found_of};
 ghost use Rattle.stm_core.specs.declared.limits.TheConstants.{MOST_GRANTS, MOST_RENEWALS, MOST_TICKS};
 ghost use Rattle.stm_words.specs.declared.version.TheConstants.{VERSION_LIMIT};
 
@@ -330,7 +330,7 @@ impl State {
 
     /// Whether an event is allowed.
     pub(crate) fn allows(&self, event: &Event) -> bool
-        ensures { result ≡ may_play (event_of event.now) self.now.core }
+        ensures { result ≡ may_play (stripes_of self.now.core) (event_of event.now) self.now.core }
     {
         match event {
             Event::Begin { client } => self.is_out(*client) && self.seat(*client).may_begin(),
@@ -379,7 +379,7 @@ impl State {
 
     /// Whether a client may split one off.
     fn may_split(&self, client: u32) -> bool
-        ensures { result ≡ may_play (splits client) self.now.core }
+        ensures { result ≡ may_play (stripes_of self.now.core) (splits client) self.now.core }
     {
         self.is_out(client)
             && self.seat(client).holds_none()
@@ -389,7 +389,7 @@ impl State {
 
     /// Whether a client may gather another.
     fn may_gather(&self, client: u32, other: u32) -> bool
-        ensures { result ≡ may_play (gathers client other) self.now.core }
+        ensures { result ≡ may_play (stripes_of self.now.core) (gathers client other) self.now.core }
     {
         self.is_out(client)
             && self.is_out(other)
@@ -400,7 +400,7 @@ impl State {
 
     /// Whether a client may renew the clock.
     fn may_renew(&self, client: u32, last: u64) -> bool
-        ensures { result ≡ may_play (renews client last) self.now.core }
+        ensures { result ≡ may_play (stripes_of self.now.core) (renews client last) self.now.core }
     {
         self.is_out(client)
             && self.seat(client).holds_none()
@@ -412,7 +412,7 @@ impl State {
 
     /// Plays an event that is allowed.
     pub(crate) fn make(&mut self, alloc: Global, event: Event) -> Result<(), AllocError>
-        requires may { may_play (event_of event) self.old.core ≡ true }
+        requires may { may_play (stripes_of self.old.core) (event_of event) self.old.core ≡ true }
         requires sane { IsSane self.old.core }
         ensures done { OnOk result (self.new ≡ run_played (event_of event) self.old) }
         ensures kept { OnErr result (self.new ≡ self.old) }

@@ -11,12 +11,14 @@ use Rattle.atomic_table.specs.Seated.{TableId}
 use Rattle.stm_words.specs.Image.{In, Agrees, laid}
 use Rattle.stm_core.specs.Client.{Client, Record, old_version}
 use Rattle.stm_core.specs.Core.{Core, bounds_of, found, left, written, stepped, divided, gathered, IsFreeHanded}
-use Rattle.stm_core.specs.Event.{Action, begin, probe, fetch, check, lock, tick, validate, put, release, give_back, finish, Holds as Holding, MayAct, May, after, giving, fresh, taking, gone}
+use Rattle.stm_core.specs.Event.{Action, begin, probe, fetch, check, lock, tick, validate, put, release, give_back, finish, after, giving, fresh, taking, gone}
 use Rattle.stm_core.specs.History.{Serial, SomeFits, all_records}
 use Rattle.stm_core.specs.Invariant.{now, Rule}
 use Rattle.stm_core.specs.Client.{shed}
 use Rattle.stm_core.proofs.Eras.{in_append, of_is}
 use Rattle.stm_core.proofs.Lones.{at_map, goes_on}
+use Rattle.stm_core.specs.Guards.{Holds as Holding, MayAct, May}
+use Rattle.stm_core.proofs.Conditions.{can_act}
 use Rattle.stm_core.proofs.Renewals.{step_rules}
 use Rattle.stm_core.proofs.Renewing.{split_rules, gather_rules}
 use Rattle.stm_core.proofs.Whole.{whole_shared, opening_fits, knows}
@@ -219,7 +221,7 @@ module _ (fits : List ℕ → Type 0) (lawful : List ℕ → List (ℕ × ℕ) �
         let at' : get_elem? c.clients id ≡ some v = subst (λ vs. get_elem? vs id ≡ some v) h.views at in
         let same : bounds_of c ≡ bounds r = (let l = h.last in let k = h.locks in let w = h.rule.inv.size ∙ (ap length h.opening ∙ z) in λ i. record { last = l i; stripes = k i; size = w i }) in
         let may' : May lawful lk (bounds_of c) e v = subst (λ b. May lawful lk b e v) (sym same) may in
-        let inv' : Rule lawful lk (stepped (unplaced r.renewal) lk e id v c) = step_rules lawful lk c h.rule id v at' may'.0 (unplaced r.renewal) (sym h.renewal) e may'.1 in
+        let inv' : Rule lawful lk (stepped (unplaced r.renewal) lk e id v c) = step_rules lawful lk c h.rule id v at' may'.0 (unplaced r.renewal) (sym h.renewal) e (can_act lk lawful (bounds_of c) v.attempt e may'.1) in
         let st : Stays c (written e (left e (found lk c e) v) c) = stays c e (left e (found lk c e) v) in
         let m' : Matches o (stepped (unplaced r.renewal) lk e id v c) = record { last = st.last ∙ h.last; opening = st.opening ∙ h.opening; first = st.first ∙ h.first; renewal = st.renewal ∙ h.renewal; locks = st.locks ∙ h.locks } in
         let here : get_elem? (stepped (unplaced r.renewal) lk e id v c).clients id ≡ some (after (unplaced r.renewal) lk e (found lk c e) v) = in_clients c.clients id v _ at' in
@@ -294,7 +296,7 @@ module _ (fits : List ℕ → Type 0) (lawful : List ℕ → List (ℕ × ℕ) �
         subst (λ x. (word < words) × Allows (Holds fits lawful key) slots id me word (λ n. (n + (18446744073709551616 - 1)) % 18446744073709551616) (acting fits lawful t x (step 0 0 0 0 none) me)) (sym gives)
         (subst (λ x. (word < words) × Allows (Holds fits lawful key) slots id me word (λ n. (n + (18446744073709551616 - 1)) % 18446744073709551616) (acting fits lawful x (give_back k) (step 0 0 0 0 none) me)) (sym q)
         (acts_in words key run slots id me (give_back k) word (λ n. (n + (18446744073709551616 - 1)) % 18446744073709551616) (acting fits lawful r (give_back k) (step 0 0 0 0 none) me) is range may
-        (λ c i a l. less_one c id k me.0 i a may.1.1 l) (λ n t. (refl, t))))
+        (λ c i a l. less_one c id k me.0 i a (can_act lk lawful (bounds r) me.0.attempt (give_back k) may.1).1 l) (λ n t. (refl, t))))
 
     -- a client splits off another
     split_allowed : (id : ℕ) (v : Client) → IsFreeHanded v → 0 < v.grants → Splits Kept id v (giving v) (fresh v)

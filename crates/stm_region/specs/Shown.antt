@@ -2,7 +2,8 @@
 use Rattle.std.specs.Prelude.{◌≡◌, ◌≢◌, ℕ, ◌+◌, ◌%◌, ◌<◌, min, length, List, [], Option, None, Some, Result, MatchResult}
 use Rattle.atomic_table.specs.Seated.{TableId}
 use Rattle.stm_core.specs.Client.{Client, Stamp, Step, nothing, began, probed, fetched, checked, locked, ticked, validated, ended}
-use Rattle.stm_core.specs.Event.{Action, Bounds, May, after, giving, fresh, taking, renewing, opener}
+use Rattle.stm_core.specs.Guards.{May}
+use Rattle.stm_core.specs.Event.{Action, Bounds, after, giving, fresh, taking, renewing, opener}
 use Rattle.stm_region.specs.declared.limits.TheConstants.{MOST_GRANTS}
 
 -- what a region was opened with: the data words, the last version, how many lock words; and since

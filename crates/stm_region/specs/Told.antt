@@ -7,7 +7,8 @@ use Rattle.stm_words.specs.Image.{In, Agrees}
 use Rattle.stm_core.specs.Client.{Client, Record, decided, version_of, IsFree, word_before}
 use Rattle.stm_core.specs.Core.{Core}
 use Rattle.stm_core.specs.Invariant.{Rule, now}
-use Rattle.stm_core.specs.Event.{Action, begin, probe, fetch, check, lock, tick, validate, put, release, give_back, finish, Holds}
+use Rattle.stm_core.specs.Event.{Action, begin, probe, fetch, check, lock, tick, validate, put, release, give_back, finish}
+use Rattle.stm_core.specs.Guards.{Holds}
 use Rattle.stm_core.specs.History.{Serial, Sub, all_records, image_at}
 use Rattle.stm_region.specs.Shown.{RegionShown, value_after, stripe_of}
 use Rattle.stm_region.specs.declared.limits.TheConstants.{MOST_GRANTS}

@@ -8,7 +8,7 @@ ghost use Rattle.stm_region.specs.declared.limits.TheConstants.{MOST_GRANTS};
 ghost use Rattle.stm_region.specs.Told.{IsLockWord, IsLoneOpen, StandsOn, IsOfOneVersion, AreEarlier, Decides};
 ghost use Rattle.std.specs.Prelude.{◌⊎◌};
 ghost use Rattle.stm_core.specs.Client.{version_of, IsFree};
-ghost use Rattle.stm_core.specs.Event.{Holds};
+ghost use Rattle.stm_core.specs.Guards.{Holds};
 
 use crate::client::Client;
 use crate::lay::{CLOCK, FIRST_LOCK};

@@ -3,12 +3,12 @@ use Rattle.stm_attempt.specs.CommitParts.{IsDecided}
 use Rattle.stm_region.specs.Shown.{ClientShown}
 use Rattle.stm_logs.specs.Log.{log_pairs}
 use Rattle.stm_attempt.proofs.Parts.{may_validate, once_is, decided_at_once, decided_after_validation}
-use Rattle.stm_attempt.proofs.Writing.{may_write}
+use Rattle.stm_attempt.proofs.Writing.{log_may_write}
 use Rattle.stm_attempt.proofs.commit.decide.Goals as goal
 use Rattle.stm_attempt.proofs.commit.decide.Goals.{then-not-decides_at_once+in_default, else-not-decides_at_once}
 
 pub tick-requires-clause-writes : goal.tick-requires-clause-writes
-tick-requires-clause-writes g c = may_write c.args.region.now c.args.logs.now.writes c.args.client.now.value.attempt.held c.requires.logged.placed c.requires.same c.requires.held c.requires.logged.written
+tick-requires-clause-writes g c = log_may_write c.args.region.now c.args.logs.now.writes c.args.client.now.value.attempt.held c.requires.logged.placed c.requires.same c.requires.held c.requires.logged.written
 
 pub validate_reads-requires-clause-ready : goal.validate_reads-requires-clause-ready
 validate_reads-requires-clause-ready g c =

@@ -1,6 +1,8 @@
 use Rattle.std.proofs.Common.{sym, subst, ap, ◌∙◌, IfOk}
 use Rattle.stm_logs.specs.Log.{log_pairs}
-use Rattle.stm_region.specs.Shown.{ClientShown}
+use Rattle.stm_core.specs.Event.{finish}
+use Rattle.stm_core.proofs.Conditions.{may_act_so}
+use Rattle.stm_region.specs.Shown.{ClientShown, bounds, stripe_of}
 use Rattle.stm_attempt.specs.Committing.{HasCommitted}
 use Rattle.stm_attempt.proofs.Parts.{no_pairs, has_finished}
 use Rattle.stm_attempt.proofs.commit.end.Goals as goal
@@ -10,7 +12,7 @@ pub finish-requires-clause-allowed : goal.finish-requires-clause-allowed
 finish-requires-clause-allowed g c =
     let none = no_pairs c.args.logs.now.writes (sym c.len.ensures ∙ c.if-len-eq0.true) in (
       c.requires.running.begun.unspent,
-      (
+      may_act_so (stripe_of c.args.region.now.stripes) g.L.Law.lawful (bounds c.args.region.now) c.args.client.now.value.attempt (finish (g.T.Tag.numbers c.args.tag.now)) (
         (c.requires.running.runs c.in-None.is, c.requires.running.begun.unversioned),
         c.requires.running.begun.free,
         subst (λ ps. g.L.Law.lawful (g.T.Tag.numbers c.args.tag.now) c.args.client.now.value.attempt.reads ps) none (c.requires.lawful c.in-None.is),

@@ -1,5 +1,6 @@
 use Rattle.std.proofs.Common.{sym, subst}
-use Rattle.stm_core.specs.Event.{May, lock}
+use Rattle.stm_core.specs.Event.{lock}
+use Rattle.stm_core.specs.Guards.{May}
 use Rattle.stm_region.specs.Shown.{ClientShown, bounds, stripe_of}
 use Rattle.stm_region.proofs.region.Region.lock.Goals as goal
 

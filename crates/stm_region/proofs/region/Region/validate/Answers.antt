@@ -1,9 +1,19 @@
-use Rattle.std.proofs.Common.{rules, sym, ap, subst}
+use Rattle.std.proofs.Common.{rules, ℕ, ◌%◌, ◌<◌, ◌≡◌, sym, ap, subst, arith}
 use Rattle.stm_core.specs.Event.{validate}
 use Rattle.stm_core.specs.Invariant.{Sorted}
+use Rattle.stm_core.proofs.Conditions.{can_act}
 use Rattle.stm_core.proofs.Whole.{after_sorted}
-use Rattle.stm_region.specs.Shown.{unplaced, stripe_of}
+use Rattle.stm_region.specs.Shown.{RegionShown, bounds, unplaced, stripe_of}
 use Rattle.stm_region.proofs.region.Region.validate.Goals as goal
+
+pub prove-unreachable-requires : goal.prove-unreachable-requires
+prove-unreachable-requires g c =
+    let r = c.args.self.now in
+    let next = (can_act (stripe_of r.stripes) g.L.Law.lawful (bounds r) c.args.client.now.value.attempt (validate c.args.lock) c.requires.allowed.1).2 in
+    let some = c.self.invariant.some in
+    let same : c.self.inside.stripes ≡ r.stripes = ap (λ (x : RegionShown). x.stripes) c.self.view_is in
+    let past = c.if-prove.true in
+    let is : next.0 % r.stripes ≡ c.args.lock = next.3 in omega arith
 
 pub invariant_of-client : goal.invariant_of-client
 invariant_of-client g c =
