@@ -55,20 +55,6 @@ has_entered true region fits v v' writes a x runs none read stands = record {
 }
 has_entered false region fits v v' writes a x runs none read stands = cc
 
--- a value that the attempt has written is answered as it is
-pub has_own : (running : Bool) (region : RegionShown) (fits : List ℕ → Type 0) (v : Client) (writes : LogValue) (a x : ℕ) → running ≡ true → get writes.words a ≡ Some x → HasRead (memory_of running region fits v writes) (memory_of running region fits v writes) a x
-has_own true region fits v writes a x runs is = record {
-  own = λ w e. (same_some _ _ (sym is ∙ e), refl);
-  entered = λ none. none_not_some x (sym none ∙ is);
-}
-has_own false region fits v writes a x runs is = cc
-
--- a write enters the writes
-pub has_written : {E U : Type 0} (r : Result U E) (running : Bool) (region : RegionShown) (fits : List ℕ → Type 0) (v : Client) (w w' : LogValue) (a lock x : ℕ) → running ≡ true → MatchResult r (λ _. w' ≡ record { words = insert w.words a x; locks = insert w.locks a lock }) (λ _. w' ≡ w) → MatchResult r (λ _. (memory_of running region fits v w').writes ≡ insert (memory_of running region fits v w).writes a x) (λ _. (memory_of running region fits v w').writes ≡ (memory_of running region fits v w).writes)
-has_written (Ok u) true region fits v w w' a lock x runs e = ap (λ (o : LogValue). o.words) e
-has_written (Err f) true region fits v w w' a lock x runs e = ap (λ (o : LogValue). o.words) e
-has_written r false region fits v w w' a lock x runs e = cc
-
 has_entered_now : (runs : Bool) (region : RegionShown) (fits : List ℕ → Type 0) (v v' : Client) (writes : LogValue) (a x : ℕ) → runs ≡ true → get writes.words a ≡ None → HasReadWord v v' a x → StandsOn fits region.size v'.attempt.reads → HasRead (memory_of runs region fits v writes) (memory_of true region fits v' writes) a x
 has_entered_now true region fits v v' writes a x r none read stands = has_entered true region fits v v' writes a x r none read stands
 has_entered_now false region fits v v' writes a x r none read stands = cc
@@ -143,7 +129,3 @@ logged_too reads reads' logged logged' a x is pushed entered =
 
 some_is : (c d : Conflict) → Some c ≡ Some d → c ≡ d
 some_is c d e = cc
-
--- a conflict that a read met stays with the attempt
-pub shown_there : (lk : ℕ → ℕ) (a : ℕ) (c d : Conflict) (v : Client) → IsReadConflict lk a c v → Some c ≡ Some d → ∥ ((address : ℕ) × IsReadConflict lk address d v) ∥₁
-shown_there lk a c d v shown e = ∣ (a, subst (λ (x : Conflict). IsReadConflict lk a x v) (some_is c d e) shown) ∣₁

@@ -94,9 +94,6 @@ pub record Decides (b : Bool) (P : Type 0) : Type 0 where
 pub through : {P Q : Type 0} {b : Bool} → (P → Q) → (Q → P) → Decides b P → Decides b Q
 through f g d = record { sound = λ h. f (d.sound h); complete = λ q. d.complete (g q) }
 
-no_test : Decides false ⊥
-no_test = record { sound = λ h. clash h refl; complete = λ h. absurd h }
-
 -- both of two tests, all of three and more
 pub and2 : {a b : Bool} {A B : Type 0} → Decides a A → Decides b B → Decides (a && b) (A × B)
 and2 {a = a} {b = b} d e = record { sound = λ h. (d.sound (left a b h), e.sound (right a b h)); complete = λ p. both a b (d.complete p.0) (e.complete p.1) }
@@ -283,28 +280,12 @@ module _ (lk : ℕ → ℕ) where
     pub can_act : (e : Action) → MayAct lawful lk b e t → CanAct lawful lk b e t
     can_act (tick from tag writes) h = let p = (act_test b t (tick from tag writes)).sound h.0 in (p.0, p.1, p.2, p.3, p.4, h.1)
     can_act (finish tag) h = let p = (act_test b t (finish tag)).sound h.0 in (p.0, p.1, h.1)
-    can_act begin h = (act_test b t begin).sound h.0
-    can_act (probe k) h = (act_test b t (probe k)).sound h.0
-    can_act (fetch a) h = (act_test b t (fetch a)).sound h.0
-    can_act (check a) h = (act_test b t (check a)).sound h.0
-    can_act (lock k) h = (act_test b t (lock k)).sound h.0
-    can_act (validate k) h = (act_test b t (validate k)).sound h.0
-    can_act (put a x) h = (act_test b t (put a x)).sound h.0
-    can_act (release k) h = (act_test b t (release k)).sound h.0
-    can_act (give_back k) h = (act_test b t (give_back k)).sound h.0
+    can_act e h = (act_test b t e).sound h.0
 
     pub may_act_so : (e : Action) → CanAct lawful lk b e t → MayAct lawful lk b e t
     may_act_so (tick from tag writes) m = ((act_test b t (tick from tag writes)).complete (m.0, m.1, m.2, m.3, m.4, tt), m.5)
     may_act_so (finish tag) m = ((act_test b t (finish tag)).complete (m.0, m.1, tt), m.2)
-    may_act_so begin m = ((act_test b t begin).complete m, tt)
-    may_act_so (probe k) m = ((act_test b t (probe k)).complete m, tt)
-    may_act_so (fetch a) m = ((act_test b t (fetch a)).complete m, tt)
-    may_act_so (check a) m = ((act_test b t (check a)).complete m, tt)
-    may_act_so (lock k) m = ((act_test b t (lock k)).complete m, tt)
-    may_act_so (validate k) m = ((act_test b t (validate k)).complete m, tt)
-    may_act_so (put a x) m = ((act_test b t (put a x)).complete m, tt)
-    may_act_so (release k) m = ((act_test b t (release k)).complete m, tt)
-    may_act_so (give_back k) m = ((act_test b t (give_back k)).complete m, tt)
+    may_act_so e m = ((act_test b t e).complete m, tt)
 
 all_spent : (l : List Client) → are_spent l ≡ true → (j : ℕ) (w : Client) → get_elem? l j ≡ some w → w.spent ≡ true
 all_spent [] h j w e = absurd (nothing_in w (j, e))

@@ -86,10 +86,6 @@ module _ (lawful : List ℕ → List (ℕ × ℕ) → List (ℕ × ℕ) → Type
       even k = dite (ℕ_discrete (slice_index c.locks k) (2 * version_of (slice_index c.locks k))) (λ e. e)
           (λ n. let q = h.version.holder k (let z : slice_index c.locks k ≡ 2 * version_of (slice_index c.locks k) + 1 = omega arith in z) in absurd (nothing_in (k, version_of (slice_index c.locks k)) (subst (In (k, version_of (slice_index c.locks k))) (free q.0 q.1 q.2) q.3)))
 
-  -- a client has at most 63 grants, and two that are out have fewer together
-  pub grants_within : (i : ℕ) (v : Client) → At c.clients i v → v.spent ≡ false → v.grants ≤ 63
-  grants_within i v e un = let a = one_of_sum share c.clients i v e in let b = share_of v un in let g = h.grants in omega arith
-
   pub grants_of_two : (i j : ℕ) (v w : Client) → i ≢ j → At c.clients i v → At c.clients j w → v.spent ≡ false → w.spent ≡ false → v.grants + w.grants + 1 ≤ 63
   grants_of_two i j v w n e f un un' = let a = two_of_sum share c.clients i j v w n e f in let b = share_of v un in let b' = share_of w un' in let g = h.grants in omega arith
 

@@ -52,9 +52,6 @@ module _ {A : Type 0} where
       (λ p. (new, subst (λ k. get_elem? (set l id new) k ≡ some new) (sym p) (set_here l id v new at), inl (some-injective o v (sym e ∙ subst (λ k. get_elem? l k ≡ some v) (sym p) at), refl)))
       (λ n. (o, set_else l id i new o n e, inr refl))
 
-  pub same_field : {X : Type 0} (f : A → X) (v new o w : A) → f new ≡ f v → Turned v new o w → f w ≡ f o
-  same_field f v new o w e t = ⊎_elim (λ p. ap f p.1 ∙ (e ∙ sym (ap f p.0))) (λ p. sym (ap f p)) t
-
   pub at_longer : (l : List A) (a b : A) (j : ℕ) → get_elem? l j ≡ some b → get_elem? (l ++ a ∷ []) j ≡ some b
   at_longer [] a b j e = absurd (some-ne-none b (sym e))
   at_longer (x ∷ xs) a b zero e = e

@@ -34,9 +34,6 @@ unsettled v e s = clash s (ap is_settled e)
 unsettled_end : (v : Client) → v.attempt.phase ≡ ending → is_settled v.attempt.phase ≡ true → ⊥
 unsettled_end v e s = clash s (ap is_settled e)
 
-settled_at : (v : Client) → v.attempt.phase ≡ committed → is_settled v.attempt.phase ≡ true
-settled_at v e = ap is_settled e
-
 set_same : {A : Type 0} (l : List A) (i : ℕ) (v : A) → get_elem? l i ≡ some v → set l i v ≡ l
 set_same [] i v e = refl
 set_same (x ∷ l) zero v e = λ j. sym (some-injective x v e) j ∷ l

@@ -132,29 +132,11 @@ module _ (lawful : List ℕ → List (ℕ × ℕ) → List (ℕ × ℕ) → Type
 
   pub now_stepped : (e : Action) → CanAct lawful lk (bounds_of c) e v.attempt → now (stepped t lk e i v c) ≡ stepped t lk e i v' (now c)
   now_stepped begin may = ap (with_clients (stepped t lk begin i v' (now c))) (step_clients begin may refl)
-  now_stepped (probe k) may = ap (with_clients (stepped t lk (probe k) i v' (now c))) (step_clients (probe k) may refl)
-  now_stepped (fetch a) may = ap (with_clients (stepped t lk (fetch a) i v' (now c))) (step_clients (fetch a) may refl)
-  now_stepped (check a) may = ap (with_clients (stepped t lk (check a) i v' (now c))) (step_clients (check a) may refl)
-  now_stepped (lock k) may = ap (with_clients (stepped t lk (lock k) i v' (now c))) (step_clients (lock k) may refl)
-  now_stepped (tick f g w) may = ap (with_clients (stepped t lk (tick f g w) i v' (now c))) (step_clients (tick f g w) may refl)
-  now_stepped (validate k) may = ap (with_clients (stepped t lk (validate k) i v' (now c))) (step_clients (validate k) may refl)
-  now_stepped (put a x) may = ap (with_clients (stepped t lk (put a x) i v' (now c))) (step_clients (put a x) may refl)
-  now_stepped (release k) may = ap (with_clients (stepped t lk (release k) i v' (now c))) (step_clients (release k) may refl)
-  now_stepped (give_back k) may = ap (with_clients (stepped t lk (give_back k) i v' (now c))) (step_clients (give_back k) may refl)
-  now_stepped (finish g) may = ap (with_clients (stepped t lk (finish g) i v' (now c))) (step_clients (finish g) may refl)
+  now_stepped e may = ap (with_clients (stepped t lk e i v' (now c))) (step_clients e may refl)
 
   past_stepped : (e : Action) → CanAct lawful lk (bounds_of c) e v.attempt → Past lawful (stepped t lk e i v c).first (stepped t lk e i v c).opening (stepped t lk e i v c).past (stepped t lk e i v c).renewal (stepped t lk e i v c).clients
   past_stepped begin may = step_past begin may refl
-  past_stepped (probe k) may = step_past (probe k) may refl
-  past_stepped (fetch a) may = step_past (fetch a) may refl
-  past_stepped (check a) may = step_past (check a) may refl
-  past_stepped (lock k) may = step_past (lock k) may refl
-  past_stepped (tick f g w) may = step_past (tick f g w) may refl
-  past_stepped (validate k) may = step_past (validate k) may refl
-  past_stepped (put a x) may = step_past (put a x) may refl
-  past_stepped (release k) may = step_past (release k) may refl
-  past_stepped (give_back k) may = step_past (give_back k) may refl
-  past_stepped (finish g) may = step_past (finish g) may refl
+  past_stepped e may = step_past e may refl
 
   -- a step of a client keeps the whole rule
   pub step_rules : (e : Action) → CanAct lawful lk (bounds_of c) e v.attempt → Rule lawful lk (stepped t lk e i v c)

@@ -105,12 +105,6 @@ wrote_by [] (suc u) a e = clash e refl
 wrote_by (w ∷ ws) (suc zero) a e = (0, w, refl, refl, e)
 wrote_by (w ∷ ws) (suc (suc u)) a e = let q = wrote_by ws (suc u) a e in (suc q.0, q.1, ap suc q.2, q.3, q.4)
 
-pub nobody_above : (ws : List (List (ℕ × ℕ))) (u a : ℕ) → length ws < u → wrote_in ws u a ≡ false
-nobody_above ws zero a l = refl
-nobody_above [] (suc u) a l = refl
-nobody_above (w ∷ ws) (suc zero) a l = absurd (omega arith)
-nobody_above (w ∷ ws) (suc (suc u)) a l = nobody_above ws (suc u) a (omega arith)
-
 -- where the place of version n + 1 is empty, writes that are put there are a decision
 pub decides : (clock : ℕ) (lock cell : ℕ → ℕ) (image : List ℕ) (story : List (List (ℕ × ℕ))) (n : ℕ) (w : List (ℕ × ℕ)) → is_map w ≡ true → get_elem? story n ≡ some []
     → Decides (record { clock = clock; lock = lock; cell = cell; val = value_of image story; wrote = wrote_in story }) (value_of image (set story n w)) (wrote_in (set story n w)) (suc n) w

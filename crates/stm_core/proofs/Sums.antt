@@ -29,6 +29,3 @@ two_of_sum f (x ∷ xs) (suc i) (suc j) v w n e k = let p = two_of_sum f xs i j 
 
 pub share_of : (v : Client) → v.spent ≡ false → share v ≡ v.grants + 1
 share_of v e = ap (λ b. cond b 0 (v.grants + 1)) e
-
-pub same_share : (v w : Client) → w.spent ≡ v.spent → w.grants ≡ v.grants → share w ≡ share v
-same_share v w e f = rw (e, f) refl

@@ -138,13 +138,6 @@ module _ (lawful : List ℕ → List (ℕ × ℕ) → List (ℕ × ℕ) → Type
       go m [] s a k = k
       go m (r ∷ l) s a k = go (laid m r.writes) l s.1 (λ x i. a x (suc i.0, i.1)) (law r.tag m r.reads r.writes k s.0 (a r (0, refl)))
 
-  pub opening_length : length c.opening ≡ length c.first
-  opening_length = sym (ap (λ (m : List ℕ). length m) h.past.leads) ∙ go c.first c.past
-    where
-      go : (m : List ℕ) (l : List Record) → length (image_after m l) ≡ length m
-      go m [] = refl
-      go m (r ∷ l) = go (laid m r.writes) l ∙ laid_length m r.writes
-
   -- what a region that is closed has: the one client that is out has all records, serial from the first opening image to the data words
   pub closes : (i : ℕ) (v : Client) → At c.clients i v → IsFreeHanded v → IsAlone c i → Serial c.first v.records × (image_after c.first v.records ≡ c.cells) × ((r : Record) → In r v.records → lawful r.tag r.reads r.writes)
   closes i v at free others = (past_serial lawful lk c h i v at free others 0, past_leads lawful lk c h i v at free others 0, past_lawful lawful lk c h i v at free others 0)

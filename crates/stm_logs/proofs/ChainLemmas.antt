@@ -17,9 +17,6 @@ use Rattle.stm_logs.proofs.RisingLemmas.{In, Rising, rising_entries, get_in, in_
 use Rattle.stm_logs.proofs.LockLemmas.{locks_rise, locks_in, in_locks}
 use Rattle.stm_logs.proofs.LogLemmas.{zero_of, eq_zero, not_zero, not_true, numbers, values_at, locks_at, words_apart, get_word, get_lock, few_words, trues_le}
 
-none_here : (p : ℕ) → p ≡ 0 → nat_eq p 0 ≡ true
-none_here p e = eq_zero p e
-
 -- what x says is what a child of l from low on says
 pub record Child {X : Type 0} (f : Node → X) (ns : List Node) (n l low : ℕ) (x : X) : Type 0 where
   pub node : ℕ

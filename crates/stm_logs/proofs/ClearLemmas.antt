@@ -6,14 +6,6 @@ use Rattle.stm_logs.specs.Held.{IsLog, Cleared}
 use Rattle.stm_logs.proofs.NodeLemmas.{same_or, put_here, put_other, field_kept}
 use Rattle.stm_logs.proofs.LogLemmas.{none_log}
 
-pub cleared_none : (ns : List Node) (n : ℕ) → IsLog ns n → Cleared ns ns n 0
-cleared_none ns n log = record {
-  len = refl;
-  places = λ i. refl;
-  parents = λ i. refl;
-  left = λ q l t. let s = log.ready.indexed.slots q l t in (t, s.0, s.1);
-}
-
 pub cleared_place : (old new : List Node) (n e : ℕ) → IsLog old n → Cleared old new n e → e < n → (at new (e + 1)).place < length new
 cleared_place old new n e log c l = omega (arith, c.places (e + 1), c.len, (log.ready.indexed.places (e + 1) (omega arith) (omega arith)).0)
 

@@ -14,13 +14,6 @@ along_map P Q len start end f a = record {
   low = λ l q h. f q (a.low l q h);
 }
 
-pub along_none : (P : ℕ → Type 0) (len start : ℕ) → Along P len start start
-along_none P len start = record {
-  straight = λ l q h k. absurd (omega arith);
-  high = λ l q h k. absurd (omega arith);
-  low = λ l q h. absurd (omega arith);
-}
-
 -- one place further, not past the last
 pub along_on : (P : ℕ → Type 0) (len start end : ℕ) → start < len → end + 1 < len → (end + 1 ≡ start → (f : ℕ) × ((f < len) × ¬ (P f))) → Along P len start end → P end → Along P len start (end + 1)
 along_on P len start end s m gap a here = record {
@@ -46,32 +39,6 @@ along_round P len start end s m last gap a here =
       high = λ l q h k. all q h k;
       low = λ l q h. absurd (omega arith);
     }
-
--- where the search has passed other nodes alone and stands at a free place, no node has the key
-pub no_match : (ns : List Node) (n : ℕ) (b : Bool) (k h p : ℕ) → IsIndexed ns n → p < length ns → h ≡ home b k (length ns) → Along (IsOther ns b k) (length ns) h p → (at ns p).slot ≡ 0 → HasNone ns n b k
-no_match ns n b k h p ix l hs a free e z m key =
-    let q : ℕ = (at ns e).place in
-    let there = ix.places e z m in
-    let same : home (is_lock_node (at ns e)) (at ns e).number (length ns) ≡ h = ap (λ c. home c (at ns e).number (length ns)) key.1 ∙ ap (λ j. home b j (length ns)) key.0 ∙ sym hs in
-    let r : Along (IsTaken ns) (length ns) h q = subst (λ s. Along (IsTaken ns) (length ns) s q) same (ix.reached e z m) in
-    let passed : IsOther ns b k q → ⊥ = λ other. other.1 (subst (λ j. HasKey (at ns j) b k) (sym there.1) key) in
-    let not_free : q ≢ p = λ is. absurd (omega (arith, there.1, ap (λ j. (at ns j).slot) is)) in
-    elim (cases_lt p h) [
-      | inl wrapped ↦ elim (cases_lt q h) [
-        | inl low ↦ elim (cases_lt q p) [
-          | inl before ↦ passed (a.low wrapped q before)
-          | inr after ↦ (let t = r.low low p (omega (arith, not_free)) in absurd (omega (arith, t)))
-        ]
-        | inr high ↦ passed (a.high wrapped q high there.0)
-      ]
-      | inr straight ↦ elim (cases_lt q h) [
-        | inl low ↦ (let t = r.high low p straight l in absurd (omega (arith, t)))
-        | inr high ↦ elim (cases_lt q p) [
-          | inl before ↦ passed (a.straight straight q high before)
-          | inr after ↦ (let t = r.straight high p straight (omega (arith, not_free)) in absurd (omega (arith, t)))
-        ]
-      ]
-    ]
 
 -- what is written where node n + 1 enters at the free place q
 pub record Written (ns ns' : List Node) (n q : ℕ) (y : Node) : Type 0 where

@@ -108,21 +108,6 @@ replaced_log ns n e v log m =
       used = λ j z k p. let u = log.used j z k (sym (parent j) ∙ p) in (u.0, (u.1.0, u.1.1, parent u.0 ∙ u.1.2));
     }
 
--- ---- a lock is found, or enters
-pub lock_found : (ns : List Node) (n lock l : ℕ) → IsReady ns n → 0 < l → l ≤ n → HasKey (at ns l) true lock → HasLock ns n ns n lock l
-lock_found ns n lock l ready z m key = record {
-  ready = ready;
-  len = refl;
-  sights = λ e k. record { value = refl; number = refl; parent = refl };
-  more = omega arith;
-  once = omega arith;
-  entered = λ less. absurd (omega arith);
-  some = z;
-  inside = m;
-  above = zero_of _ key.1;
-  lock_is = key.0;
-}
-
 pub lock_entered : (ns new : List Node) (n lock : ℕ) → Added ns new n 0 lock 0 → HasLock ns n new (n + 1) lock (n + 1)
 lock_entered ns new n lock a = record {
   ready = a.ready;

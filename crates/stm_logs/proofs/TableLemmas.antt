@@ -120,13 +120,6 @@ table_same test test' key key' value value' (suc n) t k v =
       | inr failed ↦ table_no test' key' value' n (t (suc n) (omega arith) (omega arith) ∙ failed) ∙ rest ∙ sym (table_no test key value n failed)
     ]
 
-pub trues_same : (test test' : ℕ → Bool) (n : ℕ) → ((e : ℕ) → 0 < e → e ≤ n → test' e ≡ test e) → trues test' n ≡ trues test n
-trues_same test test' zero t = refl
-trues_same test test' (suc n) t =
-    let rest = trues_same test test' n (λ e z m. t e z (omega arith)) in
-    let here : mark (test' (suc n)) ≡ mark (test (suc n)) = ap mark (t (suc n) (omega arith) (omega arith)) in
-    omega (arith, rest, here)
-
 -- one value is another
 pub table_value : {X : Type 0} (test test' : ℕ → Bool) (key key' : ℕ → ℕ) (value value' : ℕ → X) (n i : ℕ) (v : X) → Apart test key value n
     → 0 < i → i ≤ n → test i ≡ true → value' i ≡ v

@@ -110,9 +110,6 @@ module _ (fits : List ℕ → Type 0) (lawful : List ℕ → List (ℕ × ℕ) �
   pub fits_with : {S : Type 0} (key : Opened) → key ≡ opened_with r → (id : ℕ) (u : Client) (ws : List ℕ) (xs : List S) → Final (Seen (Holds fits lawful key) id u) ws xs → fits r.first
   fits_with key e id u ws xs f = subst (λ (k : Opened). fits k.first) e f.1.0.fitting
 
-  pub ends_small : (v : Client) (words : List ℕ) (clock : ℕ) → Ends lawful r v words clock → clock ≤ r.last
-  ends_small v words clock h = let b = h.rule.inv.bounded in let l = h.last in let c = h.clock in omega arith
-
 -- what a region ended with, opened anew, meets the rule of the next renewal
 pub reopens : {S : Type 0} (fits : List ℕ → Type 0) (lawful : List ℕ → List (ℕ × ℕ) → List (ℕ × ℕ) → Type 0) (r : RegionShown) (v : Client) (words : List ℕ) (version last : ℕ) → Ends lawful r v words version → v.grants ≡ 63 → fits r.first → last < 2 ^ 62 → 0 < r.stripes
     → Holds {S = S} fits lawful record { image = words; last = last; stripes = r.stripes; first = r.first; renewal = r.renewal + 1; start = renewing v } (opening (replicate (first_cell r.stripes) 0 ++ words) [] (renewing v))

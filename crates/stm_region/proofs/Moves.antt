@@ -270,17 +270,9 @@ module _ (fits : List ℕ → Type 0) (lawful : List ℕ → List (ℕ × ℕ) �
 
     -- a store, whose effect does not depend on the word found
     stored : (me : Me S Client) (e : Action) → IsStore e → (n new : ℕ) → Told fits lawful r e n me.0 (after (unplaced r.renewal) lk e n me.0) → acting fits lawful r e (step 0 0 0 0 none) me new (after (unplaced r.renewal) lk e n me.0, me.1)
-    stored me begin s n new t = absurd s
-    stored me (probe k) s n new t = absurd s
-    stored me (fetch a) s n new t = absurd s
-    stored me (check a) s n new t = absurd s
-    stored me (lock k) s n new t = absurd s
-    stored me (tick from tag writes) s n new t = absurd s
-    stored me (validate k) s n new t = absurd s
     stored me (put a x) s n new t = (refl, tt)
     stored me (release k) s n new t = (refl, tt)
-    stored me (give_back k) s n new t = absurd s
-    stored me (finish tag) s n new t = absurd s
+    stored me _ s n new t = absurd s
 
     pub stores_here : (words : ℕ) (key : Opened) → Runs words key r → (t : RegionShown) → t ≡ r → (slots id : ℕ) (me : Me S Client) (e : Action) (word new : ℕ)
         → word ≡ place r.stripes e → InRange r.stripes r.size e → May lawful lk (bounds r) e me.0 → IsStore e → ((n : ℕ) → left e n me.0 ≡ new)

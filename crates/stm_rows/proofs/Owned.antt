@@ -124,6 +124,3 @@ module _ (s : View) (key units sum : ℕ) (h : HasOneBooking s key units sum) wh
 
   pub customer_node : IsNode s 24
   customer_node = record { inside = omega (arith, h.size); small = omega (arith, h.size) }
-
-pub sized_flat : (xs : List ℕ) → length xs ≡ 96 → Holds (λ m n. IsSized m n) 96 (flat_view xs)
-sized_flat xs e = record { size_is = e; under = λ image i. i.fits ∙ e }

@@ -8,9 +8,6 @@ use Rattle.tx_tree.proofs.Counting.{has_table, after_reads, after_put, after_cut
 use Rattle.tx_tree.proofs.TableFrame.{table_empty}
 use Rattle.stm_rows.specs.Laws.{Fits, Holds, IsTableOfTen, HoldsTable, IsTableless}
 
-pub table_has : (s : View) (count : ℕ) → HoldsTable s count → HasTable s 3
-table_has s count h = has_table s 3 10 count h.entries
-
 -- a key that was not found
 pub not_found : (s s' : View) (key : ℕ) (found : Option Block) → found ≡ None → MatchOption found (Found s s' 3 key 0) (λ b. FoundAt s s' 3 key b.0.0) → Found s s' 3 key 0
 not_found s s' key found e h = let f = subst (λ (o : Option Block). MatchOption o (Found s s' 3 key 0) (λ b. FoundAt s s' 3 key b.0.0)) e h in f
@@ -22,9 +19,6 @@ table_loaded s s' count a v h l = record { entries = after_reads s s' 3 10 count
 pub table_sought : (s s' : View) (count key : ℕ) (found : Option Block) → HoldsTable s count → MatchOption found (Found s s' 3 key 0) (λ b. FoundAt s s' 3 key b.0.0) → HoldsTable s' count
 table_sought s s' count key None h f = record { entries = after_reads s s' 3 10 count h.entries f.kept f.writes; long = λ image i. h.long image (f.kept.seen image i) }
 table_sought s s' count key (Some b) h f = record { entries = after_reads s s' 3 10 count h.entries f.found.kept f.found.writes; long = λ image i. h.long image (f.found.kept.seen image i) }
-
-pub table_next : (s s' : View) (count key : ℕ) (next : Option (ℕ × ℕ)) → HoldsTable s count → NextFound s s' 3 key next → HoldsTable s' count
-table_next s s' count key next h f = record { entries = after_reads s s' 3 10 count h.entries f.kept f.writes; long = λ image i. h.long image (f.kept.seen image i) }
 
 pub table_fresh : (s s1 s2 : View) (count key number b : ℕ) → HoldsTable s count → number < 10 → b ≡ 16 + 8 * number → Loaded s s1 b key → Found s1 s2 3 key 0 → IsFresh s2 3 key b
 table_fresh s s1 s2 count key number b h inside e l f =

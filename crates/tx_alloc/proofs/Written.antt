@@ -34,21 +34,5 @@ next_written xs n b v h l e =
 pub heads_start : (xs : List ℕ) (n b : ℕ) → Nexts xs n b → n ≤ b → b ≤ n → Heads xs n 0
 heads_start xs n b g ge le = let h : Nexts xs n n = subst (λ (x : ℕ). Nexts xs n x) (omega arith) g in record { size = h.size; nexts = h.nexts; heads = λ j less. absurd (omega arith); others = λ x _ ne. h.others x ne }
 
-pub head_written : (xs : List ℕ) (n i v : ℕ) → Heads xs n i → i < 8 → v ≡ place_of n i → Heads (set xs (8 + i) v) n (i + 1)
-head_written xs n i v h l e =
-    let inside : 8 + i < length xs = omega (arith, h.size) in
-    record {
-      size = length-set xs (8 + i) v ∙ h.size;
-      nexts = λ c less. get_or-set_other xs (8 + i) (16 + 8 * c) v 0 (omega arith) ∙ h.nexts c less;
-      heads = λ j less. elim (cases_lt j i) [
-        | inl below ↦ get_or-set_other xs (8 + i) (8 + j) v 0 (omega arith) ∙ h.heads j below
-        | inr here ↦ (
-            let q : i ≡ j = omega arith in
-            subst (λ (x : ℕ). get_or (set xs (8 + i) v) (8 + x) 0 ≡ place_of n x) q
-            (get_or-set_same xs (8 + i) v 0 inside ∙ e))
-      ];
-      others = λ x nh nn. get_or-set_other xs (8 + i) x v 0 (nh i (omega arith)) ∙ h.others x (λ j less. nh j (omega arith)) nn;
-    }
-
 pub heads_end : (xs : List ℕ) (n i : ℕ) → Heads xs n i → 8 ≤ i → i ≤ 8 → IsEmptyHeap xs n
 heads_end xs n i g ge le = let h : Heads xs n 8 = subst (λ (x : ℕ). Heads xs n x) (omega arith) g in record { size = h.size; heads = h.heads; nexts = h.nexts; others = h.others }

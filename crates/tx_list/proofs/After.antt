@@ -9,28 +9,6 @@ use Rattle.tx_alloc.specs.Steps.{mem}
 use Rattle.tx_list.specs.Bookings.{first_block, block_behind}
 use Rattle.tx_list.specs.Lists.{HasList, HasBooking, First, Next, Inserted, Removed}
 
--- only reads were made
-pub list_read : (s s' : View) (head : ℕ) → Kept s s' → s'.writes ≡ s.writes → HasList s head → HasList s' head
-list_read s s' head k w h = record {
-  small = omega (arith, h.small, k.size);
-  room = omega (arith, h.room, k.size);
-  under = λ image i. rw w (h.under image (k.seen image i));
-}
-
-pub list_inserted : (s s' : View) (head key b : ℕ) → HasList s head → Inserted s s' head key b → HasList s' head
-list_inserted s s' head key b h d = record {
-  small = omega (arith, h.small, d.kept.size);
-  room = omega (arith, h.room, d.kept.size);
-  under = λ image i. let t = h.under image (d.kept.seen image i) in record { entries = put_row t.entries key b; is = d.list image t.entries i t.is };
-}
-
-pub list_removed : (s s' : View) (head key : ℕ) (removed : Option Block) → HasList s head → Removed s s' head key removed → HasList s' head
-list_removed s s' head key removed h d = record {
-  small = omega (arith, h.small, d.kept.size);
-  room = omega (arith, h.room, d.kept.size);
-  under = λ image i. let t = h.under image (d.kept.seen image i) in record { entries = cut_row t.entries key; is = d.list image t.entries i t.is };
-}
-
 -- the first block of a list and the block behind one are blocks of it
 first_has : (rs : Rows) (b : ℕ) → b ≡ first_block rs → b ≢ 0 → 0 < times b rs
 first_has [] b e ne = absurd (ne e)

@@ -83,19 +83,6 @@ linked_once m n p lo x ((k, a) ∷ rs) (r, h) =
 pub list_once : (m : ℕ → ℕ) (n p x : ℕ) (rs : Rows) → IsList m n p rs → times x rs ≤ 1
 list_once m n p x rs h = linked_once m n p 0 x rs h.linked
 
--- the block of a key has that key
-pub linked_key : (m : ℕ → ℕ) (n p lo key : ℕ) (rs : Rows) → Linked m n p lo rs → block_at rs key ≢ 0 → place_code m (block_at rs key) ≡ key
-linked_key m n p lo key [] h ne = absurd (ne refl)
-linked_key m n p lo key ((k, a) ∷ rs) (r, h) ne =
-    elim (same_or k key) [
-      | inl e ↦ (let c = (cut_is k a key rs e).1 in ap (place_code m) c ∙ (r.key ∙ e))
-      | inr other ↦ (let c = (cut_else k a key rs other).1 in
-          ap (place_code m) c ∙ linked_key m n (m (a + 3)) (k + 1) key rs h (λ z. ne (c ∙ z)))
-    ]
-
-pub list_key : (m : ℕ → ℕ) (n p key : ℕ) (rs : Rows) → IsList m n p rs → block_at rs key ≢ 0 → place_code m (block_at rs key) ≡ key
-list_key m n p key rs h ne = linked_key m n p 0 key rs h.linked ne
-
 -- and a block is at the key that it has
 linked_at : (m : ℕ → ℕ) (n p lo a : ℕ) (rs : Rows) → Linked m n p lo rs → 0 < times a rs → block_at rs (place_code m a) ≡ a
 linked_at m n p lo a [] h i = absurd (omega arith)

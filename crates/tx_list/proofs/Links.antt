@@ -24,9 +24,6 @@ pub outside_spares : (l a : ℕ) → IsOutside l a → Spares l a
 outside_spares l a (inl below) = record { kind = omega arith; id = omega arith; next = omega arith }
 outside_spares l a (inr above) = record { kind = omega arith; id = omega arith; next = omega arith }
 
-pub spares_rest : (l : ℕ) (r : ℕ × ℕ) (rs : Rows) → SparesAll l (r ∷ rs) → SparesAll l rs
-spares_rest l r rs h a i = h a (omega (arith, i, times_more r a rs))
-
 -- the word of a block that leads on is no such word of another block
 pub next_spares : (n a b : ℕ) → IsBlock n a → IsBlock n b → a ≢ b → Spares (a + 3) b
 next_spares n a b ba bb ne = record { kind = omega (arith, ba.1.1, bb.1.1); id = omega (arith, ba.1.1, bb.1.1); next = λ e. ne (omega arith) }

@@ -30,9 +30,6 @@ followed_in s s' link p has l ne ws =
       small = omega (arith, room, l.kept.size, has.small);
     }
 
-pub followed_none : (s s' : View) (link p : ℕ) → Loaded s s' link p → p ≡ 0 → Followed s s' link None
-followed_none s s' link p l z = record { kept = l.kept; writes = l.writes; within = tt; is = λ image seen. l.answer image seen ∙ z }
-
 pub followed_some : (s s' : View) (link p : ℕ) → Leads s link → Loaded s s' link p → p ≢ 0 → ∥ ((image : List ℕ) × Stands s' image) ∥₁ → Followed s s' link (Some (record { 0 = record { 0 = p } }))
 followed_some s s' link p has l ne ws = let i = followed_in s s' link p has l ne ws in record {
   kept = l.kept;

@@ -176,11 +176,6 @@ descent_leads s0 s root lo key link d next table k ws = record {
       subst (λ (x : ℕ). IsBlock (length image) x) (sym same) (pointer (mem s0 image) (length image) (mem s0 image (link_of root p.way)) p.tree p.zip.tree (λ z. ne (same ∙ z)));
 }
 
-pub descent_low : (s0 s : View) (root lo key link d : ℕ) (next : Option (ℕ × ℕ)) → HasTable s0 root → Descending s0 s root lo key link d next → ∥ ((image : List ℕ) × Stands s image) ∥₁ → d ≤ 36
-descent_low s0 s root lo key link d next table k ws = some_le d 36 ws (λ w.
-    let t = table.under w.0 (k.kept.seen w.0 w.1.sees) in
-    spot_low (mem s0 w.0) (length w.0) root lo key link d next t.entries (k.spot w.0 t.entries w.1.sees t.is) t.is.few)
-
 inside_same : (n n' : ℕ) (next : Option (ℕ × ℕ)) → n' ≡ n → MatchOption next (Unit {0}) (λ r. IsInside n r.1) → MatchOption next (Unit {0}) (λ r. IsInside n' r.1)
 inside_same n n' None e h = tt
 inside_same n n' (Some r) e h = (h.0, omega (arith, h.1, e))

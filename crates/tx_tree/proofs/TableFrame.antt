@@ -46,9 +46,6 @@ none_at : (m : ℕ → ℕ) (n : ℕ) (rs : Rows) (t : Tree) → Hangs m n 0 t �
 none_at m n rs leaf h is = sym is
 none_at m n rs (node c l (k, a) t) h is = absurd (omega (arith, h.0.at, h.0.block.1.1))
 
-pub table_none : (m : ℕ → ℕ) (n : ℕ) (rs : Rows) → IsTable m n 0 rs → rs ≡ []
-table_none m n rs h = none_at m n rs h.tree h.hangs h.is
-
 -- each row's block has the row's key as its first word
 abbrev HaveKeys : (ℕ → ℕ) → Rows → Type 0
 HaveKeys m [] = Unit {0}
@@ -61,23 +58,6 @@ keys_both m (x ∷ xs) ys h g = (h.0, keys_both m xs ys h.1 g)
 tree_keys : (m : ℕ → ℕ) (n p : ℕ) (t : Tree) → Hangs m n p t → HaveKeys m (rows t)
 tree_keys m n p leaf h = tt
 tree_keys m n p (node c l (k, a) t) (i, (hl, ht)) = keys_both m (rows l) ((k, a) ∷ rows t) (tree_keys m n (m (a + 1)) l hl) (i.key, tree_keys m n (m (a + 2)) t ht)
-
-key_at : (m : ℕ → ℕ) (key a : ℕ) (rs : Rows) → HaveKeys m rs → block_at rs key ≡ a → a ≢ 0 → m a ≡ key
-key_at m key a [] h e ne = absurd (ne (sym e))
-key_at m key a (r ∷ rs) h e ne = elim (same_or r.0 key) [
-  | inl same ↦ (
-      let t : nat_eq r.0 key ≡ true = grind (arith, nat_tests) in
-      let e' : r.1 ≡ a = rw t at e in
-      ap m (sym e') ∙ (h.0 ∙ same))
-  | inr other ↦ (
-      let t : nat_eq r.0 key ≡ false = grind (arith, nat_tests) in
-      let e' : block_at rs key ≡ a = rw t at e in
-      key_at m key a rs h.1 e' ne)
-]
-
--- the block at a key has the key as its first word
-pub table_key : (m : ℕ → ℕ) (n p key a : ℕ) (rs : Rows) → IsTable m n p rs → block_at rs key ≡ a → a ≢ 0 → m a ≡ key
-table_key m n p key a rs h e ne = key_at m key a rs (subst (λ (x : Rows). HaveKeys m x) h.is (tree_keys m n p h.tree h.hangs)) e ne
 
 -- a block that has a key which the table does not have is not in the table
 keys_loose : (m : ℕ → ℕ) (key b : ℕ) (rs : Rows) → HaveKeys m rs → ((x : ℕ) → 0 < times x rs → x ≢ 0) → m b ≡ key → block_at rs key ≡ 0 → times b rs ≡ 0
@@ -100,10 +80,6 @@ keys_loose m key b (r ∷ rs) h some is e = elim (same_or r.0 key) [
 pub table_loose : (m : ℕ → ℕ) (n p key b : ℕ) (rs : Rows) → IsTable m n p rs → m b ≡ key → block_at rs key ≡ 0 → times b rs ≡ 0
 table_loose m n p key b rs h is e =
     keys_loose m key b rs (subst (λ (x : Rows). HaveKeys m x) h.is (tree_keys m n p h.tree h.hangs)) (λ x i z. absurd (omega (arith, (table_block m n p x rs h i).1.1))) is e
-
--- a key that the table does not have takes no row along
-pub table_absent : (m : ℕ → ℕ) (n p key : ℕ) (rs : Rows) → IsTable m n p rs → block_at rs key ≡ 0 → cut_row rs key ≡ rs
-table_absent m n p key rs h e = cut_absent rs key (λ x i z. absurd (omega (arith, (table_block m n p x rs h i).1.1))) e
 
 descends_height : (m : ℕ → ℕ) (n p h : ℕ) (t : Tree) → Hangs m n p t → Descends m p h → h ≤ height t
 descends_height m n p zero t g d = omega arith

@@ -45,23 +45,6 @@ has_list s customer h = record {
   under = λ image i. let b = h.under image i in record { entries = b.entries; is = b.is.list };
 }
 
-pub booking_start : (s s1 : View) (customer : ℕ) (next : Option Block) → First s s1 (head_of customer) next → BookingWalk s s1 customer next 0 0 0
-booking_start s s1 customer next g = record {
-  reads = record { kept = g.kept; writes = g.writes };
-  within = g.within;
-  trail = λ image rows i has.
-      let m = mem s image in
-      let n = length image in
-      let at = has.list.list in
-      record {
-        rest = rows;
-        list = list_at m n (pointer next) (m (head_of customer)) rows (g.is image rows i has.list ∙ sym (list_pointer m n (m (head_of customer)) rows at)) at;
-        long = omega arith;
-        units_are = omega arith;
-        billed_is = omega arith;
-      };
-}
-
 -- the row of the next block, and the rows behind it
 record Opened (m : ℕ → ℕ) (n b i units billed : ℕ) (rows : Rows) : Type 0 where
   row : ℕ × ℕ
@@ -124,9 +107,6 @@ sums_fit s0 s s1 s2 customer i units billed u v block c h k l ws = some_lt (bill
     let r = read_both s0 s s1 h.reads (loaded_read s s1 (block.0.0 + 4) u k) in
     omega (arith, b.is.sums, t.billed_is, word_is s0 s1 s2 (block.0.0 + 2) v r l image w.1.sees))
 
-pub node_later : (s s1 : View) (a v node : ℕ) → Loaded s s1 a v → IsNode s node → IsNode s1 node
-node_later s s1 a v node l h = record { inside = omega (arith, h.inside, l.kept.size); small = omega (arith, h.small, l.kept.size) }
-
 -- the block is one of a list, so that the next one can be asked for
 pub in_a_list : (s0 s s1 s2 : View) (customer i units billed u v : ℕ) (block : Block) → CanCount s0 customer → BookingWalk s0 s customer (Some block) i units billed → Loaded s s1 (block.0.0 + 4) u → Loaded s1 s2 (block.0.0 + 2) v → HasBooking s2 block.0.0
 in_a_list s0 s s1 s2 customer i units billed u v block c h k l = record {
@@ -173,29 +153,6 @@ booking_step s0 s s1 s2 s3 customer i units billed u v block next c h k l x =
 no_rest : (m : ℕ → ℕ) (n : ℕ) (rest : Rows) → IsList m n 0 rest → rest ≡ []
 no_rest m n [] h = refl
 no_rest m n (r ∷ rs) h = absurd (omega (arith, h.linked.0.at, h.linked.0.block.1.1))
-
--- where no row is left, all were added up
-counted_rest : (m : ℕ → ℕ) (n p i units billed : ℕ) (rows : Rows) (t : Trail m n p i units billed rows) → t.rest ≡ [] → customer_alone m rows ≡ record { count = 1; units = units; billed = billed }
-counted_rest m n p i units billed rows t e =
-    let u : words_at m 4 rows ≡ units = omega (arith, t.units_are, ap (words_at m 4) e) in
-    let b : words_at m 2 rows ≡ billed = omega (arith, t.billed_is, ap (words_at m 2) e) in
-    λ q. record { count = 1; units = u q; billed = b q }
-
-pub counted_none : (s0 s : View) (customer i units billed : ℕ) → BookingWalk s0 s customer None i units billed → CustomerCounted s0 s customer (record { count = 1; units = units; billed = billed })
-counted_none s0 s customer i units billed h = record {
-  reads = h.reads;
-  is = λ image rows j has.
-      let t = h.trail image rows j has in
-      counted_rest (mem s0 image) (length image) 0 i units billed rows t (no_rest (mem s0 image) (length image) t.rest t.list);
-}
-
-pub counted_all : (s0 s : View) (customer i units billed : ℕ) (next : Option Block) → 262144 ≤ i → BookingWalk s0 s customer next i units billed → CustomerCounted s0 s customer (record { count = 1; units = units; billed = billed })
-counted_all s0 s customer i units billed next l h = record {
-  reads = h.reads;
-  is = λ image rows j has.
-      let t = h.trail image rows j has in
-      counted_rest (mem s0 image) (length image) (pointer next) i units billed rows t (no_rows t.rest (omega (arith, t.long, has.few, l)));
-}
 
 -- the next block, as it was found
 pub walk_at : (s0 s : View) (customer i units billed : ℕ) (next : Option Block) (found : Option Block) → next ≡ found → BookingWalk s0 s customer next i units billed → BookingWalk s0 s customer found i units billed

@@ -95,14 +95,6 @@ free_step words marks0 head marks marks' level at p h less size f b = record {
       };
 }
 
-pub free_out : (words : List ℕ) (marks0 : List Bool) (head : ℕ) (marks : List Bool) (level at : ℕ) → FreeGoes words marks0 head marks level at → suc (length marks0) ≤ level → FreeListRan words marks0 marks head (Err (Shared at))
-free_out words marks0 head marks level at h more seen0 s = go (h.rest seen0 s).levels (h.rest seen0 s).count (h.rest seen0 s).flaw
-  where
-    go : (l : ℕ) → l + level ≡ suc (length marks0) → ((f : Flaw) → walk_free (slice_index words) (length words) l at (h.rest seen0 s).seen ≡ Err f → walk_free (slice_index words) (length words) (suc (length marks0)) head seen0 ≡ Err f)
-        → walk_free (slice_index words) (length words) (suc (length marks0)) head seen0 ≡ Err (Shared at)
-    go zero c flaw = flaw (Shared at) refl
-    go (suc l) c flaw = absurd (omega arith)
-
 -- the eight lists: those walked so far, and what is left
 pub record ListsGo (words : List ℕ) (marks0 marks : List Bool) (k : ℕ) : Type 0 where
   pub size : length marks ≡ length marks0
@@ -144,21 +136,9 @@ lists_flaw words marks0 marks marks' k f h l ran seen0 s =
     let e : (7 - k) + suc k ≡ 8 = omega arith in
     subst (λ (z : ℕ). walk_lists (slice_index words) (length words) (suc (length marks0)) z seen0 ≡ Err f) e (later_flaw (slice_index words) (length words) (suc (length marks0)) (suc k) (7 - k) seen0 f here)
 
-pub lists_end : (words : List ℕ) (marks0 marks : List Bool) (k : ℕ) → ListsGo words marks0 marks k → k ≡ 8 → ListsRan words marks0 marks (Ok tt)
-lists_end words marks0 marks k h e seen0 s = let g : ListsGo words marks0 marks 8 = subst (λ (z : ℕ). ListsGo words marks0 marks z) e h in g.rest seen0 s
-
 -- looking for a block that was not reached
 pub record ReachedGo (marks : List Bool) (k : ℕ) : Type 0 where
   pub rest : (seen : List ℕ) → Marks marks seen → check_reached k seen ≡ Ok tt
-
-pub reached_start : (marks : List Bool) → ReachedGo marks 0
-reached_start marks = record { rest = λ seen s. refl }
-
-pub reached_step : (marks : List Bool) (k : ℕ) → ReachedGo marks k → k < length marks → slice_index_or marks k false ≡ true → ReachedGo marks (k + 1)
-reached_step marks k h l e = record {
-  rest = λ seen s. subst (λ (z : ℕ). check_reached z seen ≡ Ok tt) (let q : suc k ≡ k + 1 = omega arith in q)
-      (then_with (check_reached k seen) _ tt _ (h.rest seen s) (wants_with (not (nat_eq (held (16 + 8 * k) seen) 0)) (Lost (16 + 8 * k)) (sym (s.is k l) ∙ e)));
-}
 
 later_lost : (k j : ℕ) (seen : List ℕ) (f : Flaw) → check_reached k seen ≡ Err f → check_reached (j + k) seen ≡ Err f
 later_lost k zero seen f e = subst (λ (z : ℕ). check_reached z seen ≡ Err f) (let q : k ≡ 0 + k = omega arith in q) e
@@ -170,9 +150,6 @@ reached_flaw marks k h l e seen s =
     then_with (check_reached k seen) _ tt _ (h.rest seen s) (ap (λ (b : Bool). wants b (Lost (16 + 8 * k))) (sym (s.is k l) ∙ e)) in
     let q : (length marks - suc k) + suc k ≡ length marks = omega arith in
     subst (λ (z : ℕ). check_reached z seen ≡ Err (Lost (16 + 8 * k))) q (later_lost (suc k) (length marks - suc k) seen (Lost (16 + 8 * k)) here)
-
-pub reached_end : (marks : List Bool) (k : ℕ) → ReachedGo marks k → k ≡ length marks → ReachedRan marks (Ok tt)
-reached_end marks k h e seen s = subst (λ (z : ℕ). check_reached z seen ≡ Ok tt) e (h.rest seen s)
 
 -- the answer of a pointer that was followed, at what the code found it to be
 pub found_as : (words : List ℕ) (marks marks' : List Bool) (at : ℕ) (found found' : Option ℕ) → found ≡ found' → Followed words marks marks' at (Ok found) → Followed words marks marks' at (Ok found')

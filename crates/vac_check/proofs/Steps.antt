@@ -7,10 +7,6 @@ use Rattle.vac_check.specs.Walk.{then, wants, follow, is_place}
 use Rattle.vac_check.specs.declared.Flaw.{Flaw}
 use Rattle.vac_check.specs.declared.Flaw.TheVariants.{Pointer, Shared}
 
-pub then_ok : {A B : Type 0} (x : Result A Flaw) (k : A → Result B Flaw) (b : B) → then x k ≡ Ok b → (a : A) × ((x ≡ Ok a) × (k a ≡ Ok b))
-then_ok (Ok a) k b e = (a, (refl, e))
-then_ok (Err f) k b e = absurd (let q : Err f ≡ Ok b = e in cc)
-
 pub then_with : {A B : Type 0} (x : Result A Flaw) (k : A → Result B Flaw) (a : A) (r : Result B Flaw) → x ≡ Ok a → k a ≡ r → then x k ≡ r
 then_with {A = A} x k a r e f = ap (λ (z : Result A Flaw). then z k) e ∙ f
 
@@ -24,14 +20,6 @@ wants_with t f e = ap (λ (z : Bool). wants z f) e
 pub split : {A : Type 0} (t : Bool) (x y z : A) → cond t x y ≡ z → ((t ≡ true) × (x ≡ z)) ⊎ ((t ≡ false) × (y ≡ z))
 split true x y z e = inl (refl, e)
 split false x y z e = inr (refl, e)
-
-pub and_left : (a b : Bool) → (a && b) ≡ true → a ≡ true
-and_left true b e = refl
-and_left false b e = e
-
-pub and_right : (a b : Bool) → (a && b) ≡ true → b ≡ true
-and_right true b e = e
-and_right false b e = absurd (let q : false ≡ true = e in cc)
 
 pub place_block : (n p : ℕ) → is_place n p ≡ true → IsBlock n p
 place_block n p e =

@@ -198,17 +198,6 @@ last_leaves s start h n = ap (λ l. (answer s (line_task l)).0) (append-nil star
 pub last_answer : (s : State) (start : List ℕ) → HasNoEnd start → 0 < length start → (answer s (line_task (start ++ []))).1 ≡ pending s start []
 last_answer s start h n = ap (λ l. (answer s (line_task l)).1) (append-nil start) ∙ sym (pending_last s start h n)
 
--- the last line was run, or its run stopped
-pub last_run : {T E : Type 0} (r : Result T E) (s : State) (out new start : List ℕ) → HasNoEnd start → 0 < length start
-    → OnOk r (new ≡ out ++ (answer s (line_task (start ++ []))).1) → OnOk r (new ≡ out ++ pending s start [])
-last_run (Ok t) s out new start h n e = e ∙ ap (λ t. out ++ t) (last_answer s start h n)
-last_run (Err f) s out new start h n e = tt
-
-pub last_stopped : {T E : Type 0} (r : Result T E) (s : State) (out new start : List ℕ) → HasNoEnd start → 0 < length start
-    → OnErr r (Extends new (out ++ (answer s (line_task (start ++ []))).1)) → OnErr r (Extends new (out ++ pending s start []))
-last_stopped (Ok t) s out new start h n e = tt
-last_stopped (Err f) s out new start h n e = subst (λ t. Extends new (out ++ t)) (last_answer s start h n) e
-
 -- no line has begun
 pub nothing_begun : (line : List ℕ) → line ≡ [] → HasBegun line
 nothing_begun line e = subst HasBegun (sym e) (All-nil (λ x. x ≢ 10), omega arith)

@@ -120,13 +120,6 @@ last_taken words words' line h n w = record {
   few = w.few;
 }
 
--- there is no last line
-pub last_none : (words line : List ℕ) → line ≡ [] → length words ≤ MOST_WORDS → TookLast words words line
-last_none words line e h = record {
-  same = ap (words_behind words) e ∙ ap Some (append-nil words);
-  few = h;
-}
-
 -- some bytes were read: whatever follows, the words are those that were taken, and those behind the line that has begun
 pub record TextRead (unread left : Option (List ℕ)) (words line : List ℕ) : Type 0 where
   pub bytes : List ℕ

@@ -56,12 +56,6 @@ table_held s i l h = record {
       record { entries = p.parts.tables i; is = table_there (mem s image) (length image) [] t.0 i p t.1.small.small l });
 }
 
-pub items_held : (s : View) (root : ℕ) (kind : Kind) → root ≡ 1 + kind_number kind → HoldsState s → HasTable s root
-items_held s root kind e h = subst (λ (x : ℕ). HasTable s x) (sym e) (table_held s (kind_number kind) (omega (arith, kind_small kind)) h)
-
-pub customers_held : (s : View) → HoldsState s → HasTable s 4
-customers_held s h = table_held s 3 (omega arith) h
-
 -- the block of an entry is eight words of the memory
 pub item_node : (s : View) (kind : Kind) (id b : ℕ) → HoldsState s → HasItemAt s kind id b → IsNode s b
 item_node s kind id b h at = record { inside = at.inside.1; small = h.small }
@@ -88,18 +82,12 @@ item_at_on s s' kind id b r at = record {
   at = λ image state i. item_same s s' image state kind id b r.writes (at.at image state (r.kept.seen image i));
 }
 
-pub item_lacks_on : (s s' : View) (kind : Kind) (id : ℕ) → OnlyRead s s' → LacksItem s kind id → LacksItem s' kind id
-item_lacks_on s s' kind id r l = record { none = λ image state i. item_same s s' image state kind id 0 r.writes (l.none image state (r.kept.seen image i)) }
-
 pub customer_at_on : (s s' : View) (id c : ℕ) → OnlyRead s s' → HasCustomerAt s id c → HasCustomerAt s' id c
 customer_at_on s s' id c r at = record {
   some = at.some;
   inside = (at.inside.0, omega (arith, at.inside.1, r.kept.size));
   at = λ image state i. customer_same s s' image state id c r.writes (at.at image state (r.kept.seen image i));
 }
-
-pub customer_lacks_on : (s s' : View) (id : ℕ) → OnlyRead s s' → LacksCustomer s id → LacksCustomer s' id
-customer_lacks_on s s' id r l = record { none = λ image state i. customer_same s s' image state id 0 r.writes (l.none image state (r.kept.seen image i)) }
 
 -- the state's entries, by the blocks that were found
 pub item_is : (s : View) (kind : Kind) (id b : ℕ) → HasItemAt s kind id b → (image : List ℕ) (state : State) → Sees s image → IsState (mem s image) (length image) state → item_of state kind id ≡ Some (item_in (mem s image) b)
@@ -211,20 +199,6 @@ customers_stay_reads s s' r = record {
   stay = λ image state state' i h h' id.
       customer_same s s' image state' id (customer_block h id) r.writes
       (λ g. ap (λ (rows : Rows). block_at rows id) (one_shape (mem s image) (length image) [] [] state state' h.represents g.represents 3 (omega arith))) h';
-}
-
-pub items_stay_both : (s s' s'' : View) (c : Command) (r : Reply) → Ran s s' c r → Kept s' s'' → ItemsStay s s' → ItemsStay s' s'' → ItemsStay s s''
-items_stay_both s s' s'' c r ran k a b = record {
-  stay = λ image state state' i h h' kind id.
-      let mid = (ran.outcome image state (k.seen image i) h).state in
-      b.stay image (step state c).0 state' i mid h' kind id ∙ a.stay image state (step state c).0 (k.seen image i) h mid kind id;
-}
-
-pub customers_stay_both : (s s' s'' : View) (c : Command) (r : Reply) → Ran s s' c r → Kept s' s'' → CustomersStay s s' → CustomersStay s' s'' → CustomersStay s s''
-customers_stay_both s s' s'' c r ran k a b = record {
-  stay = λ image state state' i h h' id.
-      let mid = (ran.outcome image state (k.seen image i) h).state in
-      b.stay image (step state c).0 state' i mid h' id ∙ a.stay image state (step state c).0 (k.seen image i) h mid id;
 }
 
 -- what was found stands in its block after a change that lets it stay

@@ -55,11 +55,3 @@ taken_end xs i = let len = length-drop i xs in take_all (length xs - i) (drop i 
 -- what is extended is extended by more
 pub extends_longer : (xs ys zs : List ℕ) → Extends xs ys → Extends xs (ys ++ zs)
 extends_longer xs ys zs h = extends_front xs ys (drop (length xs) ys) (ys ++ zs) (sym (ap (λ t. t ++ drop (length xs) ys) (sym h) ∙ take-append-drop (length xs) ys)) (extends_more ys (ys ++ zs) zs refl)
-
--- what extends a text that extends another
-pub extends_through : (xs ys zs : List ℕ) → Extends xs ys → Extends ys zs → Extends xs zs
-extends_through xs ys zs h g = extends_front xs ys (drop (length xs) ys) zs (sym (ap (λ t. t ++ drop (length xs) ys) (sym h) ∙ take-append-drop (length xs) ys)) g
-
--- a front of a text
-pub extends_taken : (n : ℕ) (xs : List ℕ) → Extends (take n xs) xs
-extends_taken n xs = extends_more (take n xs) xs (drop n xs) (sym (take-append-drop n xs))

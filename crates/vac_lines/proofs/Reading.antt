@@ -39,12 +39,6 @@ fault_read read x xs fault front all e h =
 pub all_read : {B : Type 0} (front : List B) (all : Result (List B) LineFault) → all ≡ put_behind front (Ok []) → all ≡ Ok front
 all_read front all h = h ∙ ap Ok (append-nil front)
 
--- a word that is left over is no pair
-pub no_pair_left : (words : List (Bor (List ℕ))) → length words < 2 → asks_of (texts words) ≡ Ok []
-no_pair_left [] h = refl
-no_pair_left (w ∷ []) h = refl
-no_pair_left (v ∷ w ∷ ws) h = absurd (omega arith)
-
 texts_first : (w : Bor (List ℕ)) (parts : List (List (Bor (List ℕ)))) → onto_first w.now (map texts parts) ≡ map texts (onto_first w parts)
 texts_first w [] = refl
 texts_first w (p ∷ ps) = refl

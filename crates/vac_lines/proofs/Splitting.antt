@@ -25,9 +25,3 @@ pub word_last : (line : List ℕ) (words : List (Bor (List ℕ))) (w : Bor (List
     → HasNo 32 w.now → texts (words ++ w ∷ []) ≡ words_of line
 word_last line words w e h =
     map-append (λ (v : Bor (List ℕ)). v.now) words (w ∷ []) ∙ ap (λ t. texts words ++ t) (sym (slice_split_none is_space w.now (no_space w.now h))) ∙ sym e
-
--- there is one word at least in the rest
-pub words_left : (line rest : List ℕ) (words : List (Bor (List ℕ))) → words_of line ≡ texts words ++ words_of rest → length words + 1 ≤ length (words_of line)
-words_left line rest words e =
-    let one = length-slice_split is_space rest in
-    omega (arith, ap length e, one, length-append (texts words) (words_of rest), length-map words (λ (v : Bor (List ℕ)). v.now))

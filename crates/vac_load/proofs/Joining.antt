@@ -31,9 +31,6 @@ sub_both ys vs (skip y p) q = skip y (sub_both ys vs p q)
 abbrev joined_share : {D : Type 0} → Share D → Share D → Share D
 joined_share x y = record { records = x.records ++ y.records; tally = plus x.tally y.tally; left = y.left }
 
-total_plus : (t u : Tally) → total (plus t u) ≡ total t + total u
-total_plus t u = omega arith
-
 share_both : {D : Type 0} (leads : D → ℕ → D → Type 0) (s : Settings) (n m : ℕ) (state : D) (x y : Share D) → HasShare leads s n state x → HasShare leads s m x.left y → HasShare leads s (n + m) state (joined_share x y)
 share_both leads s n m state x y h k = record {
   tasks = h.tasks ++ k.tasks;

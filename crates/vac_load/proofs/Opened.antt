@@ -13,13 +13,6 @@ use Rattle.vac_load.specs.Opening.{as_tasks, Ran}
 use Rattle.vac_load.proofs.Drawing.{plus_one, drawn_always, drawn_then_always, drawn_joined}
 use Rattle.vac_load.proofs.Answering.{answered_quiet, answered_both}
 
-pub ran_none : {D : Type 0} (leads : D → ℕ → D → Type 0) (renewal : ℕ) (f : ℕ → Reader (List Command)) (v : Client) (a : D) → Ran leads renewal (for_each 0 f) v v a a
-ran_none leads renewal f v a = record {
-  commands = [];
-  drawn = drawn_always leads a [];
-  answered = answered_quiet renewal v v refl (omega arith) refl;
-}
-
 pub ran_joined : {D : Type 0} (leads : D → ℕ → D → Type 0) (renewal : ℕ) (first second : Reader (List Command)) (v w u : Client) (a b c : D) →
     Ran leads renewal first v w a b → Ran leads renewal second w u b c → Ran leads renewal (joined first second) v u a c
 ran_joined leads renewal first second v w u a b c p q = record {
@@ -55,9 +48,6 @@ pub record Opening {D : Type 0} (leads : D → ℕ → D → Type 0) (renewal : 
   pub between : Client
   pub items : Ran leads renewal (for_each m stocks) v between a b
   pub made : Answered renewal (as_tasks (customers n)) between u
-
-pub opening_none : {D : Type 0} (leads : D → ℕ → D → Type 0) (renewal : ℕ) (m : ℕ) (v w : Client) (a b : D) → Ran leads renewal (for_each m stocks) v w a b → Opening leads renewal m 0 v w a b
-opening_none leads renewal m v w a b p = record { between = w; items = p; made = answered_quiet renewal w w refl (omega arith) refl }
 
 pub opening_more : {D : Type 0} (leads : D → ℕ → D → Type 0) (renewal : ℕ) (m n : ℕ) (v w u : Client) (a b : D) → Opening leads renewal m n v w a b → Answered renewal (One (NewCustomer (n + 1)) ∷ []) w u → Opening leads renewal m (n + 1) v u a b
 opening_more leads renewal m n v w u a b p q = record { between = p.between; items = p.items; made = customers_more renewal n p.between w u p.made q }

@@ -172,9 +172,5 @@ unplaced_stopped region region' rv log s c c0 v v2 v' unplaced begun same stoppe
     let before = unplaced_begun region rv c c0 v v unplaced begun same refl in
     subst (λ (x : Client). IsUnplaced x) (sym end) (unplaced_still v v2 before stopped.records)
 
--- what clients that split, gather and go on with a new clock keep
-pub unplaced_fresh : (v : Client) → IsUnplaced (fresh v)
-unplaced_fresh v = record { each = λ x i. absurd (some-ne-none x (sym i.1)) }
-
 pub unplaced_joined : (v w v' : Client) → IsUnplaced v → IsUnplaced w → ((r : Record) → In r v'.records → In r v.records ⊎ In r w.records) → IsUnplaced v'
 unplaced_joined v w v' unplaced unplaced' only = record { each = λ x i. elim (only x i) [ inl j ↦ unplaced.each x j | inr j ↦ unplaced'.each x j ] }

@@ -78,11 +78,3 @@ pub only_of : (rs xs xs' ys ys' : List Record) → ((r : Record) → In r rs →
 only_of rs xs xs' ys ys' h e f =
     subst (λ (zs : List Record). (r : Record) → In r rs → In r zs ⊎ In r ys') (sym e)
     (subst (λ (zs : List Record). (r : Record) → In r rs → In r xs ⊎ In r zs) (sym f) h)
-
--- a renewed region was first opened on the same words
-pub opened_again : (region region' : RegionShown) → region'.size ≡ region.size → region'.first ≡ region.first → IsOpened region → IsOpened region'
-opened_again region region' size first h = record {
-  size = subst (λ (n : ℕ). n ≡ 16 + 8 * ((n - 16) / 8)) (sym size) h.size;
-  small = omega (arith, size, h.small);
-  shown = subst (λ (n : ℕ). Shows region'.first (empty_state ((n - 16) / 8))) (sym size) (subst (λ (ws : List ℕ). Shows ws (empty_state (capacity_of region))) (sym first) h.shown);
-}

@@ -25,11 +25,6 @@ pub record Trying (v v' : Client) (left tries : ℕ) : Type 0 where
 pub tried_as : {E F : Type 0} (region : RegionShown) (t : Task) (r : Reply) (v v' : Client) → Tried {E = E} region t v v' (Ok r) → Tried {E = F} region t v v' (Ok r)
 tried_as region t r v v' h = record { attempt = h.attempt; grants = h.grants; floor = h.floor; records = h.records }
 
--- a value that is none of the values there may be
-pub none_of : {A : Type 0} (o : Option A) → ((x : A) → o ≡ Some x → ⊥) → o ≡ None
-none_of None f = λ i. None
-none_of (Some x) f = absurd (f x (λ i. Some x))
-
 -- a read showed the conflict that the attempt kept
 pub shown_by_read : (region region' : RegionShown) (conflict : Conflict) (v v' : Client) → region' ≡ region → ∥ ((address : ℕ) × IsReadConflict (stripe_of region'.stripes) address conflict v) ∥₁ → v' ≡ v → WasShown region conflict v'
 shown_by_read region region' conflict v v' same h e =

@@ -279,15 +279,6 @@ can_give_more s b bs can = record {
     amount : Kind → ℕ → ℕ
     amount k i = cond (eq_by_cmp place_cmp (k, i) b.0) b.1.units 0
 
--- the first of the bookings can be given back
-pub can_give_first : (s : State) (kind : Kind) (id : ℕ) (b : Booking) (bs : List (Place × Booking)) (item : Item) → CanGiveBack s (((kind, id), b) ∷ bs)
-    → item_of s kind id ≡ Some item → b.units ≤ item.used
-can_give_first s kind id b bs item can e =
-    let test : eq_by_cmp place_cmp (kind, id) (kind, id) ≡ true = ap is_eq (tied_itself place_cmp_total (kind, id)) in
-    let few : cond (eq_by_cmp place_cmp (kind, id) (kind, id)) b.units 0 + units_in bs (kind, id) ≤ item.used = can.used kind id item e in
-    let same : cond (eq_by_cmp place_cmp (kind, id) (kind, id)) b.units 0 ≡ b.units = ap (λ t. cond t b.units 0) test in
-    omega (arith, few, same)
-
 -- a customer's bookings can be given back once the customer is removed
 pub can_depart : (s : State) (c : ℕ) (b : Bookings) → IsBalanced s → bookings_of s c ≡ Some b → CanGiveBack (without_customer s c) (entries b)
 can_depart s c b balanced h = record {

@@ -40,10 +40,6 @@ pub if_both : (P : Outcome → Type 0) (b : Bool) (x y : Outcome) → (b ≡ tru
 if_both P true x y hit miss = hit refl
 if_both P false x y hit miss = miss refl
 
--- what tests say
-pub lt_true : (a b : ℕ) → nat_lt a b ≡ true → a < b
-lt_true a b e = grind (arith, nat_tests)
-
 pub lt_false : (a b : ℕ) → nat_lt a b ≡ false → b ≤ a
 lt_false a b e = grind (arith, nat_tests)
 

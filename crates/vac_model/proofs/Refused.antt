@@ -68,9 +68,6 @@ step_untouched s command.Audit = λ why e. refl
 abbrev FullNeeds : State → Command → Outcome → Type 0
 FullNeeds s c o = o.1 ≡ reply.No Full → NeedsEntry s c × (size s ≡ s.capacity)
 
-other_reason : {A : Type 0} (r : Reply) → ¬ (r ≡ reply.No Full) → r ≡ reply.No Full → A
-other_reason r never e = absurd (never e)
-
 no_room : (s : State) → IsBalanced s → is_full s ≡ true → size s ≡ s.capacity
 no_room s balanced full = omega (arith, le_true s.capacity (size s) full, balanced.room)
 

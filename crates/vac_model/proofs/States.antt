@@ -33,12 +33,6 @@ table_of-with_table s Car t = refl
 table_of-with_table s Flight t = refl
 table_of-with_table s Room t = refl
 
--- a table that is put where it was
-pub with_table_same : (s : State) (kind : Kind) → with_table s kind (table_of s kind) ≡ s
-with_table_same s Car = refl
-with_table_same s Flight = refl
-with_table_same s Room = refl
-
 -- the size after a table changed
 pub size-with_table : (s : State) (kind : Kind) (t : Table) → size (with_table s kind t) + len (table_of s kind) ≡ size s + len t
 size-with_table s Car t = omega arith

@@ -98,19 +98,6 @@ removed_named : (s s1 : View) (head customer : ℕ) (kind : Kind) (id : ℕ) (ke
 removed_named s s1 head customer kind id key taken eh ek ei r =
     subst (λ (z : ℕ). Removed s s1 (head_of customer) z taken) (key_is key kind id ek ei) (subst (λ (z : ℕ). Removed s s1 z (code_of key) taken) eh r)
 
-pub unbooked_none : (s s1 : View) (head customer : ℕ) (kind : Kind) (id : ℕ) (key : Key) → head ≡ head_of customer → key.kind ≡ kind_number kind → key.id ≡ id → Removed s s1 head (code_of key) None → Unbooked s s1 customer (kind, id) None
-unbooked_none s s1 head customer kind id key eh ek ei r =
-    let t = removed_named s s1 head customer kind id key None eh ek ei r in
-    record {
-      kept = t.kept;
-      none = λ e. t.none refl;
-      within = tt;
-      is = t.is;
-      units = λ image i. tt;
-      list = t.list;
-      relinks = t.relinks;
-    }
-
 -- the words of the block that left the list, but its link, are as before
 units_same : (m m' : ℕ → ℕ) (n customer key b : ℕ) (rows : Rows) → IsListAt m n (head_of customer) rows → Relinks m m' 3 (head_of customer) rows → b ≡ block_at rows key → b ≢ 0 → m' (b + 4) ≡ m (b + 4)
 units_same m m' n customer key b rows at r e some =

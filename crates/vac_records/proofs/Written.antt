@@ -79,27 +79,3 @@ booking_made s s1 s2 s3 s4 s5 s6 s7 node place num price kind id sum units a b c
       let z = cleared_by (mem s4 image) (mem s5 image) (mem s6 image) (mem s7 image) node e f g u v w (w5.written image) (w6.written image) (w7.written image) in
       new_booking_by (mem s image) (mem s1 image) (mem s2 image) (mem s3 image) (mem s4 image) (mem s7 image) node place num price kind id sum units a b c d p q r t ek ei es eu (w1.written image) (w2.written image) (w3.written image) (w4.written image) z;
 }
-
--- two loads read a booking
-pub booking_read : (s s1 s2 : View) (node u v : ℕ) → Loaded s s1 (node + 4) u → Loaded s1 s2 (node + 2) v → BookingRead s s2 node (record { units = u; sum = v })
-booking_read s s1 s2 node u v l l' = record {
-  kept = kept_both s s1 s2 l.kept l'.kept;
-  writes = l'.writes ∙ l.writes;
-  answer = λ image i.
-      let units = l.answer image (l'.kept.seen image i) in
-      let sum = at_start s s1 s2 (node + 2) v l.writes l' image i in
-      λ j. record { units = units j; sum = sum j };
-}
-
-pub booking_extended : (s s1 s2 : View) (node num price sum units a b : ℕ) → a ≡ node + 2 → b ≡ node + 4 → sum ≡ num * price → units ≡ num → Shifted s s1 a (λ v. v + sum) → Shifted s1 s2 b (λ v. v + units) → BookingChanged s s2 node (λ x. extended x num price)
-booking_extended s s1 s2 node num price sum units a b p q es eu w w' = record {
-  kept = kept_both s s1 s2 w.kept w'.kept;
-  changed = λ image i.
-      let t = two_words s s1 s2 a b (λ v. v + sum) (λ v. v + units) w w' (omega arith) image i in
-      let sum_is : mem s2 image (node + 2) ≡ mem s image (node + 2) + num * price = rw (p, es) at t.first in
-      let units_is : mem s2 image (node + 4) ≡ mem s image (node + 4) + num = rw (q, eu) at t.second in
-      record {
-        is = λ j. record { units = units_is j; sum = sum_is j };
-        others = λ x na nb. t.others x (λ e. na (e ∙ p)) (λ e. nb (e ∙ q));
-      };
-}

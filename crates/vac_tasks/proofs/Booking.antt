@@ -125,10 +125,6 @@ joined_full s s1 s2 id reads held l ran stays = record {
 no_customer : (state : State) (id : ℕ) (kind : Kind) (item : ℕ) → bookings_of state id ≡ None → step state (command.Reserve id kind item 1) ≡ (state, reply.No NoCustomer)
 no_customer state id kind item none = rw none refl
 
-pub reserved_none : (s : View) (id : ℕ) (kind : Kind) (o : Option Choice) → o ≡ None → Runs s s (λ state. reserve_choice state id kind (priced o)) None
-reserved_none s id kind o e =
-    rw e (runs_same s s (λ state. reserve_choice state id kind None) None (read_none s) (λ image state i h. refl))
-
 pub reserved_missing : (s : View) (id : ℕ) (kind : Kind) (o : Option Choice) (c : Choice) → o ≡ Some c → LacksCustomer s id →
     Runs s s (λ state. reserve_choice state id kind (priced o)) (Some (record { id = c.id; price = c.price; refused = Some NoCustomer }))
 reserved_missing s id kind o c e l =

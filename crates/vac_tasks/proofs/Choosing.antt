@@ -104,24 +104,6 @@ known_on s s' kind (Some c) reads h = record { id = h.id; at = item_at_on s s' k
 abbrev nothing : Choices
 nothing = record { car = None; flight = None; room = None }
 
-none_priced : (kind : Kind) → ◌≡◌ {A = Option (ℕ × ℕ)} None (priced (choice_in nothing kind))
-none_priced Car = refl
-none_priced Flight = refl
-none_priced Room = refl
-
-none_known : (s : View) (kind : Kind) → IfSome (choice_in nothing kind) (λ c. IsKnown s kind c)
-none_known s Car = tt
-none_known s Flight = tt
-none_known s Room = tt
-
--- no ask was looked up yet
-pub chosen_none : (s : View) → Chosen s s [] nothing
-chosen_none s = record {
-  reads = read_none s;
-  are = λ image state i h kind. none_priced kind;
-  known = record { known = none_known s };
-}
-
 -- the choice of a kind after one ask more, as the definition sees it
 both_priced : (same : Bool) (best found : Option Choice) (id : ℕ) → IfSome found (λ c. c.id ≡ id) →
     (if same then dearer (priced best) id (option_map (λ c. c.price) found) else priced best) ≡ priced (if same then dearer_of best found else best)

@@ -109,14 +109,6 @@ few_changes cs e =
     let inner = both_true (nat_le 1 (length cs)) (nat_le (length cs) 32) outer.0 in
     le_true (length cs) 32 inner.1
 
--- no change is made
-pub changed_none : (s : View) → Runs s s (changed []) (replicate 32 None)
-changed_none s = record {
-  kept = kept_none s;
-  state = λ image state i h. h;
-  answer = λ image state i h. refl;
-}
-
 -- the changes so far and one more
 after_more : (state : State) (cs ds : List Command) (c : Command) (r : Reply) → ds ≡ cs ++ c ∷ [] → (step (steps state cs).0 c).1 ≡ r →
     steps state ds ≡ ((step (steps state cs).0 c).0, (steps state cs).1 ++ refusal_of r ∷ [])
