@@ -4,7 +4,7 @@ use Rattle.std.proofs.lemmas.Bool.{ne_eqb}
 use Rattle.stm_words.specs.Image.{In}
 use Rattle.stm_words.specs.LockWord.{free_word}
 use Rattle.stm_words.proofs.Paired.{in_later}
-use Rattle.stm_core.specs.Client.{Client, Step, probed, writes_to, IsFree, Stamp}
+use Rattle.stm_core.specs.Client.{Client, Step, probed, writes_to, IsFree, Stamp, RecordLaw}
 use Rattle.stm_core.specs.Event.{probe, lock, after, Bounds}
 use Rattle.stm_attempt.specs.Conflicts.{IsHeld}
 use Rattle.stm_attempt.specs.CommitParts.{IsAbove}
@@ -18,7 +18,7 @@ not_mine (p ∷ ps) k above =
     let other : eqb p.0 k ≡ false = ne_eqb p.0 k (λ e. absurd (omega arith)) in
     rw other (not_mine ps k (λ j u i. above j u (in_later _ _ _ i)))
 
-module _ (lawful : List ℕ → List (ℕ × ℕ) → List (ℕ × ℕ) → Type 0) (t : Stamp) (lk : ℕ → ℕ) (b : Bounds) (v w : Client) (k n : ℕ) (stepped : w ≡ after t lk (probe k) n v) (above : IsAbove v k) where
+module _ (lawful : RecordLaw) (t : Stamp) (lk : ℕ → ℕ) (b : Bounds) (v w : Client) (k n : ℕ) (stepped : w ≡ after t lk (probe k) n v) (above : IsAbove v k) where
   pub held_shown : IsHeld n → (k ≡ k) × (w.attempt.last ≡ probed k n) × IsHeld n × (w.attempt.mine ≡ false)
   held_shown h = (refl, ap (λ (x : Client). x.attempt.last) stepped, h, ap (λ (x : Client). x.attempt.mine) stepped ∙ not_mine v.attempt.held k above)
 

@@ -3,7 +3,7 @@ use Rattle.std.proofs.Common.{◌≡◌, false, sym, ap, subst, ◌∙◌, ℕ, 
 use Rattle.std.proofs.Math.Seq.{take-length}
 use Rattle.std.specs.FinMap.{get}
 use Rattle.stm_words.specs.Image.{In}
-use Rattle.stm_core.specs.Client.{Client, Stamp, without, writes_to, committed}
+use Rattle.stm_core.specs.Client.{Client, Stamp, without, writes_to, committed, RecordLaw}
 use Rattle.stm_core.specs.Event.{release, after, Bounds}
 use Rattle.stm_logs.specs.Log.{LogValue, log_locks}
 use Rattle.stm_logs.proofs.RisingLemmas.{Rising, In as Among}
@@ -24,7 +24,7 @@ pub record IsReleasing (v v' : Client) (rest all : List ℕ) : Type 0 where
   pub held : addresses v'.attempt.held ≡ rest
   pub steps : v'.attempt.steps + length rest ≡ v.attempt.steps + length v.attempt.held
 
-module _ (lawful : List ℕ → List (ℕ × ℕ) → List (ℕ × ℕ) → Type 0) (t : Stamp) (lk : ℕ → ℕ) (b : Bounds) (w : LogValue) (v0 v : Client) (k : ℕ) (now rest : List ℕ) (releasing : IsReleasing v0 v now (log_locks w)) (next : now ≡ k ∷ rest) where
+module _ (lawful : RecordLaw) (t : Stamp) (lk : ℕ → ℕ) (b : Bounds) (w : LogValue) (v0 v : Client) (k : ℕ) (now rest : List ℕ) (releasing : IsReleasing v0 v now (log_locks w)) (next : now ≡ k ∷ rest) where
   order : releasing.gone ++ k ∷ rest ≡ log_locks w
   order = ap (λ (xs : List ℕ). releasing.gone ++ xs) (sym next) ∙ releasing.order
 

@@ -1,7 +1,7 @@
 -- Locks that are given back.
 use Rattle.std.proofs.Common.{◌≡◌, ◌≢◌, inr, sym, ap, subst, ◌∙◌, ℕ, suc, ◌+◌, ◌-◌, List, [], ◌∷◌, ◌++◌, append_assoc, length, take, arith, Some}
 use Rattle.std.specs.FinMap.{get}
-use Rattle.stm_core.specs.Client.{Client, Stamp, without}
+use Rattle.stm_core.specs.Client.{Client, Stamp, without, RecordLaw}
 use Rattle.stm_core.specs.Event.{give_back, after, Bounds}
 use Rattle.stm_logs.specs.Log.{LogValue, log_locks}
 use Rattle.stm_logs.proofs.RisingLemmas.{Rising, In as Among}
@@ -12,7 +12,7 @@ use Rattle.stm_attempt.proofs.Locks.{rising_behind, gives_first, among_middle}
 use Rattle.stm_core.proofs.Conditions.{may_act_so}
 use Rattle.stm_core.specs.Guards.{Holds, May}
 
-module _ (lawful : List ℕ → List (ℕ × ℕ) → List (ℕ × ℕ) → Type 0) (t : Stamp) (lk : ℕ → ℕ) (b : Bounds) (w : LogValue) (v0 v : Client) (count left k : ℕ) (now rest : List ℕ) (returning : IsReturning v0 v count left now (log_locks w)) (next : now ≡ k ∷ rest) (some_left : left ≢ 0) where
+module _ (lawful : RecordLaw) (t : Stamp) (lk : ℕ → ℕ) (b : Bounds) (w : LogValue) (v0 v : Client) (count left k : ℕ) (now rest : List ℕ) (returning : IsReturning v0 v count left now (log_locks w)) (next : now ≡ k ∷ rest) (some_left : left ≢ 0) where
   order : returning.gone ++ k ∷ rest ≡ log_locks w
   order = ap (λ (xs : List ℕ). returning.gone ++ xs) (sym next) ∙ returning.order
 

@@ -8,7 +8,7 @@ use Rattle.std.specs.List.{flat_map}
 use mathlib.Core.Option.{some}
 use Rattle.stm_words.specs.Image.{In}
 use Rattle.stm_words.proofs.Paired.{in_later}
-use Rattle.stm_core.specs.Client.{Client, Stamp, committed, writes_to, old_version}
+use Rattle.stm_core.specs.Client.{Client, Stamp, committed, writes_to, old_version, RecordLaw}
 use Rattle.stm_core.specs.Event.{put, after}
 use Rattle.stm_core.proofs.Held.{old_in}
 use Rattle.stm_logs.specs.Log.{LogValue, log_pairs, log_locks, is_number, pairs_of, SameAddresses}
@@ -110,7 +110,7 @@ has_more v u v' xs ys first next = record {
   steps = omega (arith, first.steps, next.steps, length-append xs ys);
 }
 
-module _ (lawful : List ℕ → List (ℕ × ℕ) → List (ℕ × ℕ) → Type 0) (t : Stamp) (region : RegionShown) (w : LogValue) (lock : ℕ) (v0 v : Client) (a x : ℕ) (now rest : List (ℕ × ℕ)) (storing : IsStoring v0 v (pairs_of w lock) now) (next : now ≡ (a, x) ∷ rest) (placed : IsPlaced region w) where
+module _ (lawful : RecordLaw) (t : Stamp) (region : RegionShown) (w : LogValue) (lock : ℕ) (v0 v : Client) (a x : ℕ) (now rest : List (ℕ × ℕ)) (storing : IsStoring v0 v (pairs_of w lock) now) (next : now ≡ (a, x) ∷ rest) (placed : IsPlaced region w) where
   order : storing.done ++ (a, x) ∷ rest ≡ pairs_of w lock
   order = ap (λ (ps : List (ℕ × ℕ)). storing.done ++ ps) (sym next) ∙ storing.order
 

@@ -4,7 +4,7 @@ use Rattle.std.proofs.lemmas.Bool.{eqb-false}
 use Rattle.std.proofs.lemmas.List.{length-map}
 use mathlib.Core.Option.{some}
 use lib.ListN.{get_elem?}
-use Rattle.stm_core.specs.Client.{Client, Record, running, validated, inserted, writes_to}
+use Rattle.stm_core.specs.Client.{Client, Record, running, validated, inserted, writes_to, RecordLaw}
 use Rattle.stm_core.specs.Event.{Bounds, validate, committed_by, stepping, marking, counting, forgetting}
 use Rattle.stm_region.specs.Shown.{RegionShown, stripe_of, unplaced}
 use Rattle.stm_attempt.specs.Begun.{addresses, address_of, AreInside}
@@ -50,7 +50,7 @@ read_inside size reads i inside l = let at = read_at reads i l in inside (slice_
 
 module _ (region : RegionShown) (v w : Client) (count : ℕ) (validating : IsValidating region v w count) (less : count < length v.attempt.reads) where
   -- the next lock may be validated
-  pub may_validate_next : (lawful : List ℕ → List (ℕ × ℕ) → List (ℕ × ℕ) → Type 0) (lk : ℕ → ℕ) (b : Bounds) → v.spent ≡ false → 0 < v.attempt.wv → (a k : ℕ) → a ≡ slice_index (addresses v.attempt.reads) count → k ≡ lk a → May lawful lk b (validate k) w
+  pub may_validate_next : (lawful : RecordLaw) (lk : ℕ → ℕ) (b : Bounds) → v.spent ≡ false → 0 < v.attempt.wv → (a k : ℕ) → a ≡ slice_index (addresses v.attempt.reads) count → k ≡ lk a → May lawful lk b (validate k) w
   may_validate_next lawful lk b unspent versioned a k address lock =
       let at = read_at v.attempt.reads count less in
       let here : get_elem? w.attempt.reads w.attempt.passed ≡ some (a, at.0) =

@@ -1,6 +1,6 @@
 -- What a commit leaves.
 use Rattle.std.specs.Prelude.{◌≡◌, ◌≢◌, ℕ, ◌+◌, ◌*◌, ◌<◌, ◌≤◌, true, false, List, [], ◌∷◌, length}
-use Rattle.stm_core.specs.Client.{Client, Record, inserted}
+use Rattle.stm_core.specs.Client.{Client, Record, inserted, RecordLaw}
 use Rattle.stm_core.specs.Event.{forgetting, versioned, writer_record, reader_record}
 use Rattle.stm_logs.specs.Log.{LogValue, log_pairs, log_locks}
 use Rattle.stm_region.specs.Shown.{RegionShown, stripe_of, unplaced}
@@ -81,8 +81,7 @@ pub record HasStopped (region : RegionShown) (log : LogValue) (stop : Stop)
 -- at the step that decided the attempt its client was as it is now, but for its last step, what it
 -- had stored, the locks it held and its steps, and the records of all clients were lawful and
 -- serial, the client's own among them
-pub record WasDecided (fits : List ℕ → Type 0)
-    (lawful : List ℕ → List (ℕ × ℕ) → List (ℕ × ℕ) → Type 0) (region : RegionShown)
+pub record WasDecided (fits : List ℕ → Type 0) (lawful : RecordLaw) (region : RegionShown)
     (v : Client) : Type 0 where
   pub then : Client
   pub same : settling v ≡ settling then

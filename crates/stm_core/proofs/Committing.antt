@@ -5,14 +5,14 @@ use mathlib.Core.Logic.{dite}
 use native.Mathlib.Decide.{ℕ_discrete}
 use lib.ListN.{get_elem?}
 use Rattle.stm_words.specs.Image.{In}
-use Rattle.stm_core.specs.Client.{Client, Record, decided, inserted}
+use Rattle.stm_core.specs.Client.{Client, Record, decided, inserted, RecordLaw}
 use Rattle.stm_core.specs.Version.{At, IsOpen}
 use Rattle.stm_core.specs.Records.{AllInside, IsTold, IsFiled, Filed}
 use Rattle.stm_core.proofs.Lists.{at_set, set_here, set_else, clash, nothing_in}
 use Rattle.stm_core.proofs.Orders.{in_inserted, inserted_in, inserted_old, inserted_ordered}
 use Rattle.stm_core.proofs.Filing.{told_on, filed_on, filing_keeps, split_writer, stay_keeps}
 
-module _ (lawful : List ℕ → List (ℕ × ℕ) → List (ℕ × ℕ) → Type 0) (size renewal : ℕ) (story : List (List (ℕ × ℕ))) (clock : ℕ) (cs : List Client) (id : ℕ) (v w : Client) (r : Record) (h : Filed lawful size renewal story clock cs) (at : At cs id v) where
+module _ (lawful : RecordLaw) (size renewal : ℕ) (story : List (List (ℕ × ℕ))) (clock : ℕ) (cs : List Client) (id : ℕ) (v w : Client) (r : Record) (h : Filed lawful size renewal story clock cs) (at : At cs id v) where
   it : IsFiled lawful size renewal story v
   it = h.filed id v at
 

@@ -6,7 +6,7 @@ use Rattle.std.proofs.lemmas.Bool.Decides.{nat_tests}
 use Rattle.std.specs.List.{list_any, list_all}
 use Rattle.stm_words.specs.Image.{In}
 use Rattle.stm_words.specs.declared.version.TheConstants.{VERSION_LIMIT}
-use Rattle.stm_core.specs.Client.{Attempt, Client, Phase, running, ending, committed, Step, probed, fetched, version_of, IsFree, is_free, is_committed, writes_to, old_version}
+use Rattle.stm_core.specs.Client.{Attempt, Client, Phase, running, ending, committed, Step, probed, fetched, version_of, IsFree, is_free, is_committed, writes_to, old_version, RecordLaw}
 use Rattle.stm_core.specs.Event.{Action, begin, probe, fetch, check, lock, tick, validate, put, release, give_back, finish, Bounds, is_empty, gone}
 use Rattle.stm_core.specs.Guards.{Holds, is_running, may_end, is_reading, has_probed, has_found_free, has_fetched, is_map, may_write, is_next, are_stored, may_act, MayAct, IsLawful}
 use Rattle.stm_core.specs.Core.{Core, bounds_of, client_of, Event, acts, splits, gathers, renews, IsFreeHanded, is_out, are_spent, others_spent, Allowed, MakesLawful}
@@ -56,7 +56,7 @@ IsAlone c i = (j : ℕ) (w : Client) → get_elem? c.clients j ≡ some w → j 
 abbrev pub IsOut : Core → ℕ → Type 0
 IsOut c k = (0 < k) × (get_elem? c.clients (k - 1) ≡ some (client_of c k)) × ((client_of c k).spent ≡ false)
 
-module _ (lawful : List ℕ → List (ℕ × ℕ) → List (ℕ × ℕ) → Type 0) (lk : ℕ → ℕ) where
+module _ (lawful : RecordLaw) (lk : ℕ → ℕ) where
   -- what it means that an attempt may make a step
   abbrev pub CanAct : Bounds → Action → Attempt → Type 0
   CanAct b begin t = t.held ≡ []
@@ -276,7 +276,7 @@ module _ (lk : ℕ → ℕ) where
   act_test b t (give_back k) = and2 (end_test t.phase) (held_test t.held k)
   act_test b t (finish tag) = through (λ p. (p.0, p.1, tt)) (λ p. (p.0, p.1)) (and2 (reading_test t) (empty_test t.held))
 
-  module _ (lawful : List ℕ → List (ℕ × ℕ) → List (ℕ × ℕ) → Type 0) (b : Bounds) (t : Attempt) where
+  module _ (lawful : RecordLaw) (b : Bounds) (t : Attempt) where
     pub can_act : (e : Action) → MayAct lawful lk b e t → CanAct lawful lk b e t
     can_act (tick from tag writes) h = let p = (act_test b t (tick from tag writes)).sound h.0 in (p.0, p.1, p.2, p.3, p.4, h.1)
     can_act (finish tag) h = let p = (act_test b t (finish tag)).sound h.0 in (p.0, p.1, h.1)
@@ -308,7 +308,7 @@ pub out_test : (c : Core) (k : ℕ) → Decides (is_out c k) (IsOut c k)
 out_test c k = through (λ q. (q.0, at_of c.clients (k - 1) q.1, q.2)) (λ q. (q.0, in_range c.clients (k - 1) (client_of c k) q.1, q.2))
     (and3 (lt_test 0 k) (lt_test (k - 1) (length c.clients)) (false_test (client_of c k).spent))
 
-module _ (lawful : List ℕ → List (ℕ × ℕ) → List (ℕ × ℕ) → Type 0) (lk : ℕ → ℕ) where
+module _ (lawful : RecordLaw) (lk : ℕ → ℕ) where
   pub can_play : (e : Event) (c : Core) → Allowed lawful lk e c → CanPlay lawful lk e c
   can_play (acts k e) c h =
       let p = (and2 (out_test c k) (bool_test (may_act lk (bounds_of c) e (client_of c k).attempt))).sound h.0 in

@@ -4,7 +4,7 @@ use mathlib.Core.Logic.{dite}
 use native.Mathlib.Decide.{ℕ_discrete}
 use Rattle.std.proofs.lemmas.List.{ext_get_or}
 use Rattle.stm_words.specs.Image.{In, Agrees, laid}
-use Rattle.stm_core.specs.Client.{Client, Record, base, version_of, IsFree}
+use Rattle.stm_core.specs.Client.{Client, Record, base, version_of, IsFree, RecordLaw}
 use Rattle.stm_core.specs.Core.{Core, IsFreeHanded}
 use Rattle.stm_core.specs.Version.{At, runs, noted}
 use Rattle.stm_core.specs.Records.{Ordered, value_of}
@@ -21,7 +21,7 @@ ranked_of : (l : List Record) (n : ℕ) → Ordered l → ((r : Record) → In r
 ranked_of [] n o f = tt
 ranked_of (x ∷ l) n o f = (λ r i. (rank_after r x (o.0 r i).0 (f r (suc i.0, i.1) ∙ sym (f x (0, refl))), (o.0 r i).1), ranked_of l n o.1 (λ r i. f r (suc i.0, i.1)))
 
-module _ (lawful : List ℕ → List (ℕ × ℕ) → List (ℕ × ℕ) → Type 0) (lk : ℕ → ℕ) (c : Core) (h : Inv lawful lk c) where
+module _ (lawful : RecordLaw) (lk : ℕ → ℕ) (c : Core) (h : Inv lawful lk c) where
   apart_of : Apart c.clients
   apart_of = record { each = λ i v e. (h.filed.filed i v e).ordered; once = h.filed.once }
 

@@ -5,12 +5,12 @@ use mathlib.Core.Logic.{dite}
 use native.Mathlib.Decide.{ℕ_discrete}
 use lib.ListN.{get_elem?}
 use Rattle.stm_words.specs.Image.{In}
-use Rattle.stm_core.specs.Client.{Client, Record, decided}
+use Rattle.stm_core.specs.Client.{Client, Record, decided, RecordLaw}
 use Rattle.stm_core.specs.Version.{At, IsOpen}
 use Rattle.stm_core.specs.Records.{IsTold, IsFiled, Filed, HasWriter}
 use Rattle.stm_core.proofs.Lists.{at_set, set_here, set_else, same_at, at_longer, at_snoc, in_range}
 
-module _ (lawful : List ℕ → List (ℕ × ℕ) → List (ℕ × ℕ) → Type 0) (size renewal : ℕ) where
+module _ (lawful : RecordLaw) (size renewal : ℕ) where
   -- one record where the story has changed at other versions
   pub told_on : (story story' : List (List (ℕ × ℕ))) (r : Record) → IsTold lawful size renewal story r → (r.writer ≡ true → 0 < r.version → get_elem? story (r.version - 1) ≡ some r.writes → get_elem? story' (r.version - 1) ≡ some r.writes) → IsTold lawful size renewal story' r
   told_on story story' r it f = record { abides = it.abides; present = it.present; reads = it.reads; writes = it.writes; once = it.once; reader = it.reader; writer = λ w. let q = it.writer w in (q.0, f w q.0 q.1) }

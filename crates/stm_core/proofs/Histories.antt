@@ -4,7 +4,7 @@ use mathlib.Core.Option.{some}
 use lib.ListN.{get_elem?}
 use Rattle.std.proofs.lemmas.Bool.Decides.{nat_tests}
 use Rattle.stm_words.specs.Image.{In, Agrees, laid}
-use Rattle.stm_core.specs.Client.{Record, rank, base}
+use Rattle.stm_core.specs.Client.{Record, rank, base, RecordLaw}
 use Rattle.stm_core.specs.Records.{over, value_of, wrote_in}
 use Rattle.stm_core.specs.History.{Serial, image_after, image_at}
 use Rattle.stm_core.proofs.Lists.{by_bool, clash, nothing_in, not_true}
@@ -139,7 +139,7 @@ module _ (image : List ℕ) (story : List (List (ℕ × ℕ))) where
   image_last (r ∷ rs) m v f = let l : leb r.version v ≡ true = (let p = f r (0, refl) in grind (arith, nat_tests)) in rw l (image_last rs (laid m r.writes) v (λ x i. f x (suc i.0, i.1)))
 
   -- under a law each image of a version fits
-  pub image_fits : (fits : List ℕ → Type 0) (lawful : List ℕ → List (ℕ × ℕ) → List (ℕ × ℕ) → Type 0) → ((tag m : List ℕ) (reads writes : List (ℕ × ℕ)) → fits m → Agrees m reads → lawful tag reads writes → fits (laid m writes))
+  pub image_fits : (fits : List ℕ → Type 0) (lawful : RecordLaw) → ((tag m : List ℕ) (reads writes : List (ℕ × ℕ)) → fits m → Agrees m reads → lawful tag reads writes → fits (laid m writes))
       → (rs : List Record) (m : List ℕ) (n v : ℕ) → Ahead image story rs m n → ((r : Record) → In r rs → lawful r.tag r.reads r.writes) → fits m → fits (image_at m v rs)
   image_fits fits lawful law [] m n v h f k = k
   image_fits fits lawful law (r ∷ rs) m n v h f k = go (leb r.version v) refl (λ q. image_fits fits lawful law rs (laid m r.writes) r.version v (advance r rs m n h) (λ x i. f x (suc i.0, i.1)) q)

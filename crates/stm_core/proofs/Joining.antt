@@ -6,7 +6,7 @@ use native.Mathlib.Decide.{ℕ_discrete}
 use lib.ListN.{get_elem?}
 use Rattle.std.proofs.lemmas.List.Sums.{sum_by-cons}
 use Rattle.stm_words.specs.Image.{In}
-use Rattle.stm_core.specs.Client.{Client, Record, decided, writes_to, merged, nothing}
+use Rattle.stm_core.specs.Client.{Client, Record, decided, writes_to, merged, nothing, RecordLaw}
 use Rattle.stm_core.specs.Event.{giving, fresh, taking, gone, opener}
 use Rattle.stm_core.specs.Core.{Core, IsFreeHanded, divided, gathered, opened}
 use Rattle.stm_core.specs.Version.{World, At, IsOpen, Claims, runs, passes, noted, Saw, IsSound, IsKept, IsBooked}
@@ -79,7 +79,7 @@ module _ (lk : ℕ → ℕ) (s : World) (cs : List Client) (w : Client) (h : Hea
         values = λ d. clash d phase;
       }
 
-module _ (lawful : List ℕ → List (ℕ × ℕ) → List (ℕ × ℕ) → Type 0) (size renewal : ℕ) (story : List (List (ℕ × ℕ))) where
+module _ (lawful : RecordLaw) (size renewal : ℕ) (story : List (List (ℕ × ℕ))) where
   -- a client that has nothing is filed
   blank_filed : (w : Client) → w.attempt.held ≡ [] → w.attempt.wv ≡ 0 → w.attempt.reads ≡ [] → w.records ≡ [] → decided w ≡ false → IsFiled lawful size renewal story w
   blank_filed w held wv reads records phase = record {
@@ -176,7 +176,7 @@ module _ (lawful : List ℕ → List (ℕ × ℕ) → List (ℕ × ℕ) → Type
         versions_differ : (r : Record) → r.writer ≡ true → ((y : ℕ) (c : Client) → At cs y c → IsOpen c → r.version ≢ c.attempt.wv) → (m : ℕ) (p : Client) → At (set (set cs i new) j none) m p → IsOpen p → r.version ≢ p.attempt.wv
         versions_differ r t f m p e op = stands (λ z d. IsOpen d → r.version ≢ d.attempt.wv) (λ op' s. f i v at (was_open op') (s ∙ wv)) (λ op'. absurd (closed op')) (λ z d q a b op'. f z d q op') m p e op
 
-module _ (lawful : List ℕ → List (ℕ × ℕ) → List (ℕ × ℕ) → Type 0) (lk : ℕ → ℕ) (c : Core) (i : ℕ) (v : Client) (h : Inv lawful lk c) (at : At c.clients i v) where
+module _ (lawful : RecordLaw) (lk : ℕ → ℕ) (c : Core) (i : ℕ) (v : Client) (h : Inv lawful lk c) (at : At c.clients i v) where
   me : IsSound lk (world c h.story) v
   me = h.version.sound i v at
 
@@ -249,7 +249,7 @@ zeros zero k = refl
 zeros (suc n) zero = refl
 zeros (suc n) (suc k) = zeros n k
 
-module _ (lawful : List ℕ → List (ℕ × ℕ) → List (ℕ × ℕ) → Type 0) (lk : ℕ → ℕ) (image : List ℕ) (last stripes : ℕ) where
+module _ (lawful : RecordLaw) (lk : ℕ → ℕ) (image : List ℕ) (last stripes : ℕ) where
   abbrev start : World
   start = world (opened image last stripes) []
 

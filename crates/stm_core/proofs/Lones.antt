@@ -6,7 +6,7 @@ use native.Mathlib.Decide.{ℕ_discrete}
 use lib.ListN.{get_elem?}
 use Rattle.std.proofs.lemmas.Bool.Decides.{nat_tests}
 use Rattle.stm_words.specs.Image.{In}
-use Rattle.stm_core.specs.Client.{Client, running, ending, checked, locked, ticked, validated, Stamp, decided, is_committed, version_of, IsFree, word_before, value_fetched, shed}
+use Rattle.stm_core.specs.Client.{Client, running, ending, checked, locked, ticked, validated, Stamp, decided, is_committed, version_of, IsFree, word_before, value_fetched, shed, RecordLaw}
 use Rattle.stm_core.specs.Event.{Action, begin, probe, fetch, check, lock, tick, validate, put, release, give_back, finish, committed_by, stepping, failing, read_too, holding, versioned, is_empty, decides_at_once, won, passes, passing, after, giving, fresh, taking, gone, with_ticks, counting}
 use Rattle.stm_core.specs.Core.{Core, bounds_of, stepped, divided, gathered}
 use Rattle.stm_core.specs.Version.{At}
@@ -30,7 +30,7 @@ at_unmap f (x ∷ l) (suc i) w e = at_unmap f l i w e
 not_ended : (v : Client) → v.attempt.phase ≡ running → v.attempt.phase ≡ ending → ⊥
 not_ended v e f = (let z : running ≡ ending = sym e ∙ f in cc)
 
-module _ (lawful : List ℕ → List (ℕ × ℕ) → List (ℕ × ℕ) → Type 0) (lk : ℕ → ℕ) (c : Core) (h : Inv lawful lk (now c)) (l : Lone lk c.clock c.locks c.clients) where
+module _ (lawful : RecordLaw) (lk : ℕ → ℕ) (c : Core) (h : Inv lawful lk (now c)) (l : Lone lk c.clock c.locks c.clients) where
   -- beside the client of a lone attempt nobody is out
   pub only_one : (i j : ℕ) (v o : Client) → At c.clients i v → At c.clients j o → v.spent ≡ false → o.attempt.lone ≡ true → j ≢ i → ⊥
   only_one i j v o at to live lone ne =

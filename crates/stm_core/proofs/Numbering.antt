@@ -5,7 +5,7 @@ use Rattle.std.proofs.Math.ListN.{get_or-map}
 use Rattle.std.proofs.lemmas.Bool.Decides.{nat_tests}
 use mathlib.Core.Option.{some, some-injective, some-ne-none}
 use lib.ListN.{get_elem?}
-use Rattle.stm_core.specs.Client.{Client, Record, Stamp, checked, locked, ticked, validated, version_of, word_before, value_fetched, writes_to, before, inserted, merged}
+use Rattle.stm_core.specs.Client.{Client, Record, Stamp, checked, locked, ticked, validated, version_of, word_before, value_fetched, writes_to, before, inserted, merged, RecordLaw}
 use Rattle.stm_core.specs.Event.{Action, begin, check, lock, tick, validate, finish, Bounds, committed_by, stepping, failing, read_too, holding, versioned, decides_at_once, won, passes, passing, after, giving, fresh, taking, renewing, gone, writer_record, reader_record, with_ticks, marking, counting}
 use Rattle.stm_core.specs.Core.{Core, bounds_of, found, left, written, stepped, divided, gathered, renewed, Event, acts, splits, gathers, renews, Allowed, client_of, played, Leads, opened, is_out, are_spent, others_spent, may_play}
 use Rattle.stm_core.specs.Version.{At}
@@ -77,7 +77,7 @@ module _ (number : List ℕ → ℕ) where
   written_numbered begin m c cs = refl
   written_numbered _ m c cs = refl
 
-  module _ (lawful : List ℕ → List (ℕ × ℕ) → List (ℕ × ℕ) → Type 0) (lk : ℕ → ℕ) where
+  module _ (lawful : RecordLaw) (lk : ℕ → ℕ) where
     after_numbered : (t : Stamp) (b : Bounds) (e : Action) (n : ℕ) (v : Client) → CanAct lawful lk b e v.attempt → numbered_client number (after t lk e n v) ≡ after t lk (numbered_action number e) n (numbered_client number v)
     after_numbered t b (check a) n v m =
         let l = checked a (word_before v.attempt.last) n in
@@ -124,7 +124,7 @@ module _ (number : List ℕ → ℕ) where
   renewed_numbered : (i last : ℕ) (v : Client) (c : Core) → numbered_core number (renewed i last v c) ≡ renewed i last (numbered_client number v) (numbered_core number c)
   renewed_numbered i last v c = ap (λ l. record (renewed i last (numbered_client number v) (numbered_core number c)) { clients = l }) (map-set (numbered_client number) c.clients i (renewing v))
 
-  module _ (lawful : List ℕ → List (ℕ × ℕ) → List (ℕ × ℕ) → Type 0) (lk : ℕ → ℕ) where
+  module _ (lawful : RecordLaw) (lk : ℕ → ℕ) where
     out_numbered : (c : Core) (k : ℕ) → is_out (numbered_core number c) k ≡ is_out c k
     out_numbered c k = rw (length-map c.clients (numbered_client number), client_numbered c k) refl
 
@@ -168,15 +168,15 @@ module _ (number : List ℕ → ℕ) where
       subst (λ m. Leads free_law lk m (map (numbered_event number) es) (numbered_core number d)) (event_played e c h.0) (leads_numbered es (played lk e c) d h.1),
     )
 
-pub allowed_with_numbers : (lawful : List ℕ → List (ℕ × ℕ) → List (ℕ × ℕ) → Type 0) → AllowedWithNumbers lawful
+pub allowed_with_numbers : (lawful : RecordLaw) → AllowedWithNumbers lawful
 allowed_with_numbers lawful number image last stripes es c h = leads_numbered number lawful (stripe_of stripes) es (opened image last stripes) c h
 
 -- a list leads to one core, under whatever laws
-same_end : (l m : List ℕ → List (ℕ × ℕ) → List (ℕ × ℕ) → Type 0) (lk : ℕ → ℕ) (es : List Event) (a c d : Core) → Leads l lk a es c → Leads m lk a es d → c ≡ d
+same_end : (l m : RecordLaw) (lk : ℕ → ℕ) (es : List Event) (a c d : Core) → Leads l lk a es c → Leads m lk a es d → c ≡ d
 same_end l m lk [] a c d p q = sym p ∙ q
 same_end l m lk (e ∷ es) a c d p q = same_end l m lk es (played lk e a) c d p.1 q.1
 
-pub same_but_tags : (lawful : List ℕ → List (ℕ × ℕ) → List (ℕ × ℕ) → Type 0) → SameButTags lawful
+pub same_but_tags : (lawful : RecordLaw) → SameButTags lawful
 same_but_tags lawful number image last stripes es c d h g i v e =
     let same : numbered_core number c ≡ d = same_end free_law free_law (stripe_of stripes) (map (numbered_event number) es) (opened image last stripes) (numbered_core number c) d (allowed_with_numbers lawful number image last stripes es c h) g in
     subst (λ (x : Core). (w : Client) × At x.clients i w × (w.records ≡ map (numbered_record number) v.records)) same (numbered_client number v, elem_map (numbered_client number) c.clients i v e, refl)

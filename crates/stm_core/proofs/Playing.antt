@@ -7,7 +7,7 @@ use lib.ListN.{get_elem?}
 use Rattle.std.proofs.lemmas.Bool.Decides.{nat_tests}
 use Rattle.stm_words.specs.Image.{In}
 use Rattle.stm_core.specs.History.{Serial, image_after, ByPoint}
-use Rattle.stm_core.specs.Client.{shed, Client, Record, idle, running, ending, committed, checked, locked, ticked, validated, Stamp, version_of, word_before, value_fetched, writes_to}
+use Rattle.stm_core.specs.Client.{shed, Client, Record, idle, running, ending, committed, checked, locked, ticked, validated, Stamp, version_of, word_before, value_fetched, writes_to, RecordLaw}
 use Rattle.stm_core.specs.Event.{Action, begin, probe, fetch, check, lock, tick, validate, put, release, give_back, finish, committed_by, stepping, failing, read_too, holding, versioned, decides_at_once, won, passes, passing, after, giving, fresh, renewing, gone, opener, writer_record, reader_record, with_ticks, marking, counting}
 use Rattle.stm_core.specs.Core.{Core, bounds_of, found, stepped, divided, gathered, renewed, IsFreeHanded, Event, acts, splits, gathers, renews, Allowed, client_of, played, Leads, opened}
 use Rattle.stm_core.specs.Version.{At, IsOpen}
@@ -60,7 +60,7 @@ earlier_after _ old h = old
 abbrev pub IsDatedBy : List Record → List Record → Core → Type 0
 IsDatedBy old h c = Dated old c.clock c.events c.clients h
 
-module _ (lawful : List ℕ → List (ℕ × ℕ) → List (ℕ × ℕ) → Type 0) (lk : ℕ → ℕ) (old : List Record) (c : Core) (h : List Record) (d : Dated old c.clock c.events c.clients h) (i : ℕ) (v : Client) (at : At c.clients i v) (live : v.spent ≡ false) where
+module _ (lawful : RecordLaw) (lk : ℕ → ℕ) (old : List Record) (c : Core) (h : List Record) (d : Dated old c.clock c.events c.clients h) (i : ℕ) (v : Client) (at : At c.clients i v) (live : v.spent ≡ false) where
   abbrev stamp : Stamp
   stamp = record { client = suc i; place = c.events; renewal = c.renewal }
 
@@ -201,7 +201,7 @@ frame_stays : (t : Stamp) (lk : ℕ → ℕ) (e : Action) (i : ℕ) (v : Client)
 frame_stays t lk begin i v c = refl
 frame_stays t lk _ i v c = refl
 
-module _ (lawful : List ℕ → List (ℕ × ℕ) → List (ℕ × ℕ) → Type 0) (lk : ℕ → ℕ) where
+module _ (lawful : RecordLaw) (lk : ℕ → ℕ) where
   -- a core beside the history of the earlier renewals and that of the present one
   pub record Beside (old h : List Record) (c : Core) : Type 0 where
     pub rule : Rule lawful lk c

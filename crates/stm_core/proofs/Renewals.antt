@@ -3,7 +3,7 @@ use Rattle.std.proofs.Common.{◌≡◌, ◌≢◌, ℕ, suc, ◌+◌, ◌<◌, 
 use Rattle.std.proofs.lemmas.Bool.Decides.{nat_tests}
 use Rattle.std.proofs.lemmas.List.{map-set}
 use Rattle.stm_words.specs.Image.{In}
-use Rattle.stm_core.specs.Client.{Client, Record, Stamp, of_renewal, shed, validated, ticked, checked, locked, word_before, value_fetched, version_of}
+use Rattle.stm_core.specs.Client.{Client, Record, Stamp, of_renewal, shed, validated, ticked, checked, locked, word_before, value_fetched, version_of, RecordLaw}
 use Rattle.stm_core.specs.Event.{Action, begin, probe, fetch, check, lock, tick, validate, put, release, give_back, finish, committed_by, stepping, failing, read_too, holding, versioned, decides_at_once, won, passes, passing, after, counting}
 use Rattle.stm_core.specs.Core.{Core, bounds_of, found, stepped}
 use Rattle.stm_core.specs.Version.{At}
@@ -28,7 +28,7 @@ clients_stay t lk begin i v c = refl
 clients_stay t lk _ i v c = refl
 
 -- a step does not look at the records
-pub may_shed : (lawful : List ℕ → List (ℕ × ℕ) → List (ℕ × ℕ) → Type 0) (lk : ℕ → ℕ) (c : Core) (e : Action) (v : Client) → CanAct lawful lk (bounds_of c) e v.attempt → CanAct lawful lk (bounds_of (now c)) e (shed c.renewal v).attempt
+pub may_shed : (lawful : RecordLaw) (lk : ℕ → ℕ) (c : Core) (e : Action) (v : Client) → CanAct lawful lk (bounds_of c) e v.attempt → CanAct lawful lk (bounds_of (now c)) e (shed c.renewal v).attempt
 may_shed lawful lk c begin v m = m
 may_shed lawful lk c _ v m = m
 
@@ -61,7 +61,7 @@ eqb_no m n e = grind (arith, nat_tests)
 pub eqb_yes : (m n : ℕ) → m ≡ n → eqb m n ≡ true
 eqb_yes m n e = grind (arith, nat_tests)
 
-module _ (lawful : List ℕ → List (ℕ × ℕ) → List (ℕ × ℕ) → Type 0) (lk : ℕ → ℕ) (c : Core) (h : Rule lawful lk c) where
+module _ (lawful : RecordLaw) (lk : ℕ → ℕ) (c : Core) (h : Rule lawful lk c) where
   -- the earlier records that stand with the client at a place
   abbrev pub pre : ℕ → List Record
   pre i = cond (eqb i h.past.keeper) c.past []
@@ -115,7 +115,7 @@ module _ (lawful : List ℕ → List (ℕ × ℕ) → List (ℕ × ℕ) → Type
           let here : At (stepped t lk e i u (now c)).clients i w = rw (clients_stay t lk e i u (now c)) (set_here (now c).clients i u w at_now) in
           ((now_keeps.filed.filed i w here).told r m).present ∙ renewal_stays t lk e i u (now c)
 
-module _ (lawful : List ℕ → List (ℕ × ℕ) → List (ℕ × ℕ) → Type 0) (lk : ℕ → ℕ) (c : Core) (h : Rule lawful lk c) (i : ℕ) (v : Client) (at : At c.clients i v) (live : v.spent ≡ false) (t : Stamp) (era : t.renewal ≡ c.renewal) where
+module _ (lawful : RecordLaw) (lk : ℕ → ℕ) (c : Core) (h : Rule lawful lk c) (i : ℕ) (v : Client) (at : At c.clients i v) (live : v.spent ≡ false) (t : Stamp) (era : t.renewal ≡ c.renewal) where
   abbrev v' : Client
   v' = shed c.renewal v
 

@@ -6,7 +6,7 @@ use Rattle.std.proofs.lemmas.Bool.Decides.{nat_tests}
 use Rattle.std.proofs.lemmas.List.{map-set}
 use Rattle.std.proofs.lemmas.List.Sums.{sum_by-cons}
 use Rattle.stm_words.specs.Image.{In, laid}
-use Rattle.stm_core.specs.Client.{Client, Record, nothing, decided, before, merged, of_renewal, shed}
+use Rattle.stm_core.specs.Client.{Client, Record, nothing, decided, before, merged, of_renewal, shed, RecordLaw}
 use Rattle.stm_core.specs.Event.{giving, fresh, taking, renewing, gone, opener}
 use Rattle.stm_core.specs.Core.{Core, divided, gathered, renewed, IsFreeHanded, opened, begun_on}
 use Rattle.stm_core.specs.Version.{World, At}
@@ -55,7 +55,7 @@ sum_shed : (n : ℕ) (l : List Client) → sum_by share (map (shed n) l) ≡ sum
 sum_shed n [] = refl
 sum_shed n (x ∷ l) = let e = sum_shed n l in rw (sum_by-cons share (shed n x) (map (shed n) l), sum_by-cons share x l) (omega (arith, e))
 
-module _ (lawful : List ℕ → List (ℕ × ℕ) → List (ℕ × ℕ) → Type 0) (lk : ℕ → ℕ) (c : Core) (h : Rule lawful lk c) (i : ℕ) (v : Client) (at : At c.clients i v) where
+module _ (lawful : RecordLaw) (lk : ℕ → ℕ) (c : Core) (h : Rule lawful lk c) (i : ℕ) (v : Client) (at : At c.clients i v) where
   abbrev v' : Client
   v' = shed c.renewal v
 
@@ -274,7 +274,7 @@ module _ (lawful : List ℕ → List (ℕ × ℕ) → List (ℕ × ℕ) → Type
         }
 
 -- a core just opened meets the whole rule
-pub opening_rules : (lawful : List ℕ → List (ℕ × ℕ) → List (ℕ × ℕ) → Type 0) (lk : ℕ → ℕ) (image : List ℕ) (last stripes : ℕ) → Rule lawful lk (opened image last stripes)
+pub opening_rules : (lawful : RecordLaw) (lk : ℕ → ℕ) (image : List ℕ) (last stripes : ℕ) → Rule lawful lk (opened image last stripes)
 opening_rules lawful lk image last stripes = record {
   inv = opening_keeps lawful lk image last stripes;
   lone = λ i v e y. clash y (ap (λ (x : Client). x.attempt.lone) (sym (only i v e)));
@@ -304,7 +304,7 @@ opening_rules lawful lk image last stripes = record {
     none false = refl
 
 -- a core on an image, with one client that has all grants and the records of earlier renewals, which are serial from the first image to this one
-module _ (lawful : List ℕ → List (ℕ × ℕ) → List (ℕ × ℕ) → Type 0) (lk : ℕ → ℕ) (first image : List ℕ) (renewal last stripes : ℕ) (v : Client) where
+module _ (lawful : RecordLaw) (lk : ℕ → ℕ) (first image : List ℕ) (renewal last stripes : ℕ) (v : Client) where
   abbrev v'' : Client
   v'' = shed renewal v
 

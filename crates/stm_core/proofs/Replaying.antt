@@ -8,6 +8,7 @@ use Rattle.stm_core.specs.declared.event.Event.TheVariants.{Begin, Probe, Fetch,
 use Rattle.stm_core.specs.Numbered.{numbered_event, numbered_core, EveryEventIsPlayable, MayRun, PlayedWithNumbers}
 use Rattle.stm_core.proofs.Following.{running_follows}
 use Rattle.stm_core.proofs.Numbering.{allowed_with_numbers}
+use Rattle.stm_core.specs.Client.{RecordLaw}
 
 pub every_event_is_playable : EveryEventIsPlayable
 every_event_is_playable number (acts k begin) = (Begin k, refl)
@@ -42,7 +43,7 @@ module _ (image : List ℕ) (last stripes : ℕ) where
     subst (MayRun es) (ran_longer past e (run_opened image last stripes)) (may_run (past ++ e ∷ []) es (played (stripe_of stripes) e c) d (leads_longer (stripe_of stripes) past e (opened image last stripes) c h g.0) g.1),
   )
 
-pub played_with_numbers : (lawful : List ℕ → List (ℕ × ℕ) → List (ℕ × ℕ) → Type 0) → PlayedWithNumbers lawful
+pub played_with_numbers : (lawful : RecordLaw) → PlayedWithNumbers lawful
 played_with_numbers lawful number image last stripes es c h =
     let g = allowed_with_numbers lawful number image last stripes es c h in
     (may_run image last stripes [] (map (numbered_event number) es) (opened image last stripes) (numbered_core number c) refl g, (running_follows image last stripes (map (numbered_event number) es) (numbered_core number c) g).shows)

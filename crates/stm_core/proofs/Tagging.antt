@@ -3,7 +3,7 @@ use Rattle.std.proofs.Common.{◌≡◌, ◌≢◌, ℕ, zero, suc, ◌+◌, ◌
 use Rattle.std.specs.Cmp.Lexicographic.{pointwise, same_text, other_text}
 use mathlib.Core.Option.{some, some-injective}
 use Rattle.stm_words.specs.Image.{In, laid}
-use Rattle.stm_core.specs.Client.{Client, Record, shed}
+use Rattle.stm_core.specs.Client.{Client, Record, shed, RecordLaw}
 use Rattle.stm_core.specs.Event.{tick, finish}
 use Rattle.stm_core.specs.Core.{Core, Event, acts, Allowed, played, Leads, opened}
 use Rattle.stm_core.specs.Version.{At}
@@ -59,7 +59,7 @@ later_tag (acts k (tick from tag writes)) es t i = (suc i.0, i.1)
 later_tag (acts k (finish tag)) es t i = (suc i.0, i.1)
 later_tag e es t i = i
 
-module _ (lawful : List ℕ → List (ℕ × ℕ) → List (ℕ × ℕ) → Type 0) (tags : List (List ℕ)) where
+module _ (lawful : RecordLaw) (tags : List (List ℕ)) where
   -- the law that asks for one of the tags too
   abbrev pub tagged : List ℕ → List (ℕ × ℕ) → List (ℕ × ℕ) → Type 0
   tagged tag reads writes = lawful tag reads writes × In tag tags
@@ -73,7 +73,7 @@ module _ (lawful : List ℕ → List (ℕ × ℕ) → List (ℕ × ℕ) → Type
   leads_tagged lk [] c d f h = h
   leads_tagged lk (e ∷ es) c d f h = (event_tagged lk e es c f h.0, leads_tagged lk es (played lk e c) d (λ t i. f t (later_tag e es t i)) h.1)
 
-kept : (lawful : List ℕ → List (ℕ × ℕ) → List (ℕ × ℕ) → Type 0) (lk : ℕ → ℕ) (es : List Event) (c d : Core) → Rule lawful lk c → Leads lawful lk c es d → Rule lawful lk d
+kept : (lawful : RecordLaw) (lk : ℕ → ℕ) (es : List Event) (c d : Core) → Rule lawful lk c → Leads lawful lk c es d → Rule lawful lk d
 kept lawful lk [] c d k h = subst (Rule lawful lk) h k
 kept lawful lk (e ∷ es) c d k h = kept lawful lk es (played lk e c) d (event_keeps lawful lk c e k (can_play lawful lk e c h.0)) h.1
 
@@ -125,7 +125,7 @@ module _ (number : List ℕ → ℕ) where
       let a : x ≡ record r { tag = x.tag } = ap (λ (z : Record). record z { tag = x.tag }) e in
       a ∙ ap (λ g. record r { tag = g }) t
 
-module _ (lawful : List ℕ → List (ℕ × ℕ) → List (ℕ × ℕ) → Type 0) (image : List ℕ) (tags : List (List ℕ)) (number : List ℕ → ℕ) (apart : TellsApart number tags) (lk : ℕ → ℕ) (c : Core) (k : Rule (tagged lawful tags) lk c) where
+module _ (lawful : RecordLaw) (image : List ℕ) (tags : List (List ℕ)) (number : List ℕ → ℕ) (apart : TellsApart number tags) (lk : ℕ → ℕ) (c : Core) (k : Rule (tagged lawful tags) lk c) where
   abides : (i : ℕ) (v : Client) (r : Record) → At c.clients i v → In r v.records → lawful r.tag r.reads r.writes × In r.tag tags
   abides i v r e m = ⊎_elim (λ p. k.past.abides r (past_of (eqb i k.past.keeper) p)) (λ p. ((k.inv.filed.filed i (shed c.renewal v) (at_map (shed c.renewal) c.clients i v e)).told r p).abides)
       (in_append (pre (tagged lawful tags) lk c k i) (shed c.renewal v).records r (subst (In r) (k.past.kept i v e) m))
@@ -155,7 +155,7 @@ module _ (lawful : List ℕ → List (ℕ × ℕ) → List (ℕ × ℕ) → Type
         },
       )
 
-pub legal_histories : (lawful : List ℕ → List (ℕ × ℕ) → List (ℕ × ℕ) → Type 0) → LegalHistories lawful
+pub legal_histories : (lawful : RecordLaw) → LegalHistories lawful
 legal_histories lawful image last stripes es c h =
     let tags = tags_of es in
     let number = place_of tags in

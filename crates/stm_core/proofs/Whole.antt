@@ -4,7 +4,7 @@ use mathlib.Core.Logic.{dite}
 use native.Mathlib.Decide.{ℕ_discrete}
 use Rattle.std.proofs.lemmas.Bool.Decides.{nat_tests}
 use Rattle.stm_words.specs.Image.{In, Agrees, laid}
-use Rattle.stm_core.specs.Client.{Client, Record, before, inserted, merged, of_renewal, shed}
+use Rattle.stm_core.specs.Client.{Client, Record, before, inserted, merged, of_renewal, shed, RecordLaw}
 use Rattle.stm_core.specs.Client.{Stamp, version_of, word_before, value_fetched, checked, locked, ticked, validated}
 use Rattle.stm_core.specs.Event.{Action, check, lock, tick, validate, finish, committed_by, stepping, failing, read_too, holding, versioned, decides_at_once, won, passes, passing, after, taking, counting}
 use Rattle.stm_core.specs.Core.{Core, IsFreeHanded}
@@ -97,7 +97,7 @@ one_kept n past (suc k) (v ∷ cs) b s l f =
     ∙ (ap (merged (of_renewal n v.records)) (one_kept n past k cs b s (omega arith) (λ i w e. f (suc i) w e ∙ ap (λ x. cond x past [] ++ of_renewal n w.records) (eqb_suc i k)))
     ∙ merged_late n (of_renewal n v.records) past (all_records (map (shed n) cs)) (λ r m. (of_is n v.records r m).1) b (all_of_era n cs) s)
 
-module _ (lawful : List ℕ → List (ℕ × ℕ) → List (ℕ × ℕ) → Type 0) (lk : ℕ → ℕ) (c : Core) (h : Rule lawful lk c) where
+module _ (lawful : RecordLaw) (lk : ℕ → ℕ) (c : Core) (h : Rule lawful lk c) where
   -- the records of all clients: those of the earlier renewals, and then those of the present one
   pub all_are : all_records c.clients ≡ c.past ++ all_records (now c).clients
   all_are = one_kept c.renewal c.past h.past.keeper c.clients h.past.earlier h.past.sorted h.past.member h.past.kept

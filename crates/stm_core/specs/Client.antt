@@ -94,6 +94,10 @@ pub record Client : Type 0 where
   pub records : List Record
   pub attempt : Attempt
 
+-- a law of records: which tag goes with which reads and which writes
+abbrev pub RecordLaw : Type 1
+RecordLaw = List ℕ → List (ℕ × ℕ) → List (ℕ × ℕ) → Type 0
+
 -- who makes a step, and when: the client's number, the step's place in the list of events, and the
 -- renewals before it
 pub record Stamp : Type 0 where

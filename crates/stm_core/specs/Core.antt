@@ -1,6 +1,6 @@
 -- The state of a whole region as plain data, and what a list of events makes of it.
 use Rattle.std.specs.Prelude.{◌≡◌, ℕ, zero, suc, ◌+◌, ◌*◌, ◌-◌, Bool, true, false, not, ◌&&◌, ◌==◌, nat_lt, nat_le, cond, eqb, List, [], ◌∷◌, ◌++◌, length, slice_index, slice_set, get_or, replicate}
-use Rattle.stm_core.specs.Client.{Client, Record, Stamp, word_before, old_version}
+use Rattle.stm_core.specs.Client.{Client, Record, Stamp, word_before, old_version, RecordLaw}
 use Rattle.stm_core.specs.Event.{Action, begin, probe, fetch, check, lock, tick, validate, put, release, give_back, finish, is_empty, Bounds, after, giving, fresh, taking, renewing, gone, opener}
 use Rattle.stm_core.specs.Guards.{may_act, IsLawful}
 use Rattle.stm_core.specs.declared.limits.TheConstants.{MOST_CLIENTS, MOST_RENEWALS}
@@ -132,7 +132,7 @@ may_play lk (renews k last) c =
     is_out c k && is_empty (client_of c k).attempt.held && others_spent c.clients (k - 1)
     && nat_le 1 last && nat_lt last VERSION_LIMIT && nat_lt c.renewal MOST_RENEWALS
 
-module _ (lawful : List ℕ → List (ℕ × ℕ) → List (ℕ × ℕ) → Type 0) where
+module _ (lawful : RecordLaw) where
   -- the record that the event would make is lawful
   abbrev pub MakesLawful : Event → Core → Type 0
   MakesLawful (acts k e) c = IsLawful lawful e (client_of c k).attempt
@@ -151,8 +151,7 @@ played lk (gathers k j) c = gathered (k - 1) (client_of c k) (j - 1) (client_of 
 played lk (renews k last) c = renewed (k - 1) last (client_of c k) c
 
 -- the list of events is allowed one by one from the first core on, and leads to the second
-abbrev pub Leads : (List ℕ → List (ℕ × ℕ) → List (ℕ × ℕ) → Type 0) → (ℕ → ℕ) → Core → List Event
-    → Core → Type 0
+abbrev pub Leads : RecordLaw → (ℕ → ℕ) → Core → List Event → Core → Type 0
 Leads lawful lk c [] d = c ≡ d
 Leads lawful lk c (e ∷ es) d = Allowed lawful lk e c × Leads lawful lk (played lk e c) es d
 

@@ -35,7 +35,8 @@ pub record FollowsCore (lk : ℕ → ℕ) (s : Running) (c : Core) : Type 0 wher
   -- the last step of each client found the same word
   pub finds : (client : ℕ) → found_of s.core client ≡ found_of c client
   -- it allows just the events that are allowed in the core
-  pub allows : (e : Event) → (may_play (stripes_of s.core) e s.core ≡ true) ↔ Allowed free_law lk e c
+  pub allows : (e : Event)
+      → (may_play (stripes_of s.core) e s.core ≡ true) ↔ Allowed free_law lk e c
 
 -- whatever allowed events are played, the running core follows the core that they lead to
 abbrev pub RunningFollows : Type 0

@@ -1,9 +1,9 @@
--- When a client may make a step. Each guard is a test; a step that may decide asks, beside its test,
--- that the record is lawful.
+-- When a client may make a step. Each guard is a test; a tick and a finish ask, beside it, that the
+-- record which they may make is lawful.
 use Rattle.std.specs.Prelude.{◌≡◌, ℕ, zero, suc, Bool, true, false, not, ◌&&◌, ◌||◌, ◌==◌, nat_lt, nat_le, List, [], ◌∷◌}
 use Rattle.std.specs.List.{list_any, list_all}
 use Rattle.stm_words.specs.Image.{In}
-use Rattle.stm_core.specs.Client.{Attempt, Client, Phase, running, ending, Step, probed, fetched, version_of, is_free, is_committed, writes_to}
+use Rattle.stm_core.specs.Client.{Attempt, Client, Phase, running, ending, Step, probed, fetched, version_of, is_free, is_committed, writes_to, RecordLaw}
 use Rattle.stm_core.specs.Event.{is_empty, Bounds, Action, begin, probe, fetch, check, lock, tick, validate, put, release, give_back, finish}
 use Rattle.stm_core.specs.declared.limits.TheConstants.{MOST_TICKS}
 
@@ -90,7 +90,7 @@ module _ (lk : ℕ → ℕ) where
   may_act b (give_back k) t = may_end t.phase && writes_to t.held k
   may_act b (finish tag) t = is_reading t && is_empty t.held
 
-module _ (lawful : List ℕ → List (ℕ × ℕ) → List (ℕ × ℕ) → Type 0) where
+module _ (lawful : RecordLaw) where
   -- the record that a tick or a finish would make is lawful
   abbrev pub IsLawful : Action → Attempt → Type 0
   IsLawful (tick from tag writes) t = lawful tag t.reads writes

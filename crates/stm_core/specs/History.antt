@@ -1,7 +1,7 @@
 -- Histories: when a list of records is serial, and the image of a version.
 use Rattle.std.specs.Prelude.{◌≡◌, ℕ, ◌<◌, leb, cond, List, [], ◌∷◌, length}
 use Rattle.stm_words.specs.Image.{In, Agrees, laid}
-use Rattle.stm_core.specs.Client.{Client, Record, merged}
+use Rattle.stm_core.specs.Client.{Client, Record, merged, RecordLaw}
 
 -- each record's reads agree with the image just before it
 abbrev pub Serial : List ℕ → List Record → Type 0
@@ -32,9 +32,7 @@ all_records (v ∷ vs) = merged v.records (all_records vs)
 
 -- all records are serial from the image and lawful, and a client's own stand among them, each once
 -- and in its order
-pub record IsShared
-    (lawful : List ℕ → List (ℕ × ℕ) → List (ℕ × ℕ) → Type 0) (image : List ℕ)
-    (own all : List Record) : Type 0 where
+pub record IsShared (lawful : RecordLaw) (image : List ℕ) (own all : List Record) : Type 0 where
   pub serial : Serial image all
   pub abides : (r : Record) → In r all → lawful r.tag r.reads r.writes
   pub among : Sub own all

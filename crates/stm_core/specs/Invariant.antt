@@ -1,6 +1,6 @@
 -- The version invariant of a whole core.
 use Rattle.std.specs.Prelude.{◌≡◌, ℕ, ◌+◌, ◌≤◌, ◌<◌, ◌⊎◌, cond, eqb, true, false, List, [], ◌∷◌, ◌++◌, length, map, slice_index, sum_by}
-use Rattle.stm_core.specs.Client.{Client, Record, Stamp, Step, probed, fetched, decided, running, version_of, IsFree, word_before, before, shed, of_renewal}
+use Rattle.stm_core.specs.Client.{Client, Record, Stamp, Step, probed, fetched, decided, running, version_of, IsFree, word_before, before, shed, of_renewal, RecordLaw}
 use Rattle.stm_words.specs.Image.{In}
 use Rattle.stm_core.specs.Event.{check, lock, tick, after, gone}
 use Rattle.stm_core.specs.Guards.{MayAct, Holds}
@@ -26,9 +26,7 @@ share v = cond v.spent 0 (v.grants + 1)
 
 -- the version invariant within one renewal, of a core that has no records of earlier ones. The law
 -- says which records are lawful, lk which lock an address has
-pub record Inv
-    (lawful : List ℕ → List (ℕ × ℕ) → List (ℕ × ℕ) → Type 0) (lk : ℕ → ℕ) (c : Core)
-    : Type 0 where
+pub record Inv (lawful : RecordLaw) (lk : ℕ → ℕ) (c : Core) : Type 0 where
   -- the clock is at most the last version
   pub bounded : c.clock ≤ c.last
   -- the grants of all clients that are out, and the number of these clients, add up to 64
@@ -82,9 +80,8 @@ Sorted (x ∷ xs) = ((r : Record) → In r xs → before r x ≡ false) × Sorte
 
 -- the records of earlier renewals: lawful, in order, and serial from the first opening image to
 -- the present one
-pub record Past
-    (lawful : List ℕ → List (ℕ × ℕ) → List (ℕ × ℕ) → Type 0) (first opening : List ℕ)
-    (past : List Record) (renewal : ℕ) (cs : List Client) : Type 0 where
+pub record Past (lawful : RecordLaw) (first opening : List ℕ) (past : List Record) (renewal : ℕ)
+    (cs : List Client) : Type 0 where
   pub serial : Serial first past
   pub leads : image_after first past ≡ opening
   pub abides : (r : Record) → In r past → lawful r.tag r.reads r.writes
@@ -101,18 +98,14 @@ pub record Past
 
 -- the whole rule: the invariant of the present renewal, lone attempts, the clock, and the records
 -- of earlier renewals
-pub record Rule
-    (lawful : List ℕ → List (ℕ × ℕ) → List (ℕ × ℕ) → Type 0) (lk : ℕ → ℕ) (c : Core)
-    : Type 0 where
+pub record Rule (lawful : RecordLaw) (lk : ℕ → ℕ) (c : Core) : Type 0 where
   pub inv : Inv lawful lk (now c)
   pub lone : Lone lk c.clock c.locks c.clients
   pub known : IsKnown c.clock c.clients
   pub past : Past lawful c.first c.opening c.past c.renewal c.clients
 
 -- what a lone attempt that is not decided finds: nothing that could fail it
-pub record GoesOn
-    (lawful : List ℕ → List (ℕ × ℕ) → List (ℕ × ℕ) → Type 0) (lk : ℕ → ℕ) (c : Core)
-    (v : Client) : Type 0 where
+pub record GoesOn (lawful : RecordLaw) (lk : ℕ → ℕ) (c : Core) (v : Client) : Type 0 where
   -- each lock word is free or held by itself, with a version of at most its read version
   pub probes : (k : ℕ)
       → (IsFree (slice_index c.locks k) ⊎ Holds v.attempt.held k)

@@ -2,7 +2,7 @@
 -- condition but the law looks at a tag.
 use Rattle.std.specs.Prelude.{◌≡◌, ℕ, ◌<◌, cond, eqb, true, List, [], ◌∷◌, length, map}
 use Rattle.stm_words.specs.Image.{In}
-use Rattle.stm_core.specs.Client.{Client, Record}
+use Rattle.stm_core.specs.Client.{Client, Record, RecordLaw}
 use Rattle.stm_core.specs.Event.{Action, tick, finish}
 use Rattle.stm_core.specs.Core.{Core, Event, acts, may_play}
 use Rattle.stm_core.specs.Version.{At}
@@ -73,7 +73,7 @@ abbrev pub MayRun : List Event → Running → Type 0
 MayRun [] s = Unit {0}
 MayRun (e ∷ es) s = (may_play (stripes_of s.core) e s.core ≡ true) × MayRun es (run_played e s)
 
-module _ (lawful : List ℕ → List (ℕ × ℕ) → List (ℕ × ℕ) → Type 0) where
+module _ (lawful : RecordLaw) where
   -- a list of events that the law allows is allowed with any numbers for its tags where every
   -- record is lawful, and leads to the same core but for the tags
   abbrev pub AllowedWithNumbers : Type 0

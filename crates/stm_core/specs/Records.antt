@@ -4,7 +4,7 @@ use Rattle.std.specs.Prelude.{◌≡◌, ◌≢◌, ℕ, zero, suc, ◌-◌, ◌
 use Rattle.stm_words.specs.Image.{In}
 use mathlib.Core.Option.{some}
 use lib.ListN.{get_elem?}
-use Rattle.stm_core.specs.Client.{Client, Record, decided, writes_to, before}
+use Rattle.stm_core.specs.Client.{Client, Record, decided, writes_to, before, RecordLaw}
 use Rattle.stm_core.specs.Guards.{is_map}
 use Rattle.stm_core.specs.Version.{At, IsOpen}
 
@@ -48,9 +48,7 @@ HasWriter cs u =
     (i : ℕ) × (v : Client) × (r : Record) × At cs i v × In r v.records × (r.writer ≡ true)
     × (r.version ≡ u)
 
-module _
-    (lawful : List ℕ → List (ℕ × ℕ) → List (ℕ × ℕ) → Type 0) (size renewal : ℕ)
-    (story : List (List (ℕ × ℕ))) where
+module _ (lawful : RecordLaw) (size renewal : ℕ) (story : List (List (ℕ × ℕ))) where
   -- one record beside the story
   pub record IsTold (r : Record) : Type 0 where
     -- it is lawful, and of the present renewal
@@ -74,7 +72,8 @@ module _
     pub reads : AllInside size v.attempt.reads
     -- with a write version, what it is to write is in the region, no address twice; undecided it
     -- is lawful, decided it is the story's at its version
-    pub writes : 0 < v.attempt.wv → AllInside size v.attempt.writes × (is_map v.attempt.writes ≡ true)
+    pub writes : 0 < v.attempt.wv
+        → AllInside size v.attempt.writes × (is_map v.attempt.writes ≡ true)
     pub abides : IsOpen v → lawful v.attempt.tag v.attempt.reads v.attempt.writes
     pub commits : decided v ≡ true → get_elem? story (v.attempt.wv - 1) ≡ some v.attempt.writes
     -- spent, it holds and records nothing

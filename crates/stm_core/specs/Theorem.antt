@@ -1,7 +1,7 @@
 -- What holds of every core that a list of allowed events leads to.
 use Rattle.std.specs.Prelude.{◌≡◌, ◌≢◌, ℕ, suc, ◌%◌, ◌<◌, Bool, true, false, List, [], ◌++◌}
 use Rattle.stm_words.specs.Image.{In, Agrees}
-use Rattle.stm_core.specs.Client.{Client, Record, decided, Phase, running, ending}
+use Rattle.stm_core.specs.Client.{Client, Record, decided, Phase, running, ending, RecordLaw}
 use Rattle.stm_core.specs.Core.{Core, Event, Leads, opened}
 use Rattle.stm_core.specs.Version.{At}
 use Rattle.stm_core.specs.Invariant.{Rule, GoesOn}
@@ -61,8 +61,7 @@ pub record Stands (lk : ℕ → ℕ) (image : List ℕ) (c : Core) : Type 0 wher
       → r.attempt ≢ v.attempt.number
 
 -- the list of events is allowed from an opening on an image on, and leads to the core
-abbrev pub Reaches
-    : (List ℕ → List (ℕ × ℕ) → List (ℕ × ℕ) → Type 0) → List ℕ → ℕ → ℕ → List Event → Core → Type 0
+abbrev pub Reaches : RecordLaw → List ℕ → ℕ → ℕ → List Event → Core → Type 0
 Reaches lawful image last stripes events c =
     Leads lawful (stripe_of stripes) (opened image last stripes) events c
 

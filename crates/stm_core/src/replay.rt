@@ -60,7 +60,8 @@ impl Core {
             (may_play (stripes_of self.core) (event_of event) self.core ≡ true)
             × (c ≡ run_played (event_of event) self)) }
         ensures refused { IfErr result (λ e.
-            (e.0 ≡ self) × IsRefusal (may_play (stripes_of self.core) (event_of event) self.core) e.1) }
+            (e.0 ≡ self)
+            × IsRefusal (may_play (stripes_of self.core) (event_of event) self.core) e.1) }
     {
         if !self.state.allows(&event) {
             return Err((self, NotAllowed::Event));

@@ -389,7 +389,8 @@ impl State {
 
     /// Whether a client may gather another.
     fn may_gather(&self, client: u32, other: u32) -> bool
-        ensures { result ≡ may_play (stripes_of self.now.core) (gathers client other) self.now.core }
+        ensures { result
+            ≡ may_play (stripes_of self.now.core) (gathers client other) self.now.core }
     {
         self.is_out(client)
             && self.is_out(other)

@@ -4,7 +4,7 @@ use Rattle.std.proofs.lemmas.List.{length-replicate}
 use mathlib.Core.Option.{some}
 use lib.ListN.{get_elem?}
 use Rattle.atomic_table.specs.Table.{State, opening, Final, Seen}
-use Rattle.stm_core.specs.Client.{Client}
+use Rattle.stm_core.specs.Client.{Client, RecordLaw}
 use Rattle.stm_core.specs.Core.{Core, opened, begun_on, IsFreeHanded}
 use Rattle.stm_core.specs.Event.{opener, renewing}
 use Rattle.stm_core.specs.History.{Serial, image_after}
@@ -34,7 +34,7 @@ laid_out image stripes =
     let e : first_cell stripes ≡ suc (15 + (stripes + padding stripes)) = omega arith in
     rw e (ap (λ xs. 0 ∷ xs) (zeros 15 (stripes + padding stripes) image ∙ ap (λ xs. replicate 15 0 ++ xs) (zeros stripes (padding stripes) image)))
 
-module _ (fits : List ℕ → Type 0) (lawful : List ℕ → List (ℕ × ℕ) → List (ℕ × ℕ) → Type 0) where
+module _ (fits : List ℕ → Type 0) (lawful : RecordLaw) where
   opens : {S : Type 0} (image : List ℕ) (last stripes : ℕ) → fits image → last < 2 ^ 62 → 0 < stripes → Holds {S = S} fits lawful record { image = image; last = last; stripes = stripes; first = image; renewal = 0; start = opener } (opening (replicate (first_cell stripes) 0 ++ image) [] opener)
   opens image last stripes f top one = record {
     core = opened image last stripes;
@@ -72,7 +72,7 @@ cells_behind gap pad c s g l p =
     behind [] ys n = rw Rattle.std.proofs.Common.zero-add refl
     behind (x ∷ xs) ys n = rw (Rattle.std.proofs.Common.suc-add (length xs) n) (behind xs ys n)
 
-module _ (fits : List ℕ → Type 0) (lawful : List ℕ → List (ℕ × ℕ) → List (ℕ × ℕ) → Type 0) (r : RegionShown) where
+module _ (fits : List ℕ → Type 0) (lawful : RecordLaw) (r : RegionShown) where
   -- a state that meets the rule, in which the client is the only one out
   ends : {S : Type 0} (id : ℕ) (v : Client) → IsFreeHanded v → v.grants ≡ 63 → (s : State S Client) → Holds fits lawful (opened_with r) s → get_elem? s.views id ≡ some v → Ends lawful r v (drop (first_cell r.stripes) s.words) (slice_index s.words 0)
   ends id v free all s h at =
@@ -111,7 +111,7 @@ module _ (fits : List ℕ → Type 0) (lawful : List ℕ → List (ℕ × ℕ) �
   fits_with key e id u ws xs f = subst (λ (k : Opened). fits k.first) e f.1.0.fitting
 
 -- what a region ended with, opened anew, meets the rule of the next renewal
-pub reopens : {S : Type 0} (fits : List ℕ → Type 0) (lawful : List ℕ → List (ℕ × ℕ) → List (ℕ × ℕ) → Type 0) (r : RegionShown) (v : Client) (words : List ℕ) (version last : ℕ) → Ends lawful r v words version → v.grants ≡ 63 → fits r.first → last < 2 ^ 62 → 0 < r.stripes
+pub reopens : {S : Type 0} (fits : List ℕ → Type 0) (lawful : RecordLaw) (r : RegionShown) (v : Client) (words : List ℕ) (version last : ℕ) → Ends lawful r v words version → v.grants ≡ 63 → fits r.first → last < 2 ^ 62 → 0 < r.stripes
     → Holds {S = S} fits lawful record { image = words; last = last; stripes = r.stripes; first = r.first; renewal = r.renewal + 1; start = renewing v } (opening (replicate (first_cell r.stripes) 0 ++ words) [] (renewing v))
 reopens {S} fits lawful r v words version last h all f top one = record {
   core = begun_on r.first words (r.renewal + 1) last r.stripes (renewing v);
@@ -133,7 +133,7 @@ reopens {S} fits lawful r v words version last h all f top one = record {
 }
 
 -- and so does a table of these words
-pub renews_on : {S : Type 0} (fits : List ℕ → Type 0) (lawful : List ℕ → List (ℕ × ℕ) → List (ℕ × ℕ) → Type 0) (r : RegionShown) (v : Client) (words laid : List ℕ) (version last : ℕ) → Ends lawful r v words version → v.grants ≡ 63 → fits r.first → last < 2 ^ 62 → 0 < r.stripes
+pub renews_on : {S : Type 0} (fits : List ℕ → Type 0) (lawful : RecordLaw) (r : RegionShown) (v : Client) (words laid : List ℕ) (version last : ℕ) → Ends lawful r v words version → v.grants ≡ 63 → fits r.first → last < 2 ^ 62 → 0 < r.stripes
     → laid ≡ replicate (first_cell r.stripes) 0 ++ words → Holds {S = S} fits lawful record { image = drop (first_cell r.stripes) laid; last = last; stripes = r.stripes; first = r.first; renewal = r.renewal + 1; start = renewing v } (opening laid [] (renewing v))
 renews_on {S} fits lawful r v words laid version last h all f top one e =
     subst (λ ws. Holds {S = S} fits lawful record { image = drop (first_cell r.stripes) ws; last = last; stripes = r.stripes; first = r.first; renewal = r.renewal + 1; start = renewing v } (opening ws [] (renewing v))) (sym e)

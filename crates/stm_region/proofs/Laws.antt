@@ -4,7 +4,7 @@ use mathlib.Core.Option.{some}
 use lib.ListN.{get_elem?}
 use Rattle.atomic_table.specs.Table.{State}
 use Rattle.stm_words.specs.Image.{In, Agrees}
-use Rattle.stm_core.specs.Client.{Client, Record, shed}
+use Rattle.stm_core.specs.Client.{Client, Record, shed, RecordLaw}
 use Rattle.stm_core.specs.Event.{taking}
 use Rattle.stm_core.specs.History.{Serial, Sub, all_records, image_at}
 use Rattle.stm_core.specs.Invariant.{now}
@@ -15,7 +15,7 @@ use Rattle.stm_region.specs.Shown.{Opened, stripe_of, joined}
 use Rattle.stm_region.specs.Rule.{Holds}
 use Rattle.stm_region.proofs.Moves.{joined_all}
 
-module _ (fits : List ℕ → Type 0) (lawful : List ℕ → List (ℕ × ℕ) → List (ℕ × ℕ) → Type 0) (o : Opened) (s : State (Unit {0}) Client) (h : Holds fits lawful o s) where
+module _ (fits : List ℕ → Type 0) (lawful : RecordLaw) (o : Opened) (s : State (Unit {0}) Client) (h : Holds fits lawful o s) where
   pub serial : Serial o.first (all_records s.views)
   serial = subst (λ cs. Serial o.first (all_records cs)) (sym h.views) (subst (λ image. Serial image (all_records h.core.clients)) h.first (whole_serial lawful (stripe_of o.stripes) h.core h.rule))
 

@@ -9,7 +9,7 @@ use Rattle.atomic_table.specs.Table.{State, Me, step, keeps, Allows, Splits, Joi
 use Rattle.atomic_table.proofs.Lists.{set_else}
 use Rattle.atomic_table.specs.Seated.{TableId}
 use Rattle.stm_words.specs.Image.{In, Agrees, laid}
-use Rattle.stm_core.specs.Client.{Client, Record, old_version}
+use Rattle.stm_core.specs.Client.{Client, Record, old_version, RecordLaw}
 use Rattle.stm_core.specs.Core.{Core, bounds_of, found, left, written, stepped, divided, gathered, IsFreeHanded}
 use Rattle.stm_core.specs.Event.{Action, begin, probe, fetch, check, lock, tick, validate, put, release, give_back, finish, after, giving, fresh, taking, gone}
 use Rattle.stm_core.specs.History.{Serial, SomeFits, all_records}
@@ -42,7 +42,7 @@ old_there [] k u m = absurd (not_in (k, u) m)
 old_there (p ∷ ps) k u (zero, e) = let q : p.0 ≡ k = ap (λ (x : ℕ × ℕ). x.0) (some-injective p (k, u) e) in (zero, rw (eq-eqb p.0 k q) (ap some (pair_eq p k q)))
 old_there (p ∷ ps) k u (suc j, e) = dite (ℕ_discrete p.0 k) (λ q. (zero, rw (eq-eqb p.0 k q) (ap some (pair_eq p k q)))) (λ n. let t = old_there ps k u (j, e) in (suc t.0, rw (ne_eqb p.0 k n) t.1))
 
-abbrev Keeping : (List ℕ → Type 0) → (List ℕ → List (ℕ × ℕ) → List (ℕ × ℕ) → Type 0) → Type 0
+abbrev Keeping : (List ℕ → Type 0) → RecordLaw → Type 0
 Keeping fits lawful = (tag image : List ℕ) (reads writes : List (ℕ × ℕ)) → fits image → Agrees image reads → lawful tag reads writes → fits (laid image writes)
 
 -- a running region as contracts see it: its table was told what it was opened with
@@ -75,7 +75,7 @@ pub record Matches (o : Opened) (c : Core) : Type 0 where
   pub locks : length c.locks ≡ o.stripes
 
 -- the bound on the grants takes none away
-pub joined_all : (lawful : List ℕ → List (ℕ × ℕ) → List (ℕ × ℕ) → Type 0) (l : ℕ → ℕ) (c : Core) → Rule lawful l c → (i j : ℕ) (v w : Client) → i ≢ j → get_elem? c.clients i ≡ some v → get_elem? c.clients j ≡ some w → v.spent ≡ false → w.spent ≡ false → joined v w ≡ taking v w
+pub joined_all : (lawful : RecordLaw) (l : ℕ → ℕ) (c : Core) → Rule lawful l c → (i j : ℕ) (v w : Client) → i ≢ j → get_elem? c.clients i ≡ some v → get_elem? c.clients j ≡ some w → v.spent ≡ false → w.spent ≡ false → joined v w ≡ taking v w
 joined_all lawful l c inv i j v w ne at to un un' =
     let n = grants_of_two lawful l (now c) inv.inv i j (shed c.renewal v) (shed c.renewal w) ne (at_map (shed c.renewal) c.clients i v at) (at_map (shed c.renewal) c.clients j w to) un un' in
     let e : min (v.grants + w.grants + 1) 63 ≡ v.grants + w.grants + 1 = omega arith in λ k. record (taking v w) { grants = e k }
@@ -85,7 +85,7 @@ in_kept true l x m = m
 in_kept false l x m = absurd (not_in x m)
 
 -- a client's records are of earlier renewals, or of versions that the clock has reached
-earlier : (lawful : List ℕ → List (ℕ × ℕ) → List (ℕ × ℕ) → Type 0) (l : ℕ → ℕ) (c : Core) → Rule lawful l c → (i : ℕ) (v : Client) → get_elem? c.clients i ≡ some v → AreEarlier c.renewal c.clock v.records
+earlier : (lawful : RecordLaw) (l : ℕ → ℕ) (c : Core) → Rule lawful l c → (i : ℕ) (v : Client) → get_elem? c.clients i ≡ some v → AreEarlier c.renewal c.clock v.records
 earlier lawful l c h i v at x m = elim (in_append _ _ x (subst (In x) (h.past.kept i v at) m)) [
   | inl p ↦ old (h.past.earlier x (in_kept _ c.past x p))
   | inr p ↦ record {
@@ -100,7 +100,7 @@ earlier lawful l c h i v at x m = elim (in_append _ _ x (subst (In x) (h.past.ke
     present : x.renewal ≡ c.renewal → x.renewal ≤ c.renewal
     present q = omega arith
 
-module _ (fits : List ℕ → Type 0) (lawful : List ℕ → List (ℕ × ℕ) → List (ℕ × ℕ) → Type 0) (law : Keeping fits lawful) (r : RegionShown) where
+module _ (fits : List ℕ → Type 0) (lawful : RecordLaw) (law : Keeping fits lawful) (r : RegionShown) where
   abbrev lk : ℕ → ℕ
   lk = stripe_of r.stripes
 

@@ -3,7 +3,7 @@ use Rattle.std.specs.Prelude.{◌≡◌, ℕ, ◌+◌, ◌<◌, List}
 use mathlib.Core.Option.{some}
 use lib.ListN.{get_elem?}
 use Rattle.stm_words.specs.Image.{In}
-use Rattle.stm_core.specs.Client.{Client, Record}
+use Rattle.stm_core.specs.Client.{Client, Record, RecordLaw}
 use Rattle.stm_core.specs.Core.{Core}
 use Rattle.stm_core.specs.Invariant.{Rule, Sorted}
 use Rattle.stm_core.specs.History.{Serial, image_after}
@@ -12,7 +12,7 @@ use Rattle.stm_region.specs.Shown.{RegionShown, stripe_of}
 -- the words and the version are those of a last core state, in which the closing client had this
 -- value, and its records are all there are: lawful, and serial from the first opening image to the
 -- words
-pub record Ends (lawful : List ℕ → List (ℕ × ℕ) → List (ℕ × ℕ) → Type 0) (region : RegionShown)
+pub record Ends (lawful : RecordLaw) (region : RegionShown)
     (v : Client) (words : List ℕ) (version : ℕ) : Type 0 where
   pub core : Core
   pub rule : Rule lawful (stripe_of region.stripes) core

@@ -1,6 +1,6 @@
 -- What a renewal leaves.
 use Rattle.std.specs.Prelude.{◌≡◌, ℕ, List}
-use Rattle.stm_core.specs.Client.{Client}
+use Rattle.stm_core.specs.Client.{Client, RecordLaw}
 use Rattle.stm_region.specs.Shown.{RegionShown, ClientShown}
 use Rattle.stm_region.specs.Closed.{Ends}
 use Rattle.stm_region.specs.Refused.{MayRenew, RenewsNot}
@@ -8,13 +8,12 @@ use Rattle.stm_region.specs.declared.renew.RenewFault.{RenewFault}
 use Rattle.stm_region.specs.declared.renew.RenewFault.TheVariants.{Kept, Closed}
 
 -- the old region ended with these words, at some version
-abbrev pub EndsSomewhere : (List ℕ → List (ℕ × ℕ) → List (ℕ × ℕ) → Type 0) → RegionShown →
-    Client → List ℕ → Type 0
+abbrev pub EndsSomewhere : RecordLaw → RegionShown → Client → List ℕ → Type 0
 EndsSomewhere lawful region v words = (version : ℕ) × Ends lawful region v words version
 
 -- when a region is not renewed: it and its client are as they were, with the reason; or it ended
 -- with these words at this version
-abbrev pub NotRenewed : {L A : Type 0} → (List ℕ → List (ℕ × ℕ) → List (ℕ × ℕ) → Type 0) →
+abbrev pub NotRenewed : {L A : Type 0} → RecordLaw →
     RegionShown → ClientShown → ℕ → RenewFault L A → Type 0
 NotRenewed lawful region client last (Kept r c fault) =
     (r ≡ region) × (c ≡ client) × RenewsNot region.renewal last client.value.grants fault

@@ -3,7 +3,7 @@ use mathlib.Core.Option.{some}
 use lib.ListN.{get_elem?}
 use Rattle.std.specs.Prelude.{◌≡◌, ◌≢◌, ℕ, ◌<◌, List, ◌∷◌, ◌++◌, ◌-◌, length}
 use Rattle.atomic_table.specs.Table.{State}
-use Rattle.stm_core.specs.Client.{Client}
+use Rattle.stm_core.specs.Client.{Client, RecordLaw}
 use Rattle.stm_core.specs.Core.{Core}
 use Rattle.stm_core.specs.Invariant.{Rule}
 use Rattle.stm_region.specs.Shown.{Opened, stripe_of}
@@ -17,9 +17,8 @@ abbrev pub listed : List ℕ → List ℕ → Core → List ℕ
 listed gap pad c = c.clock ∷ (gap ++ (c.locks ++ (pad ++ c.cells)))
 
 -- the table's words and all clients' values are a core state that meets the version invariant
-pub record Holds {S : Type 0} (fits : List ℕ → Type 0)
-    (lawful : List ℕ → List (ℕ × ℕ) → List (ℕ × ℕ) → Type 0) (o : Opened) (s : State S Client)
-    : Type 0 where
+pub record Holds {S : Type 0} (fits : List ℕ → Type 0) (lawful : RecordLaw) (o : Opened)
+    (s : State S Client) : Type 0 where
   pub core : Core
   pub gap : List ℕ
   pub pad : List ℕ
@@ -39,7 +38,7 @@ pub record Holds {S : Type 0} (fits : List ℕ → Type 0)
 
 -- P holds of what a region was opened with and its table's state, between any two steps of any
 -- threads
-abbrev pub Always : (List ℕ → Type 0) → (List ℕ → List (ℕ × ℕ) → List (ℕ × ℕ) → Type 0) →
+abbrev pub Always : (List ℕ → Type 0) → RecordLaw →
     (Opened → State (Unit {0}) Client → Type 0) → Type 0
 Always fits lawful P = (o : Opened) (s : State (Unit {0}) Client) → Holds fits lawful o s → P o s
 

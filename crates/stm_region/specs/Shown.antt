@@ -1,7 +1,7 @@
 -- What contracts see of a region and of its clients.
 use Rattle.std.specs.Prelude.{◌≡◌, ◌≢◌, ℕ, ◌+◌, ◌%◌, ◌<◌, min, length, List, [], Option, None, Some, Result, MatchResult}
 use Rattle.atomic_table.specs.Seated.{TableId}
-use Rattle.stm_core.specs.Client.{Client, Stamp, Step, nothing, began, probed, fetched, checked, locked, ticked, validated, ended}
+use Rattle.stm_core.specs.Client.{Client, Stamp, Step, nothing, began, probed, fetched, checked, locked, ticked, validated, ended, RecordLaw}
 use Rattle.stm_core.specs.Guards.{May}
 use Rattle.stm_core.specs.Event.{Action, Bounds, after, giving, fresh, taking, renewing, opener}
 use Rattle.stm_region.specs.declared.limits.TheConstants.{MOST_GRANTS}
@@ -107,13 +107,11 @@ abbrev pub unplaced : ℕ → Stamp
 unplaced n = record { client = 0; place = 0; renewal = n }
 
 -- this client's value allows the step in the region
-abbrev pub MayStep : (List ℕ → List (ℕ × ℕ) → List (ℕ × ℕ) → Type 0) → RegionShown → Action →
-    Client → Type 0
+abbrev pub MayStep : RecordLaw → RegionShown → Action → Client → Type 0
 MayStep lawful r step v = May lawful (stripe_of r.stripes) (bounds r) step v
 
 -- the client allows the step in the region
-abbrev pub IsAllowed : (List ℕ → List (ℕ × ℕ) → List (ℕ × ℕ) → Type 0) → RegionShown → Action →
-    ClientShown → Type 0
+abbrev pub IsAllowed : RecordLaw → RegionShown → Action → ClientShown → Type 0
 IsAllowed lawful r step c = May lawful (stripe_of r.stripes) (bounds r) step c.value
 
 -- the client's value after a step that found this word

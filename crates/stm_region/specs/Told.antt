@@ -4,7 +4,7 @@ use Rattle.atomic_table.specs.Table.{Me, Step}
 use mathlib.Core.Option.{some}
 use lib.ListN.{get_elem?}
 use Rattle.stm_words.specs.Image.{In, Agrees}
-use Rattle.stm_core.specs.Client.{Client, Record, decided, version_of, IsFree, word_before}
+use Rattle.stm_core.specs.Client.{Client, Record, decided, version_of, IsFree, word_before, RecordLaw}
 use Rattle.stm_core.specs.Core.{Core}
 use Rattle.stm_core.specs.Invariant.{Rule, now}
 use Rattle.stm_core.specs.Event.{Action, begin, probe, fetch, check, lock, tick, validate, put, release, give_back, finish}
@@ -42,9 +42,8 @@ pub record StandsOn (fits : List ℕ → Type 0) (size : ℕ) (reads : List (ℕ
 
 -- what the client has read is of one version: the image of its read version, in the region's core
 -- state right after the step, fits and agrees with its reads
-pub record IsOfOneVersion (fits : List ℕ → Type 0)
-    (lawful : List ℕ → List (ℕ × ℕ) → List (ℕ × ℕ) → Type 0) (region : RegionShown) (v : Client)
-    : Type 0 where
+pub record IsOfOneVersion (fits : List ℕ → Type 0) (lawful : RecordLaw) (region : RegionShown)
+    (v : Client) : Type 0 where
   -- the core state is this region's
   pub core : Core
   pub rule : Rule lawful (stripe_of region.stripes) core
@@ -63,8 +62,7 @@ pub record IsOfOneVersion (fits : List ℕ → Type 0)
 
 -- the records of all clients, this one's with its newest among them, each of its own once and in
 -- its order, are lawful and serial from the first opening image
-pub record Decides (fits : List ℕ → Type 0)
-    (lawful : List ℕ → List (ℕ × ℕ) → List (ℕ × ℕ) → Type 0) (region : RegionShown) (v : Client)
+pub record Decides (fits : List ℕ → Type 0) (lawful : RecordLaw) (region : RegionShown) (v : Client)
     : Type 0 where
   -- the region's core state right after the deciding step
   pub core : Core
@@ -103,8 +101,7 @@ LoneTold (release k) n v w = Unit {0}
 LoneTold (give_back k) n v w = Unit {0}
 LoneTold (finish tag) n v w = Unit {0}
 
-module _ (fits : List ℕ → Type 0) (lawful : List ℕ → List (ℕ × ℕ) → List (ℕ × ℕ) → Type 0)
-    (r : RegionShown) where
+module _ (fits : List ℕ → Type 0) (lawful : RecordLaw) (r : RegionShown) where
   -- what is told of the word found, and of the client's values before and after the step
   abbrev pub Told : Action → ℕ → Client → Client → Type 0
   Told begin n v w =
