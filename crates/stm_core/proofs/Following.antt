@@ -283,11 +283,11 @@ reached_follows s r = subst (λ x. FollowsCore (stripe_of r.stripes) x r.core) (
 pub reached_order : (s : Running) (r : IsReached s) → IsOrderOf r.core s.order.entries s.order.points
 reached_order s r = (reached_follows s r).order
 
-leads_snoc : (lk : ℕ → ℕ) (es : List Event) (e : Event) (c d : Core) → Leads free_law lk c es d → Allowed free_law lk e d → Leads free_law lk c (es ++ e ∷ []) (played lk e d)
+pub leads_snoc : (lk : ℕ → ℕ) (es : List Event) (e : Event) (c d : Core) → Leads free_law lk c es d → Allowed free_law lk e d → Leads free_law lk c (es ++ e ∷ []) (played lk e d)
 leads_snoc lk [] e c d same may = subst (λ x. Leads free_law lk x (e ∷ []) (played lk e d)) (sym same) (may, refl)
 leads_snoc lk (a ∷ es) e c d leads may = (leads.0, leads_snoc lk es e (played lk a c) d leads.1 may)
 
-ran_snoc : (es : List Event) (e : Event) (s : Running) → ran (es ++ e ∷ []) s ≡ run_played e (ran es s)
+pub ran_snoc : (es : List Event) (e : Event) (s : Running) → ran (es ++ e ∷ []) s ≡ run_played e (ran es s)
 ran_snoc [] e s = refl
 ran_snoc (a ∷ es) e s = ran_snoc es e (run_played a s)
 

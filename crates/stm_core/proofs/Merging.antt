@@ -38,7 +38,7 @@ pub sub_left : (l m : List Record) → Sub l (merged l m)
 sub_left l [] = sub_same l
 sub_left l (y ∷ m) = sub_trans (sub_inserted y l) (sub_left (inserted y l) m)
 
-one_in : (y : Record) (l : List Record) → Sub (y ∷ []) (inserted y l)
+pub one_in : (y : Record) (l : List Record) → Sub (y ∷ []) (inserted y l)
 one_in y [] = keep y done
 one_in y (x ∷ l) = go (before y x) (one_in y l)
   where

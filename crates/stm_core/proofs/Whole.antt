@@ -14,7 +14,7 @@ use Rattle.stm_core.specs.History.{Serial, image_after, Sub, done, keep, skip, a
 use Rattle.stm_core.specs.Invariant.{now, Sorted, Rule}
 use Rattle.stm_core.proofs.Lists.{nothing_in, by_bool, clash, in_snoc}
 use Rattle.stm_core.proofs.Orders.{in_cons, in_inserted, in_merged, before_asym, behind, before_le}
-use Rattle.stm_core.proofs.Merging.{in_sub, sub_left}
+use Rattle.stm_core.proofs.Merging.{in_sub, sub_left, one_in}
 use Rattle.stm_core.proofs.Histories.{laid_length}
 use Rattle.stm_core.proofs.Facts.{all_serial, all_lawful, all_shared, others_spent}
 use Rattle.stm_core.proofs.Eras.{AllOf, AllBefore, in_append, of_is, not_before, merged_padded, merged_late}
@@ -36,14 +36,6 @@ inserted_sorted r (x ∷ xs) o = go (before r x) refl (inserted_sorted r xs o.1)
 pub merged_sorted : (l m : List Record) → Sorted l → Sorted (merged l m)
 merged_sorted l [] o = o
 merged_sorted l (y ∷ m) o = merged_sorted (inserted y l) m (inserted_sorted y l o)
-
-one_in : (y : Record) (l : List Record) → Sub (y ∷ []) (inserted y l)
-one_in y [] = keep y done
-one_in y (x ∷ l) = go (before y x) (one_in y l)
-  where
-    go : (b : Bool) → Sub (y ∷ []) (inserted y l) → Sub (y ∷ []) (cond b (y ∷ x ∷ l) (x ∷ inserted y l))
-    go true p = keep y done
-    go false p = skip x p
 
 -- what comes last among some records comes after them where it is put in
 put_last : {p l : List Record} (y : Record) → Sub p l → Sorted l → ((x : Record) → In x p → before y x ≡ false) → Sub (p ++ y ∷ []) (inserted y l)

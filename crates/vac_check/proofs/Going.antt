@@ -23,7 +23,8 @@ use Rattle.vac_check.specs.declared.tree.Table.{Table}
 use Rattle.vac_check.specs.declared.tree.Table.TheVariants.{Items, Customers}
 use Rattle.vac_check.specs.declared.tree.Turn.{Turn}
 use Rattle.vac_check.specs.declared.tree.Turn.TheVariants.{Down, Up}
-use Rattle.vac_check.proofs.Noting.{times_append, noted_more, noted_none}
+use Rattle.vac_check.proofs.Noting.{noted_more, noted_none}
+use Rattle.vac_check.proofs.Over.{times_append}
 use Rattle.vac_check.proofs.Running.{then_err}
 use Rattle.vac_check.proofs.Stack.{Frame, in_left, in_right, least, unwind, down_end, down_flaw, down_out, down_block, left_order, left_flaw, left_done, right_flaw, right_done, above_node}
 use Rattle.vac_check.proofs.Steps.{then_with, test_with, enter_ok, follow_ok}

@@ -18,19 +18,7 @@ use Rattle.vac_check.specs.declared.tree.Table.{Table}
 use Rattle.vac_check.specs.declared.tree.Table.TheVariants.{Items, Customers}
 use Rattle.vac_check.proofs.Steps.{both_ok, test_ok, enter_ok, then_with}
 use Rattle.vac_check.proofs.Booked.{then_items}
-
-pub times_append : (x : ℕ) (rs ts : Rows) → times x (rs ++ ts) ≡ times x rs + times x ts
-times_append x [] ts = omega arith
-times_append x (r ∷ rs) ts = omega (arith, times_append x rs ts)
-
-pub over_append : (f : Rows → ℕ) (rs ts : Rows) (lists : ℕ → Rows) → over f (rs ++ ts) lists ≡ over f rs lists + over f ts lists
-over_append f [] ts lists = omega arith
-over_append f (r ∷ rs) ts lists = omega (arith, over_append f rs ts lists)
-
-pub over_as : (f : Rows → ℕ) (rs : Rows) (lists lists' : ℕ → Rows) → ((q : ℕ) → 0 < times q rs → lists' q ≡ lists q) → over f rs lists' ≡ over f rs lists
-over_as f [] lists lists' e = refl
-over_as f (r ∷ rs) lists lists' e =
-    omega (arith, ap f (e r.1 (times_first r.0 r.1 rs)), over_as f rs lists lists' (λ q o. e q (omega (arith, o, times_more r q rs))))
+use Rattle.vac_check.proofs.Over.{times_append, over_append, over_as}
 
 pub places_append : (kind : ℕ) (rs ts : Rows) → places_of kind (rs ++ ts) ≡ places_of kind rs ++ places_of kind ts
 places_append kind [] ts = refl

@@ -5,5 +5,4 @@ pub mod Closing
 pub mod Dumping
 pub mod WordLines
 pub mod Checking
-mod Streams
 mod Ending

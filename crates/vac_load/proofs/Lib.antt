@@ -9,4 +9,4 @@ mod Words
 mod Gatherings
 mod Shares
 mod Joining
-mod Loads
+pub mod Loads

@@ -63,7 +63,7 @@ one_step r s a b p q =
     sym (ap (λ (x : State × Reply). x.0) p.runs) ∙ (ap (λ (t : Task). (run s t).0) same.0 ∙ ap (λ (x : State × Reply). x.0) q.runs)
 
 -- a history leads to one state
-one_last : (s : State) (rs : List Record) (a b : State) → IsLegal s rs a → IsLegal s rs b → a ≡ b
+pub one_last : (s : State) (rs : List Record) (a b : State) → IsLegal s rs a → IsLegal s rs b → a ≡ b
 one_last s [] a b h g = sym h ∙ g
 one_last s (r ∷ rs) a b h g =
     let same = one_step r s h.0 g.0 h.1 g.1 in

@@ -1,4 +1,4 @@
-use Rattle.vac_cli.proofs.Streams.{by_seed}
+use Rattle.vac_load.proofs.Loads.{by_seed}
 use Rattle.vac_cli.proofs.telling.run_counted.Goals as goal
 
 pub returns-clause-loaded : goal.returns-clause-loaded
