@@ -131,16 +131,7 @@ may_shown lk (acts k e) c = rw (out_shown c k, client_shown c k) (ap (λ b. is_o
   where
     same : (e : Action) → may_act lk (bounds_of c) e (blank (client_of c k)).attempt ≡ may_act lk (bounds_of c) e (client_of c k).attempt
     same begin = refl
-    same (probe n) = refl
-    same (fetch a) = refl
-    same (check a) = refl
-    same (lock n) = refl
-    same (tick f t w) = refl
-    same (validate n) = refl
-    same (put a x) = refl
-    same (release n) = refl
-    same (give_back n) = refl
-    same (finish t) = refl
+    same _ = refl
 may_shown lk (splits k) c = rw (out_shown c k, client_shown c k, map_length c.clients) refl
 may_shown lk (gathers k j) c = rw (out_shown c k, out_shown c j, client_shown c k, client_shown c j) refl
 may_shown lk (renews k last) c = rw (out_shown c k, client_shown c k, others_shown c.clients (k - 1)) refl

@@ -16,15 +16,9 @@ pub record Writes (lock lock' : ℕ → ℕ) (k n : ℕ) : Type 0 where
 
 -- a lock word's version never falls: what a client saw still holds
 pub saw_stays : (lk : ℕ → ℕ) (s : World) (lock : ℕ → ℕ) (rv : ℕ) (l : Step) → ((j : ℕ) → version_of (s.lock j) ≤ version_of (lock j)) → Saw lk s rv l → Saw lk (record s { lock = lock }) rv l
-saw_stays lk s lock rv nothing up p = tt
-saw_stays lk s lock rv (began n) up p = tt
 saw_stays lk s lock rv (probed k n) up p = (let q = up k in omega arith)
 saw_stays lk s lock rv (fetched a n x) up p = (p.0, p.1, (let q = up (lk a) in omega (arith, p.2)), p.3)
-saw_stays lk s lock rv (checked a n m) up p = tt
-saw_stays lk s lock rv (locked k n m) up p = tt
-saw_stays lk s lock rv (ticked f m) up p = tt
-saw_stays lk s lock rv (validated k n) up p = tt
-saw_stays lk s lock rv (ended n) up p = tt
+saw_stays lk s lock rv _ up p = tt
 
 module _ (lk : ℕ → ℕ) (s : World) (cs : List Client) (id : ℕ) (v w : Client) (k u : ℕ) (lock : ℕ → ℕ) (h : Heart lk s cs) (at : At cs id v) (free' : s.lock k ≡ 2 * u) (none' : v.attempt.wv ≡ 0) (undecided : decided v ≡ false)
     (word : Writes s.lock lock k (2 * u + 1)) (held : w.attempt.held ≡ v.attempt.held ++ (k, u) ∷ []) (wv : w.attempt.wv ≡ v.attempt.wv) (phase : decided w ≡ decided v) (rv : w.attempt.rv ≡ v.attempt.rv) (floor : w.floor ≡ v.floor) (reads : w.attempt.reads ≡ v.attempt.reads) (passed : w.attempt.passed ≡ v.attempt.passed) (records : w.records ≡ v.records) where

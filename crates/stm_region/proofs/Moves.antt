@@ -175,17 +175,14 @@ module _ (fits : List ℕ → Type 0) (lawful : RecordLaw) (law : Keeping fits l
       → get_elem? d.clients i ≡ some (after (unplaced r.renewal) lk e (found lk c e) v) → MayAct lawful lk (bounds_of c) e v.attempt → Told fits lawful r e (found lk c e) v (after (unplaced r.renewal) lk e (found lk c e) v)
   told_of c d m m' z top f h h' i v begin was at may = (clock c m top h, (h.inv.version.sound i (shed c.renewal v) (at_map (shed c.renewal) c.clients i v was)).floor, opening_stands c m z f h, subst (λ n. AreEarlier n c.clock v.records) m.renewal (earlier lawful lk c h i v was), λ all. knows lawful lk c h i v was all)
   told_of c d m m' z top f h h' i v (probe k) was at may = (lock_word c m top h k, λ y. (goes_on lawful lk c h.inv h.lone i v was y.0 y.1).probes k)
-  told_of c d m m' z top f h h' i v (fetch a) was at may = tt
   told_of c d m m' z top f h h' i v (check a) was at may = (lock_word c m top h (lk a), stands_of d m' z f h' i (after (unplaced r.renewal) lk (check a) (found lk c (check a)) v) at, (λ y. (goes_on lawful lk c h.inv h.lone i v was y.0 y.1).checks a may), version_of_reads d m' z f h' i (after (unplaced r.renewal) lk (check a) (found lk c (check a)) v) at)
   told_of c d m m' z top f h h' i v (lock k) was at may = (lock_word c m top h k, λ y. (goes_on lawful lk c h.inv h.lone i v was y.0 y.1).locks k may)
   told_of c d m m' z top f h h' i v (tick from tag writes) was at may =
       let w = after (unplaced r.renewal) lk (tick from tag writes) c.clock v in
       (clock c m top h, later d h' i w at, (λ s. decides_of d m' z f h' i w at), λ y. let g = (goes_on lawful lk c h.inv h.lone i v was y.0 y.1).ticks from tag writes may in (g.0, g.1 (unplaced r.renewal)))
   told_of c d m m' z top f h h' i v (validate k) was at may = (lock_word c m top h k, λ s. decides_of d m' z f h' i (after (unplaced r.renewal) lk (validate k) (found lk c (validate k)) v) at)
-  told_of c d m m' z top f h h' i v (put a x) was at may = tt
-  told_of c d m m' z top f h h' i v (release k) was at may = tt
-  told_of c d m m' z top f h h' i v (give_back k) was at may = tt
   told_of c d m m' z top f h h' i v (finish tag) was at may = decides_of d m' z f h' i (after (unplaced r.renewal) lk (finish tag) c.clock v) at
+  told_of c d m m' z top f h h' i v _ was at may = tt
 
   in_clients : (cs : List Client) (i : ℕ) (v w : Client) → get_elem? cs i ≡ some v → get_elem? (set cs i w) i ≡ some w
   in_clients [] i v w e = absurd (some-ne-none v (sym e))

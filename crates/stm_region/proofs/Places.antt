@@ -78,16 +78,13 @@ module _ (gap pad : List ℕ) (c : Core) (s : ℕ) (g : length gap ≡ 15) (l : 
   pub left_there : (e : Action) → 0 < s → (size : ℕ) → InRange s size e → (v : Client)
       → slice_set (listed gap pad c) (place s e) (left e (found (stripe_of s) c e) v) ≡ listed gap pad (written e (left e (found (stripe_of s) c e) v) c)
   left_there begin z n r v = refl
-  left_there (probe k) z n r v = same_there (probe k) z n r
-  left_there (fetch a) z n r v = same_there (fetch a) z n r
-  left_there (check a) z n r v = same_there (check a) z n r
   left_there (lock k) z n r v = lock_set k _ r
   left_there (tick from tag writes) z n r v = refl
-  left_there (validate k) z n r v = same_there (validate k) z n r
   left_there (put a x) z n r v = cell_set a _
   left_there (release k) z n r v = lock_set k _ r
   left_there (give_back k) z n r v = lock_set k _ r
   left_there (finish tag) z n r v = refl
+  left_there e z n r v = same_there e z n r
 
 -- what no step changes
 pub record Stays (c d : Core) : Type 0 where
@@ -105,17 +102,12 @@ lock_stays : (c : Core) (k m : ℕ) → Stays c (record c { locks = slice_set c.
 lock_stays c k m = record { last = refl; opening = refl; first = refl; renewal = refl; locks = length-set c.locks k m; clients = refl }
 
 pub stays : (c : Core) (e : Action) (m : ℕ) → Stays c (written e m c)
-stays c begin m = same c
-stays c (probe k) m = same c
-stays c (fetch a) m = same c
-stays c (check a) m = same c
 stays c (lock k) m = lock_stays c k m
 stays c (tick from tag writes) m = record { last = refl; opening = refl; first = refl; renewal = refl; locks = refl; clients = refl }
-stays c (validate k) m = same c
 stays c (put a x) m = record { last = refl; opening = refl; first = refl; renewal = refl; locks = refl; clients = refl }
 stays c (release k) m = lock_stays c k m
 stays c (give_back k) m = lock_stays c k m
-stays c (finish tag) m = same c
+stays c _ m = same c
 
 lock_in : (s size words k : ℕ) → words ≡ first_cell s + size → k < s → 16 + k < words
 lock_in s size words k w h = let p : s ≤ first_cell s = omega arith in omega arith
