@@ -1,10 +1,10 @@
 -- Locks that are taken in ascending order.
-use Rattle.std.proofs.Common.{◌≡◌, refl, sym, ap, subst, ◌∙◌, ℕ, zero, ◌<◌, false, eqb, List, [], ◌∷◌, arith}
+use Rattle.std.proofs.Common.{◌≡◌, refl, ap, subst, ◌∙◌, ℕ, zero, ◌<◌, false, eqb, List, [], ◌∷◌, arith}
 use Rattle.std.proofs.lemmas.Bool.{ne_eqb}
 use Rattle.stm_words.specs.Image.{In}
 use Rattle.stm_words.specs.LockWord.{free_word}
 use Rattle.stm_words.proofs.Paired.{in_later}
-use Rattle.stm_core.specs.Client.{Client, Step, probed, writes_to, IsFree, Stamp, RecordLaw}
+use Rattle.stm_core.specs.Client.{Client, probed, writes_to, IsFree, Stamp, RecordLaw}
 use Rattle.stm_core.specs.Event.{probe, lock, after, Bounds}
 use Rattle.stm_attempt.specs.Conflicts.{IsHeld}
 use Rattle.stm_attempt.specs.CommitParts.{IsAbove}

@@ -1,5 +1,5 @@
 -- What a commit leaves.
-use Rattle.std.specs.Prelude.{◌≡◌, ◌≢◌, ℕ, ◌+◌, ◌*◌, ◌<◌, ◌≤◌, true, false, List, [], ◌∷◌, length}
+use Rattle.std.specs.Prelude.{◌≡◌, ◌≢◌, ℕ, ◌+◌, ◌*◌, ◌<◌, ◌≤◌, List, [], ◌∷◌, length}
 use Rattle.stm_core.specs.Client.{Client, Record, inserted, RecordLaw}
 use Rattle.stm_core.specs.Event.{forgetting, versioned, writer_record, reader_record}
 use Rattle.stm_logs.specs.Log.{LogValue, log_pairs, log_locks}

@@ -9,7 +9,7 @@ use Rattle.stm_words.specs.declared.version.TheConstants.{VERSION_LIMIT}
 use Rattle.stm_core.specs.Client.{Attempt, Client, Phase, running, ending, committed, Step, probed, fetched, version_of, IsFree, is_free, is_committed, writes_to, old_version, RecordLaw}
 use Rattle.stm_core.specs.Event.{Action, begin, probe, fetch, check, lock, tick, validate, put, release, give_back, finish, Bounds, is_empty, gone}
 use Rattle.stm_core.specs.Guards.{Holds, is_running, may_end, is_reading, has_probed, has_found_free, has_fetched, is_map, may_write, is_next, are_stored, may_act, MayAct, IsLawful}
-use Rattle.stm_core.specs.Core.{Core, bounds_of, client_of, Event, acts, splits, gathers, renews, IsFreeHanded, is_out, are_spent, others_spent, Allowed, MakesLawful}
+use Rattle.stm_core.specs.Core.{Core, bounds_of, client_of, Event, acts, splits, gathers, renews, is_out, are_spent, others_spent, Allowed, MakesLawful}
 use Rattle.stm_core.specs.Theorem.{free_law}
 use Rattle.stm_core.specs.declared.limits.TheConstants.{MOST_CLIENTS, MOST_RENEWALS, MOST_TICKS}
 use Rattle.stm_core.proofs.Lists.{clash, nothing_in, by_bool, in_range}

@@ -15,7 +15,7 @@ use Rattle.stm_core.proofs.Orders.{rank_after}
 use Rattle.stm_core.proofs.Stories.{at_zero}
 use Rattle.stm_core.proofs.Histories.{IsTrue, Ranked, Ahead, serial, image_is, image_length, image_last, image_fits}
 use Rattle.stm_core.proofs.Merging.{Apart, in_all, all_in, all_ordered, all_sub, alone_all}
-use Rattle.stm_core.proofs.Sums.{one_of_sum, two_of_sum, share_of}
+use Rattle.stm_core.proofs.Sums.{two_of_sum, share_of}
 
 ranked_of : (l : List Record) (n : ℕ) → Ordered l → ((r : Record) → In r l → r.renewal ≡ n) → Ranked l
 ranked_of [] n o f = tt

@@ -1,12 +1,12 @@
 -- The running core follows the core, event by event.
 use Rattle.std.proofs.Common.{◌≡◌, ◌≢◌, ℕ, zero, suc, ◌+◌, ◌-◌, ◌*◌, ◌^◌, ◌≤◌, ◌<◌, ◌⊎◌, inl, inr, ⊎_elim, Bool, true, false, cond, eqb, ltb, append-nil, ◌&&◌, ◌||◌, List, [], ◌∷◌, ◌++◌, length, length-set, set, get_or, map, replicate, slice_set, refl, sym, ap, ◌∙◌, subst, arith}
-use mathlib.Core.Option.{some, some-injective}
+use mathlib.Core.Option.{some}
 use lib.ListN.{get_elem?}
 use Rattle.std.proofs.lemmas.Bool.Decides.{nat_tests}
 use Rattle.std.proofs.lemmas.List.{length-replicate}
 use Rattle.stm_words.specs.Image.{In}
 use Rattle.stm_core.specs.Client.{shed, Client, Record, Stamp, checked, locked, ticked, validated, version_of, word_before, value_fetched, writes_to, old_version, is_committed}
-use Rattle.stm_core.specs.Event.{Action, begin, probe, fetch, check, lock, tick, validate, put, release, give_back, finish, committed_by, stepping, failing, read_too, holding, versioned, decides_at_once, won, passes, passing, after, giving, fresh, taking, renewing, gone, with_ticks, marking, counting}
+use Rattle.stm_core.specs.Event.{Action, begin, check, lock, tick, validate, release, give_back, committed_by, stepping, failing, read_too, holding, versioned, decides_at_once, won, passes, passing, after, giving, fresh, taking, renewing, gone, with_ticks, marking, counting}
 use Rattle.stm_core.specs.History.{ByPoint}
 use Rattle.stm_core.specs.Core.{Core, bounds_of, found, left, written, Event, acts, splits, gathers, renews, Allowed, client_of, played, Leads, opened, is_out, are_spent, others_spent, may_play}
 use Rattle.stm_core.specs.Theorem.{stripe_of, free_law, IsHistory}
@@ -15,7 +15,7 @@ use Rattle.stm_core.specs.Seat.{blank, seat_after}
 use Rattle.stm_core.specs.Running.{Running, IsSane, stripes_of, decision, entered, stamp_of, run_acts, run_played, run_opened, found_of, shown, ran}
 use Rattle.stm_core.specs.Placing.{Placed}
 use Rattle.stm_core.specs.Follows.{IsOrderOf, IsReached, FollowsCore, RunningFollows}
-use Rattle.stm_core.proofs.Lists.{clash, nothing_in, by_bool, in_range}
+use Rattle.stm_core.proofs.Lists.{clash, nothing_in, by_bool}
 use Rattle.stm_core.proofs.Steps.{by_case, word_inside}
 use Rattle.stm_core.proofs.Held.{old_in}
 use Rattle.stm_core.proofs.Playing.{filed, earlier_after, history_after, Beside, event_beside, opening_beside, is_history, every_list_stands}

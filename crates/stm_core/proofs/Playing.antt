@@ -1,5 +1,5 @@
 -- A list of allowed events, from the opening on: what holds of the core that it leads to.
-use Rattle.std.proofs.Common.{◌≡◌, ◌≢◌, ℕ, zero, suc, ◌+◌, ◌-◌, ◌<◌, ◌≤◌, ◌⊎◌, inl, inr, ⊎_elim, Bool, true, false, cond, eqb, List, [], ◌∷◌, ◌++◌, length, length-set, set, set-set, get_or, slice_index, slice_set, refl, sym, ap, ◌∙◌, subst, arith, le_refl}
+use Rattle.std.proofs.Common.{◌≡◌, ◌≢◌, ℕ, zero, suc, ◌+◌, ◌-◌, ◌<◌, ◌≤◌, ◌⊎◌, inl, inr, ⊎_elim, Bool, true, false, cond, eqb, List, [], ◌∷◌, ◌++◌, length, length-set, set, set-set, slice_index, slice_set, refl, sym, ap, ◌∙◌, subst, arith, le_refl}
 use mathlib.Core.Option.{some, some-injective, some-ne-none}
 use mathlib.Core.Logic.{dite}
 use native.Mathlib.Decide.{ℕ_discrete}
@@ -7,9 +7,9 @@ use lib.ListN.{get_elem?}
 use Rattle.std.proofs.lemmas.Bool.Decides.{nat_tests}
 use Rattle.stm_words.specs.Image.{In}
 use Rattle.stm_core.specs.History.{Serial, image_after, ByPoint}
-use Rattle.stm_core.specs.Client.{shed, Client, Record, idle, running, ending, committed, checked, locked, ticked, validated, Stamp, version_of, word_before, value_fetched, writes_to, RecordLaw}
+use Rattle.stm_core.specs.Client.{shed, Client, Record, idle, running, ending, checked, locked, ticked, validated, Stamp, version_of, word_before, value_fetched, writes_to, RecordLaw}
 use Rattle.stm_core.specs.Event.{Action, begin, probe, fetch, check, lock, tick, validate, put, release, give_back, finish, committed_by, stepping, failing, read_too, holding, versioned, decides_at_once, won, passes, passing, after, giving, fresh, renewing, gone, opener, writer_record, reader_record, with_ticks, marking, counting}
-use Rattle.stm_core.specs.Core.{Core, bounds_of, found, stepped, divided, gathered, renewed, IsFreeHanded, Event, acts, splits, gathers, renews, Allowed, client_of, played, Leads, opened}
+use Rattle.stm_core.specs.Core.{Core, bounds_of, found, stepped, divided, gathered, renewed, IsFreeHanded, Event, acts, splits, gathers, renews, client_of, played, Leads, opened}
 use Rattle.stm_core.specs.Version.{At, IsOpen}
 use Rattle.stm_core.specs.Invariant.{now, Rule}
 use Rattle.stm_core.specs.Theorem.{stripe_of, free_law, IsHistory, is_settled, Stands, EveryListStands}

@@ -4,7 +4,7 @@ use Rattle.std.proofs.lemmas.Bool.Decides.{nat_tests}
 use Rattle.std.proofs.lemmas.List.{map-set}
 use Rattle.stm_words.specs.Image.{In}
 use Rattle.stm_core.specs.Client.{Client, Record, Stamp, of_renewal, shed, validated, ticked, checked, locked, word_before, value_fetched, version_of, RecordLaw}
-use Rattle.stm_core.specs.Event.{Action, begin, probe, fetch, check, lock, tick, validate, put, release, give_back, finish, committed_by, stepping, failing, read_too, holding, versioned, decides_at_once, won, passes, passing, after, counting}
+use Rattle.stm_core.specs.Event.{Action, begin, check, lock, tick, validate, committed_by, stepping, failing, read_too, holding, versioned, decides_at_once, won, passes, passing, after, counting}
 use Rattle.stm_core.specs.Core.{Core, bounds_of, found, stepped}
 use Rattle.stm_core.specs.Version.{At}
 use Rattle.stm_core.specs.Invariant.{Inv, now, Past, Rule}

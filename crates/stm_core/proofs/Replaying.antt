@@ -1,9 +1,9 @@
 -- The running core plays a list with numbers for its tags.
-use Rattle.std.proofs.Common.{◌≡◌, ℕ, List, [], ◌∷◌, ◌++◌, map, refl, sym, ap, subst}
+use Rattle.std.proofs.Common.{ℕ, List, [], ◌∷◌, ◌++◌, map, refl, subst}
 use Rattle.stm_core.specs.Event.{begin, probe, fetch, check, lock, tick, validate, put, release, give_back, finish}
-use Rattle.stm_core.specs.Core.{Core, Event, acts, splits, gathers, renews, Allowed, played, Leads, opened}
+use Rattle.stm_core.specs.Core.{Core, Event, acts, splits, gathers, renews, played, Leads, opened}
 use Rattle.stm_core.specs.Theorem.{stripe_of, free_law}
-use Rattle.stm_core.specs.Running.{Running, run_played, run_opened, ran}
+use Rattle.stm_core.specs.Running.{run_opened, ran}
 use Rattle.stm_core.specs.declared.event.Event.TheVariants.{Begin, Probe, Fetch, Check, Lock, Tick, Validate, Put, Release, GiveBack, Finish, Split, Gather, Renew}
 use Rattle.stm_core.specs.Numbered.{numbered_event, numbered_core, EveryEventIsPlayable, MayRun, PlayedWithNumbers}
 use Rattle.stm_core.proofs.Following.{running_follows, leads_snoc, ran_snoc}

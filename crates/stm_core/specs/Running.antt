@@ -1,5 +1,5 @@
 -- The running core: its state as far as it is kept, and its decided records.
-use Rattle.std.specs.Prelude.{◌≡◌, ℕ, ◌+◌, ◌-◌, ◌<◌, Bool, true, not, ◌&&◌, ◌==◌, nat_lt, nat_le, zero, suc, cond, eqb, List, [], ◌∷◌, ◌++◌, length, map, slice_set, replicate, ◌≢◌, ◌≤◌, Option, None}
+use Rattle.std.specs.Prelude.{◌≡◌, ℕ, ◌+◌, ◌-◌, ◌<◌, true, ◌&&◌, nat_lt, cond, eqb, List, [], ◌∷◌, ◌++◌, length, map, slice_set, replicate, ◌≢◌, ◌≤◌, Option, None}
 use Rattle.stm_words.specs.Image.{In}
 use Rattle.stm_core.specs.Client.{Client, Record, Stamp, found_by, old_version, writes_to, is_committed}
 use Rattle.stm_core.specs.Event.{Action, tick, validate, finish, versioned, decides_at_once, passes, counting, writer_record, reader_record, giving, fresh, taking, renewing, gone, opener}
@@ -8,7 +8,7 @@ use Rattle.stm_core.specs.Theorem.{stripe_of}
 use Rattle.stm_core.specs.Seat.{blank, seat_after, tag_number}
 use Rattle.stm_core.specs.Placing.{Placed, put_in}
 use Rattle.stm_core.specs.declared.event.Entry.{Entry}
-use Rattle.stm_core.specs.declared.limits.TheConstants.{MOST_CLIENTS, MOST_GRANTS, MOST_RENEWALS}
+use Rattle.stm_core.specs.declared.limits.TheConstants.{MOST_GRANTS}
 use Rattle.stm_words.specs.declared.version.TheConstants.{VERSION_LIMIT}
 
 -- the core with its clients' values as far as they are kept, the decided records in the order of

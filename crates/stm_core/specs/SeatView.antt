@@ -1,5 +1,5 @@
 -- The client's value that a seat of the running core stands for.
-use Rattle.std.specs.Prelude.{ℕ, false, List, [], ◌∷◌, Option, Some, None}
+use Rattle.std.specs.Prelude.{ℕ, List, [], ◌∷◌, Option, Some, None}
 use Rattle.stm_core.specs.Client as client
 use Rattle.stm_core.specs.Event.{idle_attempt}
 use Rattle.stm_core.specs.declared.seat.Phase.{Phase}

@@ -4,7 +4,7 @@ use Rattle.std.proofs.lemmas.Bool.{cases_lt}
 use Rattle.std.proofs.lemmas.Bool.Decides.{nat_tests}
 use Rattle.stm_logs.specs.declared.nodes.Node.{Node}
 use Rattle.stm_logs.specs.Nodes.{at}
-use Rattle.stm_logs.specs.Index.{home, is_lock_node, HasKey, Along, IsTaken, IsOther, taken, IsIndexed, HasNone, Answers, SameNode, Entered}
+use Rattle.stm_logs.specs.Index.{home, is_lock_node, Along, IsTaken, IsOther, taken, IsIndexed, Answers, SameNode, Entered}
 use Rattle.stm_logs.proofs.NodeLemmas.{same_or, put_here, put_other, field_kept, taken_put, free_place, bit}
 
 pub along_map : (P Q : ℕ → Type 0) (len start end : ℕ) → ((q : ℕ) → P q → Q q) → Along P len start end → Along Q len start end

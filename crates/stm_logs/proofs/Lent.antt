@@ -6,15 +6,15 @@ use native.Mathlib.Nat.{not-suc-le-zero, le_of_suc-le-suc}
 use mathlib.Core.List.{List, [], ◌∷◌}
 use lib.ListN.{length, get_or}
 use seplogic.Ra.Ura.{Ura}
-use mir.Syntax.{w64, ty_int, ty_ptr}
-use mir.Val.{Val, vint, vptr}
+use mir.Syntax.{ty_ptr}
+use mir.Val.{Val, vptr}
 use base.Logic.{ent, sep, never}
 use base.Fml.{Lft, Share, fat, flt, flft, fhide}
 use types.Logic.{Logic, sem}
-use types.Kit.{Goal, Soaks, Step, step, Seq, Item, ‵, ◌⊛◌, ◌$◌, ◌∵◌, !, qed, by, move, keep, drop, use1, split, rewrite, fsplit, fjoin, feq_l, feq_i, flt_l, flt_i, done}
+use types.Kit.{Goal, Soaks, Step, step, Seq, Item, ‵, ◌⊛◌, ◌$◌, ◌∵◌, !, qed, by, move, keep, drop, use1, split, rewrite, fsplit, feq_l, feq_i, done}
 use denote.Builtin.{usize}
 use denote.Memory.{cell_at, part_at, hidden_shr}
-use denote.Copied.{plain_Copied, uint_Copied}
+use denote.Copied.{plain_Copied}
 use denote.RawPtr.{Ptr, RawPtr, block_ptr, null_ptr, coded_ptr, ptr_own, rawptr_pure, ptr_val}
 use denote.Index.{place, place_is}
 use denote.Struct.Laws.{RawPtr-laws}

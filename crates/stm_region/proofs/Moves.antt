@@ -11,7 +11,7 @@ use Rattle.atomic_table.specs.Seated.{TableId}
 use Rattle.stm_words.specs.Image.{In, Agrees, laid}
 use Rattle.stm_core.specs.Client.{Client, Record, old_version, RecordLaw}
 use Rattle.stm_core.specs.Core.{Core, bounds_of, found, left, written, stepped, divided, gathered, IsFreeHanded}
-use Rattle.stm_core.specs.Event.{Action, begin, probe, fetch, check, lock, tick, validate, put, release, give_back, finish, after, giving, fresh, taking, gone}
+use Rattle.stm_core.specs.Event.{Action, begin, probe, check, lock, tick, validate, put, release, give_back, finish, after, giving, fresh, taking, gone}
 use Rattle.stm_core.specs.History.{Serial, SomeFits, all_records}
 use Rattle.stm_core.specs.Invariant.{now, Rule}
 use Rattle.stm_core.specs.Client.{shed}

@@ -1,16 +1,16 @@
 -- From what the walk says of words to the states that they represent.
-use Rattle.std.proofs.Common.{◌≡◌, ◌⊎◌, inl, inr, ℕ, ◌+◌, ◌-◌, ◌/◌, ◌%◌, ◌*◌, ◌<◌, ◌≤◌, List, length, refl, sym, ap, ◌∙◌, subst, arith}
-use Rattle.std.specs.Prelude.{Result, Ok, Err, slice_index}
+use Rattle.std.proofs.Common.{◌≡◌, inr, ℕ, ◌+◌, ◌-◌, ◌/◌, ◌%◌, ◌*◌, ◌≤◌, List, length, sym, ap, ◌∙◌, subst, arith}
+use Rattle.std.specs.Prelude.{Ok, Err, slice_index}
 use Rattle.vac_model.specs.declared.replies.Report.{Report}
-use Rattle.vac_model.specs.State.{State, report}
+use Rattle.vac_model.specs.State.{State}
 use Rattle.vac_records.specs.Represents.{IsState}
 use Rattle.vac_check.specs.Walk.{audit}
 use Rattle.vac_check.specs.Ran.{HeapRan, answer}
 use Rattle.vac_check.specs.Represented.{StateOf, Recognised}
 use Rattle.vac_check.specs.declared.Flaw.{Flaw}
 use Rattle.vac_check.specs.declared.tree.Fault.{Fault}
-use Rattle.vac_check.specs.declared.tree.Fault.TheVariants.{Memory, Found}
-use Rattle.vac_check.specs.declared.audit.AuditFault.TheVariants.{Size, Flaw as Flawed, Memory as NoMemory}
+use Rattle.vac_check.specs.declared.tree.Fault.TheVariants.{Found}
+use Rattle.vac_check.specs.declared.audit.AuditFault.TheVariants.{Flaw as Flawed}
 use Rattle.vac_check.proofs.Clean.{state_found}
 use Rattle.vac_check.proofs.Stated.{state_clean, flawed_is_none}
 

@@ -8,7 +8,6 @@ use Rattle.tx_alloc.specs.Rows.{Rows, times}
 use Rattle.tx_alloc.proofs.Sums.{with_here, with_else}
 use Rattle.tx_list.specs.Bookings.{place_code, key_code}
 use Rattle.vac_records.specs.Heap.{over}
-use Rattle.tx_alloc.proofs.Times.{times_first, times_more}
 use Rattle.vac_check.specs.Walk.{walk_bookings, is_in_order, is_booking, units_in}
 use Rattle.vac_check.specs.Marks.{BookingsRan}
 use Rattle.vac_check.specs.TreeRan.{ItemsNoted, CustomersNoted, Noted, LookRan, places_of, blocks_of}
@@ -18,7 +17,7 @@ use Rattle.vac_check.specs.declared.tree.Table.{Table}
 use Rattle.vac_check.specs.declared.tree.Table.TheVariants.{Items, Customers}
 use Rattle.vac_check.proofs.Steps.{both_ok, test_ok, enter_ok, then_with}
 use Rattle.vac_check.proofs.Booked.{then_items}
-use Rattle.vac_check.proofs.Over.{times_append, over_append, over_as}
+use Rattle.vac_check.proofs.Over.{over_append, over_as}
 
 pub places_append : (kind : ℕ) (rs ts : Rows) → places_of kind (rs ++ ts) ≡ places_of kind rs ++ places_of kind ts
 places_append kind [] ts = refl

@@ -1,12 +1,12 @@
 -- The code's walks of free lists, beside the definition's.
-use Rattle.std.proofs.Common.{◌≡◌, ℕ, ◌+◌, ◌*◌, ◌-◌, ◌<◌, ◌≤◌, Bool, true, false, cond, List, [], ◌∷◌, length, zero, suc, refl, sym, ap, ◌∙◌, subst, arith, nat_eq}
-use Rattle.std.specs.Prelude.{Result, Ok, Err, not, Option, None, MatchResult, slice_index, slice_index_or, ⊤}
-use Rattle.tx_alloc.specs.Pool.{IsBlock, held, with_at}
+use Rattle.std.proofs.Common.{◌≡◌, ℕ, ◌+◌, ◌*◌, ◌-◌, ◌<◌, Bool, false, cond, List, [], ◌∷◌, length, zero, suc, refl, sym, ap, ◌∙◌, subst, arith}
+use Rattle.std.specs.Prelude.{Result, Ok, Err, Option, None, MatchResult, slice_index, slice_index_or, ⊤}
+use Rattle.tx_alloc.specs.Pool.{IsBlock, with_at}
 use Rattle.vac_check.specs.Walk.{then, wants, follow, walk_free, walk_lists, check_reached}
 use Rattle.vac_check.specs.Marks.{Marks, Lands, Fewer, Followed, FreeListRan, ListsRan, ReachedRan}
 use Rattle.vac_check.specs.declared.Flaw.{Flaw}
-use Rattle.vac_check.specs.declared.Flaw.TheVariants.{Shared, Lost}
-use Rattle.vac_check.proofs.Steps.{then_with, not_none, wants_with}
+use Rattle.vac_check.specs.declared.Flaw.TheVariants.{Lost}
+use Rattle.vac_check.proofs.Steps.{then_with, not_none}
 
 pub then_err : {A B : Type 0} (x : Result A Flaw) (k : A → Result B Flaw) (f : Flaw) → x ≡ Err f → then x k ≡ Err f
 then_err x k f e = ap (λ (z : Result _ Flaw). then z k) e

@@ -1,6 +1,6 @@
 -- Steps of the walk.
 use Rattle.std.proofs.Common.{◌≡◌, ◌≢◌, ◌⊎◌, inl, inr, ℕ, ◌+◌, ◌-◌, ◌/◌, ◌%◌, ◌≤◌, Bool, true, false, cond, List, refl, ap, ◌∙◌, subst, arith, nat_eq}
-use Rattle.std.specs.Prelude.{Result, Ok, Err, ◌&&◌}
+use Rattle.std.specs.Prelude.{Result, Ok, Err}
 use Rattle.std.proofs.lemmas.Bool.Decides.{nat_tests}
 use Rattle.tx_alloc.specs.Pool.{IsBlock, held}
 use Rattle.vac_check.specs.Walk.{then, wants, follow, is_place}

@@ -1,13 +1,10 @@
 -- The words of a system that is closed.
-use Rattle.std.proofs.Common.{◌≡◌, ℕ, List, [], ◌∷◌, sym, ap, ◌∙◌, subst}
-use Rattle.stm_core.specs.Client.{Client, Record}
+use Rattle.std.proofs.Common.{ℕ, List, subst}
+use Rattle.stm_core.specs.Client.{Client}
 use Rattle.stm_region.specs.Shown.{RegionShown}
-use Rattle.vac_model.specs.declared.tasks.Task.{Task}
-use Rattle.vac_model.specs.declared.replies.Reply.{Reply}
 use Rattle.vac_model.specs.State.{State, empty_state}
-use Rattle.vac_model.specs.Run.{run}
 use Rattle.vac_manager.specs.Law.{Shows}
-use Rattle.vac_manager.specs.Legal.{Runs, IsLegal, IsHistory, capacity_of}
+use Rattle.vac_manager.specs.Legal.{IsHistory, capacity_of}
 use Rattle.vac_manager.specs.Opening.{Closes}
 use Rattle.vac_manager.proofs.Histories.{one_last}
 

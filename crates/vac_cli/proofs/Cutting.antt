@@ -1,5 +1,5 @@
 -- How a script is cut into lines while it is read.
-use Rattle.std.proofs.Common.{◌≡◌, ◌≢◌, ℕ, ◌+◌, ◌-◌, ◌<◌, ◌≤◌, Bool, true, false, cond, min, List, [], ◌∷◌, ◌++◌, length, take, drop, map, refl, ap, sym, ◌∙◌, inl, inr, arith, append-nil, append_assoc, length-append, length-take-le, Err, eqb, ne_eqb, lt-ltb, subst, Result, Ok, OnOk, OnErr, length-take, take-add}
+use Rattle.std.proofs.Common.{◌≡◌, ◌≢◌, ℕ, ◌+◌, ◌-◌, ◌<◌, ◌≤◌, Bool, true, false, cond, min, List, [], ◌∷◌, ◌++◌, length, take, drop, map, refl, ap, sym, ◌∙◌, inl, inr, arith, append-nil, append_assoc, length-append, length-take-le, Err, eqb, ne_eqb, lt-ltb, subst, Result, length-take, take-add}
 use Rattle.std.proofs.Math.Seq.{take-append_seam, drop-append_seam}
 use Rattle.vac_lines.specs.Text.{Extends}
 use Rattle.std.specs.List.{slice_split, onto_first}

@@ -1,5 +1,5 @@
 -- The last lines of the program.
-use Rattle.std.proofs.Common.{◌≡◌, ℕ, List, [], length, take, sym, subst, append-nil, Option, Some, None, arith}
+use Rattle.std.proofs.Common.{ℕ, List, [], length, sym, subst, append-nil, Option, Some, None, arith}
 use Rattle.std.proofs.lemmas.List.{take_all}
 use Rattle.std.specs.Prelude.{Result, Ok, Err, OnOk, OnErr}
 use Rattle.std.specs.Io.KnownBytes.{Appends, Keeps}

@@ -1,5 +1,5 @@
 -- Commands of the opening that were asked for, one after the other.
-use Rattle.std.proofs.Common.{refl, arith, ℕ, suc, ◌+◌, List, [], ◌∷◌, ◌++◌, Result, Ok, Err, IfOk}
+use Rattle.std.proofs.Common.{ℕ, suc, ◌+◌, List, [], ◌∷◌, ◌++◌, Result, Ok, Err, IfOk}
 use Rattle.std.proofs.lemmas.List.{map-append}
 use Rattle.stm_core.specs.Client.{Client}
 use Rattle.vac_model.specs.declared.commands.Command.{Command}
@@ -10,8 +10,8 @@ use Rattle.vac_load.specs.Tasks.{stocks, customers, opening}
 use Rattle.vac_load.specs.declared.settings.Settings.{Settings}
 use Rattle.vac_load.specs.Looping.{Answered}
 use Rattle.vac_load.specs.Opening.{as_tasks, Ran}
-use Rattle.vac_load.proofs.Drawing.{plus_one, drawn_always, drawn_then_always, drawn_joined}
-use Rattle.vac_load.proofs.Answering.{answered_quiet, answered_both}
+use Rattle.vac_load.proofs.Drawing.{plus_one, drawn_then_always, drawn_joined}
+use Rattle.vac_load.proofs.Answering.{answered_both}
 
 pub ran_joined : {D : Type 0} (leads : D → ℕ → D → Type 0) (renewal : ℕ) (first second : Reader (List Command)) (v w u : Client) (a b c : D) →
     Ran leads renewal first v w a b → Ran leads renewal second w u b c → Ran leads renewal (joined first second) v u a c

@@ -1,13 +1,13 @@
 -- A commit adds the record of the task and its reply.
-use Rattle.std.proofs.Common.{◌≡◌, ◌⊎◌, inl, inr, ℕ, zero, suc, ◌+◌, ◌*◌, ◌<◌, ◌≤◌, max, Bool, true, false, cond, eqb, ltb, ◌||◌, ◌&&◌, List, [], ◌∷◌, ◌++◌, Ok, refl, sym, ap, subst, ◌∙◌, arith}
+use Rattle.std.proofs.Common.{◌≡◌, ◌⊎◌, inl, inr, ℕ, zero, suc, ◌+◌, ◌*◌, ◌<◌, ◌≤◌, Bool, true, false, cond, eqb, ltb, ◌||◌, ◌&&◌, List, [], ◌∷◌, ◌++◌, Ok, refl, sym, ap, subst, ◌∙◌, arith}
 use Rattle.std.proofs.lemmas.Bool.Decides.{nat_tests}
 use mathlib.Core.Option.{some, some-injective, some-ne-none}
 use Rattle.stm_words.specs.Image.{In}
 use Rattle.stm_core.specs.Client.{Client, Record, before, rank, inserted}
-use Rattle.stm_core.specs.Event.{begin, finish, giving, fresh}
+use Rattle.stm_core.specs.Event.{begin, finish}
 use Rattle.stm_core.proofs.Lists.{by_bool}
 use Rattle.stm_logs.specs.Log.{LogValue}
-use Rattle.stm_region.specs.Shown.{RegionShown, ClientShown, acted, joined}
+use Rattle.stm_region.specs.Shown.{RegionShown, ClientShown, acted}
 use Rattle.stm_region.specs.Told.{IsEarlier, AreEarlier}
 use Rattle.stm_attempt.specs.Begun.{still}
 use Rattle.stm_attempt.specs.Committing.{HasCommitted, HasStopped, IsCommitVersion, commit_record}

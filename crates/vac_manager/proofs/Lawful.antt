@@ -1,9 +1,9 @@
 -- A task that was run over a running transaction makes a lawful record.
-use Rattle.std.proofs.Common.{◌≡◌, ℕ, ◌+◌, ◌<◌, ◌≤◌, ◌^◌, Bool, true, false, List, [], ◌∷◌, Option, IsTrue, unwrap_or, length, slice_index, refl, sym, ap, ◌∙◌, subst, arith}
+use Rattle.std.proofs.Common.{◌≡◌, ℕ, ◌<◌, ◌≤◌, Bool, true, false, List, [], ◌∷◌, Option, IsTrue, unwrap_or, length, slice_index, refl, sym, ap, ◌∙◌, subst, arith}
 use Rattle.std.specs.FinMap.{empty, entries, get-empty, len-entries, len-empty}
 use Rattle.std.specs.Ordering.{nat_cmp}
-use Rattle.stm_words.specs.Image.{Agrees, laid}
-use Rattle.stm_words.specs.View.{View, Sees, memory}
+use Rattle.stm_words.specs.Image.{laid}
+use Rattle.stm_words.specs.View.{Sees, memory}
 use Rattle.stm_words.proofs.Paired.{agrees-map_of, laid-entries, length-laid}
 use Rattle.stm_core.specs.Client.{Client}
 use Rattle.stm_logs.specs.Log.{LogValue, empty_log, log_pairs}

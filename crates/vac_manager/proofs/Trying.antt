@@ -1,9 +1,8 @@
 -- Attempts, one after the other, and why they stopped.
-use Rattle.std.proofs.Common.{◌≡◌, ◌⊎◌, inl, inr, ℕ, ◌+◌, ◌*◌, ◌≤◌, false, Option, Some, None, Ok, length, ap, subst, sym, ◌∙◌}
+use Rattle.std.proofs.Common.{◌≡◌, inl, inr, ℕ, ◌+◌, ◌≤◌, false, Ok, subst, sym}
 use Rattle.stm_core.specs.Client.{Client}
 use Rattle.stm_logs.specs.Log.{LogValue}
 use Rattle.stm_region.specs.Shown.{RegionShown, stripe_of}
-use Rattle.stm_attempt.specs.Meaning.{Origin, origin_of}
 use Rattle.stm_attempt.specs.Conflicts.{IsReadConflict}
 use Rattle.stm_attempt.specs.Committing.{HasStopped}
 use Rattle.stm_attempt.specs.declared.conflict.Conflict.{Conflict}

@@ -1,4 +1,4 @@
-use Rattle.std.proofs.Common.{rules, ℕ, ◌%◌, ◌<◌, ◌≡◌, sym, ap, subst, arith}
+use Rattle.std.proofs.Common.{rules, ◌%◌, ◌≡◌, sym, ap, subst, arith}
 use Rattle.stm_core.specs.Event.{validate}
 use Rattle.stm_core.specs.Invariant.{Sorted}
 use Rattle.stm_core.proofs.Conditions.{can_act}
