@@ -19,6 +19,10 @@ use Rattle.stm_core.proofs.Conditions.{IsReading}
 abbrev pub Mark : Client → ℕ → Type 0
 Mark v p = (IsReading v.attempt × (p ≡ v.attempt.began_at)) ⊎ (IsOpen v × (p ≡ v.attempt.ticked_at))
 
+-- a record of this client is of an attempt that is over
+abbrev IsOver : Record → ℕ → Client → Type 0
+IsOver r y c = c.spent ≡ false → r.client ≡ suc y → (r.attempt ≤ c.attempt.number) × (r.attempt ≡ c.attempt.number → is_settled c.attempt.phase ≡ true)
+
 -- a record beside the values of the clock before each event
 pub record IsStamped (time : ℕ → ℕ) (events : ℕ) (r : Record) : Type 0 where
   pub past : r.point < events
@@ -179,14 +183,14 @@ module _ (old : List Record) (clock events : ℕ) (cs : List Client) (h : List R
       every = λ j o r e m. who (λ y c. In r c.records → In r h) (λ m'. d.every i v r at (subst (In r) records m')) (λ y c f n m'. d.every y c r f m') j o e m;
       only = λ r m. let q = d.only r m in dite (ℕ_discrete q.0 i) (λ z. (i, w, set_here cs i v w at, rw records (subst (λ (c : Client). In r c.records) (same_at cs i q.1 v (subst (λ y. At cs y q.1) z q.2) at) q.3))) (λ z. (q.0, q.1, set_else cs i q.0 w q.1 z q.2, q.3));
       known = λ r m. rw (length-set cs i w) (d.known r m);
-      numbered = λ j o r e s m k. who (λ y c. c.spent ≡ false → r.client ≡ suc y → (r.attempt ≤ c.attempt.number) × (r.attempt ≡ c.attempt.number → is_settled c.attempt.phase ≡ true))
+      numbered = λ j o r e s m k. who (IsOver r)
           (λ s' k'. let q = d.numbered i v r at (sym spent ∙ s') m k' in ⊎_elim (λ l. (omega (arith, q.0), λ z. absurd (let a = q.0 in omega (arith, l)))) (λ l. (let a = q.0 in let b = l.0 in omega arith, λ z. l.1 (q.1 (z ∙ l.0)))) number)
           (λ y c f n s' k'. d.numbered y c r f s' m k') j o e s k;
       old_past = λ r m. (let p = d.old_past r m in omega arith);
       old_before = d.old_before;
       old_marked = λ j o p r e m k. who (λ y c. Mark c p → r.point < p) (λ m'. ⊎_elim (λ q. d.old_marked i v p r at q k) (λ q. (let z = d.old_past r k in omega arith)) (marks p m')) (λ y c f n m'. d.old_marked y c p r f m' k) j o e m;
       old_known = λ r m. rw (length-set cs i w) (d.old_known r m);
-      old_numbered = λ j o r e s m k. who (λ y c. c.spent ≡ false → r.client ≡ suc y → (r.attempt ≤ c.attempt.number) × (r.attempt ≡ c.attempt.number → is_settled c.attempt.phase ≡ true))
+      old_numbered = λ j o r e s m k. who (IsOver r)
           (λ s' k'. let q = d.old_numbered i v r at (sym spent ∙ s') m k' in ⊎_elim (λ l. (omega (arith, q.0), λ z. absurd (let a = q.0 in omega (arith, l)))) (λ l. (let a = q.0 in let b = l.0 in omega arith, λ z. l.1 (q.1 (z ∙ l.0)))) number)
           (λ y c f n s' k'. d.old_numbered y c r f s' m k') j o e s k;
     }
@@ -208,14 +212,14 @@ module _ (old : List Record) (clock events : ℕ) (cs : List Client) (h : List R
       only = λ x m. ⊎_elim (λ e. (i, w, set_here cs i v w at, rw records (subst (λ z. In z (inserted r v.records)) e (inserted_in r v.records))))
           (λ k. let q = d.only x k in dite (ℕ_discrete q.0 i) (λ z. (i, w, set_here cs i v w at, rw records (inserted_old r v.records x (subst (λ (c : Client). In x c.records) (same_at cs i q.1 v (subst (λ y. At cs y q.1) z q.2) at) q.3)))) (λ z. (q.0, q.1, set_else cs i q.0 w q.1 z q.2, q.3))) (in_placed r h x m);
       known = λ x m. rw (length-set cs i w) (⊎_elim (λ q. subst (λ (z : Record). z.client ≤ length cs) q (rw who_is (in_range cs i v at))) (λ q. d.known x q) (in_placed r h x m));
-      numbered = λ j o x e s m k. who (λ y c. c.spent ≡ false → x.client ≡ suc y → (x.attempt ≤ c.attempt.number) × (x.attempt ≡ c.attempt.number → is_settled c.attempt.phase ≡ true))
+      numbered = λ j o x e s m k. who (IsOver x)
           (λ s' k'. (⊎_elim (λ q. (let z : r.attempt ≡ x.attempt = ap (λ (y : Record). y.attempt) q in let l = number in let l' = attempt in omega arith)) (λ q. (let z = (d.numbered i v x at (sym spent ∙ s') q k').0 in let l = number in omega arith)) (in_placed r h x m), λ z. settled))
           (λ y c f n s' k'. ⊎_elim (λ q. absurd (n (let z : r.client ≡ x.client = ap (λ (y : Record). y.client) q in let a = who_is in omega (arith, k')))) (λ q. d.numbered y c x f s' q k') (in_placed r h x m)) j o e s k;
       old_past = d.old_past;
       old_before = λ y x k m. ⊎_elim (λ e. subst (λ (z : Record). y.point < z.point) e (d.old_marked i v r.point y at mark k)) (λ q. d.old_before y x k q) (in_placed r h x m);
       old_marked = λ j o p y e m k. who (λ z c. Mark c p → y.point < p) (λ m'. absurd (none p m')) (λ z c f n m'. d.old_marked z c p y f m' k) j o e m;
       old_known = λ x m. rw (length-set cs i w) (d.old_known x m);
-      old_numbered = λ j o x e s m k. who (λ y c. c.spent ≡ false → x.client ≡ suc y → (x.attempt ≤ c.attempt.number) × (x.attempt ≡ c.attempt.number → is_settled c.attempt.phase ≡ true))
+      old_numbered = λ j o x e s m k. who (IsOver x)
           (λ s' k'. let q = d.old_numbered i v x at (sym spent ∙ s') m k' in (let a = q.0 in let l = number in omega arith, λ z. settled)) (λ y c f n s' k'. d.old_numbered y c x f s' m k') j o e s k;
     }
 
@@ -237,12 +241,12 @@ module _ (old : List Record) (clock events : ℕ) (cs : List Client) (h : List R
     every = λ i o r e m. who (λ y c. In r c.records → In r h) (λ y _ m'. absurd (nothing_in r (subst (In r) records m'))) (λ y c f m'. d.every y c r f m') i o e m;
     only = λ r m. let q = d.only r m in (q.0, q.1, at_longer cs w q.1 q.0 q.2, q.3);
     known = λ r m. rw (length-append cs (w ∷ [])) (let q = d.known r m in omega arith);
-    numbered = λ i o r e s m k. who (λ y c. c.spent ≡ false → r.client ≡ suc y → (r.attempt ≤ c.attempt.number) × (r.attempt ≡ c.attempt.number → is_settled c.attempt.phase ≡ true)) (λ y l s' k'. absurd (let q = d.known r m in omega (arith, l, k'))) (λ y c f s' k'. d.numbered y c r f s' m k') i o e s k;
+    numbered = λ i o r e s m k. who (IsOver r) (λ y l s' k'. absurd (let q = d.known r m in omega (arith, l, k'))) (λ y c f s' k'. d.numbered y c r f s' m k') i o e s k;
     old_past = d.old_past;
     old_before = d.old_before;
     old_marked = λ i o p r e m k. who (λ y c. Mark c p → r.point < p) (λ y _ m'. absurd (none p m')) (λ y c f m'. d.old_marked y c p r f m' k) i o e m;
     old_known = λ r m. rw (length-append cs (w ∷ [])) (let q = d.old_known r m in omega arith);
-    old_numbered = λ i o r e s m k. who (λ y c. c.spent ≡ false → r.client ≡ suc y → (r.attempt ≤ c.attempt.number) × (r.attempt ≡ c.attempt.number → is_settled c.attempt.phase ≡ true)) (λ y l s' k'. absurd (let q = d.old_known r m in omega (arith, l, k'))) (λ y c f s' k'. d.old_numbered y c r f s' m k') i o e s k;
+    old_numbered = λ i o r e s m k. who (IsOver r) (λ y l s' k'. absurd (let q = d.old_known r m in omega (arith, l, k'))) (λ y c f s' k'. d.old_numbered y c r f s' m k') i o e s k;
   }
     where
       last_at : (l : List Client) (i : ℕ) (o : Client) → At (l ++ w ∷ []) i o → At l i o ⊎ ((i ≡ length l) × (w ≡ o))
@@ -273,12 +277,12 @@ module _ (old : List Record) (clock events : ℕ) (cs : List Client) (h : List R
         (λ z. dite (ℕ_discrete q.0 j) (λ y. (i, taking v w, here, merged_right v.records w.records r (subst (λ (c : Client). In r c.records) (same_at cs j q.1 w (subst (λ y'. At cs y' q.1) y q.2) to) q.3)))
         (λ y. (q.0, q.1, set_else (set cs i (taking v w)) j q.0 gone q.1 y (set_else cs i q.0 (taking v w) q.1 z q.2), q.3)));
     known = λ r m. rw (length-set (set cs i (taking v w)) j gone ∙ length-set cs i (taking v w)) (d.known r m);
-    numbered = λ n o r e s m k. who (λ y c. c.spent ≡ false → r.client ≡ suc y → (r.attempt ≤ c.attempt.number) × (r.attempt ≡ c.attempt.number → is_settled c.attempt.phase ≡ true)) (λ s' k'. d.numbered i v r at live m k') (λ s' k'. clash refl s') (λ y c f a b s' k'. d.numbered y c r f s' m k') n o e s k;
+    numbered = λ n o r e s m k. who (IsOver r) (λ s' k'. d.numbered i v r at live m k') (λ s' k'. clash refl s') (λ y c f a b s' k'. d.numbered y c r f s' m k') n o e s k;
     old_past = d.old_past;
     old_before = d.old_before;
     old_marked = λ n o p r e m k. who (λ y c. Mark c p → r.point < p) (λ m'. d.old_marked i v p r at m' k) (λ m'. absurd (none p m')) (λ y c f a b m'. d.old_marked y c p r f m' k) n o e m;
     old_known = λ r m. rw (length-set (set cs i (taking v w)) j gone ∙ length-set cs i (taking v w)) (d.old_known r m);
-    old_numbered = λ n o r e s m k. who (λ y c. c.spent ≡ false → r.client ≡ suc y → (r.attempt ≤ c.attempt.number) × (r.attempt ≡ c.attempt.number → is_settled c.attempt.phase ≡ true)) (λ s' k'. d.old_numbered i v r at live m k') (λ s' k'. clash refl s') (λ y c f a b s' k'. d.old_numbered y c r f s' m k') n o e s k;
+    old_numbered = λ n o r e s m k. who (IsOver r) (λ s' k'. d.old_numbered i v r at live m k') (λ s' k'. clash refl s') (λ y c f a b s' k'. d.old_numbered y c r f s' m k') n o e s k;
   }
     where
       none : (p : ℕ) → Mark gone p → ⊥
