@@ -244,6 +244,16 @@ module _ (lawful : RecordLaw) (lk : ℕ → ℕ) (c : Core) (i : ℕ) (v : Clien
           size = h.size;
         }
 
+pub none_filed : (lawful : RecordLaw) (size renewal : ℕ) → Filed lawful size renewal [] 0 []
+none_filed lawful size renewal = record {
+  filed = λ i v e. absurd (nothing_in v (i, e));
+  versions = refl;
+  unwritten = λ i j v w r e. absurd (nothing_in v (i, e));
+  empty = λ i v e. absurd (nothing_in v (i, e));
+  once = λ i j v w r x e. absurd (nothing_in v (i, e));
+  complete = λ u ws e n. absurd (some-ne-none ws (sym e));
+}
+
 zeros : (n k : ℕ) → slice_index (replicate n 0) k ≡ 0
 zeros zero k = refl
 zeros (suc n) zero = refl
@@ -272,16 +282,6 @@ module _ (lawful : RecordLaw) (lk : ℕ → ℕ) (image : List ℕ) (last stripe
       no_writer zero a = refl
       no_writer (suc u) a = refl
 
-  pub none_filed : Filed lawful (length image) 0 [] 0 []
-  none_filed = record {
-    filed = λ i v e. absurd (nothing_in v (i, e));
-    versions = refl;
-    unwritten = λ i j v w r e. absurd (nothing_in v (i, e));
-    empty = λ i v e. absurd (nothing_in v (i, e));
-    once = λ i j v w r x e. absurd (nothing_in v (i, e));
-    complete = λ u ws e n. absurd (some-ne-none ws (sym e));
-  }
-
   -- a core just opened
   pub opening_keeps : Inv lawful lk (opened image last stripes)
   opening_keeps =
@@ -291,6 +291,6 @@ module _ (lawful : RecordLaw) (lk : ℕ → ℕ) (image : List ℕ) (last stripe
         story = [];
         version = k.version;
         books = k.books;
-        filed = longer_files lawful (length image) 0 [] 0 [] opener none_filed refl refl refl refl refl;
+        filed = longer_files lawful (length image) 0 [] 0 [] opener (none_filed lawful (length image) 0) refl refl refl refl refl;
         size = refl;
       }

@@ -23,26 +23,20 @@ module _ (lk : ℕ → ℕ) (s : World) (cs : List Client) (id : ℕ) (v : Clien
   mine : IsBooked lk s v
   mine = h.books.booked id v at
 
+  -- locks, versions and writes stay, and what the client claims is told
+  told_keeps : (w : Client) → w.attempt.held ≡ v.attempt.held → w.attempt.wv ≡ v.attempt.wv → w.attempt.writes ≡ v.attempt.writes → w.attempt.stored ≡ v.attempt.stored → decided w ≡ decided v → w.attempt.rv ≡ v.attempt.rv → w.floor ≤ s.clock → Saw lk s w.attempt.rv w.attempt.last
+      → ((r : Record) → In r w.records → r.version ≤ s.clock) → ((b a x : ℕ) → Claims w b a x → (s.val b a ≡ x) × (b ≤ s.clock))
+      → ((i : ℕ) (o : Client) (b a x : ℕ) → At cs i o → Claims w b a x → IsOpen o → o.attempt.wv ≤ b → writes_to o.attempt.writes a ≡ false) → Heart lk s (set cs id w)
+  told_keeps w held wv writes stored phase rv floor saw recorded agrees apart =
+      let later : 0 < w.attempt.wv → w.attempt.rv < w.attempt.wv = λ z. rw (rv, wv) (mine.later (subst (λ n. 0 < n) wv z)) in
+      look_keeps lk s cs id v w h at (record { held = held; wv = wv; writes = writes; stored = stored; phase = phase; rv = rw rv me.rv; floor = floor; recorded = recorded; later = later; agrees = agrees; saw = saw; apart = apart })
+
   -- nothing changes but bookkeeping and the last step
   pub same_keeps : (w : Client) → w.attempt.held ≡ v.attempt.held → w.attempt.wv ≡ v.attempt.wv → w.attempt.writes ≡ v.attempt.writes → w.attempt.stored ≡ v.attempt.stored → decided w ≡ decided v → w.attempt.rv ≡ v.attempt.rv → w.floor ≤ s.clock → w.attempt.reads ≡ v.attempt.reads → w.attempt.passed ≡ v.attempt.passed → w.records ≡ v.records
       → Saw lk s w.attempt.rv w.attempt.last → Heart lk s (set cs id w)
   same_keeps w held wv writes stored phase rv floor reads passed records saw =
       let c : (b a x : ℕ) → Claims w b a x → Claims v b a x = claims_as v w rv reads wv passed records in
-      look_keeps lk s cs id v w h at
-      record {
-        held = held;
-        wv = wv;
-        writes = writes;
-        stored = stored;
-        phase = phase;
-        rv = rw rv me.rv;
-        floor = floor;
-        recorded = λ r i. me.recorded r (subst (In r) records i);
-        later = λ z. rw (rv, wv) (mine.later (subst (λ n. 0 < n) wv z));
-        agrees = λ b a x p. me.agrees b a x (c b a x p);
-        saw = saw;
-        apart = λ i o b a x e p q l. h.version.apart id i v o b a x at e (c b a x p) q l;
-      }
+      told_keeps w held wv writes stored phase rv floor saw (λ r i. me.recorded r (subst (In r) records i)) (λ b a x p. me.agrees b a x (c b a x p)) (λ i o b a x e p q l. h.version.apart id i v o b a x at e (c b a x p) q l)
 
   -- what a fetch sees: the newest image's value, or a writer above the probe's version
   pub shown : (a n : ℕ) → version_of n ≤ version_of (s.lock (lk a)) → (s.cell a ≡ s.val s.clock a) ⊎ ((u : ℕ) × (version_of n < u) × (s.wrote u a ≡ true))
@@ -80,24 +74,12 @@ module _ (lk : ℕ → ℕ) (s : World) (cs : List Client) (id : ℕ) (v : Clien
 
     pub check_keeps : w.attempt.held ≡ v.attempt.held → w.attempt.writes ≡ v.attempt.writes → w.attempt.stored ≡ v.attempt.stored → decided w ≡ decided v → w.floor ≡ v.floor → Saw lk s w.attempt.rv w.attempt.last → Heart lk s (set cs id w)
     check_keeps held writes stored phase floor saw =
-        look_keeps lk s cs id v w h at
-        record {
-          held = held;
-          wv = wv;
-          writes = writes;
-          stored = stored;
-          phase = phase;
-          rv = rw rv me.rv;
-          floor = rw floor me.floor;
-          recorded = λ r i. me.recorded r (subst (In r) records i);
-          later = λ z. rw (rv, wv) (mine.later (subst (λ n. 0 < n) wv z));
-          agrees = λ b c y p. ⊎_elim (λ old. me.agrees b c y old) (λ new. (rw (new.0, new.1, new.2) (unchanged a n x saw' still), omega (arith, new.0, me.rv))) (claims_more b c y p);
-          saw = saw;
-          apart = λ j o b c y f p op l. ⊎_elim (λ old. h.version.apart id j v o b c y at f old op l)
+        told_keeps w held wv writes stored phase rv (rw floor me.floor) saw (λ r i. me.recorded r (subst (In r) records i))
+        (λ b c y p. ⊎_elim (λ old. me.agrees b c y old) (λ new. (rw (new.0, new.1, new.2) (unchanged a n x saw' still), omega (arith, new.0, me.rv))) (claims_more b c y p))
+        (λ j o b c y f p op l. ⊎_elim (λ old. h.version.apart id j v o b c y at f old op l)
               (λ new. not_true (writes_to o.attempt.writes c) (λ t. let g = (h.version.sound j o f).locked op c t in
               let odd : s.lock (lk a) ≡ 2 * g.0 + 1 = subst (λ d. s.lock (lk d) ≡ 2 * g.0 + 1) new.1 ((h.books.booked j o f).listed (lk c) g.0 g.1) in odd_even n g.0 (sym still ∙ odd) saw'.1))
-              (claims_more b c y p);
-        }
+              (claims_more b c y p))
 
   -- a validation that passes
   module _ (w : Client) (a x : ℕ) (open' : IsOpen v) (read : get_elem? v.attempt.reads v.attempt.passed ≡ some (a, x)) (fine : (IsFree (s.lock (lk a)) × (version_of (s.lock (lk a)) ≤ v.attempt.rv)) ⊎ ((u : ℕ) × In (lk a, u) v.attempt.held × (u ≤ v.attempt.rv)))
@@ -127,21 +109,9 @@ module _ (lk : ℕ → ℕ) (s : World) (cs : List Client) (id : ℕ) (v : Clien
 
     pub pass_keeps : w.attempt.held ≡ v.attempt.held → w.attempt.writes ≡ v.attempt.writes → w.attempt.stored ≡ v.attempt.stored → decided w ≡ decided v → w.floor ≡ v.floor → Saw lk s w.attempt.rv w.attempt.last → Heart lk s (set cs id w)
     pass_keeps held writes stored phase floor saw =
-        look_keeps lk s cs id v w h at
-        record {
-          held = held;
-          wv = wv;
-          writes = writes;
-          stored = stored;
-          phase = phase;
-          rv = rw rv me.rv;
-          floor = rw floor me.floor;
-          recorded = λ r i. me.recorded r (subst (In r) records i);
-          later = λ z. rw (rv, wv) (mine.later (subst (λ n. 0 < n) wv z));
-          agrees = λ b c y p. ⊎_elim (λ old. me.agrees b c y old) (λ new. (rw (new.0, new.1, new.2) value_there, (let k = me.wv in omega (arith, new.0)))) (claims_passed b c y p);
-          saw = saw;
-          apart = λ j o b c y f p op l. ⊎_elim (λ old. h.version.apart id j v o b c y at f old op l) (λ new. rw new.1 (none_below j o f op (let k = new.0 in omega arith))) (claims_passed b c y p);
-        }
+        told_keeps w held wv writes stored phase rv (rw floor me.floor) saw (λ r i. me.recorded r (subst (In r) records i))
+        (λ b c y p. ⊎_elim (λ old. me.agrees b c y old) (λ new. (rw (new.0, new.1, new.2) value_there, (let k = me.wv in omega (arith, new.0)))) (claims_passed b c y p))
+        (λ j o b c y f p op l. ⊎_elim (λ old. h.version.apart id j v o b c y at f old op l) (λ new. rw new.1 (none_below j o f op (let k = new.0 in omega arith))) (claims_passed b c y p))
 
   -- a reader's record more
   module _ (w : Client) (r : Record) (reads : w.attempt.reads ≡ v.attempt.reads) (rv : w.attempt.rv ≡ v.attempt.rv) (wv : w.attempt.wv ≡ v.attempt.wv) (passed : w.attempt.passed ≡ v.attempt.passed) (records : w.records ≡ inserted r v.records) (same : r.reads ≡ v.attempt.reads) (there : base r ≡ v.attempt.rv) (version : r.version ≡ v.attempt.rv) where
@@ -153,18 +123,6 @@ module _ (lk : ℕ → ℕ) (s : World) (cs : List Client) (id : ℕ) (v : Clien
 
     pub finish_keeps : w.attempt.held ≡ v.attempt.held → w.attempt.writes ≡ v.attempt.writes → w.attempt.stored ≡ v.attempt.stored → decided w ≡ decided v → w.floor ≡ v.floor → Saw lk s w.attempt.rv w.attempt.last → Heart lk s (set cs id w)
     finish_keeps held writes stored phase floor saw =
-        look_keeps lk s cs id v w h at
-        record {
-          held = held;
-          wv = wv;
-          writes = writes;
-          stored = stored;
-          phase = phase;
-          rv = rw rv me.rv;
-          floor = rw floor me.floor;
-          recorded = λ y i. ⊎_elim (λ new. subst (λ (z : Record). z.version ≤ s.clock) new (rw version me.rv)) (λ old. me.recorded y old) (in_inserted r v.records y (subst (In y) records i));
-          later = λ z. rw (rv, wv) (mine.later (subst (λ n. 0 < n) wv z));
-          agrees = λ b a x p. me.agrees b a x (claims_read b a x p);
-          saw = saw;
-          apart = λ j o b a x f p op l. h.version.apart id j v o b a x at f (claims_read b a x p) op l;
-        }
+        told_keeps w held wv writes stored phase rv (rw floor me.floor) saw (λ y i. ⊎_elim (λ new. subst (λ (z : Record). z.version ≤ s.clock) new (rw version me.rv)) (λ old. me.recorded y old) (in_inserted r v.records y (subst (In y) records i)))
+        (λ b a x p. me.agrees b a x (claims_read b a x p))
+        (λ j o b a x f p op l. h.version.apart id j v o b a x at f (claims_read b a x p) op l)

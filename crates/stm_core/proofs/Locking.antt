@@ -20,6 +20,10 @@ saw_stays lk s lock rv (probed k n) up p = (let q = up k in omega arith)
 saw_stays lk s lock rv (fetched a n x) up p = (p.0, p.1, (let q = up (lk a) in omega (arith, p.2)), p.3)
 saw_stays lk s lock rv _ up p = tt
 
+-- where lock words and data words alone change, a client knows what it knew but for what its last step saw
+pub sound_stays : (lk : ℕ → ℕ) (s : World) (lock cell : ℕ → ℕ) (o : Client) → IsSound lk s o → Saw lk (record s { lock = lock; cell = cell }) o.attempt.rv o.attempt.last → IsSound lk (record s { lock = lock; cell = cell }) o
+sound_stays lk s lock cell o it saw = record { rv = it.rv; wv = it.wv; floor = it.floor; recorded = it.recorded; agrees = it.agrees; locked = it.locked; pending = it.pending; above = it.above; saw = saw }
+
 module _ (lk : ℕ → ℕ) (s : World) (cs : List Client) (id : ℕ) (v w : Client) (k u : ℕ) (lock : ℕ → ℕ) (h : Heart lk s cs) (at : At cs id v) (free' : s.lock k ≡ 2 * u) (none' : v.attempt.wv ≡ 0) (undecided : decided v ≡ false)
     (word : Writes s.lock lock k (2 * u + 1)) (held : w.attempt.held ≡ v.attempt.held ++ (k, u) ∷ []) (wv : w.attempt.wv ≡ v.attempt.wv) (phase : decided w ≡ decided v) (rv : w.attempt.rv ≡ v.attempt.rv) (floor : w.floor ≡ v.floor) (reads : w.attempt.reads ≡ v.attempt.reads) (passed : w.attempt.passed ≡ v.attempt.passed) (records : w.records ≡ v.records) where
   me : IsSound lk s v
@@ -48,17 +52,7 @@ module _ (lk : ℕ → ℕ) (s : World) (cs : List Client) (id : ℕ) (v w : Cli
   no_version z = (let e : w.attempt.wv ≡ 0 = wv ∙ none' in omega arith)
 
   other_sound : (i : ℕ) (o : Client) → At cs i o → IsSound lk after o
-  other_sound i o e = let it = h.version.sound i o e in record {
-    rv = it.rv;
-    wv = it.wv;
-    floor = it.floor;
-    recorded = it.recorded;
-    agrees = it.agrees;
-    locked = it.locked;
-    pending = it.pending;
-    above = it.above;
-    saw = saw_stays lk s lock o.attempt.rv o.attempt.last up it.saw;
-  }
+  other_sound i o e = let it = h.version.sound i o e in sound_stays lk s lock s.cell o it (saw_stays lk s lock o.attempt.rv o.attempt.last up it.saw)
 
   other_booked : (i : ℕ) (o : Client) → At cs i o → IsBooked lk after o
   other_booked i o e = let it = h.books.booked i o e in record {

@@ -1,7 +1,6 @@
 -- What tests over lists of pairs mean.
 use Rattle.std.proofs.Common.{◌≡◌, ℕ, Bool, true, false, cond, ◌==◌, ◌||◌, not, List, [], ◌∷◌, refl, ap}
-use Rattle.std.specs.List.{list_any}
-use Rattle.std.specs.List.{filter}
+use Rattle.std.specs.List.{list_any, filter}
 use Rattle.stm_core.specs.Client.{writes_to, without}
 
 pub named : (l : List (ℕ × ℕ)) (k : ℕ) → list_any (λ p. p.0 == k) l ≡ writes_to l k

@@ -5,6 +5,7 @@ use Rattle.stm_words.specs.Image.{In}
 use Rattle.stm_core.specs.Client.{Client, Record, before, inserted, merged}
 use Rattle.stm_core.specs.Version.{At}
 use Rattle.stm_core.specs.Records.{Ordered}
+use Rattle.stm_core.specs.Invariant.{Sorted}
 use Rattle.stm_core.specs.History.{Sub, done, keep, skip, all_records}
 use Rattle.stm_core.proofs.Lists.{nothing_in, by_bool, clash}
 use Rattle.stm_core.proofs.Orders.{in_cons, in_merged, merged_left, merged_right, inserted_ordered, merged_ordered, behind, before_le}
@@ -38,7 +39,7 @@ pub sub_left : (l m : List Record) → Sub l (merged l m)
 sub_left l [] = sub_same l
 sub_left l (y ∷ m) = sub_trans (sub_inserted y l) (sub_left (inserted y l) m)
 
-pub one_in : (y : Record) (l : List Record) → Sub (y ∷ []) (inserted y l)
+one_in : (y : Record) (l : List Record) → Sub (y ∷ []) (inserted y l)
 one_in y [] = keep y done
 one_in y (x ∷ l) = go (before y x) (one_in y l)
   where
@@ -46,22 +47,26 @@ one_in y (x ∷ l) = go (before y x) (one_in y l)
     go true p = keep y done
     go false p = skip x p
 
+sorted_of : (l : List Record) → Ordered l → Sorted l
+sorted_of [] o = tt
+sorted_of (x ∷ l) o = (λ r i. (o.0 r i).0, sorted_of l o.1)
+
 -- what comes last among some records comes after them where it is put in
-sub_last : {p l : List Record} (y : Record) → Sub p l → Ordered l → ((x : Record) → In x p → before y x ≡ false) → Sub (p ++ y ∷ []) (inserted y l)
+pub sub_last : {p l : List Record} (y : Record) → Sub p l → Sorted l → ((x : Record) → In x p → before y x ≡ false) → Sub (p ++ y ∷ []) (inserted y l)
 sub_last {l = l} y done o f = one_in y l
 sub_last y (keep x s) o f = rw (f x (0, refl)) (keep x (sub_last y s o.1 (λ z i. f z (suc i.0, i.1))))
 sub_last y (skip z {xs = p} {ys = l} s) o f = go (before y z) refl p s f (sub_last y s o.1 f)
   where
     go : (b : Bool) → before y z ≡ b → (p' : List Record) → Sub p' l → ((x : Record) → In x p' → before y x ≡ false) → Sub (p' ++ y ∷ []) (inserted y l) → Sub (p' ++ y ∷ []) (cond b (y ∷ z ∷ l) (z ∷ inserted y l))
     go true e [] s' f' k = keep y done
-    go true e (x ∷ p') s' f' k = clash (before_le y z x e (o.0 x (in_sub x s' (0, refl))).0) (f' x (0, refl))
+    go true e (x ∷ p') s' f' k = clash (before_le y z x e (o.0 x (in_sub x s' (0, refl)))) (f' x (0, refl))
     go false e p' s' f' k = skip z k
 
 sub_all : (p l m : List Record) → Sub p l → Ordered l → Ordered m → ((x y : Record) → In x l → In y m → x.writer ≡ true → y.writer ≡ true → x.version ≢ y.version) → ((x y : Record) → In x p → In y m → before y x ≡ false) → Sub (p ++ m) (merged l m)
 sub_all p l [] s o q f g = rw (append-nil p) s
 sub_all p l (y ∷ m) s o q f g =
     subst (λ k. Sub k (merged (inserted y l) m)) (append_assoc p (y ∷ []) m)
-    (sub_all (p ++ y ∷ []) (inserted y l) m (sub_last y s o (λ x i. g x y i (0, refl))) (inserted_ordered y l o (λ x i. f x y i (0, refl))) q.1
+    (sub_all (p ++ y ∷ []) (inserted y l) m (sub_last y s (sorted_of l o) (λ x i. g x y i (0, refl))) (inserted_ordered y l o (λ x i. f x y i (0, refl))) q.1
     (λ x z i j. ⊎_elim (λ e. subst (λ (k : Record). k.writer ≡ true → z.writer ≡ true → k.version ≢ z.version) e (q.0 z j).1) (λ k. f x z k (suc j.0, j.1)) (Rattle.stm_core.proofs.Orders.in_inserted y l x i))
     (λ x z i j. ⊎_elim (λ k. g x z k (suc j.0, j.1)) (λ e. subst (λ k. before z k ≡ false) e (q.0 z j).0) (Rattle.stm_core.proofs.Lists.in_snoc p y x i)))
 

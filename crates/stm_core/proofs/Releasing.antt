@@ -8,7 +8,7 @@ use Rattle.stm_core.specs.Version.{World, At, Claims, runs, passes, noted, Saw, 
 use Rattle.stm_core.proofs.Lists.{same_at, clash, by_bool}
 use Rattle.stm_core.proofs.Turns.{Heart, turn_keeps}
 use Rattle.stm_core.proofs.Loading.{claims_as}
-use Rattle.stm_core.proofs.Locking.{Writes, saw_stays}
+use Rattle.stm_core.proofs.Locking.{Writes, saw_stays, sound_stays}
 
 -- the held locks without the lock k
 pub record Drops (held held' : List (ℕ × ℕ)) (k : ℕ) : Type 0 where
@@ -36,17 +36,7 @@ module _ (lk : ℕ → ℕ) (s : World) (cs : List Client) (id : ℕ) (v w : Cli
   bound j = dite (ℕ_discrete j k) (λ e. rw (e, word.here) (omega arith)) (λ y. rw (word.else j y) (h.version.versions j))
 
   other_sound : (i : ℕ) (o : Client) → At cs i o → IsSound lk after o
-  other_sound i o e = let it = h.version.sound i o e in record {
-    rv = it.rv;
-    wv = it.wv;
-    floor = it.floor;
-    recorded = it.recorded;
-    agrees = it.agrees;
-    locked = it.locked;
-    pending = it.pending;
-    above = it.above;
-    saw = saw_stays lk s lock o.attempt.rv o.attempt.last up it.saw;
-  }
+  other_sound i o e = let it = h.version.sound i o e in sound_stays lk s lock s.cell o it (saw_stays lk s lock o.attempt.rv o.attempt.last up it.saw)
 
   other_booked : (i : ℕ) (o : Client) → At cs i o → i ≢ id → IsBooked lk after o
   other_booked i o e y = let it = h.books.booked i o e in record {

@@ -21,7 +21,7 @@ use Rattle.stm_core.proofs.Renewals.{pre, own_of, map_append, eqb_no, eqb_yes}
 use Rattle.stm_core.proofs.Turns.{Heart}
 use Rattle.stm_core.proofs.Sums.{sum_set, share_of}
 use Rattle.stm_core.proofs.Facts.{alone, alone_serial}
-use Rattle.stm_core.proofs.Joining.{longer_keeps, longer_files, split_keeps, gather_keeps, opening_keeps, nobody_yet}
+use Rattle.stm_core.proofs.Joining.{longer_keeps, longer_files, split_keeps, gather_keeps, opening_keeps, nobody_yet, none_filed}
 use Rattle.stm_core.proofs.Conditions.{IsAlone}
 
 pub at_last : {A : Type 0} (l : List A) (w o : A) (j : ℕ) → get_elem? (l ++ w ∷ []) j ≡ some o → (get_elem? l j ≡ some o) ⊎ ((j ≡ length l) × (w ≡ o))
@@ -225,16 +225,6 @@ module _ (lawful : RecordLaw) (lk : ℕ → ℕ) (c : Core) (h : Rule lawful lk 
         let b = f w (0, refl) in
         subst (Filed lawful (length c.cells) n [] 0) (append_assoc cs (w ∷ []) ws) (bare_files n ws (cs ++ w ∷ []) (longer_files lawful (length c.cells) n [] 0 cs w k b.held b.wv b.reads b.records b.phase) (λ y m. f y (suc m.0, m.1)))
 
-    no_files : (n : ℕ) → Filed lawful (length c.cells) n [] 0 []
-    no_files n = record {
-      filed = λ a y e. absurd (nothing_in y (a, e));
-      versions = refl;
-      unwritten = λ a b y x r e. absurd (nothing_in y (a, e));
-      empty = λ a y e. absurd (nothing_in y (a, e));
-      once = λ a b y x r s e. absurd (nothing_in y (a, e));
-      complete = λ a ws e n'. absurd (some-ne-none ws (sym e));
-    }
-
     abbrev clients' : List Client
     clients' = map (shed (c.renewal + 1)) (set c.clients i (renewing v))
 
@@ -253,7 +243,7 @@ module _ (lawful : RecordLaw) (lk : ℕ → ℕ) (c : Core) (h : Rule lawful lk 
             story = [];
             version = k.version;
             books = k.books;
-            filed = bare_files (c.renewal + 1) clients' [] (no_files (c.renewal + 1)) bare;
+            filed = bare_files (c.renewal + 1) clients' [] (none_filed lawful (length c.cells) (c.renewal + 1)) bare;
             size = refl;
           };
           lone = λ n o e y. ⊎_elim (λ p. clash y (ap (λ (x : Client). x.attempt.lone) (sym p.1))) (λ p. clash y (ap (λ (x : Client). x.attempt.lone) (is_gone n o p.1 p.0))) (at_set c.clients i n (renewing v) o e);
@@ -318,7 +308,7 @@ module _ (lawful : RecordLaw) (lk : ℕ → ℕ) (first image : List ℕ) (renew
           story = [];
           version = k.version;
           books = k.books;
-          filed = longer_files lawful (length image) renewal [] 0 [] v'' no_files (ap (λ (y : Client). y.attempt.held) new) (ap (λ (y : Client). y.attempt.wv) new) (ap (λ (y : Client). y.attempt.reads) new) none (ap (λ (y : Client). decided y) new);
+          filed = longer_files lawful (length image) renewal [] 0 [] v'' (none_filed lawful (length image) renewal) (ap (λ (y : Client). y.attempt.held) new) (ap (λ (y : Client). y.attempt.wv) new) (ap (λ (y : Client). y.attempt.reads) new) none (ap (λ (y : Client). decided y) new);
           size = refl;
         };
         lone = λ i w e y. clash y (ap (λ (x : Client). x.attempt.lone) (sym (only i w e)) ∙ ap (λ (x : Client). x.attempt.lone) new);
@@ -343,13 +333,3 @@ module _ (lawful : RecordLaw) (lk : ℕ → ℕ) (first image : List ℕ) (renew
       kept : (i : ℕ) (w : Client) → At (v ∷ []) i w → w.records ≡ cond (eqb i 0) v.records [] ++ of_renewal renewal w.records
       kept zero w e = subst (λ (y : Client). y.records ≡ v.records ++ of_renewal renewal y.records) (some-injective v w e) (rw (of_none renewal v.records earlier) (sym (append-nil v.records)))
       kept (suc i) w e = absurd (some-ne-none w (sym e))
-
-      no_files : Filed lawful (length image) renewal [] 0 []
-      no_files = record {
-        filed = λ a y e. absurd (nothing_in y (a, e));
-        versions = refl;
-        unwritten = λ a b y x r e. absurd (nothing_in y (a, e));
-        empty = λ a y e. absurd (nothing_in y (a, e));
-        once = λ a b y x r s e. absurd (nothing_in y (a, e));
-        complete = λ a ws e n'. absurd (some-ne-none ws (sym e));
-      }

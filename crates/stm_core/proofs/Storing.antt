@@ -5,6 +5,7 @@ use native.Mathlib.Decide.{ℕ_discrete}
 use Rattle.stm_words.specs.Image.{In}
 use Rattle.stm_core.specs.Client.{Client, Step, probed, fetched, decided, version_of, writes_to}
 use Rattle.stm_core.specs.Version.{World, At, Claims, Saw, IsSound, IsBooked}
+use Rattle.stm_core.proofs.Locking.{sound_stays}
 use Rattle.stm_core.proofs.Lists.{in_snoc, in_longer, in_last, same_at, clash}
 use Rattle.stm_core.proofs.Turns.{Heart, turn_keeps}
 use Rattle.stm_core.proofs.Loading.{claims_as}
@@ -45,17 +46,7 @@ module _ (lk : ℕ → ℕ) (s : World) (cs : List Client) (id : ℕ) (v w : Cli
   saw_stays m _ p = tt
 
   other_sound : (i : ℕ) (o : Client) → At cs i o → IsSound lk after o
-  other_sound i o e = let it = h.version.sound i o e in record {
-    rv = it.rv;
-    wv = it.wv;
-    floor = it.floor;
-    recorded = it.recorded;
-    agrees = it.agrees;
-    locked = it.locked;
-    pending = it.pending;
-    above = it.above;
-    saw = saw_stays o.attempt.rv o.attempt.last it.saw;
-  }
+  other_sound i o e = let it = h.version.sound i o e in sound_stays lk s s.lock cell o it (saw_stays o.attempt.rv o.attempt.last it.saw)
 
   other_booked : (i : ℕ) (o : Client) → At cs i o → IsBooked lk after o
   other_booked i o e = let it = h.books.booked i o e in record { later = it.later; listed = it.listed; unwritten = it.unwritten; told = it.told; values = it.values }

@@ -4,8 +4,7 @@ use mathlib.Core.Logic.{dite}
 use native.Mathlib.Decide.{ℕ_discrete}
 use Rattle.std.proofs.lemmas.Bool.Decides.{nat_tests}
 use Rattle.stm_words.specs.Image.{In, Agrees, laid}
-use Rattle.stm_core.specs.Client.{Client, Record, before, inserted, merged, of_renewal, shed, RecordLaw}
-use Rattle.stm_core.specs.Client.{Stamp, version_of, word_before, value_fetched, checked, locked, ticked, validated}
+use Rattle.stm_core.specs.Client.{Client, Record, before, inserted, merged, of_renewal, shed, RecordLaw, Stamp, version_of, word_before, value_fetched, checked, locked, ticked, validated}
 use Rattle.stm_core.specs.Event.{Action, check, lock, tick, validate, finish, committed_by, stepping, failing, read_too, holding, versioned, decides_at_once, won, passes, passing, after, taking, counting}
 use Rattle.stm_core.specs.Core.{Core, IsFreeHanded}
 use Rattle.stm_core.proofs.Steps.{by_case}
@@ -14,7 +13,7 @@ use Rattle.stm_core.specs.History.{Serial, image_after, Sub, done, keep, skip, a
 use Rattle.stm_core.specs.Invariant.{now, Sorted, Rule}
 use Rattle.stm_core.proofs.Lists.{nothing_in, by_bool, clash, in_snoc}
 use Rattle.stm_core.proofs.Orders.{in_cons, in_inserted, in_merged, before_asym, behind, before_le}
-use Rattle.stm_core.proofs.Merging.{in_sub, sub_left, one_in}
+use Rattle.stm_core.proofs.Merging.{in_sub, sub_left, sub_last}
 use Rattle.stm_core.proofs.Facts.{all_serial, all_lawful, all_shared, others_spent}
 use Rattle.stm_core.proofs.Eras.{AllOf, AllBefore, in_append, of_is, not_before, merged_padded, merged_late}
 use Rattle.stm_core.proofs.Lones.{at_map}
@@ -36,22 +35,11 @@ pub merged_sorted : (l m : List Record) → Sorted l → Sorted (merged l m)
 merged_sorted l [] o = o
 merged_sorted l (y ∷ m) o = merged_sorted (inserted y l) m (inserted_sorted y l o)
 
--- what comes last among some records comes after them where it is put in
-put_last : {p l : List Record} (y : Record) → Sub p l → Sorted l → ((x : Record) → In x p → before y x ≡ false) → Sub (p ++ y ∷ []) (inserted y l)
-put_last {l = l} y done o f = one_in y l
-put_last y (keep x s) o f = rw (f x (0, refl)) (keep x (put_last y s o.1 (λ z i. f z (suc i.0, i.1))))
-put_last y (skip z {xs = p} {ys = l} s) o f = go (before y z) refl p s f (put_last y s o.1 f)
-  where
-    go : (b : Bool) → before y z ≡ b → (p' : List Record) → Sub p' l → ((x : Record) → In x p' → before y x ≡ false) → Sub (p' ++ y ∷ []) (inserted y l) → Sub (p' ++ y ∷ []) (cond b (y ∷ z ∷ l) (z ∷ inserted y l))
-    go true e [] s' f' k = keep y done
-    go true e (x ∷ p') s' f' k = clash (before_le y z x e (o.0 x (in_sub x s' (0, refl)))) (f' x (0, refl))
-    go false e p' s' f' k = skip z k
-
 put_all : (p l m : List Record) → Sub p l → Sorted l → Sorted m → ((x y : Record) → In x p → In y m → before y x ≡ false) → Sub (p ++ m) (merged l m)
 put_all p l [] s o q g = rw (append-nil p) s
 put_all p l (y ∷ m) s o q g =
     subst (λ k. Sub k (merged (inserted y l) m)) (append_assoc p (y ∷ []) m)
-    (put_all (p ++ y ∷ []) (inserted y l) m (put_last y s o (λ x i. g x y i (0, refl))) (inserted_sorted y l o) q.1
+    (put_all (p ++ y ∷ []) (inserted y l) m (sub_last y s o (λ x i. g x y i (0, refl))) (inserted_sorted y l o) q.1
     (λ x z i j. ⊎_elim (λ k. g x z k (suc j.0, j.1)) (λ e. subst (λ k. before z k ≡ false) e (q.0 z j)) (in_snoc p y x i)))
 
 -- the second of two joined lists keeps its order where both are sorted; the first always does

@@ -9,12 +9,11 @@ use Rattle.atomic_table.specs.Table.{State, Me, step, keeps, Allows, Splits, Joi
 use Rattle.atomic_table.proofs.Lists.{set_else}
 use Rattle.atomic_table.specs.Seated.{TableId}
 use Rattle.stm_words.specs.Image.{In, Agrees, laid}
-use Rattle.stm_core.specs.Client.{Client, Record, old_version, RecordLaw}
+use Rattle.stm_core.specs.Client.{Client, Record, old_version, RecordLaw, shed}
 use Rattle.stm_core.specs.Core.{Core, bounds_of, found, left, written, stepped, divided, gathered, IsFreeHanded}
 use Rattle.stm_core.specs.Event.{Action, begin, probe, check, lock, tick, validate, put, release, give_back, finish, after, giving, fresh, taking, gone}
 use Rattle.stm_core.specs.History.{Serial, SomeFits, all_records}
 use Rattle.stm_core.specs.Invariant.{now, Rule}
-use Rattle.stm_core.specs.Client.{shed}
 use Rattle.stm_core.proofs.Eras.{in_append, of_is}
 use Rattle.stm_core.proofs.Lones.{at_map, goes_on}
 use Rattle.stm_core.specs.Guards.{Holds as Holding, MayAct, May}
