@@ -9,7 +9,7 @@ use Rattle.stm_core.specs.Client.{Client, Record, rank, inserted}
 use Rattle.stm_core.specs.Version.{At, IsOpen}
 use Rattle.stm_core.specs.History.{ByPoint}
 use Rattle.stm_core.specs.Theorem.{is_settled}
-use Rattle.stm_core.proofs.Lists.{at_set, set_here, set_else, same_at, by_bool, at_longer, in_range, clash, nothing_in}
+use Rattle.stm_core.proofs.Lists.{at_set, set_here, set_else, same_at, by_bool, at_longer, in_range, clash, nothing_in, who_set}
 use Rattle.stm_core.specs.Event.{taking, gone}
 use Rattle.stm_core.proofs.Orders.{in_cons, in_inserted, inserted_in, inserted_old, in_merged, merged_left, merged_right}
 use Rattle.stm_core.proofs.Histories.{Ranked, rank_writer, rank_reader}
@@ -120,9 +120,6 @@ ranked_by old clock events cs h d (x ∷ l) o f = (λ r i. pair r i, ranked_by o
         )
 
 module _ (old : List Record) (clock events : ℕ) (cs : List Client) (h : List Record) (d : Dated old clock events cs h) (i : ℕ) (v w : Client) (at : At cs i v) where
-  who : (P : ℕ → Client → Type 0) → P i w → ((j : ℕ) (o : Client) → At cs j o → j ≢ i → P j o) → (j : ℕ) (o : Client) → At (set cs i w) j o → P j o
-  who P mine else j o e = ⊎_elim (λ p. subst (λ c. P j c) p.1 (subst (λ y. P y w) (sym p.0) mine)) (λ p. else j o p.1 p.0) (at_set cs i j w o e)
-
   -- one event more, which decides nothing
   module _ (clock' : ℕ) (up : clock ≤ clock') (records : w.records ≡ v.records) (spent : w.spent ≡ v.spent)
       (reading : IsReading w.attempt → (IsReading v.attempt × (w.attempt.began_at ≡ v.attempt.began_at) × (w.attempt.rv ≡ v.attempt.rv)) ⊎ ((w.attempt.began_at ≡ events) × (w.attempt.rv ≡ clock) × (clock' ≡ clock)))
@@ -174,23 +171,23 @@ module _ (old : List Record) (clock events : ℕ) (cs : List Client) (h : List R
         writer = λ t. let q = s.writer t in (omega (arith, q.0), omega (arith, q.1));
         reader = λ t. let q = s.reader t in (omega (arith, q.0), omega (arith, q.1));
       };
-      each = λ j o e. who (λ y c. IsDated (later_on d.time events clock') (events + 1) c) mine (λ y c f n. dated_on c (d.each y c f)) j o e;
-      unused = λ j o p r e m k. who (λ y c. Mark c p → r.point ≢ p) (λ m'. ⊎_elim (λ q. d.unused i v p r at q k) (λ q s. (let z = (d.stamped r k).past in omega arith)) (marks p m')) (λ y c f n m'. d.unused y c p r f m' k) j o e m;
-      apart = λ j k o q p e f n m m'. who (λ y c. y ≢ k → Mark c p → ⊥)
-          (λ n' a. who (λ z c. i ≢ z → Mark c p → ⊥) (λ n'' b. n'' refl) (λ z c g n'' n3 b. ⊎_elim (λ s. d.apart i z v c p at g n3 s b) (λ s. (let l = below z c p g b in omega arith)) (marks p a)) k q f n' m')
-          (λ y c g n' n'' a. who (λ z b. y ≢ z → Mark b p → ⊥) (λ n3 b. ⊎_elim (λ s. d.apart y i c v p g at n3 a s) (λ s. (let l = below y c p g a in omega arith)) (marks p b)) (λ z b g' n3 n4 b'. d.apart y z c b p g g' n4 a b') k q f n'' m') j o e n m;
+      each = λ j o e. who_set cs i w (λ y c. IsDated (later_on d.time events clock') (events + 1) c) mine (λ y c f n. dated_on c (d.each y c f)) j o e;
+      unused = λ j o p r e m k. who_set cs i w (λ y c. Mark c p → r.point ≢ p) (λ m'. ⊎_elim (λ q. d.unused i v p r at q k) (λ q s. (let z = (d.stamped r k).past in omega arith)) (marks p m')) (λ y c f n m'. d.unused y c p r f m' k) j o e m;
+      apart = λ j k o q p e f n m m'. who_set cs i w (λ y c. y ≢ k → Mark c p → ⊥)
+          (λ n' a. who_set cs i w (λ z c. i ≢ z → Mark c p → ⊥) (λ n'' b. n'' refl) (λ z c g n'' n3 b. ⊎_elim (λ s. d.apart i z v c p at g n3 s b) (λ s. (let l = below z c p g b in omega arith)) (marks p a)) k q f n' m')
+          (λ y c g n' n'' a. who_set cs i w (λ z b. y ≢ z → Mark b p → ⊥) (λ n3 b. ⊎_elim (λ s. d.apart y i c v p g at n3 a s) (λ s. (let l = below y c p g a in omega arith)) (marks p b)) (λ z b g' n3 n4 b'. d.apart y z c b p g g' n4 a b') k q f n'' m') j o e n m;
       ascending = d.ascending;
-      every = λ j o r e m. who (λ y c. In r c.records → In r h) (λ m'. d.every i v r at (subst (In r) records m')) (λ y c f n m'. d.every y c r f m') j o e m;
+      every = λ j o r e m. who_set cs i w (λ y c. In r c.records → In r h) (λ m'. d.every i v r at (subst (In r) records m')) (λ y c f n m'. d.every y c r f m') j o e m;
       only = λ r m. let q = d.only r m in dite (ℕ_discrete q.0 i) (λ z. (i, w, set_here cs i v w at, rw records (subst (λ (c : Client). In r c.records) (same_at cs i q.1 v (subst (λ y. At cs y q.1) z q.2) at) q.3))) (λ z. (q.0, q.1, set_else cs i q.0 w q.1 z q.2, q.3));
       known = λ r m. rw (length-set cs i w) (d.known r m);
-      numbered = λ j o r e s m k. who (IsOver r)
+      numbered = λ j o r e s m k. who_set cs i w (IsOver r)
           (λ s' k'. let q = d.numbered i v r at (sym spent ∙ s') m k' in ⊎_elim (λ l. (omega (arith, q.0), λ z. absurd (let a = q.0 in omega (arith, l)))) (λ l. (let a = q.0 in let b = l.0 in omega arith, λ z. l.1 (q.1 (z ∙ l.0)))) number)
           (λ y c f n s' k'. d.numbered y c r f s' m k') j o e s k;
       old_past = λ r m. (let p = d.old_past r m in omega arith);
       old_before = d.old_before;
-      old_marked = λ j o p r e m k. who (λ y c. Mark c p → r.point < p) (λ m'. ⊎_elim (λ q. d.old_marked i v p r at q k) (λ q. (let z = d.old_past r k in omega arith)) (marks p m')) (λ y c f n m'. d.old_marked y c p r f m' k) j o e m;
+      old_marked = λ j o p r e m k. who_set cs i w (λ y c. Mark c p → r.point < p) (λ m'. ⊎_elim (λ q. d.old_marked i v p r at q k) (λ q. (let z = d.old_past r k in omega arith)) (marks p m')) (λ y c f n m'. d.old_marked y c p r f m' k) j o e m;
       old_known = λ r m. rw (length-set cs i w) (d.old_known r m);
-      old_numbered = λ j o r e s m k. who (IsOver r)
+      old_numbered = λ j o r e s m k. who_set cs i w (IsOver r)
           (λ s' k'. let q = d.old_numbered i v r at (sym spent ∙ s') m k' in ⊎_elim (λ l. (omega (arith, q.0), λ z. absurd (let a = q.0 in omega (arith, l)))) (λ l. (let a = q.0 in let b = l.0 in omega arith, λ z. l.1 (q.1 (z ∙ l.0)))) number)
           (λ y c f n s' k'. d.old_numbered y c r f s' m k') j o e s k;
     }
@@ -203,23 +200,23 @@ module _ (old : List Record) (clock events : ℕ) (cs : List Client) (h : List R
       grows = d.grows;
       now = d.now;
       stamped = λ x m. ⊎_elim (λ e. subst (IsStamped d.time events) e stamp) (λ k. d.stamped x k) (in_placed r h x m);
-      each = λ j o e. who (λ y c. IsDated d.time events c) (record { reading = λ q. absurd (none w.attempt.began_at (inl (q, refl))); ticking = λ q. absurd (none w.attempt.ticked_at (inr (q, refl))) }) (λ y c f n. d.each y c f) j o e;
-      unused = λ j o p x e m k. who (λ y c. Mark c p → x.point ≢ p) (λ m'. absurd (none p m'))
+      each = λ j o e. who_set cs i w (λ y c. IsDated d.time events c) (record { reading = λ q. absurd (none w.attempt.began_at (inl (q, refl))); ticking = λ q. absurd (none w.attempt.ticked_at (inr (q, refl))) }) (λ y c f n. d.each y c f) j o e;
+      unused = λ j o p x e m k. who_set cs i w (λ y c. Mark c p → x.point ≢ p) (λ m'. absurd (none p m'))
           (λ y c f n m'. ⊎_elim (λ q s. d.apart y i c v p f at n m' (subst (Mark v) (ap (λ (z : Record). z.point) q ∙ s) mark)) (λ q. d.unused y c p x f m' q) (in_placed r h x k)) j o e m;
-      apart = λ j k o q p e f n m m'. who (λ y c. y ≢ k → Mark c p → ⊥) (λ n' a. none p a) (λ y c g n' n'' a. who (λ z b. y ≢ z → Mark b p → ⊥) (λ n3 b. none p b) (λ z b g' n3 n4 b'. d.apart y z c b p g g' n4 a b') k q f n'' m') j o e n m;
+      apart = λ j k o q p e f n m m'. who_set cs i w (λ y c. y ≢ k → Mark c p → ⊥) (λ n' a. none p a) (λ y c g n' n'' a. who_set cs i w (λ z b. y ≢ z → Mark b p → ⊥) (λ n3 b. none p b) (λ z b g' n3 n4 b'. d.apart y z c b p g g' n4 a b') k q f n'' m') j o e n m;
       ascending = placed_by r h d.ascending (λ x m. d.unused i v r.point x at mark m);
-      every = λ j o x e m. who (λ y c. In x c.records → In x (placed r h)) (λ m'. ⊎_elim (λ q. subst (λ z. In z (placed r h)) q (placed_in r h)) (λ q. placed_old r h x (d.every i v x at q)) (in_inserted r v.records x (subst (In x) records m'))) (λ y c f n m'. placed_old r h x (d.every y c x f m')) j o e m;
+      every = λ j o x e m. who_set cs i w (λ y c. In x c.records → In x (placed r h)) (λ m'. ⊎_elim (λ q. subst (λ z. In z (placed r h)) q (placed_in r h)) (λ q. placed_old r h x (d.every i v x at q)) (in_inserted r v.records x (subst (In x) records m'))) (λ y c f n m'. placed_old r h x (d.every y c x f m')) j o e m;
       only = λ x m. ⊎_elim (λ e. (i, w, set_here cs i v w at, rw records (subst (λ z. In z (inserted r v.records)) e (inserted_in r v.records))))
           (λ k. let q = d.only x k in dite (ℕ_discrete q.0 i) (λ z. (i, w, set_here cs i v w at, rw records (inserted_old r v.records x (subst (λ (c : Client). In x c.records) (same_at cs i q.1 v (subst (λ y. At cs y q.1) z q.2) at) q.3)))) (λ z. (q.0, q.1, set_else cs i q.0 w q.1 z q.2, q.3))) (in_placed r h x m);
       known = λ x m. rw (length-set cs i w) (⊎_elim (λ q. subst (λ (z : Record). z.client ≤ length cs) q (rw who_is (in_range cs i v at))) (λ q. d.known x q) (in_placed r h x m));
-      numbered = λ j o x e s m k. who (IsOver x)
+      numbered = λ j o x e s m k. who_set cs i w (IsOver x)
           (λ s' k'. (⊎_elim (λ q. (let z : r.attempt ≡ x.attempt = ap (λ (y : Record). y.attempt) q in let l = number in let l' = attempt in omega arith)) (λ q. (let z = (d.numbered i v x at (sym spent ∙ s') q k').0 in let l = number in omega arith)) (in_placed r h x m), λ z. settled))
           (λ y c f n s' k'. ⊎_elim (λ q. absurd (n (let z : r.client ≡ x.client = ap (λ (y : Record). y.client) q in let a = who_is in omega (arith, k')))) (λ q. d.numbered y c x f s' q k') (in_placed r h x m)) j o e s k;
       old_past = d.old_past;
       old_before = λ y x k m. ⊎_elim (λ e. subst (λ (z : Record). y.point < z.point) e (d.old_marked i v r.point y at mark k)) (λ q. d.old_before y x k q) (in_placed r h x m);
-      old_marked = λ j o p y e m k. who (λ z c. Mark c p → y.point < p) (λ m'. absurd (none p m')) (λ z c f n m'. d.old_marked z c p y f m' k) j o e m;
+      old_marked = λ j o p y e m k. who_set cs i w (λ z c. Mark c p → y.point < p) (λ m'. absurd (none p m')) (λ z c f n m'. d.old_marked z c p y f m' k) j o e m;
       old_known = λ x m. rw (length-set cs i w) (d.old_known x m);
-      old_numbered = λ j o x e s m k. who (IsOver x)
+      old_numbered = λ j o x e s m k. who_set cs i w (IsOver x)
           (λ s' k'. let q = d.old_numbered i v x at (sym spent ∙ s') m k' in (let a = q.0 in let l = number in omega arith, λ z. settled)) (λ y c f n s' k'. d.old_numbered y c x f s' m k') j o e s k;
     }
 

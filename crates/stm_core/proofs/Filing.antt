@@ -8,7 +8,7 @@ use Rattle.stm_words.specs.Image.{In}
 use Rattle.stm_core.specs.Client.{Client, Record, decided, RecordLaw}
 use Rattle.stm_core.specs.Version.{At, IsOpen}
 use Rattle.stm_core.specs.Records.{IsTold, IsFiled, Filed, HasWriter}
-use Rattle.stm_core.proofs.Lists.{at_set, set_here, set_else, same_at, at_longer, at_snoc, in_range}
+use Rattle.stm_core.proofs.Lists.{at_set, set_here, set_else, same_at, at_longer, at_snoc, in_range, who_set}
 
 module _ (lawful : RecordLaw) (size renewal : ℕ) where
   -- one record where the story has changed at other versions
@@ -34,20 +34,17 @@ module _ (lawful : RecordLaw) (size renewal : ℕ) where
         → ((r : Record) × In r w.records × (r.writer ≡ true) × (r.version ≡ suc u)) ⊎ ((i : ℕ) × (o : Client) × (r : Record) × At cs i o × (i ≢ id) × In r o.records × (r.writer ≡ true) × (r.version ≡ suc u))
 
   module _ (story story' : List (List (ℕ × ℕ))) (clock clock' : ℕ) (cs : List Client) (id : ℕ) (v w : Client) (h : Filed lawful size renewal story clock cs) (at : At cs id v) (g : Filing story story' clock' cs id w) where
-    who : (P : ℕ → Client → Type 0) → P id w → ((i : ℕ) (o : Client) → At cs i o → i ≢ id → P i o) → (i : ℕ) (o : Client) → At (set cs id w) i o → P i o
-    who P mine else i o e = ⊎_elim (λ p. subst (λ c. P i c) p.1 (subst (λ j. P j w) (sym p.0) mine)) (λ p. else i o p.1 p.0) (at_set cs id i w o e)
-
     pub filing_keeps : Filed lawful size renewal story' clock' (set cs id w)
     filing_keeps = record {
-      filed = λ i o e. who (λ j c. IsFiled lawful size renewal story' c) g.mine (λ j c f n. g.others j c f n) i o e;
+      filed = λ i o e. who_set cs id w (λ j c. IsFiled lawful size renewal story' c) g.mine (λ j c f n. g.others j c f n) i o e;
       versions = g.versions;
-      unwritten = λ i j o p r e f m t op. who (λ y c. In r c.records → r.version ≢ p.attempt.wv)
-          (λ m'. who (λ z c. IsOpen c → r.version ≢ c.attempt.wv) (λ op'. g.unwritten_self r m' t op') (λ z c at' n op'. g.unwritten_else z c r at' n m' t op') j p f op)
-          (λ y c at' n m'. who (λ z d. IsOpen d → r.version ≢ d.attempt.wv) (λ op'. g.unwritten_mine y c r at' n m' t op') (λ z d at'' n' op'. h.unwritten y z c d r at' at'' m' t op') j p f op) i o e m;
-      empty = λ i o e op. who (λ y c. IsOpen c → get_elem? story' (c.attempt.wv - 1) ≡ some []) g.empty_mine (λ y c at' n. g.empty_else y c at' n) i o e op;
-      once = λ i j o p r x e f n m m' t t'. who (λ y c. y ≢ j → In r c.records → r.version ≢ x.version)
-          (λ n' a. who (λ z d. id ≢ z → In x d.records → r.version ≢ x.version) (λ q b. absurd (q refl)) (λ z d at' q q' b. g.once z d r x at' q a b t t') j p f n' m')
-          (λ y c at' q n' a. who (λ z d. y ≢ z → In x d.records → r.version ≢ x.version) (λ q' b. λ s. g.once y c x r at' q b a t' t (sym s)) (λ z d at'' p' q' b. h.once y z c d r x at' at'' q' a b t t') j p f n' m') i o e n m;
+      unwritten = λ i j o p r e f m t op. who_set cs id w (λ y c. In r c.records → r.version ≢ p.attempt.wv)
+          (λ m'. who_set cs id w (λ z c. IsOpen c → r.version ≢ c.attempt.wv) (λ op'. g.unwritten_self r m' t op') (λ z c at' n op'. g.unwritten_else z c r at' n m' t op') j p f op)
+          (λ y c at' n m'. who_set cs id w (λ z d. IsOpen d → r.version ≢ d.attempt.wv) (λ op'. g.unwritten_mine y c r at' n m' t op') (λ z d at'' n' op'. h.unwritten y z c d r at' at'' m' t op') j p f op) i o e m;
+      empty = λ i o e op. who_set cs id w (λ y c. IsOpen c → get_elem? story' (c.attempt.wv - 1) ≡ some []) g.empty_mine (λ y c at' n. g.empty_else y c at' n) i o e op;
+      once = λ i j o p r x e f n m m' t t'. who_set cs id w (λ y c. y ≢ j → In r c.records → r.version ≢ x.version)
+          (λ n' a. who_set cs id w (λ z d. id ≢ z → In x d.records → r.version ≢ x.version) (λ q b. absurd (q refl)) (λ z d at' q q' b. g.once z d r x at' q a b t t') j p f n' m')
+          (λ y c at' q n' a. who_set cs id w (λ z d. y ≢ z → In x d.records → r.version ≢ x.version) (λ q' b. λ s. g.once y c x r at' q b a t' t (sym s)) (λ z d at'' p' q' b. h.once y z c d r x at' at'' q' a b t t') j p f n' m') i o e n m;
       complete = λ u ws e n. ⊎_elim (λ q. (id, w, q.0, set_here cs id v w at, q.1, q.2, q.3)) (λ q. (q.0, q.1, q.2, set_else cs id q.0 w q.1 q.4 q.3, q.5, q.6, q.7)) (g.complete u ws e n);
     }
 

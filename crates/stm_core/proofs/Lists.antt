@@ -38,6 +38,14 @@ module _ {A : Type 0} where
   pub in_snoc : (l : List A) (a b : A) → In b (l ++ a ∷ []) → In b l ⊎ (a ≡ b)
   in_snoc l a b h = ⊎_elim (λ p. inl (h.0, p)) (λ p. inr p) (at_snoc l a b h.0 h.1)
 
+  -- what holds of who is set at a place, and of all at other places, holds of whoever stands there then
+  pub who_set : (l : List A) (id : ℕ) (w : A) (P : ℕ → A → Type 0) → P id w → ((i : ℕ) (o : A) → get_elem? l i ≡ some o → i ≢ id → P i o) → (i : ℕ) (o : A) → get_elem? (set l id w) i ≡ some o → P i o
+  who_set l id w P mine else i o e = ⊎_elim (λ p. subst (λ c. P i c) p.1 (subst (λ j. P j w) (sym p.0) mine)) (λ p. else i o p.1 p.0) (at_set l id i w o e)
+
+  pub only_one : (x : A) (i : ℕ) (v : A) → get_elem? (x ∷ []) i ≡ some v → x ≡ v
+  only_one x zero v e = some-injective x v e
+  only_one x (suc i) v e = absurd (some-ne-none v (sym e))
+
   -- what stood at a place before and what stands there after a write of `new` over `v`
   abbrev pub Turned : A → A → A → A → Type 0
   Turned v new o w = ((o ≡ v) × (w ≡ new)) ⊎ (o ≡ w)

@@ -77,9 +77,9 @@ module _ (lk : ℕ → ℕ) (s : World) (cs : List Client) (id : ℕ) (v : Clien
         told_keeps w held wv writes stored phase rv (rw floor me.floor) saw (λ r i. me.recorded r (subst (In r) records i))
         (λ b c y p. ⊎_elim (λ old. me.agrees b c y old) (λ new. (rw (new.0, new.1, new.2) (unchanged a n x saw' still), omega (arith, new.0, me.rv))) (claims_more b c y p))
         (λ j o b c y f p op l. ⊎_elim (λ old. h.version.apart id j v o b c y at f old op l)
-              (λ new. not_true (writes_to o.attempt.writes c) (λ t. let g = (h.version.sound j o f).locked op c t in
-              let odd : s.lock (lk a) ≡ 2 * g.0 + 1 = subst (λ d. s.lock (lk d) ≡ 2 * g.0 + 1) new.1 ((h.books.booked j o f).listed (lk c) g.0 g.1) in odd_even n g.0 (sym still ∙ odd) saw'.1))
-              (claims_more b c y p))
+        (λ new. not_true (writes_to o.attempt.writes c) (λ t. let g = (h.version.sound j o f).locked op c t in
+        let odd : s.lock (lk a) ≡ 2 * g.0 + 1 = subst (λ d. s.lock (lk d) ≡ 2 * g.0 + 1) new.1 ((h.books.booked j o f).listed (lk c) g.0 g.1) in odd_even n g.0 (sym still ∙ odd) saw'.1))
+        (claims_more b c y p))
 
   -- a validation that passes
   module _ (w : Client) (a x : ℕ) (open' : IsOpen v) (read : get_elem? v.attempt.reads v.attempt.passed ≡ some (a, x)) (fine : (IsFree (s.lock (lk a)) × (version_of (s.lock (lk a)) ≤ v.attempt.rv)) ⊎ ((u : ℕ) × In (lk a, u) v.attempt.held × (u ≤ v.attempt.rv)))

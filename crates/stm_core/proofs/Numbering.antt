@@ -14,16 +14,7 @@ use Rattle.stm_core.specs.Numbered.{AllowedWithNumbers, SameButTags, numbered_ac
 use Rattle.stm_core.proofs.Steps.{by_case}
 use Rattle.stm_core.proofs.Conditions.{CanAct, can_play, free_event}
 use Rattle.stm_core.specs.Guards.{may_act}
-
-pub elem_map : {A B : Type 0} (f : A → B) (l : List A) (i : ℕ) (x : A) → get_elem? l i ≡ some x → get_elem? (map f l) i ≡ some (f x)
-elem_map f [] i x e = absurd (some-ne-none x (sym e))
-elem_map f (y ∷ l) zero x e = ap (λ z. some (f z)) (some-injective y x e)
-elem_map f (y ∷ l) (suc i) x e = elem_map f l i x e
-
-pub elem_unmap : {A B : Type 0} (f : A → B) (l : List A) (i : ℕ) (y : B) → get_elem? (map f l) i ≡ some y → (x : A) × (get_elem? l i ≡ some x) × (f x ≡ y)
-elem_unmap f [] i y e = absurd (some-ne-none y (sym e))
-elem_unmap f (x ∷ l) zero y e = (x, refl, some-injective (f x) y e)
-elem_unmap f (x ∷ l) (suc i) y e = elem_unmap f l i y e
+use Rattle.stm_core.proofs.Lones.{at_map}
 
 module _ (number : List ℕ → ℕ) where
   inserted_numbered : (r : Record) (l : List Record) → map (numbered_record number) (inserted r l) ≡ inserted (numbered_record number r) (map (numbered_record number) l)
@@ -179,4 +170,4 @@ same_end l m lk (e ∷ es) a c d p q = same_end l m lk es (played lk e a) c d p.
 pub same_but_tags : (lawful : RecordLaw) → SameButTags lawful
 same_but_tags lawful number image last stripes es c d h g i v e =
     let same : numbered_core number c ≡ d = same_end free_law free_law (stripe_of stripes) (map (numbered_event number) es) (opened image last stripes) (numbered_core number c) d (allowed_with_numbers lawful number image last stripes es c h) g in
-    subst (λ (x : Core). (w : Client) × At x.clients i w × (w.records ≡ map (numbered_record number) v.records)) same (numbered_client number v, elem_map (numbered_client number) c.clients i v e, refl)
+    subst (λ (x : Core). (w : Client) × At x.clients i w × (w.records ≡ map (numbered_record number) v.records)) same (numbered_client number v, at_map (numbered_client number) c.clients i v e, refl)

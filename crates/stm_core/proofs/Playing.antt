@@ -14,7 +14,7 @@ use Rattle.stm_core.specs.Version.{At, IsOpen}
 use Rattle.stm_core.specs.Invariant.{now, Rule}
 use Rattle.stm_core.specs.Theorem.{stripe_of, free_law, IsHistory, is_settled, Stands, EveryListStands}
 use Rattle.stm_core.specs.Running.{decision}
-use Rattle.stm_core.proofs.Lists.{at_set, set_here, same_at, clash, nothing_in}
+use Rattle.stm_core.proofs.Lists.{at_set, set_here, same_at, clash, nothing_in, only_one}
 use Rattle.stm_core.proofs.Steps.{undecided_at, by_case}
 use Rattle.stm_core.proofs.Histories.{Ahead, serial, image_last}
 use Rattle.stm_core.proofs.Facts.{ahead_by, agrees_by, cells_by}
@@ -355,11 +355,11 @@ module _ (lawful : RecordLaw) (lk : ℕ → ℕ) where
     grows = λ p q l. le_refl _;
     now = refl;
     stamped = λ r m. absurd (nothing_in r m);
-    each = λ i v e. let z : opener ≡ v = only i v e in subst (λ c. Rattle.stm_core.proofs.Dating.IsDated (λ p. 0) 0 c) z (record { reading = λ q. (let k = q.0 in cc); ticking = λ q. (let k = q.0 in absurd (omega arith)) });
+    each = λ i v e. let z : opener ≡ v = only_one opener i v e in subst (λ c. Rattle.stm_core.proofs.Dating.IsDated (λ p. 0) 0 c) z (record { reading = λ q. (let k = q.0 in cc); ticking = λ q. (let k = q.0 in absurd (omega arith)) });
     unused = λ i v p r e m k. absurd (nothing_in r k);
     apart = λ i j v w p e f n m k. n (one i v e ∙ sym (one j w f));
     ascending = tt;
-    every = λ i v r e m. absurd (nothing_in r (subst (λ (c : Client). In r c.records) (sym (only i v e)) m));
+    every = λ i v r e m. absurd (nothing_in r (subst (λ (c : Client). In r c.records) (sym (only_one opener i v e)) m));
     only = λ r m. absurd (nothing_in r m);
     known = λ r m. absurd (nothing_in r m);
     numbered = λ i v r e s m. absurd (nothing_in r m);
@@ -370,10 +370,6 @@ module _ (lawful : RecordLaw) (lk : ℕ → ℕ) where
     old_numbered = λ i v r e s m. absurd (nothing_in r m);
   }
     where
-      only : (i : ℕ) (v : Client) → At (opener ∷ []) i v → opener ≡ v
-      only zero v e = some-injective opener v e
-      only (suc i) v e = absurd (some-ne-none v (sym e))
-
       one : (i : ℕ) (v : Client) → At (opener ∷ []) i v → i ≡ 0
       one zero v e = refl
       one (suc i) v e = absurd (some-ne-none v (sym e))

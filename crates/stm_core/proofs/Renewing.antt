@@ -13,7 +13,7 @@ use Rattle.stm_core.specs.Version.{World, At}
 use Rattle.stm_core.specs.Records.{Ordered, Filed}
 use Rattle.stm_core.specs.History.{Serial, image_after}
 use Rattle.stm_core.specs.Invariant.{world, share, Inv, now, Sorted, Rule}
-use Rattle.stm_core.proofs.Lists.{at_set, in_range, clash, nothing_in}
+use Rattle.stm_core.proofs.Lists.{at_set, in_range, clash, nothing_in, only_one}
 use Rattle.stm_core.proofs.Eras.{AllBefore, in_append, of_none, of_padded, not_before, merged_padded, merged_late, all_merged}
 use Rattle.stm_core.proofs.Lones.{at_map, at_unmap, split_lone, gather_lone}
 use Rattle.stm_core.proofs.Knowing.{turn_known, split_known, gather_known}
@@ -267,7 +267,7 @@ module _ (lawful : RecordLaw) (lk : ℕ → ℕ) (c : Core) (h : Rule lawful lk 
 pub opening_rules : (lawful : RecordLaw) (lk : ℕ → ℕ) (image : List ℕ) (last stripes : ℕ) → Rule lawful lk (opened image last stripes)
 opening_rules lawful lk image last stripes = record {
   inv = opening_keeps lawful lk image last stripes;
-  lone = λ i v e y. clash y (ap (λ (x : Client). x.attempt.lone) (sym (only i v e)));
+  lone = λ i v e y. clash y (ap (λ (x : Client). x.attempt.lone) (sym (only_one opener i v e)));
   known = record { place = 0; knower = opener; member = refl; out = refl; floor = refl };
   past = record {
     serial = tt;
@@ -277,15 +277,11 @@ opening_rules lawful lk image last stripes = record {
     sorted = tt;
     keeper = 0;
     member = omega arith;
-    kept = λ i v e. subst (λ (y : Client). y.records ≡ cond (eqb i 0) [] [] ++ of_renewal 0 y.records) (only i v e) (none (eqb i 0));
-    spent = λ i v e y. clash y (ap (λ (x : Client). x.spent) (sym (only i v e)));
+    kept = λ i v e. subst (λ (y : Client). y.records ≡ cond (eqb i 0) [] [] ++ of_renewal 0 y.records) (only_one opener i v e) (none (eqb i 0));
+    spent = λ i v e y. clash y (ap (λ (x : Client). x.spent) (sym (only_one opener i v e)));
   };
 }
   where
-    only : (i : ℕ) (v : Client) → At (opener ∷ []) i v → opener ≡ v
-    only zero v e = some-injective opener v e
-    only (suc i) v e = absurd (some-ne-none v (sym e))
-
     nil : List Record
     nil = []
 
@@ -311,7 +307,7 @@ module _ (lawful : RecordLaw) (lk : ℕ → ℕ) (first image : List ℕ) (renew
           filed = longer_files lawful (length image) renewal [] 0 [] v'' (none_filed lawful (length image) renewal) (ap (λ (y : Client). y.attempt.held) new) (ap (λ (y : Client). y.attempt.wv) new) (ap (λ (y : Client). y.attempt.reads) new) none (ap (λ (y : Client). decided y) new);
           size = refl;
         };
-        lone = λ i w e y. clash y (ap (λ (x : Client). x.attempt.lone) (sym (only i w e)) ∙ ap (λ (x : Client). x.attempt.lone) new);
+        lone = λ i w e y. clash y (ap (λ (x : Client). x.attempt.lone) (sym (only_one v i w e)) ∙ ap (λ (x : Client). x.attempt.lone) new);
         known = record { place = 0; knower = v; member = refl; out = ap (λ (x : Client). x.spent) new; floor = ap (λ (x : Client). x.floor) new };
         past = record {
           serial = serial;
@@ -322,14 +318,10 @@ module _ (lawful : RecordLaw) (lk : ℕ → ℕ) (first image : List ℕ) (renew
           keeper = 0;
           member = omega arith;
           kept = kept;
-          spent = λ i w e y. clash y (ap (λ (x : Client). x.spent) (sym (only i w e)) ∙ ap (λ (x : Client). x.spent) new);
+          spent = λ i w e y. clash y (ap (λ (x : Client). x.spent) (sym (only_one v i w e)) ∙ ap (λ (x : Client). x.spent) new);
         };
       }
     where
-      only : (i : ℕ) (w : Client) → At (v ∷ []) i w → v ≡ w
-      only zero w e = some-injective v w e
-      only (suc i) w e = absurd (some-ne-none w (sym e))
-
       kept : (i : ℕ) (w : Client) → At (v ∷ []) i w → w.records ≡ cond (eqb i 0) v.records [] ++ of_renewal renewal w.records
       kept zero w e = subst (λ (y : Client). y.records ≡ v.records ++ of_renewal renewal y.records) (some-injective v w e) (rw (of_none renewal v.records earlier) (sym (append-nil v.records)))
       kept (suc i) w e = absurd (some-ne-none w (sym e))

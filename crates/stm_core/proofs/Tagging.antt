@@ -15,12 +15,12 @@ use Rattle.stm_core.specs.Numbered.{numbered_event, numbered_record, numbered_cl
 use Rattle.stm_core.proofs.Lists.{nothing_in}
 use Rattle.stm_core.proofs.Orders.{in_cons}
 use Rattle.stm_core.proofs.Eras.{in_append}
-use Rattle.stm_core.proofs.Lones.{at_map}
+use Rattle.stm_core.proofs.Lones.{at_map, at_unmap}
 use Rattle.stm_core.proofs.Renewals.{pre}
 use Rattle.stm_core.proofs.Renewing.{opening_rules}
 use Rattle.stm_core.proofs.Playing.{event_keeps, every_list_stands}
 use Rattle.stm_core.proofs.Steps.{by_case}
-use Rattle.stm_core.proofs.Numbering.{elem_map, elem_unmap, allowed_with_numbers}
+use Rattle.stm_core.proofs.Numbering.{allowed_with_numbers}
 use Rattle.stm_core.proofs.Conditions.{can_play}
 
 in_tail : {A : Type 0} (x y : A) (l : List A) → x ≢ y → In y (x ∷ l) → In y l
@@ -80,11 +80,11 @@ kept lawful lk (e ∷ es) c d k h = kept lawful lk es (played lk e c) d (event_k
 module _ (number : List ℕ → ℕ) where
   points_back : (rs : List Record) → ByPoint (map (numbered_record number) rs) → ByPoint rs
   points_back [] h = tt
-  points_back (x ∷ rs) h = (λ r m. h.0 (numbered_record number r) (m.0, elem_map (numbered_record number) rs m.0 r m.1), points_back rs h.1)
+  points_back (x ∷ rs) h = (λ r m. h.0 (numbered_record number r) (m.0, at_map (numbered_record number) rs m.0 r m.1), points_back rs h.1)
 
   points_forth : (rs : List Record) → ByPoint rs → ByPoint (map (numbered_record number) rs)
   points_forth [] h = tt
-  points_forth (x ∷ rs) h = (λ r m. let q = elem_unmap (numbered_record number) rs m.0 r m.1 in subst (λ (z : Record). x.point < z.point) q.2 (h.0 q.0 (m.0, q.1)), points_forth rs h.1)
+  points_forth (x ∷ rs) h = (λ r m. let q = at_unmap (numbered_record number) rs m.0 r m.1 in subst (λ (z : Record). x.point < z.point) q.2 (h.0 q.0 (m.0, q.1)), points_forth rs h.1)
 
   serial_back : (image : List ℕ) (rs : List Record) → Serial image (map (numbered_record number) rs) → Serial image rs
   serial_back image [] h = tt
@@ -95,15 +95,15 @@ module _ (number : List ℕ → ℕ) where
   history_forth c rs h = record {
     ascending = points_forth rs h.ascending;
     every = λ i w r e m.
-        let v = elem_unmap (numbered_client number) c.clients i w e in
+        let v = at_unmap (numbered_client number) c.clients i w e in
         let n = subst (λ (z : Client). In r z.records) (sym v.2) m in
-        let x = elem_unmap (numbered_record number) v.0.records n.0 r n.1 in
+        let x = at_unmap (numbered_record number) v.0.records n.0 r n.1 in
         let q = h.every i v.0 x.0 v.1 (n.0, x.1) in
-        (q.0, elem_map (numbered_record number) rs q.0 x.0 q.1 ∙ ap some x.2);
+        (q.0, at_map (numbered_record number) rs q.0 x.0 q.1 ∙ ap some x.2);
     only = λ r m.
-        let x = elem_unmap (numbered_record number) rs m.0 r m.1 in
+        let x = at_unmap (numbered_record number) rs m.0 r m.1 in
         let q = h.only x.0 (m.0, x.1) in
-        (q.0, numbered_client number q.1, elem_map (numbered_client number) c.clients q.0 q.1 q.2, (q.3.0, elem_map (numbered_record number) q.1.records q.3.0 x.0 q.3.1 ∙ ap some x.2));
+        (q.0, numbered_client number q.1, at_map (numbered_client number) c.clients q.0 q.1 q.2, (q.3.0, at_map (numbered_record number) q.1.records q.3.0 x.0 q.3.1 ∙ ap some x.2));
   }
 
   -- the records of which these are the ones with numbers
@@ -113,9 +113,9 @@ module _ (number : List ℕ → ℕ) where
   pulled c (r ∷ rs) f =
       let p = pulled c rs (λ x m. f x (suc m.0, m.1)) in
       let q = f r (0, refl) in
-      let v = elem_unmap (numbered_client number) c.clients q.0 q.1 q.2 in
+      let v = at_unmap (numbered_client number) c.clients q.0 q.1 q.2 in
       let n = subst (λ (z : Client). In r z.records) (sym v.2) q.3 in
-      let x = elem_unmap (numbered_record number) v.0.records n.0 r n.1 in
+      let x = at_unmap (numbered_record number) v.0.records n.0 r n.1 in
       (x.0 ∷ p.0, (λ j. x.2 j ∷ p.1 j), λ y m. ⊎_elim (λ e. subst (λ (z : Record). (i : ℕ) × (w : Client) × At c.clients i w × In z w.records) e (q.0, v.0, v.1, (n.0, x.1))) (λ k. p.2 y k) (in_cons x.0 y p.0 m))
 
   -- records that differ at most in their tags, and these are told apart
@@ -144,8 +144,8 @@ module _ (lawful : RecordLaw) (image : List ℕ) (tags : List (List ℕ)) (numbe
           is_history = record {
             ascending = points_back number rs (subst ByPoint (sym p.1) h.ascending);
             every = λ i v r e m.
-                let n = subst (In (numbered_record number r)) (sym p.1) (h.every i (numbered_client number v) (numbered_record number r) (elem_map (numbered_client number) c.clients i v e) (m.0, elem_map (numbered_record number) v.records m.0 r m.1)) in
-                let x = elem_unmap (numbered_record number) rs n.0 (numbered_record number r) n.1 in
+                let n = subst (In (numbered_record number r)) (sym p.1) (h.every i (numbered_client number v) (numbered_record number r) (at_map (numbered_client number) c.clients i v e) (m.0, at_map (numbered_record number) v.records m.0 r m.1)) in
+                let x = at_unmap (numbered_record number) rs n.0 (numbered_record number r) n.1 in
                 (n.0, x.1 ∙ ap some (same_record number tags apart r x.0 (abides i v r e m).1 (sure x.0 (n.0, x.1)).1 x.2));
             only = p.2;
           };

@@ -5,7 +5,7 @@ use native.Mathlib.Decide.{ℕ_discrete}
 use Rattle.stm_words.specs.Image.{In}
 use Rattle.stm_core.specs.Client.{Client, Record, decided, version_of, IsFree, writes_to}
 use Rattle.stm_core.specs.Version.{World, At, IsOpen, Claims, Saw, IsSound, IsKept, Version, IsBooked, Books}
-use Rattle.stm_core.proofs.Lists.{at_set, set_here, set_else, same_at}
+use Rattle.stm_core.proofs.Lists.{at_set, set_here, set_else, same_at, who_set}
 
 module _ (lk : ℕ → ℕ) where
   pub record Heart (s : World) (cs : List Client) : Type 0 where
@@ -32,35 +32,31 @@ module _ (lk : ℕ → ℕ) where
     pub apart_self : (b a x : ℕ) → Claims w b a x → IsOpen w → w.attempt.wv ≤ b → writes_to w.attempt.writes a ≡ false
 
   module _ (s t : World) (cs : List Client) (id : ℕ) (v w : Client) (h : Heart s cs) (at : At cs id v) (g : Turn s t cs id w) where
-    -- who stands at a place now: the client that stepped, or another as it was
-    who : (P : ℕ → Client → Type 0) → P id w → ((i : ℕ) (o : Client) → At cs i o → i ≢ id → P i o) → (i : ℕ) (o : Client) → At (set cs id w) i o → P i o
-    who P mine else i o e = ⊎_elim (λ p. subst (λ c. P i c) p.1 (subst (λ j. P j w) (sym p.0) mine)) (λ p. else i o p.1 p.0) (at_set cs id i w o e)
-
     turned : Version lk t (set cs id w)
     turned = record {
       versions = g.versions;
-      own = λ i j o p e f z same. who (λ n c. 0 < c.attempt.wv → c.attempt.wv ≡ p.attempt.wv → n ≡ j)
-          (λ z' same'. who (λ n c. w.attempt.wv ≡ c.attempt.wv → id ≡ n) (λ _. refl) (λ n c at' ne same''. absurd (g.own n c at' ne z' same'')) j p f same')
-          (λ n c at' ne z' same'. who (λ m d. c.attempt.wv ≡ d.attempt.wv → n ≡ m) (λ e'. absurd (g.own n c at' ne (let q : 0 < w.attempt.wv = subst (λ y. 0 < y) e' z' in q) (sym e'))) (λ m d at'' ne' e'. h.version.own n m c d at' at'' z' e') j p f same')
+      own = λ i j o p e f z same. who_set cs id w (λ n c. 0 < c.attempt.wv → c.attempt.wv ≡ p.attempt.wv → n ≡ j)
+          (λ z' same'. who_set cs id w (λ n c. w.attempt.wv ≡ c.attempt.wv → id ≡ n) (λ _. refl) (λ n c at' ne same''. absurd (g.own n c at' ne z' same'')) j p f same')
+          (λ n c at' ne z' same'. who_set cs id w (λ m d. c.attempt.wv ≡ d.attempt.wv → n ≡ m) (λ e'. absurd (g.own n c at' ne (let q : 0 < w.attempt.wv = subst (λ y. 0 < y) e' z' in q) (sym e'))) (λ m d at'' ne' e'. h.version.own n m c d at' at'' z' e') j p f same')
           i o e z same;
       free = g.free;
       holder = λ k odd. ⊎_elim (λ m. (id, w, set_here cs id v w at, m)) (λ q. (q.0, q.1, set_else cs id q.0 w q.1 q.3 q.2, q.4)) (g.holder k odd);
-      alone = λ i j o p k m n e f a b. who (λ y c. In (k, m) c.attempt.held → y ≡ j)
-          (λ a'. who (λ y c. In (k, n) c.attempt.held → id ≡ y) (λ _. refl) (λ y c at' ne b'. absurd (g.alone y c k n m at' ne b' a')) j p f b)
-          (λ y c at' ne a'. who (λ z d. In (k, n) d.attempt.held → y ≡ z) (λ b'. absurd (g.alone y c k m n at' ne a' b')) (λ z d at'' ne' b'. h.version.alone y z c d k m n at' at'' a' b') j p f b)
+      alone = λ i j o p k m n e f a b. who_set cs id w (λ y c. In (k, m) c.attempt.held → y ≡ j)
+          (λ a'. who_set cs id w (λ y c. In (k, n) c.attempt.held → id ≡ y) (λ _. refl) (λ y c at' ne b'. absurd (g.alone y c k n m at' ne b' a')) j p f b)
+          (λ y c at' ne a'. who_set cs id w (λ z d. In (k, n) d.attempt.held → y ≡ z) (λ b'. absurd (g.alone y c k m n at' ne a' b')) (λ z d at'' ne' b'. h.version.alone y z c d k m n at' at'' a' b') j p f b)
           i o e a;
-      kept = λ i o k u e a. who (λ y c. In (k, u) c.attempt.held → IsKept lk t c k u) (g.kept k u) (λ y c at' ne a'. g.kept_else y c k u at' ne a') i o e a;
-      apart = λ i j o p b a x e f c op le. who (λ y d. Claims d b a x → writes_to p.attempt.writes a ≡ false)
-          (λ c'. who (λ z d. IsOpen d → d.attempt.wv ≤ b → writes_to d.attempt.writes a ≡ false) (λ op' le'. g.apart_self b a x c' op' le') (λ z d at' ne op' le'. g.apart_mine z d b a x at' ne c' op' le') j p f op le)
-          (λ y d at' ne c'. who (λ z q. IsOpen q → q.attempt.wv ≤ b → writes_to q.attempt.writes a ≡ false) (λ op' le'. g.apart_else y d b a x at' ne c' op' le') (λ z q at'' ne' op' le'. h.version.apart y z d q b a x at' at'' c' op' le') j p f op le)
+      kept = λ i o k u e a. who_set cs id w (λ y c. In (k, u) c.attempt.held → IsKept lk t c k u) (g.kept k u) (λ y c at' ne a'. g.kept_else y c k u at' ne a') i o e a;
+      apart = λ i j o p b a x e f c op le. who_set cs id w (λ y d. Claims d b a x → writes_to p.attempt.writes a ≡ false)
+          (λ c'. who_set cs id w (λ z d. IsOpen d → d.attempt.wv ≤ b → writes_to d.attempt.writes a ≡ false) (λ op' le'. g.apart_self b a x c' op' le') (λ z d at' ne op' le'. g.apart_mine z d b a x at' ne c' op' le') j p f op le)
+          (λ y d at' ne c'. who_set cs id w (λ z q. IsOpen q → q.attempt.wv ≤ b → writes_to q.attempt.writes a ≡ false) (λ op' le'. g.apart_else y d b a x at' ne c' op' le') (λ z q at'' ne' op' le'. h.version.apart y z d q b a x at' at'' c' op' le') j p f op le)
           i o e c;
-      sound = λ i o e. who (λ y c. IsSound lk t c) g.sound (λ y c at' ne. g.others y c at' ne) i o e;
+      sound = λ i o e. who_set cs id w (λ y c. IsSound lk t c) g.sound (λ y c at' ne. g.others y c at' ne) i o e;
     }
 
     pub turn_keeps : Heart t (set cs id w)
     turn_keeps = record {
       version = turned;
-      books = record { story = g.story; steady = g.steady; booked = λ i o e. who (λ y c. IsBooked lk t c) g.booked (λ y c at' ne. g.others_booked y c at' ne) i o e };
+      books = record { story = g.story; steady = g.steady; booked = λ i o e. who_set cs id w (λ y c. IsBooked lk t c) g.booked (λ y c at' ne. g.others_booked y c at' ne) i o e };
     }
 
   -- a step that changes no word, and neither locks nor versions nor writes
