@@ -1,35 +1,162 @@
--- What a command line may ask for.
-use Rattle.std.specs.Prelude.{◌≡◌, ℕ, List, Some, codes, true}
-use Rattle.std.specs.Str.Parse.{digits_value, without_leading_plus}
-use Rattle.clap.specs.Words.{found_of, one_text}
-use Rattle.clap.specs.declared.parser.matches.ArgMatches.{ArgMatches}
+-- The command line that the program takes, in clap's terms, and what its words ask for.
+use Rattle.std.specs.Prelude.{◌≡◌, ℕ, pos, ◌≤◌, ◌⊎◌, Bool, true, false, List, [], ◌∷◌, ◌++◌, Some, codes}
+use Rattle.std.specs.Str.Parse.{IsNumeral, digits_value, without_leading_plus}
+use Rattle.clap.specs.Simple.{new_shape}
+use Rattle.clap.specs.Values.{bool_text}
+use Rattle.clap.specs.Walk.{one_of}
+use Rattle.clap.specs.Words.{App, Shape, Rule, Row, Text, app_of, new_rule, rule_of, subcommand_of}
+use Rattle.clap.specs.Words.{with_rule}
+use Rattle.clap.specs.declared.builder.action.ArgAction.TheVariants.{SetTrue}
+use Rattle.clap.specs.declared.builder.arg.Arg.{Arg}
+use Rattle.clap.specs.declared.builder.command.Command.{Command}
+use Rattle.clap.specs.declared.builder.command.Command.TheViews.{out-Command}
+use Rattle.clap.specs.declared.builder.value_parser.ValueParser.TheVariants as parser
+use Rattle.vac_model.specs.declared.limits.TheConstants.{MOST_BLOCKS, MOST_PARTS}
+use Rattle.vac_load.specs.declared.settings.TheConstants.{MOST_CLIENTS, MOST_TASKS, MOST_ITEMS}
+use Rattle.vac_load.specs.declared.settings.TheConstants.{MOST_ROUNDS, PERCENT}
 use Rattle.vac_load.specs.declared.settings.Settings.{Settings}
-use Rattle.vac_cli.specs.declared.system.TheConstants.{LAST_VERSION}
+use Rattle.vac_manager.specs.declared.manager.TheConstants.{MOST_TRIES}
 use Rattle.vac_manager.specs.Opening.{is_block_count}
-use Rattle.vac_cli.specs.declared.command_line.Asked.{Asked}
-use Rattle.vac_cli.specs.declared.command_line.Asked.TheVariants.{Run, Dump, Check, Load}
+use Rattle.vac_cli.specs.declared.system.TheConstants.{LAST_VERSION}
+use Rattle.vac_cli.specs.declared.asked.Asked.{Asked}
+use Rattle.vac_cli.specs.declared.asked.Asked.TheVariants.{Run, Dump, Check, Load}
 
--- the number of blocks that it names is in its range; a load looks at its settings itself
-abbrev pub IsInRange : Asked → Type 0
-IsInRange (Run blocks) = is_block_count blocks ≡ true
-IsInRange (Dump blocks) = is_block_count blocks ≡ true
-IsInRange Check = Unit {0}
-IsInRange (Load settings tells) = Unit {0}
+-- ---- what the program takes
 
--- the command line gives this number for an option, or its default does: the text's digits write it
-abbrev pub Gives : ArgMatches → List ℕ → ℕ → Type 0
-Gives m option n = (text : List ℕ) × (one_text (found_of m) option ≡ Some text)
-    × (digits_value 10 (without_leading_plus text) ≡ n)
+-- an option `--name N` of a whole number in a range, and the number that it is where it is not given
+abbrev pub number_option : Text → ℕ → ℕ → Text → Rule
+number_option name least most default = record (new_rule name) {
+  long = Some name;
+  value_names = 1;
+  parser = Some (parser.Signed (pos least) (pos most));
+  defaults = default ∷ [];
+}
+
+abbrev pub blocks_option : Rule
+blocks_option = number_option (codes "blocks") 1 MOST_BLOCKS (codes "1024")
+
+-- the option of the seed, any number of 64 bits
+abbrev pub seed_option : Rule
+seed_option = record (new_rule (codes "seed")) {
+  long = Some (codes "seed");
+  value_names = 1;
+  parser = Some (parser.Unsigned 0 18446744073709551615);
+  defaults = codes "1" ∷ [];
+}
+
+abbrev pub progress_flag : Rule
+progress_flag = record (new_rule (codes "progress")) {
+  long = Some (codes "progress");
+  action = Some SetTrue;
+}
+
+-- the options of a load that say how many clients ask how often
+abbrev pub client_options : List Rule
+client_options = number_option (codes "clients") 1 MOST_CLIENTS (codes "4")
+    ∷ number_option (codes "tasks") 1 MOST_TASKS (codes "100")
+    ∷ number_option (codes "rounds") 1 MOST_ROUNDS (codes "1")
+    ∷ number_option (codes "tries") 1 MOST_TRIES (codes "64") ∷ progress_flag ∷ []
+
+-- those that say what the tasks are
+abbrev pub task_options : List Rule
+task_options = number_option (codes "items") 1 MOST_ITEMS (codes "16")
+    ∷ number_option (codes "asks") 1 MOST_PARTS (codes "4")
+    ∷ number_option (codes "user") 0 PERCENT (codes "80") ∷ seed_option ∷ blocks_option ∷ []
+
+-- a subcommand with these options
+abbrev pub with_options : Text → List Rule → Shape
+with_options name options = record (new_shape name) { rules = options }
+
+abbrev pub load_command : Shape
+load_command = with_options (codes "load") (client_options ++ task_options)
+
+-- the program and its subcommands, of which one must be named
+abbrev pub vacation : App
+vacation = record {
+  top = record (new_shape (codes "vacation")) { is_leaf = false; subcommand_required = true };
+  subs = with_options (codes "run") (blocks_option ∷ [])
+      ∷ with_options (codes "dump") (blocks_option ∷ []) ∷ with_options (codes "check") []
+      ∷ load_command ∷ [];
+}
+
+-- ---- how it is made
+
+-- the argument is this option, and one of its own command alone
+pub record IsOption (a : Arg) (option : Rule) : Type 0 where
+  pub rule : rule_of a ≡ option
+  pub own : a.global ≡ false
+
+-- the command is this one, and has no subcommand
+pub record IsCommand (c : Command) (s : Shape) : Type 0 where
+  pub app : app_of c ≡ record { top = s; subs = [] }
+  pub own : (out-Command c).has_globals ≡ false
+
+-- a command with options more
+abbrev pub with_rules : App → List Rule → App
+with_rules a [] = a
+with_rules a (option ∷ options) = with_rules (with_rule a option) options
+
+-- these options were added to a command
+pub record AddsOptions (before : Command) (options : List Rule) (after : Command) : Type 0 where
+  pub app : app_of after ≡ with_rules (app_of before) options
+  pub own : (out-Command after).has_globals ≡ (out-Command before).has_globals
+
+-- ---- what its words ask for
+
+-- what clap found for an option writes this number in decimal
+pub record Gives (rows : List Row) (option : Text) (n : ℕ) : Type 0 where
+  pub text : Text
+  pub one : one_of option rows ≡ Some text
+  pub numeral : IsNumeral 10 (without_leading_plus text)
+  pub value : digits_value 10 (without_leading_plus text) ≡ n
+
+-- it writes a number in this range
+pub record GivesIn (rows : List Row) (option : Text) (least most : ℕ) : Type 0 where
+  pub number : ℕ
+  pub given : Gives rows option number
+  pub low : least ≤ number
+  pub high : number ≤ most
+
+-- it says whether the flag is set
+abbrev pub Tells : List Row → Bool → Type 0
+Tells rows tells = one_of (codes "progress") rows ≡ Some (bool_text tells)
+
+-- each option of a load gives a number in its range, and the flag is set or not
+pub record HasSettings (rows : List Row) : Type 0 where
+  pub clients : GivesIn rows (codes "clients") 1 MOST_CLIENTS
+  pub tasks : GivesIn rows (codes "tasks") 1 MOST_TASKS
+  pub items : GivesIn rows (codes "items") 1 MOST_ITEMS
+  pub asks : GivesIn rows (codes "asks") 1 MOST_PARTS
+  pub user : GivesIn rows (codes "user") 0 PERCENT
+  pub seed : GivesIn rows (codes "seed") 0 18446744073709551615
+  pub blocks : GivesIn rows (codes "blocks") 1 MOST_BLOCKS
+  pub tries : GivesIn rows (codes "tries") 1 MOST_TRIES
+  pub rounds : GivesIn rows (codes "rounds") 1 MOST_ROUNDS
+  pub tells : Tells rows true ⊎ Tells rows false
 
 -- each setting is what the option of its name gives
-pub record AreGiven (m : ArgMatches) (s : Settings) : Type 0 where
-  pub clients : Gives m (codes "clients") s.clients
-  pub tasks : Gives m (codes "tasks") s.tasks
-  pub items : Gives m (codes "items") s.items
-  pub asks : Gives m (codes "asks") s.asks
-  pub user : Gives m (codes "user") s.user
-  pub seed : Gives m (codes "seed") s.seed
-  pub blocks : Gives m (codes "blocks") s.blocks
-  pub tries : Gives m (codes "tries") s.tries
+pub record AreGiven (rows : List Row) (s : Settings) : Type 0 where
+  pub clients : Gives rows (codes "clients") s.clients
+  pub tasks : Gives rows (codes "tasks") s.tasks
+  pub items : Gives rows (codes "items") s.items
+  pub asks : Gives rows (codes "asks") s.asks
+  pub user : Gives rows (codes "user") s.user
+  pub seed : Gives rows (codes "seed") s.seed
+  pub blocks : Gives rows (codes "blocks") s.blocks
+  pub tries : Gives rows (codes "tries") s.tries
   pub last : s.last ≡ LAST_VERSION
-  pub rounds : Gives m (codes "rounds") s.rounds
+  pub rounds : Gives rows (codes "rounds") s.rounds
+
+-- the words name this subcommand, and clap found this for its options
+abbrev pub Names : List Text → Text → List Row → Type 0
+Names words name rows = subcommand_of vacation words ≡ Some (name, rows)
+
+-- what the words ask for
+abbrev pub AsksFor : List Text → Asked → Type 0
+AsksFor words (Run blocks) = (rows : List Row) × Names words (codes "run") rows
+    × Gives rows (codes "blocks") blocks × (is_block_count blocks ≡ true)
+AsksFor words (Dump blocks) = (rows : List Row) × Names words (codes "dump") rows
+    × Gives rows (codes "blocks") blocks × (is_block_count blocks ≡ true)
+AsksFor words Check = (rows : List Row) × Names words (codes "check") rows
+AsksFor words (Load settings tells) = (rows : List Row) × Names words (codes "load") rows
+    × AreGiven rows settings × Tells rows tells

@@ -2,6 +2,7 @@ pub mod Script
 pub mod System
 pub mod Dump
 pub mod CommandLine
+pub mod Program
 pub mod Load
 pub mod Check
 pub mod Reading

@@ -1,13 +1,14 @@
 //! The audit of words that are read as text.
 
-ghost use Rattle.std.specs.Prelude.{◌≡◌, ◌≢◌, ◌≤◌, ◌++◌, ◌⊎◌, true, false, OnOk, OnErr, IfOk, IfErr};
+ghost use Rattle.std.specs.Prelude.{◌≡◌, ◌≢◌, ◌++◌, OnOk, OnErr, IfOk, IfErr};
 ghost use Rattle.vac_cli.specs.declared.script.RunFault.TheVariants.{Busy, Spent};
 ghost use Rattle.vac_cli.specs.Check.{flaw_name, flaw_text, verdict_text, is_sound};
 ghost use Rattle.vac_cli.specs.Check.{Judged, IsVerdict, Checked, CheckStopped};
-ghost use Rattle.vac_cli.specs.Ending.{NamedAfter};
+ghost use Rattle.vac_cli.specs.Program.{Does};
 ghost use Rattle.vac_check.specs.Laws.{word_of};
 ghost use Rattle.vac_lines.specs.Script.{as_line};
 
+use crate::asked::Asked;
 use crate::memory::read_memory;
 use crate::script::{RunFault, write_all};
 use crate::status::{DONE, FAULT, end_by};
@@ -154,13 +155,8 @@ pub fn check_words<R: Read, W: Write>(
 
 /// Audits words, and answers the status: 0 where they are those of a balanced state.
 pub(crate) fn check<R: Read, W: Write>(alloc: Global, input: &mut R, output: &mut W) -> u8
-    ensures status { result ≤ 1 }
-    ensures done { result ≡ 0 → Checked true (R.remaining input.old) (R.remaining input.new)
+    ensures { Does Asked.Check result (R.remaining input.old) (R.remaining input.new)
         (W.contents output.old) (W.contents output.new) }
-    ensures stopped { result ≡ 1 → Checked false (R.remaining input.old) (R.remaining input.new)
-        (W.contents output.old) (W.contents output.new)
-        ⊎ NamedAfter (λ held. CheckStopped (R.remaining input.old) (R.remaining input.new)
-        (W.contents output.old) held) (W.contents output.new) }
 {
     match check_words(alloc, input, output) {
         Ok(true) => DONE,

@@ -1,11 +1,13 @@
 //! Scripts over streams, and the program's command line.
 #![tactic(auto)]
 
+mod asked;
 mod check;
 mod command_line;
 mod dump;
 mod load;
 mod memory;
+mod options;
 mod script;
 mod status;
 mod system;

@@ -4,7 +4,8 @@ ghost use Rattle.std.specs.Prelude.{◌≡◌, ◌≤◌, ◌++◌, ◌↔◌, �
 ghost use Rattle.vac_load.specs.Setting.{is_settings};
 ghost use Rattle.vac_load.specs.Streams.{LoadedBySeed};
 ghost use Rattle.vac_cli.specs.Load.{count_text, tried_text, wanting_text};
-ghost use Rattle.vac_cli.specs.Load.{tally_text, load_text, WroteLoad, NamedFault, LoadStopped};
+ghost use Rattle.vac_cli.specs.Load.{tally_text, load_text, NamedFault};
+ghost use Rattle.vac_cli.specs.Program.{Loads};
 ghost use Rattle.std.specs.Io.KnownBytes.{Appends};
 ghost use Rattle.vac_cli.specs.Ending.{load_fault_line};
 ghost use Rattle.vac_lines.specs.Script.{as_line};
@@ -32,14 +33,7 @@ pub(crate) fn load<T: Threads + Wait + Clock + Sync + AllocGlobal, W: Write, E: 
     output: &mut W,
     errors: &mut E,
 ) -> u8
-    ensures status { result ≤ 2 }
-    ensures done { result ≡ 0 → WroteLoad settings.now
-        (W.contents output.old) (W.contents output.new) }
-    ensures stopped { result ≡ 1 → LoadStopped settings.now
-        (W.contents output.old) (W.contents output.new) }
-    ensures refused { (result ≡ 2) ↔ (is_settings settings.now ≡ false) }
-    ensures line { result ≡ 2 → AppendsPrefix (W.contents output.old) (W.contents output.new)
-        (load_fault_line LoadFault.Arguments) }
+    ensures { Loads result settings.now (W.contents output.old) (W.contents output.new) }
 {
     let loaded = if tells {
         run_load_told(rt, settings, errors)

@@ -1,0 +1,77 @@
+-- What the program does with a command line: its status, and what it reads and writes.
+use Rattle.std.specs.Prelude.{◌≡◌, ℕ, ◌≤◌, ◌⊎◌, true, false, Option, List, []}
+use Rattle.std.specs.Io.KnownBytes.{Appends}
+use Rattle.clap.specs.Words.{IsAmong, Text, fault_of}
+use Rattle.clap.specs.declared.error.kind.ErrorKind.{ErrorKind}
+use Rattle.clap.specs.declared.error.kind.ErrorKind.TheVariants as error
+use Rattle.vac_load.specs.declared.settings.Settings.{Settings}
+use Rattle.vac_load.specs.Setting.{is_settings}
+use Rattle.vac_load.specs.declared.load.LoadFault.TheVariants.{Arguments}
+use Rattle.vac_cli.specs.declared.asked.Asked.{Asked}
+use Rattle.vac_cli.specs.declared.asked.Asked.TheVariants.{Run, Dump, Check, Load}
+use Rattle.vac_cli.specs.declared.script.RunFault.TheVariants.{Memory}
+use Rattle.vac_cli.specs.Script.{AppendsPrefix, WroteAll, WrotePrefix}
+use Rattle.vac_cli.specs.Dump.{Dumped, DumpStopped}
+use Rattle.vac_cli.specs.Check.{Checked, CheckStopped}
+use Rattle.vac_cli.specs.Load.{WroteLoad, LoadStopped}
+use Rattle.vac_cli.specs.Ending.{NamedAfter, fault_line, load_fault_line}
+use Rattle.vac_cli.specs.CommandLine.{vacation, AsksFor}
+
+-- status 0 where this was done, 1 where that stopped it
+abbrev pub Ends : ℕ → Type 0 → Type 0 → Type 0
+Ends status done stopped = ((status ≡ 0) × done) ⊎ ((status ≡ 1) × stopped)
+
+-- a load is run where its settings fit each other; where they do not, the command line is refused
+abbrev pub Loads : ℕ → Settings → Option (List ℕ) → Option (List ℕ) → Type 0
+Loads status s held holds =
+    ((is_settings s ≡ true) × Ends status (WroteLoad s held holds) (LoadStopped s held holds))
+    ⊎ ((is_settings s ≡ false) × (status ≡ 2) × AppendsPrefix held holds (load_fault_line Arguments))
+
+-- what the program does where its words ask for this
+abbrev pub Does : Asked → ℕ → Option (List ℕ) → Option (List ℕ) → Option (List ℕ)
+    → Option (List ℕ) → Type 0
+Does (Run blocks) status unread left held holds =
+    Ends status (WroteAll blocks unread left held holds)
+    (NamedAfter (WrotePrefix blocks unread left held) holds)
+Does (Dump blocks) status unread left held holds =
+    Ends status (Dumped blocks unread left held holds)
+    (NamedAfter (DumpStopped blocks unread left held) holds)
+Does Check status unread left held holds =
+    Ends status (Checked true unread left held holds)
+    (Checked false unread left held holds ⊎ NamedAfter (CheckStopped unread left held) holds)
+Does (Load settings tells) status unread left held holds =
+    (left ≡ unread) × Loads status settings held holds
+
+-- what it shows of an error of this kind: the fault where memory was refused, help on the output,
+-- and nothing on the output where the words are refused
+abbrev pub Shows : ErrorKind → ℕ → Option (List ℕ) → Option (List ℕ) → Type 0
+Shows error.OutOfMemory status held holds =
+    (status ≡ 1) × AppendsPrefix held holds (fault_line Memory)
+Shows error.DisplayHelp status held holds =
+    (status ≤ 1) × ((text : List ℕ) × Appends held holds text)
+Shows error.DisplayVersion status held holds =
+    (status ≤ 1) × ((text : List ℕ) × Appends held holds text)
+Shows kind status held holds = (status ≡ 2) × (holds ≡ held)
+
+-- clap takes the words, and what they ask for was done
+pub record Obeyed (words : List Text) (status : ℕ) (unread left held holds : Option (List ℕ)) :
+    Type 0 where
+  pub taken : fault_of vacation words ≡ []
+  pub asked : Asked
+  pub asks : AsksFor words asked
+  pub done : Does asked status unread left held holds
+
+-- memory was refused, or clap does not take the words: what it says of them was shown, and nothing
+-- was read
+pub record Answered (words : List Text) (status : ℕ) (unread left held holds : Option (List ℕ)) :
+    Type 0 where
+  pub kind : ErrorKind
+  pub why : (kind ≡ error.OutOfMemory) ⊎ IsAmong kind (fault_of vacation words)
+  pub unused : left ≡ unread
+  pub shown : Shows kind status held holds
+
+-- what the program does with the words of a command line
+abbrev pub Serves : List Text → ℕ → Option (List ℕ) → Option (List ℕ) → Option (List ℕ)
+    → Option (List ℕ) → Type 0
+Serves words status unread left held holds =
+    Obeyed words status unread left held holds ⊎ Answered words status unread left held holds
