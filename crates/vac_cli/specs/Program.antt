@@ -63,7 +63,7 @@ pub record Obeyed (words : List Text) (status : ℕ) (unread left held holds : O
 
 -- memory was refused, or clap does not take the words: what it says of them was shown, and nothing
 -- was read
-pub record Answered (words : List Text) (status : ℕ) (unread left held holds : Option (List ℕ)) :
+pub record Explained (words : List Text) (status : ℕ) (unread left held holds : Option (List ℕ)) :
     Type 0 where
   pub kind : ErrorKind
   pub why : (kind ≡ error.OutOfMemory) ⊎ IsAmong kind (fault_of vacation words)
@@ -74,4 +74,4 @@ pub record Answered (words : List Text) (status : ℕ) (unread left held holds :
 abbrev pub Serves : List Text → ℕ → Option (List ℕ) → Option (List ℕ) → Option (List ℕ)
     → Option (List ℕ) → Type 0
 Serves words status unread left held holds =
-    Obeyed words status unread left held holds ⊎ Answered words status unread left held holds
+    Obeyed words status unread left held holds ⊎ Explained words status unread left held holds
