@@ -1,5 +1,6 @@
 -- The command line that the program takes, in clap's terms, and what its words ask for.
-use Rattle.std.specs.Prelude.{◌≡◌, ℕ, pos, ◌≤◌, ◌⊎◌, Bool, true, false, List, [], ◌∷◌, ◌++◌, Some, codes}
+use Rattle.std.specs.Prelude.{◌≡◌, ℕ, pos, ◌≤◌, ◌⊎◌, Bool, true, false, Some, codes}
+use Rattle.std.specs.Prelude.{List, [], ◌∷◌, ◌++◌}
 use Rattle.std.specs.Str.Parse.{IsNumeral, digits_value, without_leading_plus}
 use Rattle.clap.specs.Simple.{new_shape}
 use Rattle.clap.specs.Values.{bool_text}
@@ -23,7 +24,7 @@ use Rattle.vac_cli.specs.declared.asked.Asked.TheVariants.{Run, Dump, Check, Loa
 
 -- ---- what the program takes
 
--- an option `--name N` of a whole number in a range, and the number that it is where it is not given
+-- an option `--name N` of a whole number in a range, and its default
 abbrev pub number_option : Text → ℕ → ℕ → Text → Rule
 number_option name least most default = record (new_rule name) {
   long = Some name;

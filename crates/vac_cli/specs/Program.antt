@@ -25,7 +25,8 @@ Ends status done stopped = ((status ≡ 0) × done) ⊎ ((status ≡ 1) × stopp
 abbrev pub Loads : ℕ → Settings → Option (List ℕ) → Option (List ℕ) → Type 0
 Loads status s held holds =
     ((is_settings s ≡ true) × Ends status (WroteLoad s held holds) (LoadStopped s held holds))
-    ⊎ ((is_settings s ≡ false) × (status ≡ 2) × AppendsPrefix held holds (load_fault_line Arguments))
+    ⊎ ((is_settings s ≡ false) × (status ≡ 2)
+    × AppendsPrefix held holds (load_fault_line Arguments))
 
 -- what the program does where its words ask for this
 abbrev pub Does : Asked → ℕ → Option (List ℕ) → Option (List ℕ) → Option (List ℕ)

@@ -1,6 +1,7 @@
 //! What a command line asks for.
 
-ghost use Rattle.std.specs.Prelude.{◌≡◌, ◌<◌, ◌⊎◌, ◌^◌, ℕ, true, false, Some, List, map, string_bytes, codes, IfOk, IfSome, IsSome};
+ghost use Rattle.std.specs.Prelude.{◌≡◌, ◌<◌, ◌⊎◌, ◌^◌, ℕ, true, false, Some, List, map};
+ghost use Rattle.std.specs.Prelude.{string_bytes, codes, IfOk, IfSome, IsSome};
 ghost use Rattle.clap.specs.Words.{FailsBy, Row, fault_of, found_of, rows_of};
 ghost use Rattle.clap.specs.Words.{subcommand_of, subcommand_rows_of};
 ghost use Rattle.vac_model.specs.declared.limits.TheConstants.{MOST_BLOCKS};
@@ -47,8 +48,8 @@ fn named<'b, 'a>(matches: &'b ArgMatches<'a>, name: &str) -> Option<&'b ArgMatch
 
 /// The number that an option gives, or its default.
 fn number_of(matches: &ArgMatches, option: &str) -> u32
-    requires { (least : ℕ) × (most : ℕ) × GivesIn (rows_of (found_of matches.now)) option.now least most
-        × (most < 2 ^ 32) }
+    requires { (least : ℕ) × (most : ℕ) × (most < 2 ^ 32)
+        × GivesIn (rows_of (found_of matches.now)) option.now least most }
     ensures { Gives (rows_of (found_of matches.now)) option.now result }
 {
     match matches.get_one::<u32>(option) {
