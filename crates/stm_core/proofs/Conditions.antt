@@ -9,7 +9,7 @@ use Rattle.stm_words.specs.declared.version.TheConstants.{VERSION_LIMIT}
 use Rattle.stm_core.specs.Client.{Attempt, Client, Phase, running, ending, committed, Step, probed, fetched, version_of, IsFree, is_free, is_committed, writes_to, old_version, RecordLaw}
 use Rattle.stm_core.specs.Event.{Action, begin, probe, fetch, check, lock, tick, validate, put, release, give_back, finish, Bounds, is_empty, gone}
 use Rattle.stm_core.specs.Guards.{Holds, is_running, may_end, is_reading, has_probed, has_found_free, has_fetched, is_map, may_write, is_next, are_stored, may_act, MayAct, IsLawful}
-use Rattle.stm_core.specs.Core.{Core, bounds_of, client_of, Event, acts, splits, gathers, renews, is_out, are_spent, others_spent, Allowed, MakesLawful}
+use Rattle.stm_core.specs.Core.{Core, bounds_of, client_of, Event, acts, splits, gathers, renews, is_out, are_spent, others_spent, may_play, may_run, has_number, Allowed, MakesLawful}
 use Rattle.stm_core.specs.Theorem.{free_law}
 use Rattle.stm_core.specs.declared.limits.TheConstants.{MOST_CLIENTS, MOST_RENEWALS, MOST_TICKS}
 use Rattle.stm_core.proofs.Lists.{clash, nothing_in, by_bool, in_range}
@@ -79,7 +79,7 @@ module _ (lawful : RecordLaw) (lk : ℕ → ℕ) where
   abbrev pub CanPlay : Event → Core → Type 0
   CanPlay (acts k e) c = IsOut c k × CanAct (bounds_of c) e (client_of c k).attempt
   CanPlay (splits k) c =
-      IsOut c k × ((client_of c k).attempt.held ≡ []) × (0 < (client_of c k).grants) × (length c.clients < MOST_CLIENTS)
+      IsOut c k × ((client_of c k).attempt.held ≡ []) × (0 < (client_of c k).grants)
   CanPlay (gathers k j) c =
       IsOut c k × IsOut c j × (k ≢ j) × ((client_of c k).attempt.held ≡ []) × ((client_of c j).attempt.held ≡ [])
   CanPlay (renews k last) c =
@@ -314,12 +314,26 @@ module _ (lawful : RecordLaw) (lk : ℕ → ℕ) where
       let p = (and2 (out_test c k) (bool_test (may_act lk (bounds_of c) e (client_of c k).attempt))).sound h.0 in
       (p.0, can_act lk lawful (bounds_of c) (client_of c k).attempt e (p.1, h.1))
   can_play (splits k) c h =
-      (and4 (out_test c k) (empty_test (client_of c k).attempt.held) (lt_test 0 (client_of c k).grants) (lt_test (length c.clients) MOST_CLIENTS)).sound h.0
+      (and3 (out_test c k) (empty_test (client_of c k).attempt.held) (lt_test 0 (client_of c k).grants)).sound h.0
   can_play (gathers k j) c h =
       (and5 (out_test c k) (out_test c j) (not_test (eq_test k j)) (empty_test (client_of c k).attempt.held) (empty_test (client_of c j).attempt.held)).sound h.0
   can_play (renews k last) c h =
       let p = (and2 (and5 (out_test c k) (empty_test (client_of c k).attempt.held) (bool_test (others_spent c.clients (k - 1))) (le_test 1 last) (lt_test last VERSION_LIMIT)) (lt_test c.renewal MOST_RENEWALS)).sound h.0 in
       (p.0.0, p.0.1, others_alone c.clients (k - 1) p.0.2, p.0.3, p.0.4, p.1)
+
+-- what the running core plays may happen, and has its number
+pub run_test : (lk : ℕ → ℕ) (e : Event) (c : Core) → Decides (may_run lk e c) ((may_play lk e c ≡ true) × (has_number e c ≡ true))
+run_test lk (splits k) c = and2 (bool_test (may_play lk (splits k) c)) (bool_test (nat_lt (length c.clients) MOST_CLIENTS))
+run_test lk (acts k e) c = record { sound = λ h. (h, refl); complete = λ h. h.0 }
+run_test lk (gathers k j) c = record { sound = λ h. (h, refl); complete = λ h. h.0 }
+run_test lk (renews k last) c = record { sound = λ h. (h, refl); complete = λ h. h.0 }
+
+pub may_of_run : (lk : ℕ → ℕ) (e : Event) (c : Core) → may_run lk e c ≡ true → may_play lk e c ≡ true
+may_of_run lk e c h = ((run_test lk e c).sound h).0
+
+-- a split has its number where there are fewer clients than numbers
+pub numbered_split : (c : Core) (k : ℕ) → length c.clients < MOST_CLIENTS → has_number (splits k) c ≡ true
+numbered_split c k l = (lt_test (length c.clients) MOST_CLIENTS).complete l
 
 -- every record is lawful for the law that allows all
 pub free_act : (e : Action) (t : Attempt) → IsLawful free_law e t

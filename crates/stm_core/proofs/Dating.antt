@@ -86,7 +86,7 @@ placed_in r (y ∷ l) = go (ltb r.point y.point) (placed_in r l)
     go true i = (0, refl)
     go false i = (suc i.0, i.1)
 
-placed_old : (r : Record) (l : List Record) (x : Record) → In x l → In x (placed r l)
+pub placed_old : (r : Record) (l : List Record) (x : Record) → In x l → In x (placed r l)
 placed_old r [] x i = absurd (nothing_in x i)
 placed_old r (y ∷ l) x i = go (ltb r.point y.point) (in_cons y x l i) (λ h. placed_old r l x h)
   where

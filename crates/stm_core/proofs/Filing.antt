@@ -8,7 +8,7 @@ use Rattle.stm_words.specs.Image.{In}
 use Rattle.stm_core.specs.Client.{Client, Record, decided, RecordLaw}
 use Rattle.stm_core.specs.Version.{At, IsOpen}
 use Rattle.stm_core.specs.Records.{IsTold, IsFiled, Filed, HasWriter}
-use Rattle.stm_core.proofs.Lists.{at_set, set_here, set_else, same_at, at_longer, at_snoc, in_range, who_set}
+use Rattle.stm_core.proofs.Lists.{set_here, set_else, same_at, at_longer, at_snoc, in_range, who_set}
 
 module _ (lawful : RecordLaw) (size renewal : ℕ) where
   -- one record where the story has changed at other versions

@@ -6,13 +6,13 @@ use Rattle.std.proofs.lemmas.Bool.Decides.{nat_tests}
 use Rattle.std.proofs.lemmas.List.{length-replicate}
 use Rattle.stm_words.specs.Image.{In}
 use Rattle.stm_core.specs.Client.{shed, Client, Record, Stamp, checked, locked, ticked, validated, version_of, word_before, value_fetched, writes_to, old_version, is_committed}
-use Rattle.stm_core.specs.Event.{Action, begin, check, lock, tick, validate, release, give_back, committed_by, stepping, failing, read_too, holding, versioned, decides_at_once, won, passes, passing, after, giving, fresh, taking, renewing, gone, with_ticks, marking, counting}
+use Rattle.stm_core.specs.Event.{decision, Action, begin, check, lock, tick, validate, release, give_back, committed_by, stepping, failing, read_too, holding, versioned, decides_at_once, won, passes, passing, after, giving, fresh, taking, renewing, gone, with_ticks, marking, counting}
 use Rattle.stm_core.specs.History.{ByPoint}
-use Rattle.stm_core.specs.Core.{Core, bounds_of, found, left, written, Event, acts, splits, gathers, renews, Allowed, client_of, played, Leads, opened, is_out, are_spent, others_spent, may_play}
+use Rattle.stm_core.specs.Core.{stamp_of, Core, bounds_of, found, left, written, Event, acts, splits, gathers, renews, Allowed, client_of, played, Leads, opened, is_out, are_spent, others_spent, may_run, has_number, may_play}
 use Rattle.stm_core.specs.Theorem.{stripe_of, free_law, IsHistory}
 use Rattle.stm_core.specs.Invariant.{Inv, now, Rule}
 use Rattle.stm_core.specs.Seat.{blank, seat_after}
-use Rattle.stm_core.specs.Running.{Running, IsSane, stripes_of, decision, entered, stamp_of, run_acts, run_played, run_opened, found_of, shown, ran}
+use Rattle.stm_core.specs.Running.{Running, IsSane, stripes_of, entered, run_acts, run_played, run_opened, found_of, shown, ran}
 use Rattle.stm_core.specs.Placing.{Placed}
 use Rattle.stm_core.specs.Follows.{IsOrderOf, IsReached, FollowsCore, RunningFollows}
 use Rattle.stm_core.proofs.Lists.{clash, nothing_in, by_bool}
@@ -22,7 +22,7 @@ use Rattle.stm_core.proofs.Playing.{filed, earlier_after, history_after, Beside,
 use Rattle.stm_core.proofs.Dating.{placed, placed_in}
 use Rattle.stm_core.proofs.Placing.{order_of, as_kept, decision_shown, entered_order, one_history}
 use Rattle.stm_core.proofs.Facts.{grants_of_two}
-use Rattle.stm_core.proofs.Conditions.{can_play, free_event, out_test}
+use Rattle.stm_core.proofs.Conditions.{run_test, can_play, free_event, out_test}
 use Rattle.stm_core.specs.Guards.{may_act}
 
 get_map : (l : List Client) (i : ℕ) → get_or (map blank l) i gone ≡ blank (get_or l i gone)
@@ -132,7 +132,7 @@ may_shown lk (acts k e) c = rw (out_shown c k, client_shown c k) (ap (λ b. is_o
     same : (e : Action) → may_act lk (bounds_of c) e (blank (client_of c k)).attempt ≡ may_act lk (bounds_of c) e (client_of c k).attempt
     same begin = refl
     same _ = refl
-may_shown lk (splits k) c = rw (out_shown c k, client_shown c k, map_length c.clients) refl
+may_shown lk (splits k) c = rw (out_shown c k, client_shown c k) refl
 may_shown lk (gathers k j) c = rw (out_shown c k, out_shown c j, client_shown c k, client_shown c j) refl
 may_shown lk (renews k last) c = rw (out_shown c k, client_shown c k, others_shown c.clients (k - 1)) refl
   where
@@ -144,6 +144,10 @@ may_shown lk (renews k last) c = rw (out_shown c k, client_shown c k, others_sho
     others_shown [] i = refl
     others_shown (v ∷ vs) zero = are_shown vs
     others_shown (v ∷ vs) (suc i) = ap (λ b. v.spent && b) (others_shown vs i)
+
+number_shown : (e : Event) (c : Core) → has_number e (shown c) ≡ has_number e c
+number_shown (splits k) c = rw (map_length c.clients) refl
+number_shown _ c = refl
 
 locks_stay : (lk : ℕ → ℕ) (e : Event) (c : Core) → length (played lk e c).locks ≡ length c.locks
 locks_stay lk (acts k begin) c = refl
@@ -232,7 +236,7 @@ runs_next : (e : Event) (old h : List Record) (s : Running) (c : Core) → RunsB
 runs_next e old h s c b may =
     let g = event_beside free_law (stripes_of c) c e old h b.beside (can_play free_law (stripes_of c) e c may) in record {
       shows = play_shown e c s b.shows;
-      orders = play_order e c s old h b.shows (is_history (stripes_of c) c old h b.beside).ascending b.orders (λ x y m n. g.dated.old_before x y m n);
+      orders = play_order e c s old h b.shows (is_history free_law (stripes_of c) c old h b.beside).ascending b.orders (λ x y m n. g.dated.old_before x y m n);
       beside = subst (λ m. Beside free_law (stripe_of m) (earlier_after e old h) (history_after (stripes_of c) e c h) (played (stripes_of c) e c)) (sym (locks_stay (stripes_of c) e c)) g;
     }
 
@@ -245,7 +249,7 @@ ran_beside (a ∷ es) old h s c d b e =
 -- what stands beside a history has it for its order
 order_beside : (old h : List Record) (s : Running) (c : Core) → RunsBeside old h s c → IsOrderOf c s.order.entries s.order.points
 order_beside old h s c b =
-    let own : IsHistory c (old ++ h) = is_history (stripes_of c) c old h b.beside in
+    let own : IsHistory c (old ++ h) = is_history free_law (stripes_of c) c old h b.beside in
     record { history = old ++ h; is_history = own; only = λ rs i. one_history c rs (old ++ h) i own; listed = ap (λ (o : Placed). o.entries) b.orders; dated = ap (λ (o : Placed). o.points) b.orders }
 
 pub running_follows : RunningFollows
@@ -258,10 +262,12 @@ running_follows image last stripes es c leads =
       shows = same;
       finds = λ k. ap (λ x. found_of x k) same ∙ last_found_shown c k;
       order = order_beside q.0 q.1 (ran es (run_opened image last stripes)) c q.2;
-      allows = λ e. (
-        (λ t. subst (λ k. Allowed free_law (stripe_of k) e c) m (sym (may_now e) ∙ t, free_event e c)),
-        (λ a. may_now e ∙ (subst (λ k. Allowed free_law (stripe_of k) e c) (sym m) a).0),
-      );
+      allows = λ e.
+          let sc = (ran es (run_opened image last stripes)).core in
+          let count : has_number e sc ≡ has_number e c = ap (has_number e) same ∙ number_shown e c in (
+            (λ t. let q = (run_test (stripes_of sc) e sc).sound t in (subst (λ k. Allowed free_law (stripe_of k) e c) m (sym (may_now e) ∙ q.0, free_event e c), sym count ∙ q.1)),
+            (λ a. (run_test (stripes_of sc) e sc).complete (may_now e ∙ (subst (λ k. Allowed free_law (stripe_of k) e c) (sym m) a.0).0, count ∙ a.1)),
+          );
     }
 
 pub reached_opening : (image : List ℕ) (last stripes : ℕ) → last < 2 ^ 62 → 0 < stripes → IsReached (run_opened image last stripes)
@@ -282,14 +288,14 @@ pub ran_snoc : (es : List Event) (e : Event) (s : Running) → ran (es ++ e ∷ 
 ran_snoc [] e s = refl
 ran_snoc (a ∷ es) e s = ran_snoc es e (run_played a s)
 
-pub reached_next : (e : Event) (s : Running) → IsReached s → may_play (stripes_of s.core) e s.core ≡ true → IsReached (run_played e s)
+pub reached_next : (e : Event) (s : Running) → IsReached s → may_run (stripes_of s.core) e s.core ≡ true → IsReached (run_played e s)
 reached_next e s r may = record {
   image = r.image;
   last = r.last;
   stripes = r.stripes;
   events = r.events ++ e ∷ [];
   core = played (stripe_of r.stripes) e r.core;
-  leads = leads_snoc (stripe_of r.stripes) r.events e (opened r.image r.last r.stripes) r.core r.leads (((reached_follows s r).allows e).0 may);
+  leads = leads_snoc (stripe_of r.stripes) r.events e (opened r.image r.last r.stripes) r.core r.leads (((reached_follows s r).allows e).0 may).0;
   versions = r.versions;
   locks = r.locks;
   plays = ap (run_played e) r.plays ∙ sym (ran_snoc r.events e (run_opened r.image r.last r.stripes));
@@ -306,6 +312,6 @@ shown_now c = ap (λ l. record (shown c) { clients = l }) (go c.clients)
 pub reached_sane : (s : Running) → IsReached s → IsSane s.core
 reached_sane s r =
     let n : length r.core.locks ≡ r.stripes = leads_stays (stripe_of r.stripes) r.events (opened r.image r.last r.stripes) r.core r.leads ∙ replicated r.stripes in
-    let k : Rule free_law (stripes_of r.core) r.core = subst (λ m. Rule free_law (stripe_of m) r.core) (sym n) (every_list_stands r.image r.last r.stripes r.events r.core r.leads).rule in
+    let k : Rule free_law (stripes_of r.core) r.core = subst (λ m. Rule free_law (stripe_of m) r.core) (sym n) (every_list_stands free_law r.image r.last r.stripes r.events r.core r.leads).rule in
     let low : r.core.last < 2 ^ 62 = leads_small (stripe_of r.stripes) r.events (opened r.image r.last r.stripes) r.core r.leads r.versions in
     subst IsSane (sym (reached_follows s r).shows) (subst IsSane (shown_now r.core) (sane_shown (now r.core) k.inv low (rw n r.locks)))

@@ -3,8 +3,6 @@ use Rattle.std.proofs.Common.{◌≡◌, ℕ, zero, suc, ◌+◌, ◌-◌, ◌<�
 use Rattle.std.proofs.lemmas.List.{map-set, map-append, length-map}
 use Rattle.std.proofs.Math.ListN.{get_or-map}
 use Rattle.std.proofs.lemmas.Bool.Decides.{nat_tests}
-use mathlib.Core.Option.{some, some-injective, some-ne-none}
-use lib.ListN.{get_elem?}
 use Rattle.stm_core.specs.Client.{Client, Record, Stamp, checked, locked, ticked, validated, version_of, word_before, value_fetched, writes_to, before, inserted, merged, RecordLaw}
 use Rattle.stm_core.specs.Event.{Action, begin, check, lock, tick, validate, finish, Bounds, committed_by, stepping, failing, read_too, holding, versioned, decides_at_once, won, passes, passing, after, giving, fresh, taking, renewing, gone, writer_record, reader_record, with_ticks, marking, counting}
 use Rattle.stm_core.specs.Core.{Core, bounds_of, found, left, written, stepped, divided, gathered, renewed, Event, acts, splits, gathers, renews, Allowed, client_of, played, Leads, opened, is_out, are_spent, others_spent, may_play}
@@ -125,7 +123,7 @@ module _ (number : List ℕ → ℕ) where
         same : (e : Action) → may_act lk (bounds_of (numbered_core number c)) (numbered_action number e) (numbered_client number (client_of c k)).attempt ≡ may_act lk (bounds_of c) e (client_of c k).attempt
         same begin = refl
         same _ = refl
-    may_numbered (splits k) c = rw (out_numbered c k, client_numbered c k, length-map c.clients (numbered_client number)) refl
+    may_numbered (splits k) c = rw (out_numbered c k, client_numbered c k) refl
     may_numbered (gathers k j) c = rw (out_numbered c k, out_numbered c j, client_numbered c k, client_numbered c j) refl
     may_numbered (renews k last) c = rw (out_numbered c k, client_numbered c k, others_numbered c.clients (k - 1)) refl
       where

@@ -4,13 +4,13 @@ use Rattle.std.proofs.lemmas.Bool.Decides.{nat_tests}
 use Rattle.std.specs.List.{insert, list_all}
 use Rattle.stm_words.specs.Image.{In}
 use Rattle.stm_core.specs.Client.{Client, Record, Stamp}
-use Rattle.stm_core.specs.Event.{Action, tick, validate, versioned, decides_at_once, passes, writer_record}
+use Rattle.stm_core.specs.Event.{decision, Action, tick, validate, versioned, decides_at_once, passes, writer_record}
 use Rattle.stm_core.specs.Core.{Core}
 use Rattle.stm_core.specs.History.{ByPoint}
 use Rattle.stm_core.specs.Theorem.{IsHistory}
 use Rattle.stm_core.specs.Seat.{blank}
 use Rattle.stm_core.specs.Placing.{Placed, place_in, put_in}
-use Rattle.stm_core.specs.Running.{Running, decision, entry_of, entered}
+use Rattle.stm_core.specs.Running.{Running, entry_of, entered}
 use Rattle.stm_core.proofs.Lists.{nothing_in, by_bool}
 use Rattle.stm_core.proofs.Orders.{in_cons}
 use Rattle.stm_core.proofs.Steps.{by_case}

@@ -1,29 +1,31 @@
 -- A list of allowed events, from the opening on: what holds of the core that it leads to.
-use Rattle.std.proofs.Common.{◌≡◌, ◌≢◌, ℕ, zero, suc, ◌+◌, ◌-◌, ◌<◌, ◌≤◌, ◌⊎◌, inl, inr, ⊎_elim, Bool, true, false, cond, eqb, List, [], ◌∷◌, ◌++◌, length, length-set, set, set-set, slice_index, slice_set, refl, sym, ap, ◌∙◌, subst, arith, le_refl}
+use Rattle.std.proofs.Common.{◌≡◌, ◌≢◌, ℕ, zero, suc, ◌+◌, ◌-◌, ◌<◌, ◌≤◌, ◌⊎◌, inl, inr, ⊎_elim, Bool, true, false, cond, eqb, List, [], ◌∷◌, ◌++◌, append-nil, append_assoc, ltb, length, length-append, length-set, set, set-set, slice_index, slice_set, refl, sym, ap, ◌∙◌, subst, arith, le_refl}
 use mathlib.Core.Option.{some, some-injective, some-ne-none}
 use mathlib.Core.Logic.{dite}
 use native.Mathlib.Decide.{ℕ_discrete}
 use lib.ListN.{get_elem?}
 use Rattle.std.proofs.lemmas.Bool.Decides.{nat_tests}
 use Rattle.stm_words.specs.Image.{In}
-use Rattle.stm_core.specs.History.{Serial, image_after, ByPoint}
-use Rattle.stm_core.specs.Client.{shed, Client, Record, idle, running, ending, checked, locked, ticked, validated, Stamp, version_of, word_before, value_fetched, writes_to, RecordLaw}
-use Rattle.stm_core.specs.Event.{Action, begin, probe, fetch, check, lock, tick, validate, put, release, give_back, finish, committed_by, stepping, failing, read_too, holding, versioned, decides_at_once, won, passes, passing, after, giving, fresh, renewing, gone, opener, writer_record, reader_record, with_ticks, marking, counting}
-use Rattle.stm_core.specs.Core.{Core, bounds_of, found, stepped, divided, gathered, renewed, IsFreeHanded, Event, acts, splits, gathers, renews, client_of, played, Leads, opened}
+use Rattle.stm_core.specs.History.{Serial, image_after, Ascending, ByPoint}
+use Rattle.stm_core.specs.Client.{shed, rank, Client, Record, idle, running, ending, checked, locked, ticked, validated, Stamp, version_of, word_before, value_fetched, writes_to, RecordLaw}
+use Rattle.stm_core.specs.Event.{decision, Action, begin, probe, fetch, check, lock, tick, validate, put, release, give_back, finish, committed_by, stepping, failing, read_too, holding, versioned, decides_at_once, won, passes, passing, after, giving, fresh, renewing, gone, opener, writer_record, reader_record, with_ticks, marking, counting}
+use Rattle.stm_core.specs.Core.{Core, bounds_of, found, stepped, divided, gathered, renewed, IsFreeHanded, Event, acts, splits, gathers, renews, client_of, Allowed, played, Leads, opened}
 use Rattle.stm_core.specs.Version.{At, IsOpen}
 use Rattle.stm_core.specs.Invariant.{now, Rule}
-use Rattle.stm_core.specs.Theorem.{stripe_of, free_law, IsHistory, is_settled, Stands, EveryListStands}
-use Rattle.stm_core.specs.Running.{decision}
-use Rattle.stm_core.proofs.Lists.{at_set, set_here, same_at, clash, nothing_in, only_one}
+use Rattle.stm_core.specs.Theorem.{stripe_of, IsHistory, is_settled, Stands, EveryListStands}
+use Rattle.stm_core.proofs.Lists.{at_set, set_here, same_at, by_bool, clash, nothing_in, only_one}
 use Rattle.stm_core.proofs.Steps.{undecided_at, by_case}
-use Rattle.stm_core.proofs.Histories.{Ahead, serial, image_last}
+use Rattle.stm_core.proofs.Histories.{Ahead, Ranked, rank_writer, rank_reader, serial, image_last}
 use Rattle.stm_core.proofs.Facts.{ahead_by, agrees_by, cells_by}
 use Rattle.stm_core.proofs.Eras.{in_append, append_left, append_right, of_is}
 use Rattle.stm_core.proofs.Lones.{at_map, at_unmap, goes_on}
 use Rattle.stm_core.proofs.Renewals.{step_rules, now_stepped, may_shed, pre, map_length, eqb_yes}
 use Rattle.stm_core.proofs.Renewing.{split_rules, gather_rules, renew_rules, opening_rules, now_divided, now_gathered, whole, at_below, serial_append, image_append}
-use Rattle.stm_core.proofs.Dating.{Mark, IsStamped, IsDated, Dated, placed, date_step, date_decide, date_longer, date_join, ranked_by}
+use Rattle.stm_core.proofs.Dating.{Mark, IsStamped, IsDated, Dated, placed, in_placed, placed_in, placed_old, date_step, date_decide, date_longer, date_join, ranked_by}
 use Rattle.stm_core.proofs.Conditions.{IsReading, CanAct, CanPlay, IsAlone, can_play}
+use Rattle.stm_core.proofs.Tracing.{Trace, at_most_one, act_trace, split_trace, gather_trace, renew_trace, opening_trace, of_list}
+use Rattle.stm_core.specs.Listed.{made}
+use Rattle.stm_core.proofs.Orders.{in_cons}
 
 not_running : (c : Client) → c.attempt.phase ≡ ending → IsReading c.attempt → ⊥
 not_running c e r = (let z : ending ≡ running = sym e ∙ r.0 in cc)
@@ -43,6 +45,30 @@ set_same (x ∷ l) (suc i) v e = λ j. x ∷ set_same l i v e j
 abbrev pub filed : List Record → List Record → List Record
 filed [] h = h
 filed (r ∷ rs) h = placed r h
+
+filed_from : (rs h : List Record) (x : Record) → In x (filed rs h) → In x h ⊎ In x rs
+filed_from [] h x i = inl i
+filed_from (r ∷ rs) h x i = ⊎_elim (λ e. inr (0, ap some e)) (λ p. inl p) (in_placed r h x i)
+
+filed_old : (rs h : List Record) (x : Record) → In x h → In x (filed rs h)
+filed_old [] h x i = i
+filed_old (r ∷ rs) h x i = placed_old r h x i
+
+-- one or none
+abbrev AtMostOne : List Record → Type 0
+AtMostOne rs = (rs ≡ []) ⊎ ((r : Record) × (rs ≡ r ∷ []))
+
+filed_new : (rs h : List Record) (x : Record) → AtMostOne rs → In x rs → In x (filed rs h)
+filed_new rs h x (inl e) i = absurd (nothing_in x (subst (In x) e i))
+filed_new rs h x (inr q) i = rw q.1 (⊎_elim (λ e. subst (λ y. In y (placed q.0 h)) e (placed_in q.0 h)) (λ p. absurd (nothing_in x p)) (in_cons q.0 x [] (subst (In x) q.1 i)))
+
+placed_length : (r : Record) (h : List Record) → length (placed r h) ≡ suc (length h)
+placed_length r [] = refl
+placed_length r (x ∷ h) = by_case (λ b. length (cond b (r ∷ x ∷ h) (x ∷ placed r h)) ≡ suc (length (x ∷ h))) (ltb r.point x.point) (λ e. refl) (λ e. ap suc (placed_length r h))
+
+filed_length : (rs h : List Record) → AtMostOne rs → length (filed rs h) ≡ length h + length rs
+filed_length rs h (inl e) = rw e (omega arith)
+filed_length rs h (inr q) = rw q.1 (let p = placed_length q.0 h in omega (arith, p))
 
 -- the history after an event
 abbrev pub history_after : (ℕ → ℕ) → Event → Core → List Record → List Record
@@ -381,22 +407,57 @@ module _ (lawful : RecordLaw) (lk : ℕ → ℕ) where
     earlier = record { serial = tt; leads = refl; ascending = tt; all = λ r m. m; only = λ r m. m };
   }
 
+  -- and the list of events with it decides what the histories have
+  event_traced : (start : Core) (es : List Event) (c : Core) (a : Event) (old h : List Record) → Trace lk start es c (old ++ h) → CanPlay lawful lk a c → Trace lk start (es ++ a ∷ []) (played lk a c) (earlier_after a old h ++ history_after lk a c h)
+  event_traced start es c (acts k e) old h t may =
+      let rs = made lk (acts k e) c in
+      let one = at_most_one lawful lk start es c (old ++ h) t k e may in
+      act_trace lawful lk start es c (old ++ h) t k e may (old ++ filed rs h)
+      (λ r m. ⊎_elim (λ p. inl (append_left old h r p)) (λ p. ⊎_elim (λ q. inl (append_right old h r q)) (λ q. inr q) (filed_from rs h r p)) (in_append old (filed rs h) r m))
+      (λ r m. ⊎_elim (λ p. append_left old (filed rs h) r p) (λ p. append_right old (filed rs h) r (filed_old rs h r p)) (in_append old h r m))
+      (λ r m. append_right old (filed rs h) r (filed_new rs h r one m))
+      (length-append old (filed rs h) ∙ (let a = filed_length rs h one in let b = length-append old h in omega (arith, a, b)))
+  event_traced start es c (splits k) old h t may = split_trace lawful lk start es c (old ++ h) t k may (old ++ h) (λ r m. m) (λ r m. m) refl
+  event_traced start es c (gathers k j) old h t may = gather_trace lawful lk start es c (old ++ h) t k j may (old ++ h) (λ r m. m) (λ r m. m) refl
+  event_traced start es c (renews k last) old h t may =
+      let e = append-nil (old ++ h) in renew_trace lawful lk start es c (old ++ h) t k last may ((old ++ h) ++ []) (λ r m. subst (In r) e m) (λ r m. subst (In r) (sym e) m) (ap length e)
+
+  -- what a list of events leads to, beside its histories
+  pub record Led (start : Core) (es : List Event) (c : Core) : Type 0 where
+    pub old : List Record
+    pub new : List Record
+    pub beside : Beside old new c
+    pub trace : Trace lk start es c (old ++ new)
+    pub first : c.first ≡ start.first
+
   first_stays : (e : Event) (c : Core) → (played lk e c).first ≡ c.first
   first_stays (acts k e) c = sym (ap (λ (f : Frame). f.first) (frame_stays (record { client = k; place = c.events; renewal = c.renewal }) lk e (k - 1) (client_of c k) c))
   first_stays _ c = refl
 
-  pub leads_beside : (es : List Event) (c e : Core) (old h : List Record) → Beside old h c → Leads lawful lk c es e → ((old' : List Record) × (h' : List Record) × Beside old' h' e) × (e.first ≡ c.first)
-  leads_beside [] c e old h b same = ((old, h, subst (λ x. Beside old h x) same b), ap (λ (x : Core). x.first) (sym same))
-  leads_beside (a ∷ es) c e old h b may =
-      let r = leads_beside es (played lk a c) e (earlier_after a old h) (history_after lk a c h) (event_beside c a old h b (can_play lawful lk a c may.0)) may.1 in (r.0, r.1 ∙ first_stays a c)
+  -- one allowed event more
+  pub led_on : (start : Core) (es : List Event) (c : Core) (a : Event) → Led start es c → Allowed lawful lk a c → Led start (es ++ a ∷ []) (played lk a c)
+  led_on start es c a l h = let may = can_play lawful lk a c h in record {
+    old = earlier_after a l.old l.new;
+    new = history_after lk a c l.new;
+    beside = event_beside c a l.old l.new l.beside may;
+    trace = event_traced start es c a l.old l.new l.trace may;
+    first = first_stays a c ∙ l.first;
+  }
+
+  pub led_all : (es before : List Event) (start c e : Core) → Led start before c → Leads lawful lk c es e → Led start (before ++ es) e
+  led_all [] before start c e l same = subst (λ m. Led start m e) (sym (append-nil before)) (subst (Led start before) same l)
+  led_all (a ∷ es) before start c e l h = subst (λ m. Led start m e) (append_assoc before (a ∷ []) es) (led_all es (before ++ a ∷ []) start (played lk a c) e (led_on start before c a l h.0) h.1)
+
+  pub led_opening : (image : List ℕ) (last stripes : ℕ) → Led (opened image last stripes) [] (opened image last stripes)
+  led_opening image last stripes = record { old = []; new = []; beside = opening_beside image last stripes; trace = opening_trace lk image last stripes; first = refl }
 
 -- the history of the core
-pub is_history : (lk : ℕ → ℕ) (c : Core) (old h : List Record) → Beside free_law lk old h c → IsHistory c (old ++ h)
-is_history lk c old h b = record { ascending = by_append old h b.earlier.ascending b.dated.ascending (λ x y m n. b.dated.old_before x y m n); every = every; only = only }
+pub is_history : (lawful : RecordLaw) (lk : ℕ → ℕ) (c : Core) (old h : List Record) → Beside lawful lk old h c → IsHistory c (old ++ h)
+is_history lawful lk c old h b = record { ascending = by_append old h b.earlier.ascending b.dated.ascending (λ x y m n. b.dated.old_before x y m n); every = every; only = only }
   where
     every : (i : ℕ) (v : Client) (r : Record) → At c.clients i v → In r v.records → In r (old ++ h)
     every i v r e m = ⊎_elim (λ p. append_left old h r (b.earlier.all r (past_of (eqb i b.rule.past.keeper) p))) (λ p. append_right old h r (b.dated.every i (shed c.renewal v) r (at_map (shed c.renewal) c.clients i v e) p))
-        (in_append (pre free_law lk c b.rule i) (shed c.renewal v).records r (subst (In r) (b.rule.past.kept i v e) m))
+        (in_append (pre lawful lk c b.rule i) (shed c.renewal v).records r (subst (In r) (b.rule.past.kept i v e) m))
       where
         past_of : (x : Bool) → In r (cond x c.past []) → In r c.past
         past_of true p = p
@@ -408,29 +469,52 @@ is_history lk c old h b = record { ascending = by_append old h b.earlier.ascendi
         (b.rule.past.keeper, q.0, q.1, subst (In r) (sym (b.rule.past.kept b.rule.past.keeper q.0 q.1 ∙ ap (λ x. cond x c.past [] ++ (shed c.renewal q.0).records) (eqb_yes b.rule.past.keeper b.rule.past.keeper refl))) (append_left c.past (shed c.renewal q.0).records r (b.earlier.only r p))))
         (λ p. let q = b.dated.only r p in let s = at_unmap (shed c.renewal) c.clients q.0 q.1 q.2 in (q.0, s.0, s.1, (of_is c.renewal s.0.records r (subst (λ (y : Client). In r y.records) (sym s.2) q.3)).0)) (in_append old h r m)
 
+-- a record may stand behind the others by versions
+ascends : (l : List Record) → Ranked l → Ascending l
+ascends [] r = tt
+ascends (x ∷ l) r = (λ y i. pair y (r.0 y i), ascends l r.1)
+  where
+    pair : (y : Record) → (rank x ≤ rank y) × (x.writer ≡ true → y.writer ≡ true → x.version ≢ y.version) → (x.version ≤ y.version) × (y.writer ≡ true → x.version < y.version)
+    pair y p = by_bool x.writer
+        (λ t. let a = rank_writer x t in by_bool y.writer
+        (λ u. let b = rank_writer y u in let n = p.1 t u in (omega (arith, a, b, p.0), λ _. omega (arith, a, b, p.0)))
+        (λ u. let b = rank_reader y u in (omega (arith, a, b, p.0), λ z. clash z u)))
+        (λ t. let a = rank_reader x t in by_bool y.writer
+        (λ u. let b = rank_writer y u in (omega (arith, a, b, p.0), λ _. omega (arith, a, b, p.0)))
+        (λ u. let b = rank_reader y u in (omega (arith, a, b, p.0), λ z. clash z u)))
+
 -- what holds of a core follows from the rule and its histories
-stands : (lk : ℕ → ℕ) (c : Core) (old h : List Record) → Beside free_law lk old h c → Stands lk c.first c
-stands lk c old h b =
+pub stands : (lawful : RecordLaw) (lk : ℕ → ℕ) (start : Core) (es : List Event) (c : Core) → Led lawful lk start es c → Stands lawful lk start es c
+stands lawful lk start es c l =
+    let old = l.old in
+    let h = l.new in
+    let b = l.beside in
+    let own = is_history lawful lk c old h b in
     let d = b.dated in
     let k = b.rule.inv in
-    let g = ahead_by free_law lk (now c) k h (ranked_by old c.clock c.events (now c).clients h d h d.ascending (λ r m. m)) (λ r m. d.only r m) (λ i v r e m. d.every i v r e m) in
-    let all : image_after c.first (old ++ h) ≡ image_after c.opening h = image_append c.first old h ∙ ap (λ m. image_after m h) b.earlier.leads in record {
+    let ranked : Ranked h = ranked_by old c.clock c.events (now c).clients h d h d.ascending (λ r m. m) in
+    let g = ahead_by lawful lk (now c) k h ranked (λ r m. d.only r m) (λ i v r e m. d.every i v r e m) in
+    let leads : image_after start.first old ≡ c.opening = subst (λ m. image_after m old ≡ c.opening) l.first b.earlier.leads in
+    let all : image_after start.first (old ++ h) ≡ image_after c.opening h = image_append start.first old h ∙ ap (λ m. image_after m h) leads in record {
       rule = b.rule;
       earlier = old;
       present = h;
-      is_history = is_history lk c old h b;
+      is_history = own;
+      is_listed = of_list lk start es c (old ++ h) l.trace own.ascending;
       before = λ r m. b.rule.past.earlier r (b.earlier.only r m);
       now = λ r m. let q = d.only r m in ((k.filed.filed q.0 q.1 q.2).told r q.3).present;
-      serial = serial_append c.first old h b.earlier.serial (subst (λ m. Serial m h) (sym b.earlier.leads) (serial c.opening k.story h c.opening 0 g));
-      opening = b.earlier.leads;
+      serial = serial_append start.first old h (subst (λ m. Serial m old) l.first b.earlier.serial) (subst (λ m. Serial m h) (sym leads) (serial c.opening k.story h c.opening 0 g));
+      opening = leads;
+      versions = ascends h ranked;
       newest = image_last c.opening k.story h c.opening c.clock (λ r m. let q = d.only r m in (k.version.sound q.0 q.1 q.2).recorded r q.3) ∙ sym all;
-      one_version = λ i v e. agrees_by free_law lk (now c) k h g i (shed c.renewal v) (at_map (shed c.renewal) c.clients i v e);
-      lone = λ i v e y z. goes_on free_law lk c k b.rule.lone i v e y z;
-      words = λ f. cells_by free_law lk (now c) k h g (λ r m. d.only r m) (λ i v e. let q = at_unmap (shed c.renewal) c.clients i v e in sym (ap (λ (y : Client). y.attempt.held) q.2) ∙ f i q.0 q.1) ∙ sym all;
+      one_version = λ i v e. agrees_by lawful lk (now c) k h g i (shed c.renewal v) (at_map (shed c.renewal) c.clients i v e);
+      lone = λ i v e y z. goes_on lawful lk c k b.rule.lone i v e y z;
+      words = λ f. cells_by lawful lk (now c) k h g (λ r m. d.only r m) (λ i v e. let q = at_unmap (shed c.renewal) c.clients i v e in sym (ap (λ (y : Client). y.attempt.held) q.2) ∙ f i q.0 q.1) ∙ sym all;
       no_trace = λ i v r e s u m n z. ⊎_elim (λ p. clash ((d.old_numbered i (shed c.renewal v) r (at_map (shed c.renewal) c.clients i v e) s p n).1 z) u) (λ p. clash ((d.numbered i (shed c.renewal v) r (at_map (shed c.renewal) c.clients i v e) s p n).1 z) u) (in_append old h r m);
     }
 
-pub every_list_stands : EveryListStands
-every_list_stands image last stripes es c leads =
-    let q = leads_beside free_law (stripe_of stripes) es (opened image last stripes) c [] [] (opening_beside free_law (stripe_of stripes) image last stripes) leads in
-    subst (λ m. Stands (stripe_of stripes) m c) q.1 (stands (stripe_of stripes) c q.0.0 q.0.1 q.0.2)
+pub every_list_stands : (lawful : RecordLaw) → EveryListStands lawful
+every_list_stands lawful image last stripes es c leads =
+    let lk = stripe_of stripes in
+    let start = opened image last stripes in
+    stands lawful lk start es c (led_all lawful lk es [] start start c (led_opening lawful lk image last stripes) leads)

@@ -9,7 +9,7 @@ use Rattle.stm_core.specs.Core.{Core, Event, acts, Allowed, played, Leads, opene
 use Rattle.stm_core.specs.Version.{At}
 use Rattle.stm_core.specs.Invariant.{Rule}
 use Rattle.stm_core.specs.History.{Serial, ByPoint}
-use Rattle.stm_core.specs.Theorem.{stripe_of, IsHistory, Stands}
+use Rattle.stm_core.specs.Theorem.{stripe_of, free_law, IsHistory, Stands}
 use Rattle.stm_core.specs.Seat.{tag_number}
 use Rattle.stm_core.specs.Numbered.{numbered_event, numbered_record, numbered_client, numbered_core, tags_of, TellsApart, EveryListHasNumbers, IsLegal, LegalHistories}
 use Rattle.stm_core.proofs.Lists.{nothing_in}
@@ -161,6 +161,6 @@ legal_histories lawful image last stripes es c h =
     let number = place_of tags in
     let lk = stripe_of stripes in
     let k : Rule (tagged lawful tags) lk c = kept (tagged lawful tags) lk es (opened image last stripes) c (opening_rules (tagged lawful tags) lk image last stripes) (leads_tagged lawful tags lk es (opened image last stripes) c (λ t i. i) h) in
-    let s : Stands lk image (numbered_core number c) = every_list_stands image last stripes (map (numbered_event number) es) (numbered_core number c) (allowed_with_numbers lawful number image last stripes es c h) in
+    let s : Stands free_law lk (opened image last stripes) (map (numbered_event number) es) (numbered_core number c) = every_list_stands free_law image last stripes (map (numbered_event number) es) (numbered_core number c) (allowed_with_numbers lawful number image last stripes es c h) in
     let q = legal lawful image tags number (tells_apart tags) lk c k (s.earlier ++ s.present) s.is_history s.serial in
     (q.0, q.1, λ other. history_forth other c q.0 q.1.is_history)

@@ -5,7 +5,7 @@ use native.Mathlib.Decide.{ℕ_discrete}
 use Rattle.stm_words.specs.Image.{In}
 use Rattle.stm_core.specs.Client.{Client, Record, decided, version_of, IsFree, writes_to}
 use Rattle.stm_core.specs.Version.{World, At, IsOpen, Claims, Saw, IsSound, IsKept, Version, IsBooked, Books}
-use Rattle.stm_core.proofs.Lists.{at_set, set_here, set_else, same_at, who_set}
+use Rattle.stm_core.proofs.Lists.{set_here, set_else, same_at, who_set}
 
 module _ (lk : ℕ → ℕ) where
   pub record Heart (s : World) (cs : List Client) : Type 0 where

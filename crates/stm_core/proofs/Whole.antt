@@ -12,8 +12,8 @@ use Rattle.stm_core.specs.Version.{At}
 use Rattle.stm_core.specs.History.{Serial, image_after, Sub, done, keep, skip, all_records, IsShared}
 use Rattle.stm_core.specs.Invariant.{now, Sorted, Rule}
 use Rattle.stm_core.proofs.Lists.{nothing_in, by_bool, clash, in_snoc}
-use Rattle.stm_core.proofs.Orders.{in_cons, in_inserted, in_merged, before_asym, behind, before_le}
-use Rattle.stm_core.proofs.Merging.{in_sub, sub_left, sub_last}
+use Rattle.stm_core.proofs.Orders.{in_cons, in_inserted, in_merged, before_asym, behind}
+use Rattle.stm_core.proofs.Merging.{sub_left, sub_last}
 use Rattle.stm_core.proofs.Facts.{all_serial, all_lawful, all_shared, others_spent}
 use Rattle.stm_core.proofs.Eras.{AllOf, AllBefore, in_append, of_is, not_before, merged_padded, merged_late}
 use Rattle.stm_core.proofs.Lones.{at_map}

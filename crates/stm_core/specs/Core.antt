@@ -105,6 +105,10 @@ IsFreeHanded v = (v.spent ≡ false) × (v.attempt.held ≡ [])
 abbrev pub client_of : Core → ℕ → Client
 client_of c k = get_or c.clients (k - 1) gone
 
+-- the stamp of a client's next step
+abbrev pub stamp_of : Core → ℕ → Stamp
+stamp_of c k = record { client = k; place = c.events; renewal = c.renewal }
+
 -- whether this number was given to a client, and that client is not spent
 abbrev pub is_out : Core → ℕ → Bool
 is_out c k = nat_lt 0 k && nat_lt (k - 1) (length c.clients) && not (client_of c k).spent
@@ -124,13 +128,22 @@ abbrev pub may_play : (ℕ → ℕ) → Event → Core → Bool
 may_play lk (acts k e) c = is_out c k && may_act lk (bounds_of c) e (client_of c k).attempt
 may_play lk (splits k) c =
     is_out c k && is_empty (client_of c k).attempt.held && nat_lt 0 (client_of c k).grants
-    && nat_lt (length c.clients) MOST_CLIENTS
 may_play lk (gathers k j) c =
     is_out c k && is_out c j && not (k == j) && is_empty (client_of c k).attempt.held
     && is_empty (client_of c j).attempt.held
 may_play lk (renews k last) c =
     is_out c k && is_empty (client_of c k).attempt.held && others_spent c.clients (k - 1)
     && nat_le 1 last && nat_lt last VERSION_LIMIT && nat_lt c.renewal MOST_RENEWALS
+
+-- whether a new client has a number left, where these are of 32 bits
+abbrev pub has_number : Event → Core → Bool
+has_number (splits k) c = nat_lt (length c.clients) MOST_CLIENTS
+has_number _ c = true
+
+-- whether the running core plays the event: it may happen, and has its number
+abbrev pub may_run : (ℕ → ℕ) → Event → Core → Bool
+may_run lk (splits k) c = may_play lk (splits k) c && nat_lt (length c.clients) MOST_CLIENTS
+may_run lk e c = may_play lk e c
 
 module _ (lawful : RecordLaw) where
   -- the record that the event would make is lawful

@@ -169,6 +169,18 @@ passing s c =
     let w = counting c in
     cond (eqb w.attempt.passed (length c.attempt.reads)) (committed_by s w) w
 
+-- the record that a step decides
+abbrev pub decision : Stamp → Action → ℕ → Client → List Record
+decision t (tick from tag writes) n v =
+    let w = versioned t (from + 1) tag writes v in
+    cond (eqb n from) (cond (decides_at_once w) (writer_record t w.attempt ∷ []) []) []
+decision t (validate k) n v =
+    let w = counting v in
+    cond (passes k n v)
+    (cond (eqb w.attempt.passed (length v.attempt.reads)) (writer_record t v.attempt ∷ []) []) []
+decision t (finish tag) n v = reader_record t tag v.attempt ∷ []
+decision t _ n v = []
+
 -- what the client is after a step that found this word
 abbrev pub after : Stamp → (ℕ → ℕ) → Action → ℕ → Client → Client
 after s lk begin n c = begun s n c

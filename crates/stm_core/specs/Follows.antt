@@ -1,7 +1,7 @@
 -- The running core follows the core, and its order is the core's history.
 use Rattle.std.specs.Prelude.{◌≡◌, ℕ, ◌<◌, ◌↔◌, true, List, map}
 use Rattle.stm_core.specs.Client.{Record}
-use Rattle.stm_core.specs.Core.{Core, Event, may_play, Allowed}
+use Rattle.stm_core.specs.Core.{Core, Event, may_run, has_number, Allowed}
 use Rattle.stm_core.specs.Theorem.{stripe_of, free_law, Reaches, IsHistory}
 use Rattle.stm_core.specs.Running.{Running, entry_of, stripes_of, shown, run_opened, found_of, ran}
 use Rattle.stm_core.specs.declared.event.Entry.{Entry}
@@ -34,9 +34,10 @@ pub record FollowsCore (lk : ℕ → ℕ) (s : Running) (c : Core) : Type 0 wher
   pub order : IsOrderOf c s.order.entries s.order.points
   -- the last step of each client found the same word
   pub finds : (client : ℕ) → found_of s.core client ≡ found_of c client
-  -- it allows just the events that are allowed in the core
+  -- it plays just the events that are allowed in the core, and have their number
   pub allows : (e : Event)
-      → (may_play (stripes_of s.core) e s.core ≡ true) ↔ Allowed free_law lk e c
+      → (may_run (stripes_of s.core) e s.core ≡ true)
+      ↔ (Allowed free_law lk e c × (has_number e c ≡ true))
 
 -- whatever allowed events are played, the running core follows the core that they lead to
 abbrev pub RunningFollows : Type 0

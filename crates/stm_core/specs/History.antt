@@ -1,5 +1,5 @@
 -- Histories: when a list of records is serial, and the image of a version.
-use Rattle.std.specs.Prelude.{◌≡◌, ℕ, ◌<◌, leb, cond, List, [], ◌∷◌, length}
+use Rattle.std.specs.Prelude.{◌≡◌, ℕ, ◌<◌, ◌≤◌, leb, cond, true, List, [], ◌∷◌, length}
 use Rattle.stm_words.specs.Image.{In, Agrees, laid}
 use Rattle.stm_core.specs.Client.{Client, Record, merged, RecordLaw}
 
@@ -41,6 +41,13 @@ pub record IsShared (lawful : RecordLaw) (image : List ℕ) (own all : List Reco
 abbrev pub SomeFits : (List ℕ → Type 0) → ℕ → List (ℕ × ℕ) → Type 0
 SomeFits fits size reads =
     (image : List ℕ) × fits image × (length image ≡ size) × Agrees image reads
+
+-- the versions ascend: none is below one before it, and a writer's is above all before it
+abbrev pub Ascending : List Record → Type 0
+Ascending [] = Unit {0}
+Ascending (x ∷ xs) =
+    ((r : Record) → In r xs
+    → (x.version ≤ r.version) × (r.writer ≡ true → x.version < r.version)) × Ascending xs
 
 -- the point steps come one after the other
 abbrev pub ByPoint : List Record → Type 0

@@ -1,16 +1,17 @@
 -- Lists of events, and the cores that they lead to, with a number in the place of each tag. No
 -- condition but the law looks at a tag.
-use Rattle.std.specs.Prelude.{◌≡◌, ℕ, ◌<◌, cond, eqb, true, List, [], ◌∷◌, length, map}
+use Rattle.std.specs.Prelude.{◌≡◌, ℕ, ◌<◌, ◌≤◌, cond, eqb, true, List, [], ◌∷◌, length, map}
 use Rattle.stm_words.specs.Image.{In}
 use Rattle.stm_core.specs.Client.{Client, Record, RecordLaw}
 use Rattle.stm_core.specs.Event.{Action, tick, finish}
-use Rattle.stm_core.specs.Core.{Core, Event, acts, may_play}
+use Rattle.stm_core.specs.Core.{Core, Event, acts, may_run}
 use Rattle.stm_core.specs.Version.{At}
 use Rattle.stm_core.specs.History.{Serial}
 use Rattle.stm_core.specs.Theorem.{free_law, Reaches, IsHistory}
 use Rattle.stm_core.specs.Running.{Running, stripes_of, run_played, run_opened, ran, shown}
 use Rattle.stm_core.specs.Played.{event_of}
 use Rattle.stm_core.specs.declared.event.Event as declared
+use Rattle.stm_core.specs.declared.limits.TheConstants.{MOST_CLIENTS}
 
 module _ (number : List ℕ → ℕ) where
   -- the same step but for its tag
@@ -71,7 +72,7 @@ EveryEventIsPlayable =
 -- each event may be played in its turn
 abbrev pub MayRun : List Event → Running → Type 0
 MayRun [] s = Unit {0}
-MayRun (e ∷ es) s = (may_play (stripes_of s.core) e s.core ≡ true) × MayRun es (run_played e s)
+MayRun (e ∷ es) s = (may_run (stripes_of s.core) e s.core ≡ true) × MayRun es (run_played e s)
 
 module _ (lawful : RecordLaw) where
   -- a list of events that the law allows is allowed with any numbers for its tags where every
@@ -83,12 +84,13 @@ module _ (lawful : RecordLaw) where
       → Reaches free_law image last stripes (map (numbered_event number) events)
       (numbered_core number c)
 
-  -- the running core plays it and shows that core
+  -- the running core plays it, where all its clients have their numbers, and shows that core
   abbrev pub PlayedWithNumbers : Type 0
   PlayedWithNumbers =
       (number : List ℕ → ℕ) (image : List ℕ) (last stripes : ℕ) (events : List Event) (c : Core)
       → Reaches lawful image last stripes events c
-      → MayRun (map (numbered_event number) events) (run_opened image last stripes)
+      → (length c.clients ≤ MOST_CLIENTS
+      → MayRun (map (numbered_event number) events) (run_opened image last stripes))
       × ((ran (map (numbered_event number) events) (run_opened image last stripes)).core
       ≡ shown (numbered_core number c))
 

@@ -1,9 +1,9 @@
 -- The running core: its state as far as it is kept, and its decided records.
-use Rattle.std.specs.Prelude.{◌≡◌, ℕ, ◌+◌, ◌-◌, ◌<◌, true, ◌&&◌, nat_lt, cond, eqb, List, [], ◌∷◌, ◌++◌, length, map, slice_set, replicate, ◌≢◌, ◌≤◌, Option, None}
+use Rattle.std.specs.Prelude.{◌≡◌, ℕ, ◌+◌, ◌-◌, ◌<◌, true, ◌&&◌, nat_lt, cond, List, [], ◌∷◌, ◌++◌, length, map, slice_set, replicate, ◌≢◌, ◌≤◌, Option, None}
 use Rattle.stm_words.specs.Image.{In}
-use Rattle.stm_core.specs.Client.{Client, Record, Stamp, found_by, old_version, writes_to, is_committed}
-use Rattle.stm_core.specs.Event.{Action, tick, validate, finish, versioned, decides_at_once, passes, counting, writer_record, reader_record, giving, fresh, taking, renewing, gone, opener}
-use Rattle.stm_core.specs.Core.{Core, found, left, written, client_of, is_out, Event, acts, splits, gathers, renews}
+use Rattle.stm_core.specs.Client.{Record, found_by, old_version, writes_to, is_committed}
+use Rattle.stm_core.specs.Event.{Action, decision, giving, fresh, taking, renewing, gone, opener}
+use Rattle.stm_core.specs.Core.{Core, found, left, written, client_of, stamp_of, is_out, Event, acts, splits, gathers, renews}
 use Rattle.stm_core.specs.Theorem.{stripe_of}
 use Rattle.stm_core.specs.Seat.{blank, seat_after, tag_number}
 use Rattle.stm_core.specs.Placing.{Placed, put_in}
@@ -20,18 +20,6 @@ pub record Running : Type 0 where
 abbrev pub stripes_of : Core → ℕ → ℕ
 stripes_of c = stripe_of (length c.locks)
 
--- the record that a step decides
-abbrev pub decision : Stamp → Action → ℕ → Client → List Record
-decision t (tick from tag writes) n v =
-    let w = versioned t (from + 1) tag writes v in
-    cond (eqb n from) (cond (decides_at_once w) (writer_record t w.attempt ∷ []) []) []
-decision t (validate k) n v =
-    let w = counting v in
-    cond (passes k n v)
-    (cond (eqb w.attempt.passed (length v.attempt.reads)) (writer_record t v.attempt ∷ []) []) []
-decision t (finish tag) n v = reader_record t tag v.attempt ∷ []
-decision t _ n v = []
-
 abbrev pub entry_of : Record → Entry
 entry_of r = record {
   client = r.client;
@@ -44,10 +32,6 @@ entry_of r = record {
 abbrev pub entered : List Record → Running → Running
 entered [] s = s
 entered (r ∷ rs) s = record s { order = put_in (entry_of r) r.point s.order }
-
--- the stamp of a client's next step
-abbrev pub stamp_of : Core → ℕ → Stamp
-stamp_of c k = record { client = k; place = c.events; renewal = c.renewal }
 
 -- the running core after an event
 abbrev pub run_acts : ℕ → Action → Running → Running

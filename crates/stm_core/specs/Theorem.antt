@@ -5,7 +5,8 @@ use Rattle.stm_core.specs.Client.{Client, Record, decided, Phase, running, endin
 use Rattle.stm_core.specs.Core.{Core, Event, Leads, opened}
 use Rattle.stm_core.specs.Version.{At}
 use Rattle.stm_core.specs.Invariant.{Rule, GoesOn}
-use Rattle.stm_core.specs.History.{Serial, image_after, image_at, ByPoint}
+use Rattle.stm_core.specs.History.{Serial, image_after, image_at, Ascending, ByPoint}
+use Rattle.stm_core.specs.Listed.{IsOfList}
 
 -- the lock of an address
 abbrev pub stripe_of : ℕ → ℕ → ℕ
@@ -29,32 +30,37 @@ pub record IsHistory (c : Core) (rs : List Record) : Type 0 where
   pub every : (i : ℕ) (v : Client) (r : Record) → At c.clients i v → In r v.records → In r rs
   pub only : (r : Record) → In r rs → (i : ℕ) × (v : Client) × At c.clients i v × In r v.records
 
--- what holds of a core that was first opened on an image
-pub record Stands (lk : ℕ → ℕ) (image : List ℕ) (c : Core) : Type 0 where
+-- what holds of a core that a list of events leads to from a first one
+pub record Stands
+    (lawful : RecordLaw) (lk : ℕ → ℕ) (start : Core) (events : List Event) (c : Core) : Type 0 where
   -- the version invariant, over all renewals
-  pub rule : Rule free_law lk c
+  pub rule : Rule lawful lk c
   -- the history: that of the earlier renewals, and then that of the present one
   pub earlier : List Record
   pub present : List Record
   pub is_history : IsHistory c (earlier ++ present)
+  -- it is what the list of events decides, each record at a step of its own attempt
+  pub is_listed : IsOfList lk start events (earlier ++ present)
   pub before : (r : Record) → In r earlier → r.renewal < c.renewal
   pub now : (r : Record) → In r present → r.renewal ≡ c.renewal
   -- the history is serial from the first opening image
-  pub serial : Serial image (earlier ++ present)
+  pub serial : Serial start.first (earlier ++ present)
   -- the present renewal was opened on the newest image of the one before
-  pub opening : image_after image earlier ≡ c.opening
+  pub opening : image_after start.first earlier ≡ c.opening
+  -- in it the versions ascend, so that the image of a version has the writes in that order
+  pub versions : Ascending present
   -- the newest image is what laying all its writes gives
-  pub newest : image_at c.opening c.clock present ≡ image_after image (earlier ++ present)
+  pub newest : image_at c.opening c.clock present ≡ image_after start.first (earlier ++ present)
   -- every attempt, finished or not, has read one version: what it has read is in the image of its
   -- read version
   pub one_version : (i : ℕ) (v : Client) → At c.clients i v
       → Agrees (image_at c.opening v.attempt.rv present) v.attempt.reads
   -- nothing fails a lone attempt that is no decided writer
   pub lone : (i : ℕ) (v : Client) → At c.clients i v → v.attempt.lone ≡ true → decided v ≡ false
-      → GoesOn free_law lk c v
+      → GoesOn lawful lk c v
   -- when no lock is held the data words are the newest image
   pub words : ((i : ℕ) (v : Client) → At c.clients i v → v.attempt.held ≡ [])
-      → c.cells ≡ image_after image (earlier ++ present)
+      → c.cells ≡ image_after start.first (earlier ++ present)
   -- an attempt that is not settled is in no history, and so in no image
   pub no_trace : (i : ℕ) (v : Client) (r : Record) → At c.clients i v → v.spent ≡ false
       → is_settled v.attempt.phase ≡ false → In r (earlier ++ present) → r.client ≡ suc i
@@ -67,7 +73,7 @@ Reaches lawful image last stripes events c =
 
 -- every list of allowed events, in any interleaving of any number of clients, leads to a core of
 -- which all this holds
-abbrev pub EveryListStands : Type 0
-EveryListStands = (image : List ℕ) (last stripes : ℕ) (events : List Event) (c : Core)
-    → Reaches free_law image last stripes events c
-    → Stands (stripe_of stripes) image c
+abbrev pub EveryListStands : RecordLaw → Type 0
+EveryListStands lawful = (image : List ℕ) (last stripes : ℕ) (events : List Event) (c : Core)
+    → Reaches lawful image last stripes events c
+    → Stands lawful (stripe_of stripes) (opened image last stripes) events c

@@ -1,6 +1,6 @@
 ghost use Rattle.std.specs.Prelude.{◌≡◌, ℕ, ◌<◌, ◌≤◌, ◌^◌, true, false, length, IfOk, IfErr};
 ghost use Rattle.stm_core.specs.Played.{event_of};
-ghost use Rattle.stm_core.specs.Core.{may_play};
+ghost use Rattle.stm_core.specs.Core.{may_run};
 ghost use Rattle.stm_core.specs.Running.{stripes_of, run_played, run_opened, found_of};
 ghost use Rattle.stm_core.specs.Refusals.{IsRefusal};
 ghost use Rattle.stm_core.specs.Follows.{IsReached, IsOrderOf};
@@ -57,11 +57,11 @@ impl Core {
     /// refused, or no more events can be counted. The core comes back as it was.
     pub fn play(mut self, event: Event) -> Result<Core, (Core, NotAllowed)>
         ensures played { IfOk result (λ c.
-            (may_play (stripes_of self.core) (event_of event) self.core ≡ true)
+            (may_run (stripes_of self.core) (event_of event) self.core ≡ true)
             × (c ≡ run_played (event_of event) self)) }
         ensures refused { IfErr result (λ e.
             (e.0 ≡ self)
-            × IsRefusal (may_play (stripes_of self.core) (event_of event) self.core) e.1) }
+            × IsRefusal (may_run (stripes_of self.core) (event_of event) self.core) e.1) }
     {
         if !self.state.allows(&event) {
             return Err((self, NotAllowed::Event));

@@ -1,5 +1,5 @@
 ghost use Rattle.std.specs.Prelude.{◌≡◌, ◌≢◌, ℕ, ◌<◌, ◌≤◌, ◌+◌, ◌-◌, ◌*◌, ◌^◌, ◌&&◌, true, length, OnOk, OnErr, IfOk, List, [], ◌∷◌};
-ghost use Rattle.stm_core.specs.Core.{client_of, is_out, may_play, bounds_of, splits, gathers, renews};
+ghost use Rattle.stm_core.specs.Core.{client_of, is_out, may_run, bounds_of, splits, gathers, renews};
 ghost use Rattle.stm_core.specs.Event.{begin, probe, fetch, check, lock, tick, validate, put, release, give_back, finish};
 ghost use Rattle.stm_core.specs.Client.{old_version, word_before, IsFree};
 ghost use Rattle.stm_core.specs.Played.{event_of};
@@ -330,7 +330,7 @@ impl State {
 
     /// Whether an event is allowed.
     pub(crate) fn allows(&self, event: &Event) -> bool
-        ensures { result ≡ may_play (stripes_of self.now.core) (event_of event.now) self.now.core }
+        ensures { result ≡ may_run (stripes_of self.now.core) (event_of event.now) self.now.core }
     {
         match event {
             Event::Begin { client } => self.is_out(*client) && self.seat(*client).may_begin(),
@@ -379,7 +379,7 @@ impl State {
 
     /// Whether a client may split one off.
     fn may_split(&self, client: u32) -> bool
-        ensures { result ≡ may_play (stripes_of self.now.core) (splits client) self.now.core }
+        ensures { result ≡ may_run (stripes_of self.now.core) (splits client) self.now.core }
     {
         self.is_out(client)
             && self.seat(client).holds_none()
@@ -390,7 +390,7 @@ impl State {
     /// Whether a client may gather another.
     fn may_gather(&self, client: u32, other: u32) -> bool
         ensures { result
-            ≡ may_play (stripes_of self.now.core) (gathers client other) self.now.core }
+            ≡ may_run (stripes_of self.now.core) (gathers client other) self.now.core }
     {
         self.is_out(client)
             && self.is_out(other)
@@ -401,7 +401,7 @@ impl State {
 
     /// Whether a client may renew the clock.
     fn may_renew(&self, client: u32, last: u64) -> bool
-        ensures { result ≡ may_play (stripes_of self.now.core) (renews client last) self.now.core }
+        ensures { result ≡ may_run (stripes_of self.now.core) (renews client last) self.now.core }
     {
         self.is_out(client)
             && self.seat(client).holds_none()
@@ -413,7 +413,7 @@ impl State {
 
     /// Plays an event that is allowed.
     pub(crate) fn make(&mut self, alloc: Global, event: Event) -> Result<(), AllocError>
-        requires may { may_play (stripes_of self.old.core) (event_of event) self.old.core ≡ true }
+        requires may { may_run (stripes_of self.old.core) (event_of event) self.old.core ≡ true }
         requires sane { IsSane self.old.core }
         ensures done { OnOk result (self.new ≡ run_played (event_of event) self.old) }
         ensures kept { OnErr result (self.new ≡ self.old) }

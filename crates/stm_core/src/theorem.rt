@@ -1,13 +1,13 @@
 ghost use Rattle.stm_core.specs.Follows.{RunningFollows};
 ghost use Rattle.stm_core.specs.Numbered.{AllowedWithNumbers, EveryEventIsPlayable, EveryListHasNumbers, LegalHistories, PlayedWithNumbers, SameButTags};
-ghost use Rattle.stm_core.specs.Theorem.{EveryListStands};
+ghost use Rattle.stm_core.specs.Theorem.{EveryListStands, free_law};
 
 use stm_words::Law;
 
-/// The core theorem, as a contract: what holds of the core that any list of allowed events leads
-/// to, from any image, any last version and any number of stripes.
+/// The core theorem, as a contract: what holds of any list of allowed events and of the core that
+/// it leads to, from any image, any last version and any number of stripes.
 pub fn core_theorem()
-    ensures { EveryListStands }
+    ensures { EveryListStands free_law }
 {}
 
 /// The running core follows the core, as a contract: after any list of allowed events it shows the
@@ -20,7 +20,7 @@ pub fn running_theorem()
 /// The core as running code has the law that allows every record, and numbers as tags. As a
 /// contract: a list of events that any law allows is allowed here with any numbers for its tags,
 /// the running core plays it, and its records are the same but for the tags, which the numbers can
-/// tell apart.
+/// tell apart. The core theorem holds of it too.
 pub fn law_theorem<L: Law>()
     ensures allowed { AllowedWithNumbers L.lawful }
     ensures played { PlayedWithNumbers L.lawful }
@@ -28,4 +28,5 @@ pub fn law_theorem<L: Law>()
     ensures history { LegalHistories L.lawful }
     ensures numbers { EveryListHasNumbers }
     ensures events { EveryEventIsPlayable }
+    ensures stands { EveryListStands L.lawful }
 {}

@@ -1,6 +1,7 @@
 use Rattle.stm_core.proofs.Numbering.{allowed_with_numbers, same_but_tags}
 use Rattle.stm_core.proofs.Tagging.{every_list_has_numbers, legal_histories}
 use Rattle.stm_core.proofs.Replaying.{played_with_numbers, every_event_is_playable}
+use Rattle.stm_core.proofs.Playing.{every_list_stands}
 use Rattle.stm_core.proofs.theorem.law_theorem.Goals as goal
 
 pub returns-clause-allowed : goal.returns-clause-allowed
@@ -20,3 +21,6 @@ returns-clause-numbers g c = every_list_has_numbers
 
 pub returns-clause-events : goal.returns-clause-events
 returns-clause-events g c = every_event_is_playable
+
+pub returns-clause-stands : goal.returns-clause-stands
+returns-clause-stands g c = every_list_stands g.L.Law.lawful
