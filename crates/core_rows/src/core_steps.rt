@@ -3,9 +3,8 @@ ghost use Rattle.std.specs.Prelude.{◌≡◌, ◌<◌, ◌≤◌, ◌^◌, leng
 
 use std::alloc::Global;
 use std::process::Abort;
-use stm_core::{
-    Core, Entry, Event, NotAllowed, Writes, core_theorem, law_theorem, running_theorem,
-};
+use stm_core::{core_theorem, core_theorem_of};
+use stm_replay::{Core, Entry, Event, NotAllowed, Writes, law_theorem, running_theorem};
 use stm_words::{FreeLaw, VERSION_LIMIT};
 
 const LAST: u64 = 100;

@@ -6,7 +6,8 @@ use crate::player::{Player, Stage};
 use rand_pcg::Pcg32;
 use std::alloc::{AllocError, Global};
 use std::process::Abort;
-use stm_core::{Core, Entry, Event, MOST_GRANTS};
+use stm_core::MOST_GRANTS;
+use stm_replay::{Core, Entry, Event};
 
 /// A decided attempt: its point is the place of a writer's won tick, or of a reader's begin, among
 /// the events.

@@ -6,7 +6,7 @@ ghost use Rattle.stm_words.specs.declared.version.TheConstants.{VERSION_LIMIT};
 use rand_core::utils::NextWord;
 use rand_pcg::Pcg32;
 use std::alloc::{AllocError, Global};
-use stm_core::{Event, Writes};
+use stm_replay::{Event, Writes};
 use stm_words::VERSION_LIMIT;
 
 /// How many words and stripes a region has, and its last version.

@@ -9,9 +9,9 @@ use Rattle.stm_words.specs.declared.version.TheConstants.{VERSION_LIMIT}
 use Rattle.stm_core.specs.Client.{Attempt, Client, Phase, running, ending, committed, Step, probed, fetched, version_of, IsFree, is_free, is_committed, writes_to, old_version, RecordLaw}
 use Rattle.stm_core.specs.Event.{Action, begin, probe, fetch, check, lock, tick, validate, put, release, give_back, finish, Bounds, is_empty, gone}
 use Rattle.stm_core.specs.Guards.{Holds, is_running, may_end, is_reading, has_probed, has_found_free, has_fetched, is_map, may_write, is_next, are_stored, may_act, MayAct, IsLawful}
-use Rattle.stm_core.specs.Core.{Core, bounds_of, client_of, Event, acts, splits, gathers, renews, is_out, are_spent, others_spent, may_play, may_run, has_number, Allowed, MakesLawful}
+use Rattle.stm_core.specs.Core.{Core, bounds_of, client_of, Event, acts, splits, gathers, renews, is_out, are_spent, others_spent, Allowed, MakesLawful}
 use Rattle.stm_core.specs.Theorem.{free_law}
-use Rattle.stm_core.specs.declared.limits.TheConstants.{MOST_CLIENTS, MOST_RENEWALS, MOST_TICKS}
+use Rattle.stm_core.specs.declared.limits.TheConstants.{MOST_RENEWALS, MOST_TICKS}
 use Rattle.stm_core.proofs.Lists.{clash, nothing_in, by_bool, in_range}
 use Rattle.stm_core.proofs.Orders.{in_cons}
 use Rattle.stm_core.proofs.Held.{old_in, held_has}
@@ -224,7 +224,7 @@ fetched_test a rv l = record {
     from (fetched b n x) h = let p = (and3 (eq_test b a) (free_word n) (le_test (version_of n) rv)).sound h in (n, x, ap (λ z. fetched z n x) p.0, p.1, p.2)
     from _ h = clash h refl
 
-bool_test : (b : Bool) → Decides b (b ≡ true)
+pub bool_test : (b : Bool) → Decides b (b ≡ true)
 bool_test b = record { sound = λ h. h; complete = λ h. h }
 
 module _ (lk : ℕ → ℕ) where
@@ -320,20 +320,6 @@ module _ (lawful : RecordLaw) (lk : ℕ → ℕ) where
   can_play (renews k last) c h =
       let p = (and2 (and5 (out_test c k) (empty_test (client_of c k).attempt.held) (bool_test (others_spent c.clients (k - 1))) (le_test 1 last) (lt_test last VERSION_LIMIT)) (lt_test c.renewal MOST_RENEWALS)).sound h.0 in
       (p.0.0, p.0.1, others_alone c.clients (k - 1) p.0.2, p.0.3, p.0.4, p.1)
-
--- what the running core plays may happen, and has its number
-pub run_test : (lk : ℕ → ℕ) (e : Event) (c : Core) → Decides (may_run lk e c) ((may_play lk e c ≡ true) × (has_number e c ≡ true))
-run_test lk (splits k) c = and2 (bool_test (may_play lk (splits k) c)) (bool_test (nat_lt (length c.clients) MOST_CLIENTS))
-run_test lk (acts k e) c = record { sound = λ h. (h, refl); complete = λ h. h.0 }
-run_test lk (gathers k j) c = record { sound = λ h. (h, refl); complete = λ h. h.0 }
-run_test lk (renews k last) c = record { sound = λ h. (h, refl); complete = λ h. h.0 }
-
-pub may_of_run : (lk : ℕ → ℕ) (e : Event) (c : Core) → may_run lk e c ≡ true → may_play lk e c ≡ true
-may_of_run lk e c h = ((run_test lk e c).sound h).0
-
--- a split has its number where there are fewer clients than numbers
-pub numbered_split : (c : Core) (k : ℕ) → length c.clients < MOST_CLIENTS → has_number (splits k) c ≡ true
-numbered_split c k l = (lt_test (length c.clients) MOST_CLIENTS).complete l
 
 -- every record is lawful for the law that allows all
 pub free_act : (e : Action) (t : Attempt) → IsLawful free_law e t

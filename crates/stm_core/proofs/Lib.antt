@@ -27,11 +27,5 @@ pub mod Facts
 pub mod Dating
 pub mod Tracing
 pub mod Playing
-pub mod Meanings
 pub mod Conditions
-pub mod Placing
-pub mod Following
-pub mod Making
-pub mod Numbering
-pub mod Tagging
-pub mod Replaying
+pub mod Examples

@@ -3,7 +3,7 @@ use Rattle.std.specs.Prelude.{◌≡◌, ℕ, zero, suc, ◌+◌, ◌*◌, ◌-�
 use Rattle.stm_core.specs.Client.{Client, Record, Stamp, word_before, old_version, RecordLaw}
 use Rattle.stm_core.specs.Event.{Action, begin, probe, fetch, check, lock, tick, validate, put, release, give_back, finish, is_empty, Bounds, after, giving, fresh, taking, renewing, gone, opener}
 use Rattle.stm_core.specs.Guards.{may_act, IsLawful}
-use Rattle.stm_core.specs.declared.limits.TheConstants.{MOST_CLIENTS, MOST_RENEWALS}
+use Rattle.stm_core.specs.declared.limits.TheConstants.{MOST_RENEWALS}
 use Rattle.stm_words.specs.declared.version.TheConstants.{VERSION_LIMIT}
 
 -- the words and the clients' values, with what the region was opened on
@@ -134,16 +134,6 @@ may_play lk (gathers k j) c =
 may_play lk (renews k last) c =
     is_out c k && is_empty (client_of c k).attempt.held && others_spent c.clients (k - 1)
     && nat_le 1 last && nat_lt last VERSION_LIMIT && nat_lt c.renewal MOST_RENEWALS
-
--- whether a new client has a number left, where these are of 32 bits
-abbrev pub has_number : Event → Core → Bool
-has_number (splits k) c = nat_lt (length c.clients) MOST_CLIENTS
-has_number _ c = true
-
--- whether the running core plays the event: it may happen, and has its number
-abbrev pub may_run : (ℕ → ℕ) → Event → Core → Bool
-may_run lk (splits k) c = may_play lk (splits k) c && nat_lt (length c.clients) MOST_CLIENTS
-may_run lk e c = may_play lk e c
 
 module _ (lawful : RecordLaw) where
   -- the record that the event would make is lawful

@@ -8,12 +8,4 @@ pub mod Invariant
 pub mod History
 pub mod Listed
 pub mod Theorem
-pub mod Seat
-pub mod SeatView
-pub mod Placing
-pub mod Running
-pub mod Played
-pub mod StateView
-pub mod Follows
-pub mod Refusals
-pub mod Numbered
+pub mod Examples

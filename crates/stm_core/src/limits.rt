@@ -3,9 +3,6 @@
 /// How many more clients the client of a region just opened may split off.
 pub const MOST_GRANTS: u32 = 63;
 
-/// How many clients a region has at most, those that were gathered among them.
-pub const MOST_CLIENTS: u32 = 4_294_967_295;
-
 /// A region has at most so many data words.
 pub const MOST_WORDS: usize = 4_194_304;
 

@@ -1,0 +1,99 @@
+-- Worked lists of events, with the records that they decide, worked out by hand.
+use Rattle.std.specs.Prelude.{◌≡◌, ℕ, true, false, List, [], ◌∷◌, replicate}
+use Rattle.stm_core.specs.Client.{Record}
+use Rattle.stm_core.specs.Event.{begin, probe, fetch, check, lock, tick, validate, put, release, finish}
+use Rattle.stm_core.specs.Core.{Core, Event, acts, splits, opened}
+use Rattle.stm_core.specs.Theorem.{free_law, stripe_of, Reaches}
+use Rattle.stm_core.specs.Listed.{decisions, begins}
+
+abbrev pub zeros : List ℕ
+zeros = replicate 32 0
+
+abbrev pub IsAllowedList : List Event → Type 0
+IsAllowedList events = (c : Core) × Reaches free_law zeros 100 32 events c
+
+abbrev pub decided_by : List Event → List Record
+decided_by = decisions (stripe_of 32) (opened zeros 100 32)
+
+-- client 1 reads word 8, loses a tick to client 2 and wins the next; client 2 commits once more
+-- before client 1 has validated what it read
+abbrev pub overtaken : List Event
+overtaken =
+    splits 1
+    ∷ acts 1 begin ∷ acts 1 (probe 8) ∷ acts 1 (fetch 8) ∷ acts 1 (check 8)
+    ∷ acts 2 begin ∷ acts 2 (probe 20) ∷ acts 2 (lock 20)
+    ∷ acts 2 (tick 0 (1 ∷ []) ((20, 6) ∷ [])) ∷ acts 2 (put 20 6) ∷ acts 2 (release 20)
+    ∷ acts 1 (probe 9) ∷ acts 1 (lock 9)
+    ∷ acts 1 (tick 0 (11 ∷ []) ((9, 5) ∷ [])) ∷ acts 1 (tick 1 (11 ∷ []) ((9, 5) ∷ []))
+    ∷ acts 2 begin ∷ acts 2 (probe 10) ∷ acts 2 (lock 10)
+    ∷ acts 2 (tick 2 (12 ∷ []) ((10, 7) ∷ []))
+    ∷ acts 1 (validate 8) ∷ []
+
+-- in the order in which they are decided. Client 1's stands before the last one in the history,
+-- since its tick does
+abbrev pub overtaken_records : List Record
+overtaken_records =
+    record {
+      tag = 1 ∷ [];
+      reads = [];
+      writes = (20, 6) ∷ [];
+      writer = true;
+      version = 1;
+      attempt = 1;
+      renewal = 0;
+      point = 8;
+      client = 2;
+    }
+    ∷ record {
+      tag = 12 ∷ [];
+      reads = [];
+      writes = (10, 7) ∷ [];
+      writer = true;
+      version = 3;
+      attempt = 2;
+      renewal = 0;
+      point = 18;
+      client = 2;
+    }
+    ∷ record {
+      tag = 11 ∷ [];
+      reads = (8, 0) ∷ [];
+      writes = (9, 5) ∷ [];
+      writer = true;
+      version = 2;
+      attempt = 1;
+      renewal = 0;
+      point = 14;
+      client = 1;
+    }
+    ∷ []
+
+-- an attempt reads word 9 and is abandoned; the next one reads nothing and finishes
+abbrev pub abandoned : List Event
+abandoned =
+    acts 1 begin ∷ acts 1 (probe 9) ∷ acts 1 (fetch 9) ∷ acts 1 (check 9)
+    ∷ acts 1 begin ∷ acts 1 (finish (7 ∷ [])) ∷ []
+
+abbrev pub abandoned_records : List Record
+abandoned_records =
+    record {
+      tag = 7 ∷ [];
+      reads = [];
+      writes = [];
+      writer = false;
+      version = 0;
+      attempt = 2;
+      renewal = 0;
+      point = 4;
+      client = 1;
+    }
+    ∷ []
+
+pub record WorkedLists : Type 0 where
+  pub overtaken_is_allowed : IsAllowedList overtaken
+  pub overtaken_decides : decided_by overtaken ≡ overtaken_records
+  pub abandoned_is_allowed : IsAllowedList abandoned
+  pub abandoned_decides : decided_by abandoned ≡ abandoned_records
+  -- client 1 has begun once with the first four events, and twice with the first five
+  pub first_attempt : begins 1 abandoned 4 ≡ 1
+  pub second_attempt : begins 1 abandoned 5 ≡ 2

@@ -1,9 +1,0 @@
--- Why an event was refused.
-use Rattle.std.specs.Prelude.{◌≡◌, Bool, true, false}
-use Rattle.stm_core.specs.declared.event.NotAllowed.{NotAllowed}
-use Rattle.stm_core.specs.declared.event.NotAllowed.TheVariants.{Event, Memory}
-
--- it is not allowed, or it is and memory was refused
-abbrev pub IsRefusal : Bool → NotAllowed → Type 0
-IsRefusal may Event = may ≡ false
-IsRefusal may Memory = may ≡ true

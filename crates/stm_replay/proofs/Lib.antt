@@ -1,0 +1,8 @@
+pub mod Counting
+pub mod Meanings
+pub mod Placing
+pub mod Following
+pub mod Making
+pub mod Numbering
+pub mod Tagging
+pub mod Replaying

@@ -1,0 +1,46 @@
+-- The running core follows the core, and its order is the core's history.
+use Rattle.std.specs.Prelude.{◌≡◌, ℕ, ◌<◌, ◌↔◌, true, List, map}
+use Rattle.stm_core.specs.Client.{Record}
+use Rattle.stm_core.specs.Core.{Core, Event, Allowed}
+use Rattle.stm_core.specs.Theorem.{stripe_of, free_law, Reaches, IsHistory}
+use Rattle.stm_replay.specs.Running.{Running, entry_of, stripes_of, may_run, has_number, shown, run_opened, found_of, ran}
+use Rattle.stm_replay.specs.declared.event.Entry.{Entry}
+use Rattle.stm_words.specs.declared.version.TheConstants.{VERSION_LIMIT}
+
+-- the core has one history, and these are the entries and the points of its records, in its order
+pub record IsOrderOf (c : Core) (entries : List Entry) (points : List ℕ) : Type 0 where
+  pub history : List Record
+  pub is_history : IsHistory c history
+  pub only : (rs : List Record) → IsHistory c rs → rs ≡ history
+  pub listed : entries ≡ map entry_of history
+  pub dated : points ≡ map (λ r. r.point) history
+
+-- a list of allowed events leads from an opening to a core, and the running core is what the same
+-- list makes of the running core just opened
+pub record IsReached (s : Running) : Type 0 where
+  pub image : List ℕ
+  pub last : ℕ
+  pub stripes : ℕ
+  pub events : List Event
+  pub core : Core
+  pub leads : Reaches free_law image last stripes events core
+  pub versions : last < VERSION_LIMIT
+  pub locks : 0 < stripes
+  pub plays : s ≡ ran events (run_opened image last stripes)
+
+-- the running core shows the core, and its order is the core's history
+pub record FollowsCore (lk : ℕ → ℕ) (s : Running) (c : Core) : Type 0 where
+  pub shows : s.core ≡ shown c
+  pub order : IsOrderOf c s.order.entries s.order.points
+  -- the last step of each client found the same word
+  pub finds : (client : ℕ) → found_of s.core client ≡ found_of c client
+  -- it plays just the events that are allowed in the core, and have their number
+  pub allows : (e : Event)
+      → (may_run (stripes_of s.core) e s.core ≡ true)
+      ↔ (Allowed free_law lk e c × (has_number e c ≡ true))
+
+-- whatever allowed events are played, the running core follows the core that they lead to
+abbrev pub RunningFollows : Type 0
+RunningFollows = (image : List ℕ) (last stripes : ℕ) (events : List Event) (c : Core)
+    → Reaches free_law image last stripes events c
+    → FollowsCore (stripe_of stripes) (ran events (run_opened image last stripes)) c

@@ -1,0 +1,9 @@
+pub mod Seat
+pub mod SeatView
+pub mod Placing
+pub mod Running
+pub mod Played
+pub mod StateView
+pub mod Follows
+pub mod Refusals
+pub mod Numbered

@@ -1,0 +1,19 @@
+-- Decided records in the order of their point steps.
+use Rattle.std.specs.Prelude.{ℕ, ◌+◌, cond, ltb, List, [], ◌∷◌}
+use Rattle.std.specs.List.{list_all, insert}
+use Rattle.stm_replay.specs.declared.event.Entry.{Entry}
+
+pub record Placed : Type 0 where
+  pub entries : List Entry
+  pub points : List ℕ
+
+-- how many of the points stand up to the last one that is not later: none where all are later
+abbrev pub place_in : List ℕ → ℕ → ℕ
+place_in [] p = 0
+place_in (x ∷ xs) p = cond (list_all (ltb p) (x ∷ xs)) 0 (place_in xs p + 1)
+
+-- the order with one more record at its place
+abbrev pub put_in : Entry → ℕ → Placed → Placed
+put_in entry point o =
+    let place = place_in o.points point in
+    record { entries = insert o.entries place entry; points = insert o.points place point }

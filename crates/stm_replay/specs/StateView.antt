@@ -1,0 +1,25 @@
+-- The running core that a state stands for.
+use Rattle.std.specs.Prelude.{◌≡◌, ◌<◌, [], length}
+use Rattle.stm_replay.specs.Running.{Running}
+use Rattle.stm_replay.specs.declared.state.State.TheInside.{Inside}
+
+abbrev pub running_of : Inside → Running
+running_of s = record {
+  core = record {
+    first = [];
+    past = [];
+    last = s.last;
+    opening = [];
+    renewal = s.renewal;
+    events = s.events;
+    clock = s.clock;
+    locks = s.locks.items;
+    cells = s.cells.items;
+    clients = s.seats.items;
+  };
+  order = s.order;
+}
+
+pub record IsWhole (s : Inside) : Type 0 where
+  pub stripes : s.stripes ≡ length s.locks.items
+  pub some : 0 < s.stripes

@@ -1,0 +1,79 @@
+ghost use Rattle.std.specs.Prelude.{◌≡◌, ◌<◌, ◌≤◌, [], length, vec_len, vec_capacity, OnOk, OnErr};
+ghost use Rattle.std.specs.List.{insert};
+ghost use Rattle.stm_replay.specs.Placing.{place_in, put_in};
+
+use crate::event::Entry;
+use std::alloc::{AllocError, Global};
+use std::marker::Model;
+
+/// The decided records in the order of their point steps, with the places of these steps in the
+/// list of events.
+#[derive(Drop)]
+pub(crate) struct Order {
+    entries: Vec<Entry>,
+    points: Vec<usize>,
+}
+
+impl Model for Order {
+    ghost use Rattle.stm_replay.specs.Placing.{Placed};
+    ghost use Rattle.std.specs.Prelude.{◌≡◌, length};
+
+    ghost Value = { Placed };
+
+    ghost view = { λ o. record { entries = o.entries.items; points = o.points.items } };
+
+    ghost invariant = { λ o. length o.entries.items ≡ length o.points.items };
+}
+
+impl Order {
+    /// No records.
+    pub(crate) fn new(alloc: Global) -> Order
+        ensures { result ≡ record { entries = []; points = [] } }
+    {
+        Order {
+            entries: Vec::new(alloc),
+            points: Vec::new(alloc),
+        }
+    }
+
+    /// The records.
+    pub(crate) fn entries(&self) -> &[Entry]
+        ensures { result.now ≡ self.now.entries }
+    {
+        &self.entries
+    }
+
+    /// Puts a record at its place.
+    pub(crate) fn enter(&mut self, entry: Entry, point: usize) -> Result<(), AllocError>
+        ensures done { OnOk result (self.new ≡ put_in entry point self.old) }
+        ensures kept { OnErr result (self.new ≡ self.old) }
+    {
+        self.entries.reserve(1)?;
+        self.points.reserve(1)?;
+        let place = place_in(&self.points, point);
+        insert_in_room(&mut self.entries, place, entry);
+        insert_in_room(&mut self.points, place, point);
+        Ok(())
+    }
+}
+
+/// How many of the points stand up to the last one that is not later, looked for from the back.
+fn place_in(points: &[usize], point: usize) -> usize
+    ensures place { result ≡ place_in points.now point }
+    ensures within { result ≤ length points.now }
+{
+    let mut place = points.len();
+    while 0 < place && point < points[place - 1] {
+        place -= 1;
+    }
+    place
+}
+
+/// Puts a value in, where there is room.
+fn insert_in_room<T: Drop>(list: &mut Vec<T>, place: usize, value: T)
+    requires place { place ≤ vec_len list.old }
+    requires room { vec_len list.old < vec_capacity list.old }
+    ensures { list.new.items ≡ insert list.old.items place value }
+{
+    let _ = list.insert(place, value);
+}

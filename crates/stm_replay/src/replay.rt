@@ -1,0 +1,92 @@
+ghost use Rattle.std.specs.Prelude.{◌≡◌, ℕ, ◌<◌, ◌≤◌, ◌^◌, true, false, length, IfOk, IfErr};
+ghost use Rattle.stm_replay.specs.Played.{event_of};
+ghost use Rattle.stm_replay.specs.Running.{may_run, stripes_of, run_played, run_opened, found_of};
+ghost use Rattle.stm_replay.specs.Refusals.{IsRefusal};
+ghost use Rattle.stm_replay.specs.Follows.{IsReached, IsOrderOf};
+ghost use Rattle.stm_core.specs.declared.limits.TheConstants.{MOST_WORDS, MOST_STRIPES};
+ghost use Rattle.stm_words.specs.declared.version.TheConstants.{VERSION_LIMIT};
+
+use crate::event::{Entry, Event, NotAllowed};
+use crate::state::State;
+use std::alloc::{AllocError, Global};
+use std::marker::Model;
+
+/// A region as running code on one thread, for tests and for replaying a list of events: it plays
+/// one event after another, and refuses those that are not allowed.
+#[derive(Drop)]
+pub struct Core {
+    alloc: Global,
+    state: State,
+}
+
+impl Model for Core {
+    ghost use Rattle.stm_replay.specs.Running.{Running};
+
+    ghost Value = { Running };
+
+    ghost use Rattle.stm_replay.specs.Follows.{IsReached};
+
+    ghost view = { λ c. c.state };
+
+    ghost invariant = { λ c. IsReached c.state };
+}
+
+impl Core {
+    /// A region just opened on an image: clock 0, every lock free with version 0, and client 1
+    /// with all grants but its own.
+    ///
+    /// # Errors
+    ///
+    /// Where the memory for it is refused.
+    pub fn start(alloc: Global, image: &[u64], last: u64, stripes: u32) -> Result<Core, AllocError>
+        requires words { (1 ≤ length image.now) × (length image.now ≤ MOST_WORDS) }
+        requires versions { (1 ≤ last) × (last < VERSION_LIMIT) }
+        requires locks { (1 ≤ stripes) × (stripes ≤ MOST_STRIPES) }
+        ensures { IfOk result (λ c. c ≡ run_opened image.now last stripes) }
+    {
+        let state = State::open(alloc, image, last, stripes)?;
+        Ok(Core { alloc, state })
+    }
+
+    /// Plays an event.
+    ///
+    /// # Errors
+    ///
+    /// `Event` exactly where the event is not allowed, and `Memory` where it is but memory was
+    /// refused, or no more events can be counted. The core comes back as it was.
+    pub fn play(mut self, event: Event) -> Result<Core, (Core, NotAllowed)>
+        ensures played { IfOk result (λ c.
+            (may_run (stripes_of self.core) (event_of event) self.core ≡ true)
+            × (c ≡ run_played (event_of event) self)) }
+        ensures refused { IfErr result (λ e.
+            (e.0 ≡ self)
+            × IsRefusal (may_run (stripes_of self.core) (event_of event) self.core) e.1) }
+    {
+        if !self.state.allows(&event) {
+            return Err((self, NotAllowed::Event));
+        }
+        match self.state.make(self.alloc, event) {
+            Ok(()) => Ok(self),
+            Err(_) => Err((self, NotAllowed::Memory)),
+        }
+    }
+
+    /// The word that a client's last step found: none before its first step, and after a put, a
+    /// release, a give back, a split, a gather and a renewal.
+    pub fn found(&self, client: u32) -> Option<u64>
+        ensures { result ≡ found_of self.now.core client }
+    {
+        self.state.found(client)
+    }
+
+    /// The decided records in the order of their point steps: a writer's won tick, a reader's
+    /// begin.
+    pub fn order(&self) -> &[Entry]
+        ensures entries { result.now ≡ self.now.order.entries }
+        ensures reached { IsReached self.now }
+        ensures history { (r : IsReached self.now)
+            → IsOrderOf r.core result.now self.now.order.points }
+    {
+        self.state.entries()
+    }
+}

@@ -1,0 +1,491 @@
+ghost use Rattle.std.specs.Prelude.{◌≡◌, ◌≢◌, ℕ, ◌<◌, ◌≤◌, ◌+◌, ◌-◌, ◌*◌, ◌^◌, ◌&&◌, true, length, OnOk, OnErr, IfOk, List, [], ◌∷◌};
+ghost use Rattle.stm_core.specs.Core.{client_of, is_out, bounds_of, splits, gathers, renews};
+ghost use Rattle.stm_core.specs.Event.{begin, probe, fetch, check, lock, tick, validate, put, release, give_back, finish};
+ghost use Rattle.stm_core.specs.Client.{old_version, word_before, IsFree};
+ghost use Rattle.stm_replay.specs.Played.{event_of};
+ghost use Rattle.stm_replay.specs.Running.{may_run, Running, IsSane, stripes_of, run_acts, run_played, run_opened, found_of};
+ghost use Rattle.stm_core.specs.declared.limits.TheConstants.{MOST_GRANTS, MOST_RENEWALS, MOST_TICKS};
+ghost use Rattle.stm_words.specs.declared.version.TheConstants.{VERSION_LIMIT};
+
+use crate::event::{Entry, Event, Writes};
+use crate::limits::MOST_CLIENTS;
+use crate::order::Order;
+use crate::seat::{Seat, others_spent};
+use std::alloc::{AllocError, Global};
+use std::marker::Model;
+use stm_core::MOST_RENEWALS;
+use stm_words::VERSION_LIMIT;
+
+/// The words, what is kept of the clients, and the decided records.
+#[derive(Drop)]
+pub(crate) struct State {
+    last: u64,
+    renewal: u32,
+    clock: u64,
+    stripes: u32,
+    locks: Vec<u64>,
+    cells: Vec<u64>,
+    seats: Vec<Seat>,
+    /// How many events there were: the place of the next one.
+    events: usize,
+    order: Order,
+}
+
+impl Model for State {
+    ghost use Rattle.stm_replay.specs.Running.{Running};
+
+    ghost Value = { Running };
+
+    ghost use Rattle.stm_replay.specs.StateView.{running_of, IsWhole};
+
+    ghost view = { running_of };
+
+    ghost invariant = { IsWhole };
+}
+
+impl State {
+    /// The place of a client among the seats, where it is out.
+    fn is_out(&self, client: u32) -> bool
+        ensures { result ≡ is_out self.now.core client }
+    {
+        0 < client && (client as usize - 1) < self.seats.len() && self.seat(client).is_out()
+    }
+
+    /// What is kept of a client.
+    fn seat(&self, client: u32) -> &Seat
+        requires there { client - 1 < length self.now.core.clients }
+        requires some { 0 < client }
+        ensures { result.now ≡ client_of self.now.core client }
+    {
+        &self.seats[client as usize - 1]
+    }
+
+    /// The number of events with the next one.
+    fn one_more(&self) -> Result<usize, AllocError>
+        ensures { IfOk result (λ n. n ≡ self.now.core.events + 1) }
+    {
+        self.events.checked_add(1).ok_or(AllocError)
+    }
+
+    /// Begins an attempt.
+    fn begin(&mut self, client: u32) -> Result<(), AllocError>
+        requires out { is_out self.old.core client ≡ true }
+        ensures done { OnOk result (self.new ≡ run_acts client begin self.old) }
+        ensures kept { OnErr result (self.new ≡ self.old) }
+    {
+        let events = self.one_more()?;
+        let place = self.events;
+        let seat = &mut self.seats[client as usize - 1];
+        seat.begin(self.clock, place);
+        self.events = events;
+        Ok(())
+    }
+
+    /// Loads a lock word.
+    fn probe(&mut self, client: u32, stripe: u32) -> Result<(), AllocError>
+        requires out { is_out self.old.core client ≡ true }
+        requires inside { stripe < length self.old.core.locks }
+        ensures done { OnOk result (self.new ≡ run_acts client (probe stripe) self.old) }
+        ensures kept { OnErr result (self.new ≡ self.old) }
+    {
+        let events = self.one_more()?;
+        let word = self.locks[stripe as usize];
+        let seat = &mut self.seats[client as usize - 1];
+        seat.probe(stripe, word);
+        self.events = events;
+        Ok(())
+    }
+
+    /// Loads a data word.
+    fn fetch(&mut self, client: u32, address: u32) -> Result<(), AllocError>
+        requires out { is_out self.old.core client ≡ true }
+        requires inside { address < length self.old.core.cells }
+        ensures done { OnOk result (self.new ≡ run_acts client (fetch address) self.old) }
+        ensures kept { OnErr result (self.new ≡ self.old) }
+    {
+        let events = self.one_more()?;
+        let value = self.cells[address as usize];
+        let seat = &mut self.seats[client as usize - 1];
+        seat.fetch(address, value);
+        self.events = events;
+        Ok(())
+    }
+
+    /// Loads a lock word again.
+    fn check(&mut self, client: u32, address: u32) -> Result<(), AllocError>
+        requires out { is_out self.old.core client ≡ true }
+        ensures done { OnOk result (self.new ≡ run_acts client (check address) self.old) }
+        ensures kept { OnErr result (self.new ≡ self.old) }
+    {
+        let events = self.one_more()?;
+        let word = self.locks[(address % self.stripes) as usize];
+        let seat = &mut self.seats[client as usize - 1];
+        seat.check(address, word)?;
+        self.events = events;
+        Ok(())
+    }
+
+    /// Exchanges a lock word that was found free.
+    fn lock(&mut self, client: u32, stripe: u32) -> Result<(), AllocError>
+        requires out { is_out self.old.core client ≡ true }
+        requires inside { stripe < length self.old.core.locks }
+        requires free { IsFree (word_before (client_of self.old.core client).attempt.last) }
+        ensures done { OnOk result (self.new ≡ run_acts client (lock stripe) self.old) }
+        ensures kept { OnErr result (self.new ≡ self.old) }
+    {
+        let events = self.one_more()?;
+        let word = self.locks[stripe as usize];
+        let seat = &mut self.seats[client as usize - 1];
+        let wins = word == seat.word_before();
+        seat.lock(stripe, word)?;
+        if wins {
+            self.locks[stripe as usize] = word + 1;
+        }
+        self.events = events;
+        Ok(())
+    }
+
+    /// Stores a value.
+    fn put(&mut self, client: u32, address: u32, value: u64) -> Result<(), AllocError>
+        requires out { is_out self.old.core client ≡ true }
+        requires inside { address < length self.old.core.cells }
+        ensures done { OnOk result (self.new ≡ run_acts client (put address value) self.old) }
+        ensures kept { OnErr result (self.new ≡ self.old) }
+    {
+        let events = self.one_more()?;
+        let seat = &mut self.seats[client as usize - 1];
+        seat.put(address, value)?;
+        self.cells[address as usize] = value;
+        self.events = events;
+        Ok(())
+    }
+
+    /// Releases a lock with the write version.
+    fn release(&mut self, client: u32, stripe: u32) -> Result<(), AllocError>
+        requires out { is_out self.old.core client ≡ true }
+        requires inside { stripe < length self.old.core.locks }
+        requires small { (client_of self.old.core client).attempt.wv < VERSION_LIMIT }
+        ensures done { OnOk result (self.new ≡ run_acts client (release stripe) self.old) }
+        ensures kept { OnErr result (self.new ≡ self.old) }
+    {
+        let events = self.one_more()?;
+        let seat = &mut self.seats[client as usize - 1];
+        let version = seat.write_version();
+        seat.release(stripe);
+        self.locks[stripe as usize] = 2 * version;
+        self.events = events;
+        Ok(())
+    }
+
+    /// Gives a lock back with its old version.
+    fn give_back(&mut self, client: u32, stripe: u32) -> Result<(), AllocError>
+        requires out { is_out self.old.core client ≡ true }
+        requires inside { stripe < length self.old.core.locks }
+        requires small { old_version (client_of self.old.core client).attempt.held stripe
+            < VERSION_LIMIT }
+        ensures done { OnOk result (self.new ≡ run_acts client (give_back stripe) self.old) }
+        ensures kept { OnErr result (self.new ≡ self.old) }
+    {
+        let events = self.one_more()?;
+        let seat = &mut self.seats[client as usize - 1];
+        let version = seat.old_version(stripe);
+        seat.give_back(stripe);
+        self.locks[stripe as usize] = 2 * version;
+        self.events = events;
+        Ok(())
+    }
+
+    /// Ends the attempt as a reader.
+    fn finish(&mut self, client: u32, tag: u64) -> Result<(), AllocError>
+        requires out { is_out self.old.core client ≡ true }
+        ensures done { OnOk result (self.new ≡ run_acts client (finish (tag ∷ [])) self.old) }
+        ensures kept { OnErr result (self.new ≡ self.old) }
+    {
+        let events = self.one_more()?;
+        let seat = &mut self.seats[client as usize - 1];
+        let entry = Entry {
+            client,
+            tag,
+            version: seat.read_version(),
+            writer: false,
+            renewal: self.renewal,
+        };
+        self.order.enter(entry, seat.began_at())?;
+        seat.finish(self.clock);
+        self.events = events;
+        Ok(())
+    }
+
+    /// Validates the lock of a read word.
+    fn validate(&mut self, client: u32, stripe: u32) -> Result<(), AllocError>
+        requires out { is_out self.old.core client ≡ true }
+        requires inside { stripe < length self.old.core.locks }
+        requires next { (client_of self.old.core client).attempt.passed
+            < length (client_of self.old.core client).attempt.reads }
+        ensures done { OnOk result (self.new ≡ run_acts client (validate stripe) self.old) }
+        ensures kept { OnErr result (self.new ≡ self.old) }
+    {
+        let events = self.one_more()?;
+        let word = self.locks[stripe as usize];
+        let seat = &mut self.seats[client as usize - 1];
+        if seat.decides_by(stripe, word) {
+            let entry = Entry {
+                client,
+                tag: seat.tag(),
+                version: seat.write_version(),
+                writer: true,
+                renewal: self.renewal,
+            };
+            self.order.enter(entry, seat.ticked_at())?;
+        }
+        seat.validate(stripe, word);
+        self.events = events;
+        Ok(())
+    }
+
+    /// Exchanges the clock.
+    fn tick(&mut self, client: u32, from: u64, tag: u64, writes: Writes) -> Result<(), AllocError>
+        requires out { is_out self.old.core client ≡ true }
+        requires room { (client_of self.old.core client).attempt.ticks < MOST_TICKS }
+        requires below { from < VERSION_LIMIT }
+        ensures done { OnOk result
+            (self.new ≡ run_acts client (tick from (tag ∷ []) writes) self.old) }
+        ensures kept { OnErr result (self.new ≡ self.old) }
+    {
+        let events = self.one_more()?;
+        let now = self.clock;
+        let place = self.events;
+        let seat = &mut self.seats[client as usize - 1];
+        if now == from && seat.decides_from(from) {
+            let entry = Entry {
+                client,
+                tag,
+                version: from + 1,
+                writer: true,
+                renewal: self.renewal,
+            };
+            self.order.enter(entry, place)?;
+        }
+        seat.tick(from, tag, writes.into_pairs(), now, place);
+        if now == from {
+            self.clock = from + 1;
+        }
+        self.events = events;
+        Ok(())
+    }
+
+    /// Splits a client off.
+    fn split(&mut self, alloc: Global, client: u32) -> Result<(), AllocError>
+        requires out { is_out self.old.core client ≡ true }
+        requires grants { 0 < (client_of self.old.core client).grants }
+        ensures done { OnOk result (self.new ≡ run_played (splits client) self.old) }
+        ensures kept { OnErr result (self.new ≡ self.old) }
+    {
+        let events = self.one_more()?;
+        self.seats.reserve(1)?;
+        let seat = &mut self.seats[client as usize - 1];
+        seat.give();
+        let _ = self.seats.push(Seat::fresh(alloc));
+        self.events = events;
+        Ok(())
+    }
+
+    /// Gathers a client.
+    fn gather(&mut self, alloc: Global, client: u32, other: u32) -> Result<(), AllocError>
+        requires out { is_out self.old.core client ≡ true }
+        requires there { is_out self.old.core other ≡ true }
+        requires apart { client ≢ other }
+        requires grants { (client_of self.old.core client).grants
+            + (client_of self.old.core other).grants + 1 ≤ MOST_GRANTS }
+        ensures done { OnOk result (self.new ≡ run_played (gathers client other) self.old) }
+        ensures kept { OnErr result (self.new ≡ self.old) }
+    {
+        let events = self.one_more()?;
+        let grants = self.seat(other).grants();
+        let seat = &mut self.seats[client as usize - 1];
+        seat.take(grants);
+        let seat = &mut self.seats[other as usize - 1];
+        seat.leave(alloc);
+        self.events = events;
+        Ok(())
+    }
+
+    /// Renews the clock.
+    fn renew(&mut self, alloc: Global, client: u32, last: u64) -> Result<(), AllocError>
+        requires out { is_out self.old.core client ≡ true }
+        requires few { self.old.core.renewal < MOST_RENEWALS }
+        ensures done { OnOk result (self.new ≡ run_played (renews client last) self.old) }
+        ensures kept { OnErr result (self.new ≡ self.old) }
+    {
+        let events = self.one_more()?;
+        let locks = vec![in alloc; 0u64; self.stripes as usize]?;
+        let seat = &mut self.seats[client as usize - 1];
+        seat.renew(alloc);
+        self.locks = locks;
+        self.clock = 0;
+        self.last = last;
+        self.renewal += 1;
+        self.events = events;
+        Ok(())
+    }
+
+    /// Whether an event is allowed.
+    pub(crate) fn allows(&self, event: &Event) -> bool
+        ensures { result ≡ may_run (stripes_of self.now.core) (event_of event.now) self.now.core }
+    {
+        match event {
+            Event::Begin { client } => self.is_out(*client) && self.seat(*client).may_begin(),
+            Event::Probe { client, lock } => self.is_out(*client)
+                && self.seat(*client).may_probe(*lock, self.stripes),
+            Event::Fetch { client, addr } => self.is_out(*client)
+                && self
+                    .seat(*client)
+                    .may_fetch(*addr, self.stripes, self.cells.len()),
+            Event::Check { client, addr } => self.is_out(*client)
+                && self
+                    .seat(*client)
+                    .may_check(*addr, self.stripes, self.cells.len()),
+            Event::Lock { client, lock } => self.is_out(*client)
+                && self.seat(*client).may_lock(*lock, self.stripes),
+            Event::Tick {
+                client,
+                from,
+                writes,
+                ..
+            } => self.is_out(*client)
+                && self.seat(*client).may_tick(
+                    *from,
+                    writes.as_slice(),
+                    self.last,
+                    self.stripes,
+                    self.cells.len(),
+                ),
+            Event::Validate { client, lock } => self.is_out(*client)
+                && self.seat(*client).may_validate(*lock, self.stripes),
+            Event::Put {
+                client,
+                addr,
+                value,
+            } => self.is_out(*client) && self.seat(*client).may_put(*addr, *value, self.stripes),
+            Event::Release { client, lock } => self.is_out(*client)
+                && self.seat(*client).may_release(*lock, self.stripes),
+            Event::GiveBack { client, lock } => self.is_out(*client)
+                && self.seat(*client).may_give_back(*lock),
+            Event::Finish { client, .. } => self.is_out(*client) && self.seat(*client).may_end(),
+            Event::Split { client } => self.may_split(*client),
+            Event::Gather { client, other } => self.may_gather(*client, *other),
+            Event::Renew { client, last } => self.may_renew(*client, *last),
+        }
+    }
+
+    /// Whether a client may split one off.
+    fn may_split(&self, client: u32) -> bool
+        ensures { result ≡ may_run (stripes_of self.now.core) (splits client) self.now.core }
+    {
+        self.is_out(client)
+            && self.seat(client).holds_none()
+            && 0 < self.seat(client).grants()
+            && self.seats.len() < MOST_CLIENTS as usize
+    }
+
+    /// Whether a client may gather another.
+    fn may_gather(&self, client: u32, other: u32) -> bool
+        ensures { result
+            ≡ may_run (stripes_of self.now.core) (gathers client other) self.now.core }
+    {
+        self.is_out(client)
+            && self.is_out(other)
+            && client != other
+            && self.seat(client).holds_none()
+            && self.seat(other).holds_none()
+    }
+
+    /// Whether a client may renew the clock.
+    fn may_renew(&self, client: u32, last: u64) -> bool
+        ensures { result ≡ may_run (stripes_of self.now.core) (renews client last) self.now.core }
+    {
+        self.is_out(client)
+            && self.seat(client).holds_none()
+            && others_spent(&self.seats, client as usize - 1)
+            && 1 <= last
+            && last < VERSION_LIMIT
+            && self.renewal < MOST_RENEWALS
+    }
+
+    /// Plays an event that is allowed.
+    pub(crate) fn make(&mut self, alloc: Global, event: Event) -> Result<(), AllocError>
+        requires may { may_run (stripes_of self.old.core) (event_of event) self.old.core ≡ true }
+        requires sane { IsSane self.old.core }
+        ensures done { OnOk result (self.new ≡ run_played (event_of event) self.old) }
+        ensures kept { OnErr result (self.new ≡ self.old) }
+    {
+        match event {
+            Event::Begin { client } => self.begin(client),
+            Event::Probe { client, lock } => self.probe(client, lock),
+            Event::Fetch { client, addr } => self.fetch(client, addr),
+            Event::Check { client, addr } => self.check(client, addr),
+            Event::Lock { client, lock } => self.lock(client, lock),
+            Event::Tick {
+                client,
+                from,
+                tag,
+                writes,
+            } => self.tick(client, from, tag, writes),
+            Event::Validate { client, lock } => self.validate(client, lock),
+            Event::Put {
+                client,
+                addr,
+                value,
+            } => self.put(client, addr, value),
+            Event::Release { client, lock } => self.release(client, lock),
+            Event::GiveBack { client, lock } => self.give_back(client, lock),
+            Event::Finish { client, tag } => self.finish(client, tag),
+            Event::Split { client } => self.split(alloc, client),
+            Event::Gather { client, other } => self.gather(alloc, client, other),
+            Event::Renew { client, last } => self.renew(alloc, client, last),
+        }
+    }
+
+    /// The word that a client's last step found.
+    pub(crate) fn found(&self, client: u32) -> Option<u64>
+        ensures { result ≡ found_of self.now.core client }
+    {
+        if 0 < client && (client as usize - 1) < self.seats.len() {
+            self.seat(client).found()
+        } else {
+            None
+        }
+    }
+
+    /// The decided records in the order of their point steps.
+    pub(crate) fn entries(&self) -> &[Entry]
+        ensures { result.now ≡ self.now.order.entries }
+    {
+        self.order.entries()
+    }
+
+    /// A core just opened.
+    pub(crate) fn open(
+        alloc: Global,
+        image: &[u64],
+        last: u64,
+        stripes: u32,
+    ) -> Result<State, AllocError>
+        requires { 0 < stripes }
+        ensures { IfOk result (λ s. s ≡ run_opened image.now last stripes) }
+    {
+        let mut seats = Vec::with_capacity(alloc, 1)?;
+        let _ = seats.push(Seat::opener(alloc));
+        Ok(State {
+            last,
+            renewal: 0,
+            clock: 0,
+            stripes,
+            locks: vec![in alloc; 0u64; stripes as usize]?,
+            cells: Vec::from_slice(alloc, image)?,
+            seats,
+            events: 0,
+            order: Order::new(alloc),
+        })
+    }
+}

@@ -1,0 +1,24 @@
+ghost use Rattle.stm_replay.specs.Follows.{RunningFollows};
+ghost use Rattle.stm_replay.specs.Numbered.{AllowedWithNumbers, EveryEventIsPlayable, EveryListHasNumbers, LegalHistories, PlayedWithNumbers, SameButTags};
+
+use stm_words::Law;
+
+/// The running core follows the core, as a contract: after any list of allowed events it shows the
+/// core that they lead to, its order is that core's history, each client's last step found the
+/// same word, and it allows just the events that are allowed there.
+pub fn running_theorem()
+    ensures { RunningFollows }
+{}
+
+/// The core as running code has the law that allows every record, and numbers as tags. As a
+/// contract: a list of events that any law allows is allowed here with any numbers for its tags,
+/// the running core plays it, and its records are the same but for the tags, which the numbers can
+/// tell apart.
+pub fn law_theorem<L: Law>()
+    ensures allowed { AllowedWithNumbers L.lawful }
+    ensures played { PlayedWithNumbers L.lawful }
+    ensures records { SameButTags L.lawful }
+    ensures history { LegalHistories L.lawful }
+    ensures numbers { EveryListHasNumbers }
+    ensures events { EveryEventIsPlayable }
+{}
