@@ -2,10 +2,11 @@
 use Rattle.std.specs.Prelude.{◌≡◌, ℕ, ◌-◌, ◌/◌, List, [], ◌∷◌, IsTrue, false}
 use mathlib.Core.Option.{some}
 use lib.ListN.{get_elem?}
+use Rattle.stm_words.specs.Image.{In}
 use Rattle.stm_core.specs.Client.{Client, Record}
 use Rattle.stm_core.specs.Core.{Core}
 use Rattle.stm_core.specs.Invariant.{Rule}
-use Rattle.stm_core.specs.History.{Sub, all_records}
+use Rattle.stm_core.specs.History.{Sub, Serial, image_after, all_records}
 use Rattle.stm_region.specs.Shown.{RegionShown, stripe_of}
 use Rattle.vac_model.specs.declared.tasks.Task.{Task}
 use Rattle.vac_model.specs.declared.replies.Reply.{Reply}
@@ -13,7 +14,7 @@ use Rattle.vac_model.specs.State.{State, empty_state}
 use Rattle.vac_model.specs.Run.{run}
 use Rattle.vac_model.specs.Ranges.{is_task}
 use Rattle.vac_model.specs.Code.{code}
-use Rattle.vac_manager.specs.Law.{IsLawful}
+use Rattle.vac_manager.specs.Law.{Shows, IsLawful}
 
 -- from the state s the record's task gives the record's reply and the state s'
 pub record Runs (r : Record) (s s' : State) : Type 0 where
@@ -27,6 +28,13 @@ pub record Runs (r : Record) (s s' : State) : Type 0 where
 abbrev pub IsLegal : State → List Record → State → Type 0
 IsLegal s [] last = s ≡ last
 IsLegal s (r ∷ rs) last = (s' : State) × Runs r s s' × IsLegal s' rs last
+
+-- lawful records that are serial from an image of a balanced state are legal from that state, and
+-- the last state is the one that the last image shows
+abbrev pub SerialIsLegal : Type 0
+SerialIsLegal = (image : List ℕ) (s : State) (rs : List Record) → Shows image s → Serial image rs
+    → ((r : Record) → In r rs → IsLawful r.tag r.reads r.writes)
+    → (last : State) × (IsLegal s rs last × Shows (image_after image rs) last)
 
 -- how many entries there is room for in a manager's region
 abbrev pub capacity_of : RegionShown → ℕ

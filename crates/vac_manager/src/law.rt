@@ -1,12 +1,6 @@
 //! The law of the manager's records, and what follows from it.
 
-ghost use Rattle.std.specs.Prelude.{ℕ, List};
-ghost use Rattle.stm_words.specs.Image.{In};
-ghost use Rattle.stm_core.specs.Client.{Record};
-ghost use Rattle.stm_core.specs.History.{Serial, image_after};
-ghost use Rattle.vac_model.specs.State.{State};
-ghost use Rattle.vac_manager.specs.Law.{Shows, IsLawful};
-ghost use Rattle.vac_manager.specs.Legal.{IsLegal};
+ghost use Rattle.vac_manager.specs.Legal.{SerialIsLegal};
 
 use stm_words::Law;
 
@@ -27,5 +21,5 @@ impl Law for ManagerLaw {
 /// Lawful records that are serial from an image of a balanced state are legal from that state, and
 /// the last state is the one that the last image represents.
 pub fn serial_records_are_legal()
-    ensures { (image : List ℕ) (s : State) (rs : List Record) → Shows image s → Serial image rs → ((r : Record) → In r rs → IsLawful r.tag r.reads r.writes) → (last : State) × (IsLegal s rs last × Shows (image_after image rs) last) }
+    ensures { SerialIsLegal }
 {}

@@ -22,11 +22,14 @@ kind_coded = code_by ℕ coded_ℕ kind_number kind_of_number kind_back
 
 abbrev pub item_coded : Coded Item
 item_coded =
-    code_by ((ℕ × ℕ) × (ℕ × ℕ)) (coded× (coded× coded_ℕ coded_ℕ) (coded× coded_ℕ coded_ℕ)) (λ i. ((i.used, i.free), (i.total, i.price)))
+    code_by ((ℕ × ℕ) × (ℕ × ℕ)) (coded× (coded× coded_ℕ coded_ℕ) (coded× coded_ℕ coded_ℕ))
+    (λ i. ((i.used, i.free), (i.total, i.price)))
     (λ p. record { used = p.0.0; free = p.0.1; total = p.1.0; price = p.1.1 }) (λ _. refl)
 
 abbrev pub booking_coded : Coded Booking
-booking_coded = code_by (ℕ × ℕ) (coded× coded_ℕ coded_ℕ) (λ b. (b.units, b.sum)) (λ p. record { units = p.0; sum = p.1 }) (λ _. refl)
+booking_coded =
+    code_by (ℕ × ℕ) (coded× coded_ℕ coded_ℕ) (λ b. (b.units, b.sum))
+    (λ p. record { units = p.0; sum = p.1 }) (λ _. refl)
 
 abbrev pub table_coded : Coded Table
 table_coded = map.code coded_ℕ item_coded
@@ -40,6 +43,15 @@ customers_coded = map.code coded_ℕ bookings_coded
 -- a state is stored as the tuple of its fields
 abbrev pub state_coded : Coded State
 state_coded =
-    code_by ((ℕ × Customers) × (Table × (Table × Table))) (coded× (coded× coded_ℕ customers_coded) (coded× table_coded (coded× table_coded table_coded)))
+    code_by ((ℕ × Customers) × (Table × (Table × Table)))
+    (coded× (coded× coded_ℕ customers_coded)
+    (coded× table_coded (coded× table_coded table_coded)))
     (λ s. ((s.capacity, s.customers), (s.cars, (s.flights, s.rooms))))
-    (λ p. record { capacity = p.0.0; cars = p.1.0; flights = p.1.1.0; rooms = p.1.1.1; customers = p.0.1 }) (λ _. refl)
+    (λ p. record {
+      capacity = p.0.0;
+      cars = p.1.0;
+      flights = p.1.1.0;
+      rooms = p.1.1.1;
+      customers = p.0.1;
+    })
+    (λ _. refl)

@@ -33,7 +33,8 @@ units_in (b ∷ bs) place =
 pub record CanGiveBack (s : State) (bookings : List (Place × Booking)) : Type 0 where
   pub in_range : (kind : Kind) (id : ℕ) (item : Item) → item_of s kind id ≡ Some item →
       IsItemInRange item
-  pub used : (kind : Kind) (id : ℕ) (item : Item) → item_of s kind id ≡ Some item → units_in bookings (kind, id) ≤ item.used
+  pub used : (kind : Kind) (id : ℕ) (item : Item) → item_of s kind id ≡ Some item
+      → units_in bookings (kind, id) ≤ item.used
 
 -- a booking whose numbers are in their ranges
 pub record IsBookingInRange (b : Booking) : Type 0 where

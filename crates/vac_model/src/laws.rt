@@ -28,21 +28,27 @@ ghost use Rattle.vac_model.specs.Laws.{NeedsEntry, IsOne, IsBilled};
 /// balanced, and within its capacity.
 pub fn states_stay_balanced()
     ensures empty { (n : ℕ) → IsBalanced (empty_state n) }
-    ensures balanced { (s : State) (t : Task) → IsBalanced s → IsTrue (is_task t) → IsBalanced (run s t).0 }
-    ensures capacity { (s : State) (t : Task) → IsBalanced s → IsTrue (is_task t) → (run s t).0.capacity ≡ s.capacity }
-    ensures size { (s : State) (t : Task) → IsBalanced s → IsTrue (is_task t) → size (run s t).0 ≤ s.capacity }
+    ensures balanced { (s : State) (t : Task) → IsBalanced s → IsTrue (is_task t)
+        → IsBalanced (run s t).0 }
+    ensures capacity { (s : State) (t : Task) → IsBalanced s → IsTrue (is_task t)
+        → (run s t).0.capacity ≡ s.capacity }
+    ensures size { (s : State) (t : Task) → IsBalanced s → IsTrue (is_task t)
+        → size (run s t).0 ≤ s.capacity }
 {}
 
 /// A refused command changes nothing.
 pub fn refused_commands_change_nothing()
-    ensures { (s : State) (c : Command) (why : Why) → (step s c).1 ≡ reply.No why → (step s c).0 ≡ s }
+    ensures { (s : State) (c : Command) (why : Why)
+        → (step s c).1 ≡ reply.No why → (step s c).0 ≡ s }
 {}
 
 /// `Full` is answered exactly where no earlier refusal applies, an entry is needed and the size is
 /// the capacity.
 pub fn full_where_no_entry_is_left()
-    ensures only { (s : State) (c : Command) → IsBalanced s → (step s c).1 ≡ reply.No Full → NeedsEntry s c × (size s ≡ s.capacity) }
-    ensures always { (s : State) (c : Command) → NeedsEntry s c → size s ≡ s.capacity → (step s c).1 ≡ reply.No Full }
+    ensures only { (s : State) (c : Command) → IsBalanced s → (step s c).1 ≡ reply.No Full
+        → NeedsEntry s c × (size s ≡ s.capacity) }
+    ensures always { (s : State) (c : Command) → NeedsEntry s c → size s ≡ s.capacity
+        → (step s c).1 ≡ reply.No Full }
 {}
 
 /// A trip, a leave and an update are never refused as a whole.
@@ -52,10 +58,13 @@ pub fn only_commands_are_refused()
 
 /// What a `Cancel` or a deleted customer gives back is what was booked.
 pub fn bookings_are_given_back()
-    ensures cancelled { (s : State) (c : ℕ) (kind : Kind) (id : ℕ) (bookings : Bookings) (b : Booking) (item : Item)
-        → bookings_of s c ≡ Some bookings → item_of s kind id ≡ Some item → get bookings (kind, id) ≡ Some b
+    ensures cancelled { (s : State) (c : ℕ) (kind : Kind) (id : ℕ)
+        (bookings : Bookings) (b : Booking) (item : Item)
+        → bookings_of s c ≡ Some bookings → item_of s kind id ≡ Some item
+        → get bookings (kind, id) ≡ Some b
         → item_of (step s (command.Cancel c kind id)).0 kind id ≡ Some (given_back item b.units) }
-    ensures dropped { (s : State) (c : ℕ) (bookings : Bookings) (kind : Kind) (id : ℕ) → bookings_of s c ≡ Some bookings
+    ensures dropped { (s : State) (c : ℕ) (bookings : Bookings) (kind : Kind) (id : ℕ)
+        → bookings_of s c ≡ Some bookings
         → item_of (step s (command.DropCustomer c)).0 kind id
         ≡ option_map (λ item. given_back item (units_of bookings (kind, id))) (item_of s kind id) }
 {}
@@ -63,7 +72,8 @@ pub fn bookings_are_given_back()
 /// A reservation adds the price of now to the customer's bill for each unit, and the prices of
 /// older units stay; a price that an `Add` replaces changes no booking.
 pub fn bills_keep_prices()
-    ensures reserved { (s : State) (c : ℕ) (kind : Kind) (id num : ℕ) (bookings : Bookings) (item : Item)
+    ensures reserved { (s : State) (c : ℕ) (kind : Kind) (id num : ℕ)
+        (bookings : Bookings) (item : Item)
         → bookings_of s c ≡ Some bookings → item_of s kind id ≡ Some item
         → (step s (command.Reserve c kind id num)).1 ≡ reply.Done
         → IsBilled bookings (step s (command.Reserve c kind id num)).0 c num item.price }
@@ -85,7 +95,8 @@ pub fn codes_determine_tasks_and_replies()
 pub fn codes_of_commands()
     ensures add { code (task.One (command.Add Car 7 100 (Some 50))) reply.Done
         ≡ 0 ∷ 0 ∷ 0 ∷ 7 ∷ 100 ∷ 1 ∷ 50 ∷ 0 ∷ [] }
-    ensures add_without_price { code (task.One (command.Add Room 9 5 None)) (reply.No NeedsCountAndPrice)
+    ensures add_without_price { code (task.One (command.Add Room 9 5 None))
+        (reply.No NeedsCountAndPrice)
         ≡ 0 ∷ 0 ∷ 2 ∷ 9 ∷ 5 ∷ 0 ∷ 3 ∷ 0 ∷ [] }
     ensures delete { code (task.One (command.Delete Room 4 2)) (reply.No NotFree)
         ≡ 0 ∷ 1 ∷ 2 ∷ 4 ∷ 2 ∷ 3 ∷ 4 ∷ [] }
@@ -107,19 +118,38 @@ pub fn codes_of_commands()
         ≡ 0 ∷ 8 ∷ 3 ∷ 0 ∷ 7 ∷ 1 ∷ 3 ∷ 10 ∷ [] }
     ensures cancel { code (task.One (command.Cancel 3 Room 9)) (reply.No NotBooked)
         ≡ 0 ∷ 9 ∷ 3 ∷ 2 ∷ 9 ∷ 3 ∷ 9 ∷ [] }
-    ensures audit { code (task.One command.Audit) (reply.Report (record { cars = 1; flights = 2; rooms = 3; customers = 4; bookings = 5; used = 6; free = 7; total = 13; billed = 90 }))
+    ensures audit { code (task.One command.Audit) (reply.Report (record {
+      cars = 1;
+      flights = 2;
+      rooms = 3;
+      customers = 4;
+      bookings = 5;
+      used = 6;
+      free = 7;
+      total = 13;
+      billed = 90;
+    }))
         ≡ 0 ∷ 10 ∷ 2 ∷ 1 ∷ 2 ∷ 3 ∷ 4 ∷ 5 ∷ 6 ∷ 7 ∷ 13 ∷ 90 ∷ [] }
 {}
 
 /// Codes of the other tasks and their replies, worked out by hand.
 pub fn codes_of_tasks()
     ensures trip { code (task.Trip 3 ((Car, 1) ∷ (Room, 9) ∷ []))
-        (reply.Trip (record { joined = joined.Added; picks = Some (record { id = 1; price = 50; refused = None }) ∷ None ∷ Some (record { id = 9; price = 70; refused = Some NoItem }) ∷ [] }))
+        (reply.Trip (record {
+          joined = joined.Added;
+          picks = Some (record { id = 1; price = 50; refused = None }) ∷ None
+              ∷ Some (record { id = 9; price = 70; refused = Some NoItem }) ∷ [];
+        }))
         ≡ 1 ∷ 3 ∷ 2 ∷ 0 ∷ 1 ∷ 2 ∷ 9 ∷ 4 ∷ 1 ∷ 3 ∷ 1 ∷ 1 ∷ 50 ∷ 0 ∷ 0 ∷ 1 ∷ 9 ∷ 70 ∷ 1 ∷ 3 ∷ [] }
     ensures refused_trip { code (task.Trip 3 ((Flight, 2) ∷ []))
-        (reply.Trip (record { joined = joined.Refused Full; picks = None ∷ Some (record { id = 2; price = 50; refused = Some NoCustomer }) ∷ None ∷ [] }))
+        (reply.Trip (record {
+          joined = joined.Refused Full;
+          picks = None ∷ Some (record { id = 2; price = 50; refused = Some NoCustomer })
+              ∷ None ∷ [];
+        }))
         ≡ 1 ∷ 3 ∷ 1 ∷ 1 ∷ 2 ∷ 4 ∷ 2 ∷ 2 ∷ 3 ∷ 0 ∷ 1 ∷ 2 ∷ 50 ∷ 1 ∷ 7 ∷ 0 ∷ [] }
-    ensures empty_trip { code (task.Trip 3 ((Room, 9) ∷ [])) (reply.Trip (record { joined = joined.NotAsked; picks = None ∷ None ∷ None ∷ [] }))
+    ensures empty_trip { code (task.Trip 3 ((Room, 9) ∷ []))
+        (reply.Trip (record { joined = joined.NotAsked; picks = None ∷ None ∷ None ∷ [] }))
         ≡ 1 ∷ 3 ∷ 1 ∷ 2 ∷ 9 ∷ 4 ∷ 0 ∷ 3 ∷ 0 ∷ 0 ∷ 0 ∷ [] }
     ensures leave { code (task.Leave 3) (reply.Number (Some 100)) ≡ 2 ∷ 3 ∷ 1 ∷ 1 ∷ 100 ∷ [] }
     ensures update { code (task.Update (command.Add Car 1 5 None ∷ command.DropFlight 2 ∷ []))

@@ -28,7 +28,8 @@ impl Tables {
         price: Option<u32>,
     ) -> Result<Reply, AllocError>
         requires { IsSmall self.old }
-        ensures ok { IfOk result (λ reply. rules.add self.old kind id num price ≡ (self.new, reply)) }
+        ensures ok { IfOk result
+            (λ reply. rules.add self.old kind id num price ≡ (self.new, reply)) }
         ensures err { OnErr result (self.new ≡ self.old) }
     {
         match self.item(kind, id) {
@@ -45,7 +46,8 @@ impl Tables {
         price: Option<u32>,
     ) -> Result<Reply, AllocError>
         requires { IsSmall self.old }
-        ensures ok { IfOk result (λ reply. rules.add_new self.old kind id num price ≡ (self.new, reply)) }
+        ensures ok { IfOk result
+            (λ reply. rules.add_new self.old kind id num price ≡ (self.new, reply)) }
         ensures err { OnErr result (self.new ≡ self.old) }
     {
         let Some(price) = price else {
@@ -129,7 +131,8 @@ impl Tables {
     ) -> Result<Reply, AllocError>
         requires small { IsSmall self.old }
         requires count { num ≤ MOST_UNITS_AT_ONCE }
-        ensures ok { IfOk result (λ reply. rules.reserve self.old customer kind id num ≡ (self.new, reply)) }
+        ensures ok { IfOk result
+            (λ reply. rules.reserve self.old customer kind id num ≡ (self.new, reply)) }
         ensures err { OnErr result (self.new ≡ self.old) }
     {
         let Some(bookings) = self.bookings(customer) else {
@@ -161,7 +164,8 @@ impl Tables {
         requires customer { IsSome (bookings_of self.old customer) }
         requires item { item_of self.old kind id ≡ Some item }
         requires free { num ≤ item.free }
-        ensures ok { IfOk result (λ reply. (bookings : Bookings) → bookings_of self.old customer ≡ Some bookings
+        ensures ok { IfOk result (λ reply. (bookings : Bookings)
+            → bookings_of self.old customer ≡ Some bookings
             → rules.book_new self.old customer kind id num bookings item ≡ (self.new, reply)) }
         ensures err { OnErr result (self.new ≡ self.old) }
     {
@@ -188,8 +192,10 @@ impl Tables {
         requires item { item_of self.old kind id ≡ Some item }
         requires free { num ≤ item.free }
         requires booking { IsBookingInRange booking }
-        ensures ok { IfOk result (λ reply. (bookings : Bookings) → bookings_of self.old customer ≡ Some bookings
-            → rules.book_more self.old customer kind id num bookings item booking ≡ (self.new, reply)) }
+        ensures ok { IfOk result (λ reply. (bookings : Bookings)
+            → bookings_of self.old customer ≡ Some bookings
+            → rules.book_more self.old customer kind id num bookings item booking
+            ≡ (self.new, reply)) }
         ensures err { OnErr result (self.new ≡ self.old) }
     {
         if booking.units + num as u64 > MOST_UNITS {

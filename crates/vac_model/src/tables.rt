@@ -28,7 +28,13 @@ impl Model for Tables {
 
     ghost coded = { state_coded };
 
-    ghost view = { λ t. record { capacity = t.capacity; cars = t.cars; flights = t.flights; rooms = t.rooms; customers = t.customers } };
+    ghost view = { λ t. record {
+      capacity = t.capacity;
+      cars = t.cars;
+      flights = t.flights;
+      rooms = t.rooms;
+      customers = t.customers;
+    } };
 }
 
 impl Tables {
@@ -175,7 +181,8 @@ impl Tables {
         booking: Booking,
     ) -> Result<(), AllocError>
         requires { IsSome (bookings_of self.old customer) }
-        ensures ok { OnOk result ((bookings : Bookings) → bookings_of self.old customer ≡ Some bookings
+        ensures ok { OnOk result ((bookings : Bookings)
+            → bookings_of self.old customer ≡ Some bookings
             → self.new ≡ with_bookings self.old customer (map.insert bookings (kind, id) booking)) }
         ensures err { OnErr result (self.new ≡ self.old) }
         ensures items { (k : Kind) (i : ℕ) → item_of self.new k i ≡ item_of self.old k i }

@@ -85,7 +85,8 @@ impl Tables {
         requires small { IsSmall self.old }
         requires customer { IsTrue (amounts.is_id customer) }
         requires choice { IfSome choice (λ c. IsTrue (amounts.is_id c.0)) }
-        ensures ok { IfOk result (λ pick. tasks.reserve_choice self.old customer kind choice ≡ (self.new, pick)) }
+        ensures ok { IfOk result
+            (λ pick. tasks.reserve_choice self.old customer kind choice ≡ (self.new, pick)) }
         ensures stays_small { OnOk result (IsSmall self.new) }
     {
         let Some((id, price)) = choice else {
@@ -113,7 +114,8 @@ impl Tables {
         requires car { IfSome car (λ c. IsTrue (amounts.is_id c.0)) }
         requires flight { IfSome flight (λ c. IsTrue (amounts.is_id c.0)) }
         requires room { IfSome room (λ c. IsTrue (amounts.is_id c.0)) }
-        ensures ok { IfOk result (λ reply. tasks.book_choices self.old customer car flight room ≡ (self.new, reply)) }
+        ensures ok { IfOk result
+            (λ reply. tasks.book_choices self.old customer car flight room ≡ (self.new, reply)) }
         ensures stays_small { OnOk result (IsSmall self.new) }
     {
         let asked = self.step(&Command::NewCustomer { id: customer })?;
@@ -131,7 +133,8 @@ impl Tables {
         requires small { IsSmall self.old }
         requires customer { IsTrue (amounts.is_id customer) }
         requires asks { IsTrue (list_all (λ ask. amounts.is_id ask.1) asks.now) }
-        ensures ok { IfOk result (λ reply. tasks.trip self.old customer asks.now ≡ (self.new, reply)) }
+        ensures ok { IfOk result
+            (λ reply. tasks.trip self.old customer asks.now ≡ (self.new, reply)) }
         ensures stays_small { OnOk result (IsSmall self.new) }
     {
         let car = self.choice(Kind::Car, asks);
