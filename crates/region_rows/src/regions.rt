@@ -8,7 +8,7 @@ use std::thread;
 use stm_logs::WriteLog;
 use stm_region::{
     Client, Region, RegionFault, gathering_keeps_all_grants, reads_are_of_one_version,
-    records_are_serial,
+    records_are_serial, running_threads_are_a_list,
 };
 use stm_words::{Addr, FreeLaw};
 
@@ -113,6 +113,7 @@ fn closes_once_all_are_gathered(rt: HostRuntime) -> Result<(), Fail> {
     records_are_serial::<FreeLaw>();
     reads_are_of_one_version::<FreeLaw>();
     gathering_keeps_all_grants::<FreeLaw>();
+    running_threads_are_a_list::<FreeLaw>();
     let (region, mut client) = Region::<FreeLaw>::new(rt.alloc(), &[0; 32], 100, 32)?;
     assert_eq!(rt; region.last(), 100);
     assert_eq!(rt; region.lock_of(Addr(9)), 9);

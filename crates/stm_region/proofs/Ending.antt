@@ -14,6 +14,9 @@ use Rattle.stm_region.specs.Shown.{Opened, RegionShown, opened_with, stripe_of}
 use Rattle.stm_region.specs.Layout.{padding, first_cell}
 use Rattle.stm_region.specs.Rule.{listed, Holds}
 use Rattle.stm_region.specs.Closed.{Ends}
+use Rattle.stm_region.specs.Refused.{MayRenew}
+use Rattle.stm_region.specs.Traced.{IsTraced}
+use Rattle.stm_region.proofs.Tracing.{opening_traced, renewal_traced}
 
 zeros : (a b : ℕ) (ys : List ℕ) → replicate (a + b) 0 ++ ys ≡ replicate a 0 ++ (replicate b 0 ++ ys)
 zeros zero b ys = rw Rattle.std.proofs.Common.zero-add refl
@@ -50,6 +53,7 @@ module _ (fits : List ℕ → Type 0) (lawful : RecordLaw) where
     first = refl;
     renewal = refl;
     rule = opening_rules lawful (stripe_of stripes) image last stripes;
+    traced = opening_traced lawful image last stripes;
     fitting = f;
     bounded = top;
     some = one;
@@ -84,10 +88,12 @@ module _ (fits : List ℕ → Type 0) (lawful : RecordLaw) (r : RegionShown) whe
       record {
         core = c;
         rule = h.rule;
+        traced = h.traced;
         first = h.first;
         renewal = h.renewal;
         opening = h.opening;
         last = h.last;
+        locks = h.locks;
         number = id;
         member = at';
         clock = sym (ap (λ ws. slice_index ws 0) h.words);
@@ -111,9 +117,9 @@ module _ (fits : List ℕ → Type 0) (lawful : RecordLaw) (r : RegionShown) whe
   fits_with key e id u ws xs f = subst (λ (k : Opened). fits k.first) e f.1.0.fitting
 
 -- what a region ended with, opened anew, meets the rule of the next renewal
-pub reopens : {S : Type 0} (fits : List ℕ → Type 0) (lawful : RecordLaw) (r : RegionShown) (v : Client) (words : List ℕ) (version last : ℕ) → Ends lawful r v words version → v.grants ≡ 63 → fits r.first → last < 2 ^ 62 → 0 < r.stripes
+pub reopens : {S : Type 0} (fits : List ℕ → Type 0) (lawful : RecordLaw) (r : RegionShown) (v : Client) (words : List ℕ) (version last : ℕ) → Ends lawful r v words version → IsFreeHanded v → MayRenew r.renewal last v.grants → fits r.first → 0 < r.stripes
     → Holds {S = S} fits lawful record { image = words; last = last; stripes = r.stripes; first = r.first; renewal = r.renewal + 1; start = renewing v } (opening (replicate (first_cell r.stripes) 0 ++ words) [] (renewing v))
-reopens {S} fits lawful r v words version last h all f top one = record {
+reopens {S} fits lawful r v words version last h free may f one = record {
   core = begun_on r.first words (r.renewal + 1) last r.stripes (renewing v);
   gap = replicate 15 0;
   pad = replicate (padding r.stripes) 0;
@@ -126,15 +132,19 @@ reopens {S} fits lawful r v words version last h all f top one = record {
   opening = refl;
   first = refl;
   renewal = refl;
-  rule = begins_rules lawful (stripe_of r.stripes) r.first words (r.renewal + 1) last r.stripes (renewing v) refl all h.serial (sym h.newest) h.abides h.eras h.sorted;
+  rule = begins_rules lawful (stripe_of r.stripes) r.first words (r.renewal + 1) last r.stripes (renewing v) refl may.2 h.serial (sym h.newest) h.abides h.eras h.sorted;
+  traced =
+      let alone = all_grants lawful (stripe_of r.stripes) h.core h.rule h.number v h.member free.0 may.2 in
+      subst (λ ws. IsTraced lawful record { image = ws; last = last; stripes = r.stripes; first = r.first; renewal = r.renewal + 1; start = renewing v } (begun_on r.first ws (r.renewal + 1) last r.stripes (renewing v))) h.cells
+      (renewal_traced lawful (opened_with r) h.core h.traced h.number v h.member free alone last may.0.0 may.0.1 may.1 h.first h.renewal h.locks);
   fitting = f;
-  bounded = top;
+  bounded = may.0.1;
   some = one;
 }
 
 -- and so does a table of these words
-pub renews_on : {S : Type 0} (fits : List ℕ → Type 0) (lawful : RecordLaw) (r : RegionShown) (v : Client) (words laid : List ℕ) (version last : ℕ) → Ends lawful r v words version → v.grants ≡ 63 → fits r.first → last < 2 ^ 62 → 0 < r.stripes
+pub renews_on : {S : Type 0} (fits : List ℕ → Type 0) (lawful : RecordLaw) (r : RegionShown) (v : Client) (words laid : List ℕ) (version last : ℕ) → Ends lawful r v words version → IsFreeHanded v → MayRenew r.renewal last v.grants → fits r.first → 0 < r.stripes
     → laid ≡ replicate (first_cell r.stripes) 0 ++ words → Holds {S = S} fits lawful record { image = drop (first_cell r.stripes) laid; last = last; stripes = r.stripes; first = r.first; renewal = r.renewal + 1; start = renewing v } (opening laid [] (renewing v))
-renews_on {S} fits lawful r v words laid version last h all f top one e =
+renews_on {S} fits lawful r v words laid version last h free may f one e =
     subst (λ ws. Holds {S = S} fits lawful record { image = drop (first_cell r.stripes) ws; last = last; stripes = r.stripes; first = r.first; renewal = r.renewal + 1; start = renewing v } (opening ws [] (renewing v))) (sym e)
-    (subst (λ ys. Holds {S = S} fits lawful record { image = ys; last = last; stripes = r.stripes; first = r.first; renewal = r.renewal + 1; start = renewing v } (opening (replicate (first_cell r.stripes) 0 ++ words) [] (renewing v))) (sym (image_behind words r.stripes)) (reopens fits lawful r v words version last h all f top one))
+    (subst (λ ys. Holds {S = S} fits lawful record { image = ys; last = last; stripes = r.stripes; first = r.first; renewal = r.renewal + 1; start = renewing v } (opening (replicate (first_cell r.stripes) 0 ++ words) [] (renewing v))) (sym (image_behind words r.stripes)) (reopens fits lawful r v words version last h free may f one))

@@ -1,18 +1,22 @@
 -- What the rule says of the records, of the reads and of the grants.
-use Rattle.std.proofs.Common.{◌≡◌, ◌≢◌, ℕ, false, List, map, sym, subst}
+use Rattle.std.proofs.Common.{◌≡◌, ◌≢◌, ℕ, false, List, length, map, sym, ap, ◌∙◌, subst}
 use mathlib.Core.Option.{some}
 use lib.ListN.{get_elem?}
 use Rattle.atomic_table.specs.Table.{State}
 use Rattle.stm_words.specs.Image.{In, Agrees}
 use Rattle.stm_core.specs.Client.{Client, Record, shed, RecordLaw}
 use Rattle.stm_core.specs.Event.{taking}
+use Rattle.stm_core.specs.Core.{Core}
 use Rattle.stm_core.specs.History.{Serial, Sub, all_records, image_at}
 use Rattle.stm_core.specs.Invariant.{now}
 use Rattle.stm_core.proofs.Facts.{one_version}
 use Rattle.stm_core.proofs.Lones.{at_map}
+use Rattle.stm_core.proofs.Playing.{every_list_stands}
 use Rattle.stm_core.proofs.Whole.{whole_serial, whole_lawful, whole_shared}
 use Rattle.stm_region.specs.Shown.{Opened, stripe_of, joined}
-use Rattle.stm_region.specs.Rule.{Holds}
+use Rattle.stm_region.specs.Traced.{Mirrors}
+use Rattle.stm_region.specs.Rule.{Holds, listed}
+use Rattle.stm_region.specs.Running.{IsListed}
 use Rattle.stm_region.proofs.Moves.{joined_all}
 
 module _ (fits : List ℕ → Type 0) (lawful : RecordLaw) (o : Opened) (s : State (Unit {0}) Client) (h : Holds fits lawful o s) where
@@ -32,3 +36,24 @@ module _ (fits : List ℕ → Type 0) (lawful : RecordLaw) (o : Opened) (s : Sta
 
   pub takes_all : (i j : ℕ) (v w : Client) → i ≢ j → get_elem? s.views i ≡ some v → get_elem? s.views j ≡ some w → v.spent ≡ false → w.spent ≡ false → joined v w ≡ taking v w
   takes_all i j v w ne e f un un' = joined_all lawful (stripe_of o.stripes) h.core h.rule i j v w ne (subst (λ cs. get_elem? cs i ≡ some v) h.views e) (subst (λ cs. get_elem? cs j ≡ some w) h.views f) un un'
+
+  pub is_listed : IsListed lawful o s
+  is_listed =
+      let t = h.traced in record {
+        last = t.last;
+        events = t.events;
+        core = t.core;
+        leads = t.leads;
+        stands = every_list_stands lawful o.first t.last o.stripes t.events t.core t.leads;
+        gap = h.gap;
+        pad = h.pad;
+        words = h.words ∙ ap (λ (c : Core). listed h.gap h.pad c) t.same;
+        before_locks = h.before_locks;
+        locks = sym (ap (λ (c : Core). length c.locks) t.same) ∙ h.locks;
+        before_cells = h.before_cells;
+        clients = subst (λ vs. Mirrors vs t.core.clients) (sym h.views) t.clients;
+        first = sym (ap (λ (c : Core). c.first) t.same) ∙ h.first;
+        renewal = sym (ap (λ (c : Core). c.renewal) t.same) ∙ h.renewal;
+        opening = sym (ap (λ (c : Core). c.opening) t.same) ∙ h.opening;
+        last_version = sym (ap (λ (c : Core). c.last) t.same) ∙ h.last;
+      }

@@ -27,6 +27,7 @@ use Rattle.stm_region.specs.Shown.{Opened, RegionShown, joined, opened_with, bou
 use Rattle.stm_region.specs.Layout.{place, first_cell, InRange, IsLaid, IsStore}
 use Rattle.stm_region.specs.Told.{IsLockWord, IsVersion, StandsOn, IsOfOneVersion, Decides, Told, acting, IsEarlier, AreEarlier}
 use Rattle.stm_region.specs.Rule.{Holds}
+use Rattle.stm_region.proofs.Tracing.{step_traced, split_traced, gather_traced}
 use Rattle.stm_region.proofs.Places.{Stays, stays, found_there, left_there, in_table}
 
 not_in : {A : Type 0} (x : A) → In x [] → ⊥
@@ -239,6 +240,7 @@ module _ (fits : List ℕ → Type 0) (lawful : RecordLaw) (law : Keeping fits l
             first = m'.first;
             renewal = m'.renewal;
             rule = inv';
+            traced = step_traced lawful o c h.traced id v at' e may' r.renewal (sym h.renewal);
             fitting = h.fitting;
             bounded = h.bounded;
             some = h.some;
@@ -303,6 +305,7 @@ module _ (fits : List ℕ → Type 0) (lawful : RecordLaw) (law : Keeping fits l
           first = h.first;
           renewal = h.renewal;
           rule = split_rules lawful lk h.core h.rule id v at' free gr;
+          traced = split_traced lawful o h.core h.traced id v at' free gr;
           fitting = h.fitting;
           bounded = h.bounded;
           some = h.some;
@@ -331,6 +334,7 @@ module _ (fits : List ℕ → Type 0) (lawful : RecordLaw) (law : Keeping fits l
           first = h.first;
           renewal = h.renewal;
           rule = gather_rules lawful lk h.core h.rule id v at' other w was (λ e. ne (sym e)) free free';
+          traced = gather_traced lawful o h.core h.traced id v at' other w was (λ e. ne (sym e)) free free';
           fitting = h.fitting;
           bounded = h.bounded;
           some = h.some;

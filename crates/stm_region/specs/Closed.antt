@@ -1,5 +1,5 @@
 -- What is known of the words and the records once a region was closed.
-use Rattle.std.specs.Prelude.{◌≡◌, ℕ, ◌+◌, ◌<◌, List}
+use Rattle.std.specs.Prelude.{◌≡◌, ℕ, ◌+◌, ◌<◌, List, length}
 use mathlib.Core.Option.{some}
 use lib.ListN.{get_elem?}
 use Rattle.stm_words.specs.Image.{In}
@@ -7,7 +7,8 @@ use Rattle.stm_core.specs.Client.{Client, Record, RecordLaw}
 use Rattle.stm_core.specs.Core.{Core}
 use Rattle.stm_core.specs.Invariant.{Rule, Sorted}
 use Rattle.stm_core.specs.History.{Serial, image_after}
-use Rattle.stm_region.specs.Shown.{RegionShown, stripe_of}
+use Rattle.stm_region.specs.Shown.{RegionShown, opened_with, stripe_of}
+use Rattle.stm_region.specs.Traced.{IsTraced}
 
 -- the words and the version are those of a last core state, in which the closing client had this
 -- value, and its records are all there are: lawful, and serial from the first opening image to the
@@ -16,10 +17,13 @@ pub record Ends (lawful : RecordLaw) (region : RegionShown)
     (v : Client) (words : List ℕ) (version : ℕ) : Type 0 where
   pub core : Core
   pub rule : Rule lawful (stripe_of region.stripes) core
+  -- to which a list of allowed events leads from the first opening on
+  pub traced : IsTraced lawful (opened_with region) core
   pub first : core.first ≡ region.first
   pub renewal : core.renewal ≡ region.renewal
   pub opening : core.opening ≡ region.opening
   pub last : core.last ≡ region.last
+  pub locks : length core.locks ≡ region.stripes
   pub number : ℕ
   pub member : get_elem? core.clients number ≡ some v
   pub clock : core.clock ≡ version

@@ -1,7 +1,9 @@
 pub mod Shown
 pub mod Layout
 pub mod Told
+pub mod Traced
 pub mod Rule
+pub mod Running
 pub mod Refused
 pub mod Closed
 pub mod Renewed

@@ -8,6 +8,7 @@ use Rattle.stm_core.specs.Core.{Core}
 use Rattle.stm_core.specs.Invariant.{Rule}
 use Rattle.stm_region.specs.Shown.{Opened, stripe_of}
 use Rattle.stm_region.specs.Layout.{padding}
+use Rattle.stm_region.specs.Traced.{IsTraced}
 use Rattle.stm_region.specs.declared.lay.TheConstants.{FIRST_LOCK}
 use Rattle.stm_words.specs.declared.version.TheConstants.{VERSION_LIMIT}
 
@@ -32,6 +33,8 @@ pub record Holds {S : Type 0} (fits : List ℕ → Type 0) (lawful : RecordLaw) 
   pub first : core.first ≡ o.first
   pub renewal : core.renewal ≡ o.renewal
   pub rule : Rule lawful (stripe_of o.stripes) core
+  -- and a list of allowed events leads to it, but for what a region does not keep
+  pub traced : IsTraced lawful o core
   pub fitting : fits o.first
   pub bounded : o.last < VERSION_LIMIT
   pub some : 0 < o.stripes

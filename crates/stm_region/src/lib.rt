@@ -25,4 +25,7 @@ pub use fault::RegionFault;
 pub use limits::{MOST_GRANTS, MOST_RENEWALS, MOST_STRIPES, MOST_WORDS, VERSION_LIMIT};
 pub use region::Region;
 pub use renew::RenewFault;
-pub use rule::{gathering_keeps_all_grants, reads_are_of_one_version, records_are_serial};
+pub use rule::{
+    gathering_keeps_all_grants, reads_are_of_one_version, records_are_serial,
+    running_threads_are_a_list,
+};

@@ -6,8 +6,18 @@ ghost use Rattle.stm_core.specs.Event.{taking};
 ghost use Rattle.stm_core.specs.History.{Serial, Sub, all_records, image_at};
 ghost use Rattle.stm_region.specs.Shown.{joined};
 ghost use Rattle.stm_region.specs.Rule.{Always, OfEach, OfEachTwo};
+ghost use Rattle.stm_region.specs.Running.{IsListed};
 
 use stm_words::Law;
+
+/// Running threads are a list of events: between any two steps of any threads a list of allowed
+/// events, with each renewal as an event, leads from the first opening to a core with the table's
+/// words and clients, so that the core theorem holds of them. The core has what a region does not
+/// keep too: the places of the events, whose a record is, and clients that were gathered before a
+/// renewal; of its records, readers of one version may stand in another order.
+pub fn running_threads_are_a_list<L: Law>()
+    ensures { Always L.fits L.lawful (λ o s. IsListed L.lawful o s) }
+{}
 
 /// Between any two steps of any threads the records of all clients are lawful and serial from the
 /// first opening image, and each client's own stand among them, each once and in its order.

@@ -1,0 +1,38 @@
+-- What holds of a region's table between any two steps of any threads: it is where a list of
+-- allowed events leads, so that all holds of it that holds of such a list.
+use Rattle.std.specs.Prelude.{◌≡◌, ℕ, ◌-◌, List, length}
+use Rattle.atomic_table.specs.Table.{State}
+use Rattle.stm_core.specs.Client.{Client, RecordLaw}
+use Rattle.stm_core.specs.Core.{Core, Event, opened}
+use Rattle.stm_core.specs.Theorem.{Reaches, Stands}
+use Rattle.stm_region.specs.Shown.{Opened, stripe_of}
+use Rattle.stm_region.specs.Layout.{padding}
+use Rattle.stm_region.specs.Traced.{Mirrors}
+use Rattle.stm_region.specs.Rule.{listed}
+use Rattle.stm_region.specs.declared.lay.TheConstants.{FIRST_LOCK}
+
+-- there is such a list and such a core
+pub record IsListed (lawful : RecordLaw) (o : Opened) (s : State (Unit {0}) Client) : Type 0 where
+  -- the last version of the first opening
+  pub last : ℕ
+  -- the steps, splits, gathers and renewals of all clients
+  pub events : List Event
+  pub core : Core
+  -- each is allowed where it stands, and they lead from the first opening to the core
+  pub leads : Reaches lawful o.first last o.stripes events core
+  -- all that the core theorem says, of this list and this core
+  pub stands : Stands lawful (stripe_of o.stripes) (opened o.first last o.stripes) events core
+  -- the table has the core's words: the clock, the lock words and the data words
+  pub gap : List ℕ
+  pub pad : List ℕ
+  pub words : s.words ≡ listed gap pad core
+  pub before_locks : length gap ≡ FIRST_LOCK - 1
+  pub locks : length core.locks ≡ o.stripes
+  pub before_cells : length pad ≡ padding o.stripes
+  -- and the core's clients
+  pub clients : Mirrors s.views core.clients
+  -- the core is in the region's renewal, which was opened on the region's image
+  pub first : core.first ≡ o.first
+  pub renewal : core.renewal ≡ o.renewal
+  pub opening : core.opening ≡ o.image
+  pub last_version : core.last ≡ o.last
