@@ -18,7 +18,7 @@ use Rattle.vac_load.specs.declared.settings.TheConstants.{MOST_ROUNDS, PERCENT}
 use Rattle.vac_load.specs.declared.settings.Settings.{Settings}
 use Rattle.vac_manager.specs.declared.manager.TheConstants.{MOST_TRIES}
 use Rattle.vac_manager.specs.Opening.{is_block_count}
-use Rattle.vac_cli.specs.declared.system.TheConstants.{LAST_VERSION}
+use Rattle.vac_script.specs.declared.system.TheConstants.{LAST_VERSION}
 use Rattle.vac_cli.specs.declared.asked.Asked.{Asked}
 use Rattle.vac_cli.specs.declared.asked.Asked.TheVariants.{Run, Dump, Check, Load}
 

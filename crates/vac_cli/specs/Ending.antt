@@ -1,9 +1,9 @@
 -- How the program says that a fault ended it.
 use Rattle.std.specs.Prelude.{ℕ, Option, List, [], codes}
 use Rattle.vac_lines.specs.Script.{as_line}
-use Rattle.vac_cli.specs.Script.{AppendsPrefix}
-use Rattle.vac_cli.specs.declared.script.RunFault.{RunFault}
-use Rattle.vac_cli.specs.declared.script.RunFault.TheVariants as run
+use Rattle.vac_script.specs.Script.{AppendsPrefix}
+use Rattle.vac_script.specs.declared.fault.RunFault.{RunFault}
+use Rattle.vac_script.specs.declared.fault.RunFault.TheVariants as run
 use Rattle.vac_load.specs.declared.load.LoadFault.{LoadFault}
 use Rattle.vac_load.specs.declared.load.LoadFault.TheVariants as load
 

@@ -9,10 +9,10 @@ use Rattle.vac_load.specs.Setting.{is_settings}
 use Rattle.vac_load.specs.declared.load.LoadFault.TheVariants.{Arguments}
 use Rattle.vac_cli.specs.declared.asked.Asked.{Asked}
 use Rattle.vac_cli.specs.declared.asked.Asked.TheVariants.{Run, Dump, Check, Load}
-use Rattle.vac_cli.specs.declared.script.RunFault.TheVariants.{Memory}
-use Rattle.vac_cli.specs.Script.{AppendsPrefix, WroteAll, WrotePrefix}
-use Rattle.vac_cli.specs.Dump.{Dumped, DumpStopped}
-use Rattle.vac_cli.specs.Check.{Checked, CheckStopped}
+use Rattle.vac_script.specs.declared.fault.RunFault.TheVariants.{Memory}
+use Rattle.vac_script.specs.Script.{AppendsPrefix, WroteAll, WrotePrefix}
+use Rattle.vac_script.specs.Dump.{Dumped, DumpStopped}
+use Rattle.vac_script.specs.Check.{Checked, CheckStopped}
 use Rattle.vac_cli.specs.Load.{WroteLoad, LoadStopped}
 use Rattle.vac_cli.specs.Ending.{NamedAfter, fault_line, load_fault_line}
 use Rattle.vac_cli.specs.CommandLine.{vacation, AsksFor}

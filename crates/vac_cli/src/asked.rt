@@ -10,10 +10,10 @@ ghost use Rattle.vac_cli.specs.CommandLine.{vacation, Gives, GivesIn, HasSetting
 ghost use Rattle.vac_cli.specs.CommandLine.{Tells, AsksFor};
 
 use crate::options::command_line;
-use crate::system::LAST_VERSION;
 use clap::{ArgMatches, Error};
 use std::alloc::Global;
 use vac_load::Settings;
+use vac_script::LAST_VERSION;
 
 /// What a command line asks for.
 pub(crate) enum Asked {

@@ -7,11 +7,8 @@ ghost use Rattle.vac_manager.specs.Opening.{is_block_count};
 ghost use Rattle.vac_cli.specs.Program.{Does, Shows, Serves};
 
 use crate::asked::{Asked, read_asked};
-use crate::check::check;
-use crate::dump::dump_script;
 use crate::load::load;
-use crate::script::{RunFault, run_script};
-use crate::status::{DONE, FAULT, REFUSED, end_by, write_and_flush};
+use crate::status::{DONE, FAULT, REFUSED, end_by};
 use clap::Error;
 use clap::error::ErrorKind;
 use std::alloc::Global;
@@ -19,6 +16,7 @@ use std::io::{Read, Write};
 use std::sync::Wait;
 use std::thread::Threads;
 use std::time::Clock;
+use vac_script::{RunFault, check_words, dump_script, run_script, write_and_flush};
 
 /// Runs the program on a command line, of which the first word is the program's name, and answers
 /// its status: 0 where it did its work or showed its help, 1 after a fault and where `check` found
@@ -79,6 +77,18 @@ fn dump<R: Read, W: Write>(alloc: Global, blocks: u32, input: &mut R, output: &m
 {
     match dump_script(alloc, blocks, input, output) {
         Ok(()) => DONE,
+        Err(fault) => end_by(fault, output),
+    }
+}
+
+/// Audits words, and answers the status: 0 where they are those of a balanced state.
+fn check<R: Read, W: Write>(alloc: Global, input: &mut R, output: &mut W) -> u8
+    ensures { Does Asked.Check result (R.remaining input.old) (R.remaining input.new)
+        (W.contents output.old) (W.contents output.new) }
+{
+    match check_words(alloc, input, output) {
+        Ok(true) => DONE,
+        Ok(false) => FAULT,
         Err(fault) => end_by(fault, output),
     }
 }

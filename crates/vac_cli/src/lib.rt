@@ -1,19 +1,15 @@
-//! Scripts over streams, and the program's command line.
+//! The program's command line: what its words ask for, and that it is done.
+//!
+//! Scripts over streams, and what is read and printed line by line, are handed on from below.
 #![tactic(auto)]
 
 mod asked;
-mod check;
 mod command_line;
-mod dump;
 mod load;
-mod memory;
 mod options;
-mod script;
 mod status;
-mod system;
 mod telling;
 
-pub use check::check_words;
 pub use command_line::{refuse_words, run_words};
-pub use dump::dump_script;
-pub use script::{RunFault, run_script};
+pub use vac_lines::{LineFault, print_reply, read_line};
+pub use vac_script::{RunFault, check_words, dump_script, run_script};

@@ -9,11 +9,10 @@ ghost use Rattle.vac_cli.specs.Program.{Loads};
 ghost use Rattle.std.specs.Io.KnownBytes.{Appends};
 ghost use Rattle.vac_cli.specs.Ending.{load_fault_line};
 ghost use Rattle.vac_lines.specs.Script.{as_line};
-ghost use Rattle.vac_cli.specs.Script.{AppendsPrefix};
+ghost use Rattle.vac_script.specs.Script.{AppendsPrefix};
 ghost use Rattle.vac_lines.specs.Text.{report_text};
 
-use crate::script::RunFault;
-use crate::status::{DONE, FAULT, end_by, end_load_by, write_and_flush};
+use crate::status::{DONE, FAULT, end_by, end_load_by};
 use crate::telling::run_load_told;
 use std::alloc::{AllocError, Global};
 use std::io::Write;
@@ -23,6 +22,7 @@ use std::time::Clock;
 use vac_lines::print_reply;
 use vac_load::{LoadFault, LoadReport, Settings, Tally, run_load};
 use vac_model::{Reply, Report};
+use vac_script::{RunFault, write_and_flush};
 
 /// Runs a load, writes its two lines, and answers the status. Where that is asked for, tells on
 /// `errors` how far it is.

@@ -1,13 +1,12 @@
 //! How the program ends.
 
-ghost use Rattle.std.specs.Prelude.{◌≡◌, ◌≤◌, ◌↔◌, OnOk, OnErr};
-ghost use Rattle.std.specs.Io.KnownBytes.{Appends};
-ghost use Rattle.vac_cli.specs.Script.{AppendsPrefix};
+ghost use Rattle.std.specs.Prelude.{◌≡◌, ◌≤◌, ◌↔◌};
+ghost use Rattle.vac_script.specs.Script.{AppendsPrefix};
 ghost use Rattle.vac_cli.specs.Ending.{fault_line, load_fault_line};
 
-use crate::script::{RunFault, write_all};
 use std::io::Write;
 use vac_load::LoadFault;
+use vac_script::{RunFault, write_and_flush};
 
 /// The status of a program that did its work or showed its help.
 pub(crate) const DONE: u8 = 0;
@@ -17,16 +16,6 @@ pub(crate) const FAULT: u8 = 1;
 
 /// The status of a program whose command line was refused.
 pub(crate) const REFUSED: u8 = 2;
-
-/// Writes the text, and sees that it gets on its way.
-pub(crate) fn write_and_flush<W: Write>(output: &mut W, text: &[u8]) -> Result<(), RunFault>
-    ensures ok { OnOk result (Appends (W.contents output.old) (W.contents output.new) text.now) }
-    ensures err { OnErr result
-        (AppendsPrefix (W.contents output.old) (W.contents output.new) text.now) }
-{
-    write_all(output, text)?;
-    output.flush().map_err(|_| RunFault::Write)
-}
 
 /// Writes the last line of a program. A failed write changes nothing.
 #[tactic(auto, using(crate::proofs::Ending::either_way))]

@@ -1,7 +1,0 @@
-use Rattle.std.proofs.Common.{take}
-use Rattle.vac_cli.proofs.Dumping.{Sent}
-use Rattle.vac_cli.proofs.dump.write_words.Given as goal
-
--- the words so far are written or at hand
-abbrev pub invariant-loop-word : goal.invariant-loop-word
-invariant-loop-word g l = Sent (g.W.Write.contents l.fn.output) (g.W.Write.contents l.output) l.text.items (take l.word-index l.words)

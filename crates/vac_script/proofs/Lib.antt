@@ -1,0 +1,8 @@
+pub mod Written
+pub mod Cutting
+pub mod Progress
+pub mod Running
+pub mod Closing
+pub mod Dumping
+pub mod WordLines
+pub mod Checking

@@ -1,0 +1,112 @@
+-- What a check says of the words that it reads.
+use Rattle.std.specs.Prelude.{◌≡◌, ◌⊎◌, ⊤, ℕ, ◌≤◌, Bool, true, false, Option, Some, None, List, [], ◌++◌, length, slice_index, codes, decimal, Err}
+use Rattle.std.specs.Io.KnownBytes.{Appends, Consumes, IsAtEnd}
+use Rattle.vac_model.specs.State.{State}
+use Rattle.vac_records.specs.Represents.{IsState}
+use Rattle.vac_lines.specs.Script.{as_line}
+use Rattle.vac_lines.specs.Text.{report_text}
+use Rattle.vac_lines.specs.Memory.{memory_words}
+use Rattle.vac_check.specs.Walk.{audit}
+use Rattle.vac_check.specs.Laws.{word_of}
+use Rattle.vac_check.specs.Ran.{IsHeapSize}
+use Rattle.vac_check.specs.Represented.{StateOf}
+use Rattle.vac_check.specs.declared.Flaw.{Flaw}
+use Rattle.vac_check.specs.declared.Flaw.TheVariants.{Pointer, Shared, Lost, Order, Colour, Counts, Bookings}
+use Rattle.vac_script.specs.Script.{AppendsPrefix}
+use Rattle.vac_script.specs.declared.check.Verdict.{Verdict}
+use Rattle.vac_script.specs.declared.check.Verdict.TheVariants.{Sound, Flawed, BadWords}
+
+-- the name of a flaw
+abbrev pub flaw_name : Flaw → List ℕ
+flaw_name (Pointer a) = codes "flaw pointer "
+flaw_name (Shared a) = codes "flaw shared "
+flaw_name (Lost a) = codes "flaw lost "
+flaw_name (Order a) = codes "flaw order "
+flaw_name (Colour a) = codes "flaw colour "
+flaw_name (Counts a) = codes "flaw counts "
+flaw_name (Bookings a) = codes "flaw bookings "
+
+-- a flaw and the word at which it was met
+abbrev pub flaw_text : Flaw → List ℕ
+flaw_text flaw = flaw_name flaw ++ decimal (word_of flaw)
+
+-- what is written of a verdict
+abbrev pub verdict_text : Verdict → List ℕ
+verdict_text (Sound report) = report_text report
+verdict_text (Flawed flaw) = flaw_text flaw
+verdict_text BadWords = codes "fault bad-words"
+
+-- the words represent no balanced state of one block or more
+abbrev pub IsNone : List ℕ → Type 0
+IsNone words =
+    (s : State) → 1 ≤ s.capacity → IsState (slice_index words) (length words) s → ⊥
+
+-- the words are a heap's, and this is their first flaw: they represent no balanced state
+pub record HasFlaw (words : List ℕ) (flaw : Flaw) : Type 0 where
+  pub heap : IsHeapSize (length words)
+  pub first : audit (slice_index words) heap.0 ≡ Err flaw
+  pub none : IsNone words
+
+-- there are so many words as no heap has: they represent no balanced state
+pub record IsNoHeap (words : List ℕ) : Type 0 where
+  pub size : IsHeapSize (length words) → ⊥
+  pub none : IsNone words
+
+-- the words have this verdict
+abbrev pub Judged : List ℕ → Verdict → Type 0
+Judged words (Sound report) = StateOf words report
+Judged words (Flawed flaw) = HasFlaw words flaw
+Judged words BadWords = IsNoHeap words
+
+-- the input was read to its end, and its words have this verdict
+pub record WordsJudged (unread left : Option (List ℕ)) (verdict : Verdict) : Type 0 where
+  pub bytes : List ℕ
+  pub consumed : Consumes unread left bytes
+  pub ended : IsAtEnd left
+  pub words : List ℕ
+  pub words_are : memory_words bytes ≡ Some words
+  pub judged : Judged words verdict
+
+-- there are no words, or not as many as a heap has
+abbrev pub NoHeapOf : Option (List ℕ) → Type 0
+NoHeapOf None = ⊤
+NoHeapOf (Some words) = IsNoHeap words
+
+-- so much of the input was read that it is no heap's: all of it, or whatever follows
+pub record NoWords (unread left : Option (List ℕ)) : Type 0 where
+  pub bytes : List ℕ
+  pub consumed : Consumes unread left bytes
+  pub none : (IsAtEnd left × NoHeapOf (memory_words bytes))
+      ⊎ ((x : List ℕ) → NoHeapOf (memory_words (bytes ++ x)))
+
+-- what was read has this verdict
+abbrev pub IsVerdict : Option (List ℕ) → Option (List ℕ) → Verdict → Type 0
+IsVerdict unread left (Sound report) = WordsJudged unread left (Sound report)
+IsVerdict unread left (Flawed flaw) = WordsJudged unread left (Flawed flaw)
+IsVerdict unread left BadWords = NoWords unread left
+
+-- whether a verdict is that of a balanced state
+abbrev pub is_sound : Verdict → Bool
+is_sound (Sound report) = true
+is_sound (Flawed flaw) = false
+is_sound BadWords = false
+
+-- the verdict of what was read was written as one line, and this says whether the words are those
+-- of a balanced state
+pub record Checked (sound : Bool) (unread left held holds : Option (List ℕ)) : Type 0 where
+  pub verdict : Verdict
+  pub is : IsVerdict unread left verdict
+  pub answered : sound ≡ is_sound verdict
+  pub written : Appends held holds (as_line (verdict_text verdict))
+
+-- the verdict of what was read was written in part
+pub record CheckedPrefix (unread left held holds : Option (List ℕ)) : Type 0 where
+  pub verdict : Verdict
+  pub is : IsVerdict unread left verdict
+  pub written : AppendsPrefix held holds (as_line (verdict_text verdict))
+
+-- a check ended by a fault: before it wrote, or while it wrote
+abbrev pub CheckStopped : Option (List ℕ) → Option (List ℕ) → Option (List ℕ)
+    → Option (List ℕ) → Type 0
+CheckStopped unread left held holds =
+    Appends held holds [] ⊎ CheckedPrefix unread left held holds

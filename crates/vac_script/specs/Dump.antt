@@ -1,0 +1,38 @@
+-- What a dump writes: the words of a memory that represents the state which a script leaves.
+use Rattle.std.specs.Prelude.{ℕ, ◌⊎◌, Option, List, []}
+use Rattle.std.specs.Io.KnownBytes.{Appends, Consumes, IsAtEnd}
+use Rattle.vac_lines.specs.Script.{script_state}
+use Rattle.vac_lines.specs.Memory.{dump_text}
+use Rattle.vac_manager.specs.Law.{Shows}
+use Rattle.vac_script.specs.Script.{AppendsPrefix}
+
+-- the input was read to its end; words that represent the state after its script, run on a system
+-- of n blocks, were written and nothing else
+pub record Dumped (n : ℕ) (unread left held holds : Option (List ℕ)) : Type 0 where
+  pub bytes : List ℕ
+  pub consumed : Consumes unread left bytes
+  pub ended : IsAtEnd left
+  pub words : List ℕ
+  pub shown : Shows words (script_state n bytes)
+  pub written : Appends held holds (dump_text words)
+
+-- the input was read to its end, and a prefix of such words' text was written
+pub record DumpedPrefix (n : ℕ) (unread left held holds : Option (List ℕ)) : Type 0 where
+  pub bytes : List ℕ
+  pub consumed : Consumes unread left bytes
+  pub ended : IsAtEnd left
+  pub words : List ℕ
+  pub shown : Shows words (script_state n bytes)
+  pub written : AppendsPrefix held holds (dump_text words)
+
+-- some of the input was read, and nothing was written
+pub record DumpedNothing (unread left held holds : Option (List ℕ)) : Type 0 where
+  pub bytes : List ℕ
+  pub consumed : Consumes unread left bytes
+  pub written : Appends held holds []
+
+-- a dump ended by a fault: before it wrote, or while it wrote
+abbrev pub DumpStopped : ℕ → Option (List ℕ) → Option (List ℕ) → Option (List ℕ)
+    → Option (List ℕ) → Type 0
+DumpStopped n unread left held holds =
+    DumpedNothing unread left held holds ⊎ DumpedPrefix n unread left held holds

@@ -1,0 +1,5 @@
+pub mod Script
+pub mod System
+pub mod Dump
+pub mod Check
+pub mod Reading

@@ -1,0 +1,152 @@
+//! The audit of words that are read as text.
+
+ghost use Rattle.std.specs.Prelude.{◌≡◌, ◌≢◌, ◌++◌, OnOk, OnErr, IfOk, IfErr};
+ghost use Rattle.vac_script.specs.declared.fault.RunFault.TheVariants.{Busy, Spent};
+ghost use Rattle.vac_script.specs.Check.{flaw_name, flaw_text, verdict_text, is_sound};
+ghost use Rattle.vac_script.specs.Check.{Judged, IsVerdict, Checked, CheckStopped};
+ghost use Rattle.vac_check.specs.Laws.{word_of};
+ghost use Rattle.vac_lines.specs.Script.{as_line};
+
+use crate::fault::RunFault;
+use crate::memory::read_memory;
+use crate::writing::write_all;
+use std::alloc::{AllocError, Global};
+use std::io::{Read, Write};
+use vac_check::{AuditFault, Flaw, audit_words};
+use vac_lines::print_reply;
+use vac_model::{Reply, Report};
+
+/// What is said of a text of words.
+#[derive(Clone, Copy)]
+enum Verdict {
+    /// They are the words of a balanced state with this report.
+    Sound(Report),
+    /// They have this flaw.
+    Flawed(Flaw),
+    /// They are not the words of a memory, or not as many as one has.
+    BadWords,
+}
+
+/// The name of a flaw, up to its word.
+fn flaw_name(flaw: Flaw) -> &'static [u8]
+    ensures { result.now ≡ flaw_name flaw }
+{
+    match flaw {
+        Flaw::Pointer(_) => b"flaw pointer ",
+        Flaw::Shared(_) => b"flaw shared ",
+        Flaw::Lost(_) => b"flaw lost ",
+        Flaw::Order(_) => b"flaw order ",
+        Flaw::Colour(_) => b"flaw colour ",
+        Flaw::Counts(_) => b"flaw counts ",
+        Flaw::Bookings(_) => b"flaw bookings ",
+    }
+}
+
+/// The word at which a flaw was met.
+fn flaw_word(flaw: Flaw) -> u32
+    ensures { result ≡ word_of flaw }
+{
+    match flaw {
+        Flaw::Pointer(word)
+        | Flaw::Shared(word)
+        | Flaw::Lost(word)
+        | Flaw::Order(word)
+        | Flaw::Colour(word)
+        | Flaw::Counts(word)
+        | Flaw::Bookings(word) => word,
+    }
+}
+
+/// Appends a flaw: its name and its word.
+fn print_flaw(flaw: Flaw, out: &mut Vec<u8>) -> Result<(), AllocError>
+    ensures { OnOk result (out.new.items ≡ out.old.items ++ flaw_text flaw) }
+{
+    out.extend_from_slice(flaw_name(flaw))?;
+    let word = u64::from(flaw_word(flaw));
+    print_reply(&Reply::Number(Some(word)), out)
+}
+
+/// Appends the text of a verdict.
+fn append_verdict(verdict: Verdict, out: &mut Vec<u8>) -> Result<(), AllocError>
+    ensures { OnOk result (out.new.items ≡ out.old.items ++ verdict_text verdict) }
+{
+    match verdict {
+        Verdict::Sound(report) => print_reply(&Reply::Report(report), out),
+        Verdict::Flawed(flaw) => print_flaw(flaw, out),
+        Verdict::BadWords => out.extend_from_slice(b"fault bad-words"),
+    }
+}
+
+/// Appends the line of a verdict.
+fn print_verdict(verdict: Verdict, out: &mut Vec<u8>) -> Result<(), AllocError>
+    ensures { OnOk result (out.new.items ≡ out.old.items ++ as_line (verdict_text verdict)) }
+{
+    append_verdict(verdict, out)?;
+    out.extend_from_slice(b"\n")
+}
+
+/// Whether a verdict is that of a balanced state.
+fn is_sound(verdict: Verdict) -> bool
+    ensures { result ≡ is_sound verdict }
+{
+    matches!(verdict, Verdict::Sound(_))
+}
+
+/// Audits words.
+fn judge(alloc: Global, words: &[u64]) -> Result<Verdict, RunFault>
+    ensures judged { IfOk result (λ verdict. Judged words.now verdict) }
+    ensures not_busy { IfErr result (λ fault. fault ≢ Busy) }
+    ensures not_spent { IfErr result (λ fault. fault ≢ Spent) }
+{
+    match audit_words(alloc, words) {
+        Ok(report) => Ok(Verdict::Sound(report)),
+        Err(AuditFault::Flaw(flaw)) => Ok(Verdict::Flawed(flaw)),
+        Err(AuditFault::Size) => Ok(Verdict::BadWords),
+        Err(AuditFault::Memory) => Err(RunFault::Memory),
+    }
+}
+
+/// Reads words and audits them.
+#[tactic(auto, using(crate::proofs::Checking::no_words, crate::proofs::Checking::verdict_of))]
+fn read_verdict<R: Read>(alloc: Global, input: &mut R) -> Result<Verdict, RunFault>
+    ensures ok { IfOk result (λ verdict.
+        IsVerdict (R.remaining input.old) (R.remaining input.new) verdict) }
+    ensures not_busy { IfErr result (λ fault. fault ≢ Busy) }
+    ensures not_spent { IfErr result (λ fault. fault ≢ Spent) }
+{
+    match read_memory(alloc, input)? {
+        None => Ok(Verdict::BadWords),
+        Some(words) => judge(alloc, words.as_slice()),
+    }
+}
+
+/// Audits the words of a memory, as `dump_script` writes them: reads the lines to the end of the
+/// input, or to the first that shows that there is no memory of these words, and writes one line.
+///
+/// Answers true where the words are those of a balanced state, and writes its report. Otherwise
+/// answers false and writes `flaw NAME WORD`, the first flaw and the word at which it was met, or
+/// `fault bad-words` where the lines are not the words of 1 to 262,144 blocks.
+///
+/// After a fault, what was written is nothing or a prefix of the line.
+pub fn check_words<R: Read, W: Write>(
+    alloc: Global,
+    input: &mut R,
+    output: &mut W,
+) -> Result<bool, RunFault>
+    ensures ok { IfOk result (λ sound. Checked sound
+        (R.remaining input.old) (R.remaining input.new)
+        (W.contents output.old) (W.contents output.new)) }
+    ensures err { OnErr result (CheckStopped (R.remaining input.old) (R.remaining input.new)
+        (W.contents output.old) (W.contents output.new)) }
+    ensures not_busy { IfErr result (λ fault. fault ≢ Busy) }
+    ensures not_spent { IfErr result (λ fault. fault ≢ Spent) }
+{
+    let verdict = read_verdict(alloc, input)?;
+    let mut line = Vec::new(alloc);
+    print_verdict(verdict, &mut line)?;
+    write_all(output, line.as_slice())?;
+    match output.flush() {
+        Ok(()) => Ok(is_sound(verdict)),
+        Err(_) => Err(RunFault::Write),
+    }
+}

@@ -1,0 +1,62 @@
+//! Dumps: the words of the memory that a script leaves, one a line.
+
+ghost use Rattle.std.specs.Prelude.{◌≡◌, ◌≢◌, true, OnOk, OnErr, IfErr};
+ghost use Rattle.std.specs.Io.KnownBytes.{Appends};
+ghost use Rattle.vac_manager.specs.Opening.{is_block_count};
+ghost use Rattle.vac_lines.specs.Memory.{dump_text};
+ghost use Rattle.vac_script.specs.declared.fault.RunFault.TheVariants.{Busy};
+ghost use Rattle.vac_script.specs.Script.{AppendsPrefix};
+ghost use Rattle.vac_script.specs.Dump.{Dumped, DumpStopped};
+
+use crate::fault::RunFault;
+use crate::script::{CHUNK_BYTES, run_input};
+use crate::writing::write_all;
+use std::alloc::Global;
+use std::io;
+use std::io::{Read, Write};
+use vac_lines::print_word;
+
+/// Runs a script for a system of so many blocks, 1 to 262,144, and dumps its memory: reads the
+/// lines to the end of the input, writes no reply, closes the system and writes its words in
+/// order, each in decimal on a line of its own.
+///
+/// After a fault, what was written is nothing or a prefix of the whole dump.
+pub fn dump_script<R: Read, W: Write>(
+    alloc: Global,
+    blocks: u32,
+    input: &mut R,
+    output: &mut W,
+) -> Result<(), RunFault>
+    requires { is_block_count blocks ≡ true }
+    ensures ok { OnOk result (Dumped blocks (R.remaining input.old) (R.remaining input.new)
+        (W.contents output.old) (W.contents output.new)) }
+    ensures err { OnErr result (DumpStopped blocks
+        (R.remaining input.old) (R.remaining input.new)
+        (W.contents output.old) (W.contents output.new)) }
+    ensures not_busy { IfErr result (λ fault. fault ≢ Busy) }
+{
+    let mut replies = io::sink();
+    let system = run_input(alloc, blocks, input, &mut replies)?;
+    let words = system.close()?;
+    write_words(alloc, words.as_slice(), output)
+}
+
+/// Writes words in order, each in decimal on a line of its own.
+fn write_words<W: Write>(alloc: Global, words: &[u64], output: &mut W) -> Result<(), RunFault>
+    ensures ok { OnOk result
+        (Appends (W.contents output.old) (W.contents output.new) (dump_text words.now)) }
+    ensures err { OnErr result
+        (AppendsPrefix (W.contents output.old) (W.contents output.new) (dump_text words.now)) }
+    ensures not_busy { IfErr result (λ fault. fault ≢ Busy) }
+{
+    let mut text = Vec::new(alloc);
+    for word in words {
+        print_word(*word, &mut text)?;
+        if text.len() >= CHUNK_BYTES {
+            write_all(output, text.as_slice())?;
+            text.clear();
+        }
+    }
+    write_all(output, text.as_slice())?;
+    output.flush().map_err(|_| RunFault::Write)
+}

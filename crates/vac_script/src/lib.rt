@@ -1,0 +1,17 @@
+//! Scripts over streams: running one, dumping the memory that it leaves, and auditing such words.
+#![tactic(auto)]
+
+mod check;
+mod dump;
+mod fault;
+mod memory;
+mod script;
+mod system;
+mod writing;
+
+pub use check::check_words;
+pub use dump::dump_script;
+pub use fault::RunFault;
+pub use script::run_script;
+pub use system::LAST_VERSION;
+pub use writing::write_and_flush;
