@@ -112,6 +112,7 @@ added ns mid new n node e l = record {
   parent_is = (l.same _).parent ∙ e.here.parent;
   number_is = (l.same _).number ∙ e.here.number;
   value_is = (l.same _).value ∙ e.here.value;
+  taken = λ q t. (let kept = e.taken q t in omega (arith, kept, (l.same q).slot));
 }
 
 -- a block without nodes

@@ -104,6 +104,7 @@ entered ns ns' n q y ix room an free w = record {
   len = w.len;
   others = w.others;
   here = w.here;
+  taken = still_taken ns ns' n q y w;
 }
 
 -- a node with the slot of the place where it is put

@@ -1,5 +1,5 @@
 -- What a log says, and how it changes.
-use Rattle.std.proofs.Common.{◌≡◌, inl, inr, ℕ, zero, suc, ◌+◌, ◌<◌, ◌≤◌, Bool, true, false, cond, not, nat_eq, Option, Some, None, is_some, List, length, set, refl, sym, ap, ◌∙◌, arith, subst, add-one, length-set}
+use Rattle.std.proofs.Common.{◌≡◌, inl, inr, ℕ, zero, suc, ◌+◌, ◌<◌, ◌≤◌, Bool, true, false, cond, not, nat_eq, Option, Some, None, is_some, Result, Ok, Err, OnErr, List, length, set, refl, sym, ap, ◌∙◌, arith, subst, add-one, length-set}
 use Rattle.std.specs.FinMap.{get, get-empty, insert, len, len-insert, same_map, nat_cmp-IsAntisymmetric}
 use Rattle.std.specs.Ordering.{nat_cmp}
 use Rattle.std.proofs.lemmas.Cmp.{nat_cmp_total}
@@ -7,12 +7,13 @@ use Rattle.std.proofs.lemmas.Bool.Decides.{nat_tests}
 use Rattle.std.proofs.lemmas.Bool.{cases_lt}
 use Rattle.stm_words.specs.View.{Words}
 use Rattle.stm_logs.specs.declared.nodes.Node.{Node}
-use Rattle.stm_logs.specs.Nodes.{at}
+use Rattle.stm_logs.specs.Nodes.{Block, at}
 use Rattle.stm_logs.specs.Log.{LogValue, empty_log}
-use Rattle.stm_logs.specs.Index.{is_lock_node, HasKey, HasNone, SameNode, IsIndexed, Answers, Entered}
-use Rattle.stm_logs.specs.Tree.{IsTree, IsReady, SameSight, Added, trues, is_word_at, log_value}
+use Rattle.stm_logs.specs.Index.{is_lock_node, home, HasKey, HasNone, SameNode, IsIndexed, IsFound, IsTaken, Answers, Entered}
+use Rattle.stm_logs.specs.Tree.{IsTree, IsReady, SameSight, Added, trues, is_word_at, log_value, block_log}
 use Rattle.stm_logs.specs.Held.{IsLog, HasLock, held_value, with_word, Copied}
 use Rattle.stm_logs.proofs.NodeLemmas.{same_or, put_here, put_other, field_kept}
+use Rattle.stm_logs.proofs.IndexLemmas.{along_at, along_map}
 use Rattle.stm_logs.proofs.AddLemmas.{tree_kept, indexed_kept, chains_of, indexed_none, tree_none}
 use Rattle.stm_logs.proofs.TableLemmas.{Apart, get_here, get_other, some_none, both_bool, true_false, get_there, get_none, table_yes, table_no, table_same, table_value, len_table, mark}
 
@@ -120,6 +121,7 @@ lock_entered ns new n lock a = record {
   inside = omega arith;
   above = a.parent_is;
   lock_is = a.number_is;
+  taken = a.taken;
 }
 
 -- ---- a word enters below its lock
@@ -148,6 +150,18 @@ word_is_new ns mid n m lock l a t h none e z k key =
           let s = h.sights e inside in
           has_no_word ns n a t none e z inside (sym s.number ∙ key.0, ap (λ p. nat_eq p 0) (sym s.parent) ∙ kind))
     ]
+
+-- a free place of the index that a word would enter is still its place, with the lock there
+pub place_kept : (ns mid : List Node) (n m lock l a q : ℕ) → IsTree ns n → get (log_value ns n).words a ≡ None → HasLock ns n mid m lock l
+    → Answers ns n false a q → (at ns q).slot ≡ 0 → (at mid q).slot ≡ 0 → Answers mid m false a q
+place_kept ns mid n m lock l a q t none h an free still = record {
+  inside = omega (arith, an.inside, h.len);
+  found = λ some. absurd (omega (arith, some, still));
+  free = λ _. (
+    subst (λ b. HasNone mid m b a) (not_zero l h.some) (word_is_new ns mid n m lock l a t h none),
+    along_at (IsTaken mid) _ _ _ _ _ _ h.len (ap (home false a) h.len) refl (along_map (IsTaken ns) (IsTaken mid) _ _ _ h.taken (an.free free).1),
+  );
+}
 
 pub word_value : (ns mid new : List Node) (n m lock l a v : ℕ) → IsTree ns n → HasLock ns n mid m lock l → Added mid new m l a v → log_value new (m + 1) ≡ with_word (log_value ns n) a lock v
 word_value ns mid new n m lock l a v t h w =
@@ -233,6 +247,31 @@ trues_le test (suc n) =
 
 pub few_words : (ns : List Node) (n : ℕ) → IsReady ns n → len (log_value ns n).words ≤ n
 few_words ns n r = omega (arith, len_table (is_word_at ns) (numbers ns) (values_at ns) n (words_apart ns n (values_at ns) r.tree), trues_le (is_word_at ns) n)
+
+pub few_log : (ns : List Node) (n : ℕ) → IsLog ns n → len (log_value ns n).words < 2147483648
+few_log ns n log =
+    let room = log.ready.indexed.room in
+    let limit = log.ready.indexed.limit in
+    omega (arith, few_words ns n log.ready)
+
+pub few_in : (b : Block) (w : LogValue) → IsLog b.list b.count → block_log b ≡ w → len w.words < 2147483648
+few_in b w log is = subst (λ (x : LogValue). len x.words < 2147483648) is (few_log _ _ log)
+
+-- a free place of the index tells that the word is not there
+pub absent_at : (b : Block) (w : LogValue) (x : Node) (a q : ℕ) → block_log b ≡ w → Answers b.list b.count false a q → x ≡ at b.list q → x.slot ≡ 0
+    → get w.words a ≡ None
+absent_at b w x a q is an node free =
+    sym (ap (λ (v : LogValue). get v.words a) is) ∙ no_word _ _ _ (an.free (sym (ap (λ (y : Node). y.slot) node) ∙ free)).0
+
+pub refused : {T E : Type 0} (r : Result T E) {P : Type 0} → P → OnErr r P
+refused (Ok x) p = tt
+refused (Err e) p = p
+
+-- a taken one leads to the word
+pub found_at : (ns : List Node) (n : ℕ) (x : Node) (a q : ℕ) → Answers ns n false a q → x ≡ at ns q → 0 < x.slot → IsFound ns n false a x.slot
+found_at ns n x a q an node some =
+    let slot : x.slot ≡ (at ns q).slot = ap (λ (y : Node). y.slot) node in
+    subst (IsFound ns n false a) (sym slot) (an.found (omega (arith, some, slot)))
 
 -- ---- an address that is there, and one that is not
 pub locks_follow : (ns : List Node) (n a : ℕ) → IsTree ns n → (get (log_value ns n).words a ≡ None → get (log_value ns n).locks a ≡ None) × (get (log_value ns n).locks a ≡ None → get (log_value ns n).words a ≡ None)

@@ -32,6 +32,16 @@ pub record IsReplaced (old new : LogValue) (address value : ℕ) : Type 0 where
   pub has_lock : get old.locks address ≢ None
   pub put : new ≡ record old { words = insert old.words address value }
 
+-- the word was not there, and new has it
+pub record IsEntered (old new : LogValue) (address lock value : ℕ) : Type 0 where
+  pub absent : get old.words address ≡ None
+  pub put : new ≡ with_word old address lock value
+
+-- new is a log that says one word more
+pub record HasMore (address lock value : ℕ) (old new : Block) : Type 0 where
+  pub log : IsLog new.list new.count
+  pub same : block_log new ≡ with_word (block_log old) address lock value
+
 -- new has room for two nodes more, and says what old says
 pub record IsRoomy (old new : Block) : Type 0 where
   pub log : IsLog new.list new.count
@@ -50,6 +60,7 @@ pub record HasLock (old : List Node) (n : ℕ) (new : List Node) (m lock l : ℕ
   pub inside : l ≤ m
   pub above : (at new l).parent ≡ 0
   pub lock_is : (at new l).number ≡ lock
+  pub taken : (q : ℕ) → IsTaken old q → IsTaken new q
 
 -- the first e nodes of old stand in new, and are indexed there
 pub record Copied (old new : List Node) (e : ℕ) : Type 0 where

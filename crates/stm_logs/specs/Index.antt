@@ -93,3 +93,4 @@ pub record Entered (old new : List Node) (n : ℕ) (node : Node) : Type 0 where
   pub len : length new ≡ length old
   pub others : (e : ℕ) → e ≢ n + 1 → SameNode (at old e) (at new e)
   pub here : SameNode node (at new (n + 1))
+  pub taken : (q : ℕ) → IsTaken old q → IsTaken new q

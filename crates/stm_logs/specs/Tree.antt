@@ -6,7 +6,7 @@ use Rattle.std.specs.FinMap.{FinMap, empty, insert}
 use Rattle.std.specs.Ordering.{nat_cmp}
 use Rattle.stm_logs.specs.declared.nodes.Node.{Node}
 use Rattle.stm_logs.specs.Nodes.{Block, at}
-use Rattle.stm_logs.specs.Index.{is_lock_node, HasNone, IsIndexed}
+use Rattle.stm_logs.specs.Index.{is_lock_node, HasNone, IsIndexed, IsTaken}
 use Rattle.stm_logs.specs.Log.{LogValue}
 
 -- p is the child of l with the least number from low on, or 0 where there is none
@@ -132,3 +132,4 @@ pub record Added (old new : List Node) (n parent number value : ℕ) : Type 0 wh
   pub parent_is : (at new (n + 1)).parent ≡ parent
   pub number_is : (at new (n + 1)).number ≡ number
   pub value_is : (at new (n + 1)).value ≡ value
+  pub taken : (q : ℕ) → IsTaken old q → IsTaken new q

@@ -1,8 +1,7 @@
 //! The growth of a write log's block.
-ghost use Rattle.std.specs.Prelude.{◌≡◌, ℕ, ◌*◌, ◌≤◌, length, IfOk};
+ghost use Rattle.std.specs.Prelude.{◌≡◌, ℕ, ◌+◌, ◌*◌, ◌<◌, ◌≤◌, false, length, IfOk};
 ghost use Rattle.stm_logs.specs.Nodes.{at};
 ghost use Rattle.stm_logs.specs.Held.{IsLog, IsRoomy, Copied};
-ghost use Rattle.stm_logs.specs.Refusals.{OrSame};
 
 use crate::index::{enter, probe};
 use crate::nodes::{Node, Nodes};
@@ -11,21 +10,18 @@ use std::alloc::{AllocError, Allocator};
 /// The places of the largest block.
 const MAX_PLACES: usize = 2_147_483_648;
 
-/// Makes room for two nodes more.
+/// Whether the block is to grow before two nodes more enter, so that half of the index stays free.
 #[inline]
-pub(crate) fn make_room<A: Allocator + Copy>(nodes: &mut Nodes<A>) -> Result<(), AllocError>
-    requires { IsLog nodes.old.list nodes.old.count }
-    ensures { OrSame result IsRoomy nodes.old nodes.new }
+pub(crate) fn is_full<A: Allocator>(nodes: &Nodes<A>) -> bool
+    requires { IsLog nodes.now.list nodes.now.count }
+    ensures { result ≡ false → nodes.now.count + 2 < length nodes.now.list }
 {
-    if nodes.len() < 2 * (nodes.count() + 3) {
-        *nodes = grown(nodes)?;
-    }
-    Ok(())
+    nodes.len() < 2 * (nodes.count() + 3)
 }
 
-// A block of twice the places with the same nodes.
+/// A block of twice the places with the same nodes.
 #[cold]
-fn grown<A: Allocator + Copy>(old: &Nodes<A>) -> Result<Nodes<A>, AllocError>
+pub(crate) fn grown<A: Allocator + Copy>(old: &Nodes<A>) -> Result<Nodes<A>, AllocError>
     requires { IsLog old.now.list old.now.count }
     ensures { IfOk result (λ new. IsRoomy old.now new) }
 {

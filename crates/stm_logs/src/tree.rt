@@ -1,16 +1,16 @@
 //! The tree of a write log: the words of the log below their locks, in one block of nodes.
-ghost use Rattle.std.specs.Prelude.{◌≡◌, ◌≢◌, ◌↔◌, ℕ, ◌+◌, ◌*◌, ◌<◌, ◌≤◌, false, IsTrue, None, Some, length, nat_eq, IfOk};
+ghost use Rattle.std.specs.Prelude.{◌≡◌, ◌≢◌, ◌↔◌, ℕ, ◌+◌, ◌*◌, ◌<◌, ◌≤◌, true, false, IsTrue, None, Some, Ok, length, nat_eq, IfOk, OnErr};
 ghost use Rattle.std.specs.FinMap.{get, len};
 ghost use Rattle.stm_logs.specs.Nodes.{Block, at, with_node};
-ghost use Rattle.stm_logs.specs.Index.{HasNone, unslotted};
+ghost use Rattle.stm_logs.specs.Index.{HasNone, IsIndexed, Answers, unslotted};
 ghost use Rattle.stm_logs.specs.Tree.{IsReady, Added, block_log};
-ghost use Rattle.stm_logs.specs.Held.{IsLog, IsReplaced, HasLock, with_word};
+ghost use Rattle.stm_logs.specs.Held.{IsLog, IsReplaced, IsEntered, HasMore, HasLock};
 ghost use Rattle.stm_logs.specs.Chain.{Ends, pairs_from};
 ghost use Rattle.stm_logs.specs.Log.{LogValue, empty_log, log_locks, pairs_of, SameAddresses};
-ghost use Rattle.stm_logs.specs.Refusals.{Becomes};
+ghost use Rattle.stm_logs.specs.Refusals.{OrSame};
 
 use crate::chain::{Locks, Words};
-use crate::grow::make_room;
+use crate::grow::{grown, is_full};
 use crate::index::{enter, find, probe};
 use crate::link::link;
 use crate::nodes::{BLANK, Node, Nodes};
@@ -104,32 +104,25 @@ impl<A: Allocator + Copy> Tree<A> {
         }
     }
 
-    /// Puts the value of a word that is there, and says whether it is.
+    /// Lets the value stand at a word, and says whether the word is new. One that is there keeps
+    /// its lock. Where memory is refused, the tree stays as it was.
     #[inline]
-    pub(crate) fn replace(&mut self, number: u32, value: u64) -> bool
-        ensures there { IsTrue result → IsReplaced self.old self.new number value }
-        ensures absent { result ≡ false → get self.old.words number ≡ None }
-        ensures same { result ≡ false → self.new ≡ self.old }
+    pub(crate) fn put(&mut self, number: u32, lock: u32, value: u64) -> Result<bool, AllocError>
+        ensures replaced { result ≡ Ok false → IsReplaced self.old self.new number value }
+        ensures entered { result ≡ Ok true → IsEntered self.old self.new number lock value }
+        ensures refused { OnErr result
+            ((self.new ≡ self.old) × (get self.old.words number ≡ None)) }
+        ensures few { len self.old.words < 2147483648 }
     {
-        let word = find(&self.nodes, false, number);
+        let place = probe(&self.nodes, false, number);
+        let word = self.nodes.get(place).slot as usize;
         if word == 0 {
-            return false;
+            put_new(&mut self.nodes, place, number, lock, value)?;
+            return Ok(true);
         }
         let node = *self.nodes.get(word);
         self.nodes.put(word, Node { value, ..node });
-        true
-    }
-
-    /// A word that is not there enters. Where memory is refused, the tree stays as it was.
-    #[inline]
-    pub(crate) fn insert(&mut self, number: u32, lock: u32, value: u64) -> Result<(), AllocError>
-        requires { get self.old.words number ≡ None }
-        ensures answer { Becomes result self.old self.new (with_word self.old number lock value) }
-        ensures few { len self.old.words < 2147483648 }
-    {
-        make_room(&mut self.nodes)?;
-        put_new(&mut self.nodes, number, lock, value);
-        Ok(())
+        Ok(false)
     }
 
     /// Takes all words out. The block stays.
@@ -194,17 +187,72 @@ fn set_free<A: Allocator>(nodes: &mut Nodes<A>, place: usize)
     nodes.put(place, Node { slot: 0, ..node });
 }
 
+// Puts a word that is not there at its free place of the index, where memory is not refused.
+#[inline]
+fn put_new<A: Allocator + Copy>(
+    nodes: &mut Nodes<A>,
+    place: usize,
+    number: u32,
+    lock: u32,
+    value: u64,
+) -> Result<(), AllocError>
+    requires log { IsLog nodes.old.list nodes.old.count }
+    requires place { Answers nodes.old.list nodes.old.count false number place }
+    requires new { HasNone nodes.old.list nodes.old.count false number }
+    ensures { OrSame result (HasMore number lock value) nodes.old nodes.new }
+{
+    if is_full(nodes) {
+        return put_grown(nodes, number, lock, value);
+    }
+    put_roomy(nodes, place, number, lock, value);
+    Ok(())
+}
+
+// Puts a word that is not there into a block that grows for it.
+#[cold]
+fn put_grown<A: Allocator + Copy>(
+    nodes: &mut Nodes<A>,
+    number: u32,
+    lock: u32,
+    value: u64,
+) -> Result<(), AllocError>
+    requires log { IsLog nodes.old.list nodes.old.count }
+    requires new { HasNone nodes.old.list nodes.old.count false number }
+    ensures { OrSame result (HasMore number lock value) nodes.old nodes.new }
+{
+    *nodes = grown(nodes)?;
+    let place = probe(nodes, false, number);
+    put_roomy(nodes, place, number, lock, value);
+    Ok(())
+}
+
 // Puts a word that is not there, where there is room for it and its lock.
-fn put_new<A: Allocator>(nodes: &mut Nodes<A>, number: u32, lock: u32, value: u64)
+fn put_roomy<A: Allocator>(nodes: &mut Nodes<A>, place: usize, number: u32, lock: u32, value: u64)
     requires log { IsLog nodes.old.list nodes.old.count }
     requires room { nodes.old.count + 2 < length nodes.old.list }
-    requires new { get (block_log nodes.old).words number ≡ None }
-    ensures log { IsLog nodes.new.list nodes.new.count }
-    ensures value { block_log nodes.new ≡ with_word (block_log nodes.old) number lock value }
-    ensures few { len (block_log nodes.old).words < 2147483648 }
+    requires place { Answers nodes.old.list nodes.old.count false number place }
+    requires new { HasNone nodes.old.list nodes.old.count false number }
+    ensures { HasMore number lock value nodes.old nodes.new }
 {
     let parent = lock_node(nodes, lock);
-    add(nodes, parent, number, value);
+    let place = place_of_word(nodes, place, number);
+    add(nodes, place, parent, number, value);
+}
+
+// The place of the index where a word enters, which is the given one if that is free.
+#[inline]
+fn place_of_word<A: Allocator>(nodes: &Nodes<A>, place: usize, number: u32) -> usize
+    requires indexed { IsIndexed nodes.now.list nodes.now.count }
+    requires inside { place < length nodes.now.list }
+    requires free { (at nodes.now.list place).slot ≡ 0
+        → Answers nodes.now.list nodes.now.count false number place }
+    ensures { Answers nodes.now.list nodes.now.count false number result }
+{
+    if nodes.get(place).slot == 0 {
+        place
+    } else {
+        probe(nodes, false, number)
+    }
 }
 
 // The node of a lock, which enters where it is not there.
@@ -214,25 +262,26 @@ fn lock_node<A: Allocator>(nodes: &mut Nodes<A>, lock: u32) -> usize
     requires room { nodes.old.count + 2 < length nodes.old.list }
     ensures { HasLock nodes.old.list nodes.old.count nodes.new.list nodes.new.count lock result }
 {
-    let there = find(nodes, true, lock);
+    let place = probe(nodes, true, lock);
+    let there = nodes.get(place).slot as usize;
     if there != 0 {
         return there;
     }
-    add(nodes, 0, lock, 0);
+    add(nodes, place, 0, lock, 0);
     nodes.count()
 }
 
-// A node enters below its parent.
+// A node enters below its parent, and at its place of the index.
 #[inline]
-fn add<A: Allocator>(nodes: &mut Nodes<A>, parent: usize, number: u32, value: u64)
+fn add<A: Allocator>(nodes: &mut Nodes<A>, place: usize, parent: usize, number: u32, value: u64)
     requires ready { IsReady nodes.old.list nodes.old.count }
     requires room { nodes.old.count + 1 < length nodes.old.list }
     requires parent { (parent ≤ nodes.old.count) × ((at nodes.old.list parent).parent ≡ 0) }
+    requires place { Answers nodes.old.list nodes.old.count (nat_eq parent 0) number place }
     requires new { HasNone nodes.old.list nodes.old.count (nat_eq parent 0) number }
     ensures added { Added nodes.old.list nodes.new.list nodes.old.count parent number value }
     ensures count { nodes.new.count ≡ nodes.old.count + 1 }
 {
-    let place = probe(nodes, parent == 0, number);
     let node = Node {
         value,
         number,

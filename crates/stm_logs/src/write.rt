@@ -68,18 +68,17 @@ impl<A: Allocator + Copy> WriteLog<A> {
     {
         match &mut self.tree {
             Some(tree) => {
-                if tree.replace(addr.0, value) {
-                    return Ok(());
+                if tree.put(addr.0, lock, value)? {
+                    self.len += 1;
                 }
-                tree.insert(addr.0, lock, value)?;
             }
             None => {
                 let mut tree = Tree::new(self.alloc)?;
-                tree.insert(addr.0, lock, value)?;
+                tree.put(addr.0, lock, value)?;
                 self.tree = Some(tree);
+                self.len = 1;
             }
         }
-        self.len += 1;
         Ok(())
     }
 

@@ -1,21 +1,28 @@
-use Rattle.std.proofs.Common.{◌≡◌, ◌+◌, Option, None, refl, sym, ap, ◌∙◌}
-use Rattle.std.specs.FinMap.{get, len}
-use Rattle.stm_logs.specs.Log.{LogValue, empty_log}
-use Rattle.stm_logs.specs.Held.{held_value, with_word}
-use Rattle.stm_logs.proofs.LogLemmas.{held_some, none_there, put_value, len_there, one_more}
+use Rattle.std.proofs.Common.{◌≡◌, inl, inr, ℕ, Ok, Option, None, refl, sym, ap, ◌∙◌}
+use Rattle.std.specs.FinMap.{get, len, len-empty}
+use Rattle.std.specs.Ordering.{nat_cmp}
+use Rattle.stm_logs.specs.Log.{LogValue}
+use Rattle.stm_logs.specs.Held.{held_value, with_word, IsEntered}
+use Rattle.stm_logs.proofs.TableLemmas.{both_bool}
+use Rattle.stm_logs.proofs.LogLemmas.{held_none, held_some, none_there, put_value, len_there, one_more}
 use Rattle.stm_logs.proofs.write.WriteLog.put.Goals as goal
 use Rattle.stm_logs.proofs.write.WriteLog.put.Given as given
-use Rattle.stm_logs.proofs.write.WriteLog.put.Goals.{in-Some+else-replace+in_ok-insert-in-Some, in-None+in_ok-tree-in-None+in_ok-insert-in-None+in-Some-1, in-None+in_ok-tree-in-None+in_ok-insert-in-None+in-None-1}
 
-pub invariant_of-self : goal.invariant_of-self
-invariant_of-self g c =
-    let there = c.replace.ensures.there c.if-replace.true in
-    let words = c.self.invariant ∙ ap (λ (o : Option LogValue). len (held_value o).words) c.in-Some.is in
-    words ∙ sym (ap (λ (w : LogValue). len w.words) there.put ∙ len_there _ c.args.addr.0 c.args.value there.has_word)
+pub invariant_of-self-then-branch : goal.invariant_of-self-then-branch
+invariant_of-self-then-branch g c =
+    let w = c.put.ensures.entered (c.in_ok-put-in-Some.was ∙ ap Ok c.if-branch.true) in
+    one_more c.in-Some.tree _ c.self.inside.len c.args.addr.0 c.args.lock c.args.value
+    (c.self.invariant ∙ ap (λ (o : Option LogValue). len (held_value o).words) c.in-Some.is) w.absent w.put
 
-pub returns-then-replace-clause-answer : goal.returns-then-replace-clause-answer
-returns-then-replace-clause-answer g c =
-    let there = c.replace.ensures.there c.if-replace.true in
+pub invariant_of-self-else-branch : goal.invariant_of-self-else-branch
+invariant_of-self-else-branch g c =
+    let there = c.put.ensures.replaced (c.in_ok-put-in-Some.was ∙ ap Ok c.if-branch.false) in
+    c.self.invariant ∙ ap (λ (o : Option LogValue). len (held_value o).words) c.in-Some.is
+    ∙ sym (ap (λ (w : LogValue). len w.words) there.put ∙ len_there _ c.args.addr.0 c.args.value there.has_word)
+
+pub returns-else-branch-clause-answer : goal.returns-else-branch-clause-answer
+returns-else-branch-clause-answer g c =
+    let there = c.put.ensures.replaced (c.in_ok-put-in-Some.was ∙ ap Ok c.if-branch.false) in
     let tree : c.in-Some.tree ≡ c.args.self.now = held_some c.self.inside.tree _ _ c.in-Some.is c.self.view_is in
     there.put
     ∙ put_value c.in-Some.tree c.args.addr.0 c.args.lock c.args.value there.has_lock
@@ -25,30 +32,21 @@ returns-then-replace-clause-answer g c =
 pub returns-in_err-tree-in-None-clause-there : goal.returns-in_err-tree-in-None-clause-there
 returns-in_err-tree-in-None-clause-there g c = λ there. absurd (there (none_there c.self.inside.tree _ c.args.addr.0 c.in-None.is c.self.view_is))
 
-pub insert-requires-in-None : goal.insert-requires-in-None
-insert-requires-in-None g c = none_there None _ c.args.addr.0 refl (sym c.in_ok-tree-in-None.ensures)
-
-pub returns-in_err-insert-in-None-clause-there : goal.returns-in_err-insert-in-None-clause-there
-returns-in_err-insert-in-None-clause-there g c = λ there. absurd (there (none_there c.self.inside.tree _ c.args.addr.0 c.in-None.is c.self.view_is))
-
--- the first word of a log with no tree yet
-first_word : (g : given.Over) (c : goal.After-self-2-1 g) (tree new : LogValue) → c.self.inside.tree ≡ None → tree ≡ empty_log
-    → new ≡ with_word tree c.args.addr.0 c.args.lock c.args.value → c.self.inside.len + 1 ≡ len new.words
-first_word g c tree new none empty is =
-    one_more tree new c.self.inside.len c.args.addr.0 c.args.lock c.args.value
-    (c.self.invariant ∙ ap (λ (o : Option LogValue). len (held_value o).words) none ∙ sym (ap (λ (w : LogValue). len w.words) empty))
-    (none_there None tree c.args.addr.0 refl (sym empty)) is
-
-pub invariant_of-self-2 : goal.invariant_of-self-2
-invariant_of-self-2 g c = elim c.match-self.branch [
-  | in-Some+else-replace+in_ok-insert-in-Some w ↦ (
-      let same = w.replace.ensures.same w.if-replace.false in
-      let words = c.self.invariant ∙ ap (λ (o : Option LogValue). len (held_value o).words) w.in-Some.is in
-      rw w.self-inside-is
-      (one_more w.replace.new.self _ c.self.inside.len c.args.addr.0 c.args.lock c.args.value (words ∙ sym (ap (λ (x : LogValue). len x.words) same))
-      (ap (λ (x : LogValue). get x.words c.args.addr.0) same ∙ w.replace.ensures.absent w.if-replace.false) w.in_ok-insert-in-Some.ensures.answer))
-  | in-None+in_ok-tree-in-None+in_ok-insert-in-None+in-Some-1 w ↦
-      rw w.self-inside-is (first_word g c w.in_ok-tree-in-None.tree _ w.in-None.is w.in_ok-tree-in-None.ensures w.in_ok-insert-in-None.ensures.answer)
-  | in-None+in_ok-tree-in-None+in_ok-insert-in-None+in-None-1 w ↦
-      rw w.self-inside-is (first_word g c w.in_ok-tree-in-None.tree _ w.in-None.is w.in_ok-tree-in-None.ensures w.in_ok-insert-in-None.ensures.answer)
+-- a word enters a log with no tree yet
+enters : (g : given.Over) (c : goal.After-self-in-None-2-1 g) → IsEntered c.in_ok-tree-in-None.tree c.put-in-None.new.self c.args.addr.0 c.args.lock c.args.value
+enters g c = elim (both_bool c.in_ok-put-in-None.field-0) [
+  | inl new ↦ c.put-in-None.ensures.entered (c.in_ok-put-in-None.was ∙ ap Ok new)
+  | inr old ↦ absurd ((c.put-in-None.ensures.replaced (c.in_ok-put-in-None.was ∙ ap Ok old)).has_word (none_there None _ c.args.addr.0 refl (sym c.in_ok-tree-in-None.ensures)))
 ]
+
+pub invariant_of-self-in-None : goal.invariant_of-self-in-None
+invariant_of-self-in-None g c =
+    let w = enters g c in
+    one_more c.in_ok-tree-in-None.tree _ 0 c.args.addr.0 c.args.lock c.args.value
+    (sym (ap (λ (v : LogValue). len v.words) c.in_ok-tree-in-None.ensures ∙ len-empty nat_cmp ℕ)) w.absent w.put
+
+pub returns-in_ok-put-in-None-clause-answer : goal.returns-in_ok-put-in-None-clause-answer
+returns-in_ok-put-in-None-clause-answer g c =
+    (enters g c).put
+    ∙ ap (λ (w : LogValue). with_word w c.args.addr.0 c.args.lock c.args.value)
+    (c.in_ok-tree-in-None.ensures ∙ sym (held_none c.self.inside.tree _ c.in-None.is c.self.view_is))
