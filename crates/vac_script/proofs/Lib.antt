@@ -6,3 +6,4 @@ pub mod Closing
 pub mod Dumping
 pub mod WordLines
 pub mod Checking
+pub mod Causes

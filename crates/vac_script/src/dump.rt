@@ -4,8 +4,9 @@ ghost use Rattle.std.specs.Prelude.{◌≡◌, ◌≢◌, true, OnOk, OnErr, IfE
 ghost use Rattle.std.specs.Io.KnownBytes.{Appends};
 ghost use Rattle.vac_manager.specs.Opening.{is_block_count};
 ghost use Rattle.vac_lines.specs.Memory.{dump_text};
-ghost use Rattle.vac_script.specs.declared.fault.RunFault.TheVariants.{Busy};
+ghost use Rattle.vac_script.specs.declared.fault.RunFault.TheVariants.{Busy, Spent};
 ghost use Rattle.vac_script.specs.Script.{AppendsPrefix};
+ghost use Rattle.vac_script.specs.System.{SpentBy};
 ghost use Rattle.vac_script.specs.Dump.{Dumped, DumpStopped};
 
 use crate::fault::RunFault;
@@ -34,6 +35,8 @@ pub fn dump_script<R: Read, W: Write>(
         (R.remaining input.old) (R.remaining input.new)
         (W.contents output.old) (W.contents output.new)) }
     ensures not_busy { IfErr result (λ fault. fault ≢ Busy) }
+    ensures spent { IfErr result (λ fault. fault ≡ Spent
+        → SpentBy (R.remaining input.old) (R.remaining input.new)) }
 {
     let mut replies = io::sink();
     let system = run_input(alloc, blocks, input, &mut replies)?;
@@ -48,6 +51,7 @@ fn write_words<W: Write>(alloc: Global, words: &[u64], output: &mut W) -> Result
     ensures err { OnErr result
         (AppendsPrefix (W.contents output.old) (W.contents output.new) (dump_text words.now)) }
     ensures not_busy { IfErr result (λ fault. fault ≢ Busy) }
+    ensures not_spent { IfErr result (λ fault. fault ≢ Spent) }
 {
     let mut text = Vec::new(alloc);
     for word in words {

@@ -8,9 +8,10 @@ ghost use Rattle.vac_model.specs.Ranges.{is_task};
 ghost use Rattle.vac_manager.specs.Opening.{is_block_count};
 ghost use Rattle.vac_lines.specs.Text.{Extends};
 ghost use Rattle.vac_lines.specs.LineTable.{line_task};
-ghost use Rattle.vac_script.specs.declared.fault.RunFault.TheVariants.{Busy};
+ghost use Rattle.vac_script.specs.declared.fault.RunFault.TheVariants.{Busy, Memory, Spent, Write};
 ghost use Rattle.vac_script.specs.System.{StandsAt, Answered, AnsweredInPart, Ran, RanInPart};
 ghost use Rattle.vac_script.specs.System.{Wrote, WroteInPart, WroteEnd, WroteEndInPart, RanAll};
+ghost use Rattle.vac_script.specs.System.{FoundSpent, SpentIn, SpentBy};
 ghost use Rattle.vac_script.specs.Script.{pending, leaves, HasBegun, AppendsPrefix};
 ghost use Rattle.vac_script.specs.Script.{WroteAll, WrotePrefix};
 
@@ -51,6 +52,7 @@ fn run_read(
     ensures ok { OnOk result (Answered system.old system.new out.old.items out.new.items read) }
     ensures err { OnErr result (AnsweredInPart system.old out.old.items out.new.items read) }
     ensures not_busy { IfErr result (λ fault. fault ≢ Busy) }
+    ensures spent { IfErr result (λ fault. fault ≡ Spent → FoundSpent system.new read) }
 {
     match read {
         Ok(task) => {
@@ -75,6 +77,8 @@ fn run_line(
     ensures err { OnErr result
         (AnsweredInPart system.old out.old.items out.new.items (line_task line.now)) }
     ensures not_busy { IfErr result (λ fault. fault ≢ Busy) }
+    ensures spent { IfErr result
+        (λ fault. fault ≡ Spent → FoundSpent system.new (line_task line.now)) }
 {
     let read = read_line(alloc, line);
     if matches!(read, Err(LineFault::Memory)) {
@@ -102,7 +106,7 @@ impl Script {
         ensures state { IfOk result (λ script. StandsAt script.system (empty_state blocks)) }
         ensures line { IfOk result (λ script. script.line.items ≡ []) }
         ensures out { IfOk result (λ script. script.out.items ≡ []) }
-        ensures not_busy { IfErr result (λ fault. fault ≢ Busy) }
+        ensures memory { IfErr result (λ fault. fault ≡ Memory) }
     {
         let system = System::new(alloc, blocks)?;
         let line = Vec::with_capacity(alloc, KEPT_BYTES)?;
@@ -129,6 +133,8 @@ impl Script {
         ensures err { OnErr result (AnsweredInPart self.old.system
             self.old.out.items self.new.out.items (line_task (self.old.line.items ++ rest.now))) }
         ensures not_busy { IfErr result (λ fault. fault ≢ Busy) }
+        ensures spent { IfErr result (λ fault. fault ≡ Spent
+            → FoundSpent self.new.system (line_task (self.old.line.items ++ rest.now))) }
     {
         if self.line.is_empty() {
             return run_line(alloc, &mut self.system, rest, &mut self.out);
@@ -149,6 +155,8 @@ impl Script {
         ensures err { OnErr result (RanInPart self.old.system
             self.old.line.items self.old.out.items self.new.out.items chunk.now) }
         ensures not_busy { IfErr result (λ fault. fault ≢ Busy) }
+        ensures spent { IfErr result
+            (λ fault. fault ≡ Spent → SpentIn self.old.line.items chunk.now) }
     {
         let mut rest = chunk;
         while let Some((line, behind)) = cut_at(b'\n', rest) {
@@ -170,6 +178,7 @@ impl Script {
             → Extends self.new.out.items
             (self.old.out.items ++ pending s self.old.line.items [])) }
         ensures not_busy { IfErr result (λ fault. fault ≢ Busy) }
+        ensures spent { IfErr result (λ fault. fault ≡ Spent → SpentIn self.old.line.items []) }
     {
         if self.line.is_empty() {
             return Ok(());
@@ -185,7 +194,7 @@ impl Script {
         ensures others { self.new ≡ record self.old { out = self.new.out } }
         ensures err { OnErr result
             (AppendsPrefix (W.contents output.old) (W.contents output.new) self.old.out.items) }
-        ensures not_busy { IfErr result (λ fault. fault ≢ Busy) }
+        ensures fault { IfErr result (λ fault. fault ≡ Write) }
     {
         write_all(output, self.out.as_slice())?;
         self.out.clear();
@@ -210,6 +219,8 @@ impl Script {
         ensures err { OnErr result (WroteInPart self.old.system
             self.old.line.items chunk.now (W.contents output.old) (W.contents output.new)) }
         ensures not_busy { IfErr result (λ fault. fault ≢ Busy) }
+        ensures spent { IfErr result
+            (λ fault. fault ≡ Spent → SpentIn self.old.line.items chunk.now) }
     {
         let fed = self.feed(alloc, chunk);
         self.write_out(output)?;
@@ -225,6 +236,7 @@ impl Script {
         ensures err { OnErr result (WroteEndInPart self.old.system self.old.line.items
             (W.contents output.old) (W.contents output.new)) }
         ensures not_busy { IfErr result (λ fault. fault ≢ Busy) }
+        ensures spent { IfErr result (λ fault. fault ≡ Spent → SpentIn self.old.line.items []) }
     {
         let finished = self.finish(alloc);
         self.write_out(output)?;
@@ -248,6 +260,8 @@ pub(crate) fn run_input<R: Read, W: Write>(
     ensures err { OnErr result (WrotePrefix blocks (R.remaining input.old) (R.remaining input.new)
         (W.contents output.old) (W.contents output.new)) }
     ensures not_busy { IfErr result (λ fault. fault ≢ Busy) }
+    ensures spent { IfErr result (λ fault. fault ≡ Spent
+        → SpentBy (R.remaining input.old) (R.remaining input.new)) }
 {
     let mut script = Script::new(alloc, blocks)?;
     let mut buffer = vec![in alloc; 0; CHUNK_BYTES]?;
@@ -286,6 +300,8 @@ pub fn run_script<R: Read, W: Write>(
     ensures err { OnErr result (WrotePrefix blocks (R.remaining input.old) (R.remaining input.new)
         (W.contents output.old) (W.contents output.new)) }
     ensures not_busy { IfErr result (λ fault. fault ≢ Busy) }
+    ensures spent { IfErr result (λ fault. fault ≡ Spent
+        → SpentBy (R.remaining input.old) (R.remaining input.new)) }
 {
     run_input(alloc, blocks, input, output)?;
     Ok(())

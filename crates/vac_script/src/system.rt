@@ -6,8 +6,9 @@ ghost use Rattle.vac_model.specs.Run.{run};
 ghost use Rattle.vac_model.specs.Ranges.{is_task};
 ghost use Rattle.vac_manager.specs.Law.{Shows};
 ghost use Rattle.vac_manager.specs.Opening.{is_block_count};
-ghost use Rattle.vac_script.specs.declared.fault.RunFault.TheVariants.{Busy};
-ghost use Rattle.vac_script.specs.System.{StandsAt};
+ghost use Rattle.vac_script.specs.declared.fault.RunFault.TheVariants.{Busy, Memory, Spent};
+ghost use Rattle.vac_script.specs.Stopping.{IsCause, StopsFor};
+ghost use Rattle.vac_script.specs.System.{StandsAt, FoundSpent};
 
 use crate::fault::RunFault;
 use std::alloc::Global;
@@ -37,12 +38,25 @@ impl Model for System {
     ghost invariant = { λ y. IsAlone (record { manager = y.manager; client = y.client }) };
 }
 
+/// Why a script stops where a call of its manager was not made. Its one client is alone, asks in
+/// range and meets no conflict.
+fn stop_for(fault: Fault) -> RunFault
+    requires { IsCause fault }
+    ensures { StopsFor fault result }
+{
+    match fault {
+        Fault::Memory => RunFault::Memory,
+        Fault::Spent { .. } => RunFault::Spent,
+        Fault::Arguments | Fault::Busy(_) => unreachable!(),
+    }
+}
+
 impl System {
     /// A system without entries.
     pub(crate) fn new(alloc: Global, blocks: u32) -> Result<System, RunFault>
         requires { is_block_count blocks ≡ true }
         ensures state { IfOk result (λ system. StandsAt system (empty_state blocks)) }
-        ensures not_busy { IfErr result (λ fault. fault ≢ Busy) }
+        ensures memory { IfErr result (λ fault. fault ≡ Memory) }
     {
         let Ok((manager, client)) = Manager::new(alloc, blocks, LAST_VERSION) else {
             return Err(RunFault::Memory);
@@ -52,6 +66,7 @@ impl System {
 
     /// Runs a task as a transaction and answers its reply. A client that is alone meets no
     /// conflict.
+    #[tactic(auto, using(crate::proofs::Causes::cause, crate::proofs::Causes::found_spent))]
     pub(crate) fn apply(&mut self, task: &Task) -> Result<Reply, RunFault>
         requires in_range { is_task task.now ≡ true }
         ensures reply { IfOk result (λ reply. (s : State) → StandsAt self.old s
@@ -59,12 +74,11 @@ impl System {
         ensures state { IfOk result (λ _. (s : State) → StandsAt self.old s
             → StandsAt self.new (run s task.now).0) }
         ensures not_busy { IfErr result (λ fault. fault ≢ Busy) }
+        ensures spent { IfErr result (λ fault. fault ≡ Spent → FoundSpent self.new (Ok task.now)) }
     {
         match self.manager.call(&mut self.client, task, 1) {
             Ok(reply) => Ok(reply),
-            Err(Fault::Memory) => Err(RunFault::Memory),
-            Err(Fault::Spent { .. }) => Err(RunFault::Spent),
-            Err(Fault::Arguments | Fault::Busy(_)) => unreachable!(),
+            Err(fault) => Err(stop_for(fault)),
         }
     }
 
@@ -72,7 +86,7 @@ impl System {
     pub(crate) fn close(self) -> Result<Vec<u64>, RunFault>
         ensures words { IfOk result (λ words. (s : State) → StandsAt self s
             → Shows words.items s) }
-        ensures not_busy { IfErr result (λ fault. fault ≢ Busy) }
+        ensures memory { IfErr result (λ fault. fault ≡ Memory) }
     {
         let System { manager, client } = self;
         match manager.close(client) {

@@ -1,8 +1,8 @@
 //! Writing a whole text.
 
-ghost use Rattle.std.specs.Prelude.{◌≡◌, ◌≢◌, OnOk, OnErr, IfErr};
+ghost use Rattle.std.specs.Prelude.{◌≡◌, OnOk, OnErr, IfErr};
 ghost use Rattle.std.specs.Io.KnownBytes.{Appends};
-ghost use Rattle.vac_script.specs.declared.fault.RunFault.TheVariants.{Busy, Spent};
+ghost use Rattle.vac_script.specs.declared.fault.RunFault.TheVariants.{Write};
 ghost use Rattle.vac_script.specs.Script.{AppendsPrefix};
 
 use crate::fault::RunFault;
@@ -13,8 +13,7 @@ pub(crate) fn write_all<W: Write>(output: &mut W, text: &[u8]) -> Result<(), Run
     ensures ok { OnOk result (Appends (W.contents output.old) (W.contents output.new) text.now) }
     ensures err { OnErr result
         (AppendsPrefix (W.contents output.old) (W.contents output.new) text.now) }
-    ensures not_busy { IfErr result (λ fault. fault ≢ Busy) }
-    ensures not_spent { IfErr result (λ fault. fault ≢ Spent) }
+    ensures fault { IfErr result (λ fault. fault ≡ Write) }
 {
     let mut sent = 0;
     'writes: for _ in 0..u64::MAX {
@@ -39,6 +38,7 @@ pub fn write_and_flush<W: Write>(output: &mut W, text: &[u8]) -> Result<(), RunF
     ensures ok { OnOk result (Appends (W.contents output.old) (W.contents output.new) text.now) }
     ensures err { OnErr result
         (AppendsPrefix (W.contents output.old) (W.contents output.new) text.now) }
+    ensures fault { IfErr result (λ fault. fault ≡ Write) }
 {
     write_all(output, text)?;
     output.flush().map_err(|_| RunFault::Write)

@@ -1,7 +1,8 @@
-use Rattle.std.proofs.Common.{◌≡◌, ◌<◌, length, rules, arith, refl}
+use Rattle.std.proofs.Common.{◌≡◌, ◌<◌, [], length, rules, arith, refl}
+use Rattle.std.proofs.lemmas.Result.{err_from_is_err_and}
 use Rattle.vac_script.proofs.Cutting.{nothing_begun}
 use Rattle.vac_lines.proofs.Extends.{on_err}
-use Rattle.vac_script.proofs.Running.{running_first, running_on, running_halted, running_kept, running_ended, end_ran, end_halted}
+use Rattle.vac_script.proofs.Running.{running_first, running_on, running_halted, running_kept, running_ended, end_ran, end_halted, running_spent}
 use Rattle.vac_script.proofs.Progress.{started, run_ended}
 use Rattle.vac_script.proofs.script.run_input.Goals as goal
 use Rattle.vac_script.proofs.script.run_input.Goals.{in-Ok+in_ok-run_chunk-in-Ok, in-Err+else-ne}
@@ -67,3 +68,15 @@ reads-preserved g c =
 
 pub returns-in_err-buffer-clause-err : goal.returns-in_err-buffer-clause-err
 returns-in_err-buffer-clause-err g c = on_err c.from_residual-in_err-buffer.result (run_ended _ _ _ _ _ _ _ (started c.args.blocks _ _))
+
+pub returns-in_err-run_end-in-Ok-eq0-clause-spent : goal.returns-in_err-run_end-in-Ok-eq0-clause-spent
+returns-in_err-run_end-in-Ok-eq0-clause-spent g c =
+    let zero : c.in-Ok-eq0.field-0 ≡ 0 = search rules in
+    let got = rw zero at c.in-Ok-eq0.ensures.bytes in
+    let p = err_from_is_err_and c.from_residual-in_err-run_end-in-Ok-eq0.result c.from_residual-in_err-run_end-in-Ok-eq0.ensures.1 in
+    rw (p.1, p.2) (λ e. running_spent _ _ _ _ _ _ _ _ [] c.reads.invariant.progress got.0 (c.in_err-run_end-in-Ok-eq0.ensures.spent e))
+
+pub returns-in_err-run_chunk-in-Ok-clause-spent : goal.returns-in_err-run_chunk-in-Ok-clause-spent
+returns-in_err-run_chunk-in-Ok-clause-spent g c =
+    let p = err_from_is_err_and c.from_residual-in_err-run_chunk-in-Ok.result c.from_residual-in_err-run_chunk-in-Ok.ensures.1 in
+    rw (p.1, p.2) (λ e. running_spent _ _ _ _ _ _ _ _ _ c.reads.invariant.progress c.in-Ok.ensures.bytes.0 (c.in_err-run_chunk-in-Ok.ensures.spent e))

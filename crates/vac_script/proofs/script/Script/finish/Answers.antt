@@ -1,5 +1,5 @@
 use Rattle.std.proofs.Common.{◌<◌, length, rules}
-use Rattle.vac_script.proofs.Running.{last_ran, last_stands, last_halted}
+use Rattle.vac_script.proofs.Running.{last_ran, last_stands, last_halted, last_spent}
 use Rattle.vac_script.proofs.script.Script.finish.Goals as goal
 
 pub returns-clause-ok : goal.returns-clause-ok
@@ -19,3 +19,8 @@ returns-clause-state c =
     let some : 0 < length c.args.self.now.line.items = search rules in
     last_stands c.end_line.result c.args.self.now.system c.end_line.new.self.system c.args.self.now.out.items c.end_line.new.self.out.items c.args.self.now.line.items
     c.requires.0 some c.end_line.ensures.ok
+
+pub returns-clause-spent : goal.returns-clause-spent
+returns-clause-spent c =
+    let some : 0 < length c.args.self.now.line.items = search rules in
+    last_spent c.end_line.result c.end_line.new.self.system c.args.self.now.line.items c.requires.0 some c.end_line.ensures.spent
