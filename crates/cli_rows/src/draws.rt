@@ -1,7 +1,7 @@
 //! Drawn words, and the tasks that are read from them.
 
 use crate::small_load::SETTINGS;
-use vac_load::{Draws, FixedDraws, PcgDraws, tasks_of};
+use vac_draws::{Draws, FixedDraws, PcgDraws, tasks_of};
 use vac_model::{Kind, Task};
 
 /// The first word that PCG's reference code gives from the seed 42 in the stream 54.

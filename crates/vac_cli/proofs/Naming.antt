@@ -32,8 +32,8 @@ use Rattle.clap.specs.declared.builder.value_parser.ValueParser.{ValueParser}
 use Rattle.clap.specs.declared.builder.value_parser.ValueParser.TheVariants as vp
 use Rattle.std.specs.List.{slice_index_or}
 use Rattle.vac_model.specs.declared.limits.TheConstants.{MOST_BLOCKS, MOST_PARTS}
-use Rattle.vac_load.specs.declared.settings.TheConstants.{MOST_CLIENTS, MOST_TASKS, MOST_ITEMS, MOST_ROUNDS, PERCENT}
-use Rattle.vac_manager.specs.declared.manager.TheConstants.{MOST_TRIES}
+use Rattle.vac_draws.specs.declared.settings.TheConstants.{MOST_CLIENTS, MOST_TASKS, MOST_ITEMS, MOST_ROUNDS, PERCENT}
+use Rattle.vac_model.specs.declared.limits.TheConstants.{MOST_TRIES}
 use Rattle.clap.specs.Facts.{unwrap_or_range}
 use Rattle.clap.specs.Values.{is_request}
 use Rattle.clap.specs.Walk.{action_of, arg_by_id}

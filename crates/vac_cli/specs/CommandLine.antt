@@ -13,10 +13,10 @@ use Rattle.clap.specs.declared.builder.command.Command.{Command}
 use Rattle.clap.specs.declared.builder.command.Command.TheViews.{out-Command}
 use Rattle.clap.specs.declared.builder.value_parser.ValueParser.TheVariants as parser
 use Rattle.vac_model.specs.declared.limits.TheConstants.{MOST_BLOCKS, MOST_PARTS}
-use Rattle.vac_load.specs.declared.settings.TheConstants.{MOST_CLIENTS, MOST_TASKS, MOST_ITEMS}
-use Rattle.vac_load.specs.declared.settings.TheConstants.{MOST_ROUNDS, PERCENT}
-use Rattle.vac_load.specs.declared.settings.Settings.{Settings}
-use Rattle.vac_manager.specs.declared.manager.TheConstants.{MOST_TRIES}
+use Rattle.vac_draws.specs.declared.settings.TheConstants.{MOST_CLIENTS, MOST_TASKS, MOST_ITEMS}
+use Rattle.vac_draws.specs.declared.settings.TheConstants.{MOST_ROUNDS, PERCENT}
+use Rattle.vac_draws.specs.declared.settings.Settings.{Settings}
+use Rattle.vac_model.specs.declared.limits.TheConstants.{MOST_TRIES}
 use Rattle.vac_manager.specs.Opening.{is_block_count}
 use Rattle.vac_script.specs.declared.system.TheConstants.{LAST_VERSION}
 use Rattle.vac_cli.specs.declared.asked.Asked.{Asked}

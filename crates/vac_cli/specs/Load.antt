@@ -6,7 +6,7 @@ use Rattle.vac_lines.specs.Text.{report_text}
 use Rattle.vac_load.specs.declared.tally.Tally.{Tally}
 use Rattle.vac_load.specs.declared.load.LoadReport.{LoadReport}
 use Rattle.vac_load.specs.declared.load.LoadFault.{LoadFault}
-use Rattle.vac_load.specs.declared.settings.Settings.{Settings}
+use Rattle.vac_draws.specs.declared.settings.Settings.{Settings}
 use Rattle.vac_load.specs.Streams.{LoadedBySeed}
 use Rattle.vac_script.specs.Script.{AppendsPrefix}
 use Rattle.vac_cli.specs.Ending.{load_fault_line}

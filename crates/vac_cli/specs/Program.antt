@@ -4,8 +4,8 @@ use Rattle.std.specs.Io.KnownBytes.{Appends}
 use Rattle.clap.specs.Words.{IsAmong, Text, fault_of}
 use Rattle.clap.specs.declared.error.kind.ErrorKind.{ErrorKind}
 use Rattle.clap.specs.declared.error.kind.ErrorKind.TheVariants as error
-use Rattle.vac_load.specs.declared.settings.Settings.{Settings}
-use Rattle.vac_load.specs.Setting.{is_settings}
+use Rattle.vac_draws.specs.declared.settings.Settings.{Settings}
+use Rattle.vac_draws.specs.Setting.{is_settings}
 use Rattle.vac_load.specs.declared.load.LoadFault.TheVariants.{Arguments}
 use Rattle.vac_cli.specs.declared.asked.Asked.{Asked}
 use Rattle.vac_cli.specs.declared.asked.Asked.TheVariants.{Run, Dump, Check, Load}

@@ -1,8 +1,9 @@
 //! Loads that tell how far they are while they run.
 
 ghost use Rattle.std.specs.Prelude.{◌≡◌, ◌↔◌, false, map, vec_len, IfOk, IsErrOf};
-ghost use Rattle.vac_load.specs.Setting.{is_settings};
-ghost use Rattle.vac_load.specs.Streams.{streams_of, LoadedBySeed};
+ghost use Rattle.vac_draws.specs.Setting.{is_settings};
+ghost use Rattle.vac_draws.specs.Streams.{streams_of};
+ghost use Rattle.vac_load.specs.Streams.{LoadedBySeed};
 
 use std::alloc::{AllocError, Global};
 use std::io::Write;

@@ -12,11 +12,11 @@ use Rattle.vac_model.specs.Code.{code}
 use Rattle.vac_manager.specs.Called.{Adds, Records, Attempts}
 use Rattle.vac_manager.specs.declared.fault.Fault.{Fault}
 use Rattle.vac_manager.specs.declared.fault.Fault.TheVariants as fault
-use Rattle.vac_load.specs.declared.settings.Settings.{Settings}
+use Rattle.vac_draws.specs.declared.settings.Settings.{Settings}
 use Rattle.vac_load.specs.declared.tally.Tally.{Tally}
-use Rattle.vac_load.specs.Tasks.{task_of, DrawnTask}
+use Rattle.vac_draws.specs.Tasks.{task_of, DrawnTask}
 use Rattle.vac_load.specs.Looping.{AreOf, IsAdded, Answered, total, nothing, counted, least_attempts, attempts_of, answered_by, RanOne, Looped}
-use Rattle.vac_load.proofs.Drawing.{drawn_always, drawn_times}
+use Rattle.vac_draws.proofs.Drawing.{drawn_always, drawn_times}
 use Rattle.vac_load.proofs.Order.{added_known, added_later, known_first}
 
 pub are_of_both : (ts us : List Task) (rs qs : List Record) → AreOf ts rs → AreOf us qs → AreOf (ts ++ us) (rs ++ qs)

@@ -7,14 +7,14 @@ use Rattle.stm_region.specs.Shown.{RegionShown}
 use Rattle.vac_manager.specs.Called.{CallerShown}
 use Rattle.vac_manager.specs.Renewed.{ClosesSomewhere}
 use Rattle.stm_core.specs.History.{Sub, done, keep, skip}
-use Rattle.vac_load.specs.declared.settings.Settings.{Settings}
+use Rattle.vac_draws.specs.declared.settings.Settings.{Settings}
 use Rattle.vac_load.specs.declared.tally.Tally.{Tally}
 use Rattle.std.proofs.lemmas.Bool.Decides.{nat_tests}
-use Rattle.vac_load.specs.Setting.{is_settings, is_work, is_system}
+use Rattle.vac_draws.specs.Setting.{is_settings, is_work, is_system}
 use Rattle.vac_load.specs.Looping.{total}
 use Rattle.vac_load.specs.Sums.{sum_of, plus, added_up}
 use Rattle.vac_load.specs.Load.{Paired, none, both, SubEach, AreKnown, Share, HasShare, RanAll, RanMore}
-use Rattle.vac_load.proofs.Drawing.{drawn_both}
+use Rattle.vac_draws.proofs.Drawing.{drawn_both}
 use Rattle.vac_load.proofs.Answering.{are_of_both}
 use Rattle.vac_load.proofs.Pairs.{paired_through}
 

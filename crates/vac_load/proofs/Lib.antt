@@ -1,9 +1,6 @@
 mod Order
 mod Answering
-mod Drawing
-mod Ranges
 mod Opened
-mod Turning
 mod Pairs
 mod Words
 mod Gatherings

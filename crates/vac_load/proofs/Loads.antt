@@ -1,5 +1,5 @@
 -- A load as a whole: the opening, the clients, and the report.
-use Rattle.std.proofs.Common.{◌≡◌, ◌∙◌, ℕ, suc, ◌+◌, ◌*◌, ◌-◌, ◌/◌, List, [], ◌∷◌, ◌++◌, length, map, ap, subst, arith}
+use Rattle.std.proofs.Common.{◌≡◌, ◌∙◌, ℕ, ◌*◌, ◌-◌, ◌/◌, List, [], ◌∷◌, ◌++◌, length, map, ap, subst, arith}
 use Rattle.stm_words.specs.Image.{In}
 use Rattle.stm_core.specs.Client.{Client, Record}
 use Rattle.stm_region.specs.Shown.{RegionShown}
@@ -9,17 +9,18 @@ use Rattle.vac_manager.specs.Law.{Shows}
 use Rattle.vac_manager.specs.Legal.{IsLegal, capacity_of}
 use Rattle.vac_manager.specs.Called.{CallerShown}
 use Rattle.vac_manager.specs.Opening.{Opens, Closes}
-use Rattle.vac_load.specs.declared.settings.Settings.{Settings}
+use Rattle.vac_draws.specs.declared.settings.Settings.{Settings}
 use Rattle.vac_load.specs.declared.tally.Tally.{Tally}
-use Rattle.vac_load.specs.Tasks.{opening}
+use Rattle.vac_draws.specs.Tasks.{opening}
 use Rattle.vac_load.specs.Opening.{Ran}
-use Rattle.vac_load.specs.Draws.{Reader}
+use Rattle.vac_draws.specs.Draws.{Reader}
 use Rattle.vac_model.specs.declared.commands.Command.{Command}
 use Rattle.std.specs.Prelude.{Result, Ok, Err, IfOk}
 use Rattle.rand_pcg.specs.Lcg.{Lcg}
 use Rattle.vac_load.specs.declared.load.LoadReport.{LoadReport}
 use Rattle.vac_load.specs.declared.load.LoadFault.{LoadFault}
-use Rattle.vac_load.specs.Streams.{stream_of, streams_of, gives, LoadedBySeed}
+use Rattle.vac_draws.specs.Streams.{stream_of, streams_of, gives}
+use Rattle.vac_load.specs.Streams.{LoadedBySeed}
 use Rattle.vac_load.specs.Load.{Paired, none, both, AreKnown, HasShare, RanAll, Loaded}
 use Rattle.vac_load.proofs.Order.{added_known}
 use Rattle.vac_load.proofs.Joining.{ran_total}
@@ -105,10 +106,3 @@ by_seed draws_of s (Ok r) state pairs begins are h =
     subst (λ (d : Lcg). Loaded gives s (λ x. x) d (streams_of s.seed s.clients) r.tally r.report) begins
     (loaded_by gives s draws_of state pairs (streams_of s.seed s.clients) r.tally r.report are h)
 by_seed draws_of s (Err fault) state pairs begins are h = tt
-
--- one stream more
-pub next_stream : (seed n k : ℕ) → k ≡ n → streams_of seed n ++ (stream_of seed (k + 1) ∷ []) ≡ streams_of seed (n + 1)
-next_stream seed n k e =
-    let more : k + 1 ≡ suc n = omega (arith, e) in
-    let same : suc n ≡ n + 1 = omega arith in
-    ap (λ (j : ℕ). streams_of seed n ++ (stream_of seed j ∷ [])) more ∙ ap (streams_of seed) same

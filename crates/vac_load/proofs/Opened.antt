@@ -5,12 +5,12 @@ use Rattle.stm_core.specs.Client.{Client}
 use Rattle.vac_model.specs.declared.commands.Command.{Command}
 use Rattle.vac_model.specs.declared.tasks.Task.TheVariants.{One}
 use Rattle.vac_model.specs.declared.commands.Command.TheVariants.{NewCustomer}
-use Rattle.vac_load.specs.Draws.{Reader, Drawn, joined, for_each}
-use Rattle.vac_load.specs.Tasks.{stocks, customers, opening}
-use Rattle.vac_load.specs.declared.settings.Settings.{Settings}
+use Rattle.vac_draws.specs.Draws.{Reader, Drawn, joined, for_each}
+use Rattle.vac_draws.specs.Tasks.{stocks, customers, opening}
+use Rattle.vac_draws.specs.declared.settings.Settings.{Settings}
 use Rattle.vac_load.specs.Looping.{Answered}
 use Rattle.vac_load.specs.Opening.{as_tasks, Ran}
-use Rattle.vac_load.proofs.Drawing.{plus_one, drawn_then_always, drawn_joined}
+use Rattle.vac_draws.proofs.Drawing.{plus_one, drawn_then_always, drawn_joined}
 use Rattle.vac_load.proofs.Answering.{answered_both}
 
 pub ran_joined : {D : Type 0} (leads : D → ℕ → D → Type 0) (renewal : ℕ) (first second : Reader (List Command)) (v w u : Client) (a b c : D) →

@@ -1,7 +1,7 @@
 -- Lists whose elements are related place by place.
 use Rattle.std.proofs.Common.{◌≡◌, ◌∙◌, ◌++◌, ◌<◌, ℕ, zero, suc, slice_index_or, List, [], ◌∷◌, length, append-nil, append_assoc, All, refl, sym, ap, subst, arith}
 use Rattle.vac_manager.specs.Called.{CallerShown}
-use Rattle.vac_load.specs.declared.settings.Settings.{Settings}
+use Rattle.vac_draws.specs.declared.settings.Settings.{Settings}
 use Rattle.vac_load.specs.declared.tally.Tally.{Tally}
 use Rattle.vac_load.specs.declared.workers.WorkOf.{WorkOf}
 use Rattle.vac_load.specs.Load.{Paired, none, both, IsPromise, HasWorked}

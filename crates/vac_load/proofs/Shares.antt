@@ -8,11 +8,11 @@ use Rattle.stm_core.specs.Invariant.{Sorted}
 use Rattle.stm_core.proofs.Merging.{sub_same, sub_trans, sub_left}
 use Rattle.stm_core.proofs.Whole.{merged_sorted, sorted_right}
 use Rattle.vac_manager.specs.Called.{CallerShown, Splits}
-use Rattle.vac_load.specs.declared.settings.Settings.{Settings}
+use Rattle.vac_draws.specs.declared.settings.Settings.{Settings}
 use Rattle.vac_load.specs.declared.tally.Tally.{Tally}
 use Rattle.vac_load.specs.Looping.{total}
-use Rattle.vac_load.specs.Draws.{Drawn, times}
-use Rattle.vac_load.specs.Tasks.{task_of}
+use Rattle.vac_draws.specs.Draws.{Drawn, times}
+use Rattle.vac_draws.specs.Tasks.{task_of}
 use Rattle.vac_load.specs.Sums.{sum_of, plus, added_up}
 use Rattle.vac_load.specs.Load.{Paired, none, both, SubEach, all_merged, Gathered, HasWorked, IsHired, Hired, AreKnown, Share, HasShare, RanAll}
 use Rattle.vac_load.proofs.Order.{IsLater, added_later, known_first, merged_behind}

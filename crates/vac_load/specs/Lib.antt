@@ -1,6 +1,3 @@
-pub mod Draws
-pub mod Setting
-pub mod Tasks
 pub mod Looping
 pub mod Opening
 pub mod Sums

@@ -7,20 +7,20 @@ use Rattle.stm_core.specs.Client.{Record, merged}
 use Rattle.stm_core.specs.History.{Sub}
 use Rattle.stm_core.specs.Invariant.{Sorted}
 use Rattle.vac_manager.specs.Called.{CallerShown}
-use Rattle.vac_load.specs.declared.settings.Settings.{Settings}
+use Rattle.vac_draws.specs.declared.settings.Settings.{Settings}
 use Rattle.vac_load.specs.declared.tally.Tally.{Tally}
 use Rattle.vac_load.specs.declared.workers.WorkOf.{WorkOf}
 use Rattle.vac_load.specs.Looping.{Looped, AreOf, total}
 use Rattle.vac_load.specs.Opening.{as_tasks, IsOpeningFault}
-use Rattle.vac_load.specs.Setting.{is_settings}
+use Rattle.vac_draws.specs.Setting.{is_settings}
 use Rattle.vac_load.specs.declared.load.LoadFault.{LoadFault}
 use Rattle.vac_load.specs.declared.load.LoadFault.TheVariants as load
 use Rattle.vac_model.specs.declared.commands.Command.{Command}
 use Rattle.vac_model.specs.declared.replies.Report.{Report}
 use Rattle.vac_model.specs.State.{State, empty_state, report}
 use Rattle.vac_manager.specs.Legal.{IsLegal}
-use Rattle.vac_load.specs.Draws.{Drawn, times}
-use Rattle.vac_load.specs.Tasks.{task_of, opening}
+use Rattle.vac_draws.specs.Draws.{Drawn, times}
+use Rattle.vac_draws.specs.Tasks.{task_of, opening}
 use Rattle.vac_load.specs.Sums.{sum_of, plus, added_up}
 
 -- the lists are equally long, and the relation holds between the elements at each place

@@ -10,10 +10,10 @@ use Rattle.vac_model.specs.declared.replies.Reply.{Reply}
 use Rattle.vac_model.specs.Code.{code}
 use Rattle.vac_manager.specs.declared.fault.Fault.{Fault}
 use Rattle.vac_manager.specs.declared.fault.Fault.TheVariants as fault
-use Rattle.vac_load.specs.declared.settings.Settings.{Settings}
+use Rattle.vac_draws.specs.declared.settings.Settings.{Settings}
 use Rattle.vac_load.specs.declared.tally.Tally.{Tally}
-use Rattle.vac_load.specs.Draws.{Drawn, times}
-use Rattle.vac_load.specs.Tasks.{task_of}
+use Rattle.vac_draws.specs.Draws.{Drawn, times}
+use Rattle.vac_draws.specs.Tasks.{task_of}
 
 -- each record is of the task at its place and of some reply, and there are no others
 abbrev pub AreOf : List Task → List Record → Type 0

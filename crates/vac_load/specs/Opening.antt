@@ -6,7 +6,7 @@ use Rattle.vac_model.specs.declared.tasks.Task.{Task}
 use Rattle.vac_model.specs.declared.tasks.Task.TheVariants as task
 use Rattle.vac_manager.specs.declared.fault.Fault.{Fault}
 use Rattle.vac_manager.specs.declared.fault.Fault.TheVariants as fault
-use Rattle.vac_load.specs.Draws.{Reader, Drawn}
+use Rattle.vac_draws.specs.Draws.{Reader, Drawn}
 use Rattle.vac_load.specs.Looping.{Answered}
 
 -- each command as a task

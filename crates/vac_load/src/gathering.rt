@@ -4,19 +4,18 @@ ghost use Rattle.std.specs.Prelude.{◌≡◌, ◌≤◌, ◌<◌, ◌+◌, ◌�
 ghost use Rattle.stm_core.specs.declared.limits.TheConstants.{MOST_GRANTS};
 ghost use Rattle.vac_manager.specs.Called.{HasAllGrants};
 ghost use Rattle.vac_load.specs.Looping.{total};
-ghost use Rattle.vac_load.specs.Setting.{is_settings};
-ghost use Rattle.vac_load.specs.declared.settings.TheConstants.{MOST_TASKS, MOST_CLIENTS};
+ghost use Rattle.vac_draws.specs.Setting.{is_settings};
+ghost use Rattle.vac_draws.specs.declared.settings.TheConstants.{MOST_TASKS, MOST_CLIENTS};
 ghost use Rattle.vac_load.specs.Load.{Paired, Gathered, Hired, AreKnown, RanAll};
 
-use crate::draws::Draws;
 use crate::load::LoadFault;
-use crate::settings::Settings;
 use crate::tally::Tally;
 use crate::workers::{Crew, Worked, Worker, run_all};
 use std::alloc::Global;
 use std::sync::Wait;
 use std::thread::Threads;
 use stm_attempt::Gate;
+use vac_draws::{Draws, Settings};
 use vac_manager::{Client, Manager};
 
 /// What a round leaves: the client that took in all others, the draws and the gates of the clients

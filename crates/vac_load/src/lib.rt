@@ -4,22 +4,20 @@
 //! Minh, Chung, Kozyrakis, Olukotun, IISWC 2008).
 #![tactic(auto)]
 
-mod draws;
 mod gathering;
 mod load;
 mod looping;
 mod opening;
 mod report;
 mod rounds;
-mod settings;
 mod tally;
-mod tasks;
 mod workers;
 
-pub use draws::{Draws, FixedDraws, PcgDraws};
 pub use load::{LoadFault, LoadReport, run_load, run_load_with};
 pub use looping::client_loop;
 pub use opening::open;
-pub use settings::{MOST_CLIENTS, MOST_ITEMS, MOST_ROUNDS, MOST_TASKS, PERCENT, Settings};
 pub use tally::Tally;
-pub use tasks::{Tasks, tasks_of, turns_make_tasks};
+pub use vac_draws::{
+    Draws, FixedDraws, MOST_CLIENTS, MOST_ITEMS, MOST_ROUNDS, MOST_TASKS, PERCENT, PcgDraws,
+    Settings, Tasks, tasks_of, turns_make_tasks,
+};

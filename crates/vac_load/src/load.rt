@@ -1,15 +1,14 @@
 //! A load.
 
 ghost use Rattle.std.specs.Prelude.{◌≡◌, ◌↔◌, true, false, map, vec_len, IfOk, IfErr, IsErrOf};
-ghost use Rattle.vac_load.specs.Setting.{is_settings};
+ghost use Rattle.vac_draws.specs.Setting.{is_settings};
 ghost use Rattle.vac_load.specs.Load.{Loaded, is_load, IsLoadFault, IsStopOfLoad};
-ghost use Rattle.vac_load.specs.Streams.{streams_of, LoadedBySeed};
+ghost use Rattle.vac_draws.specs.Streams.{streams_of};
+ghost use Rattle.vac_load.specs.Streams.{LoadedBySeed};
 
-use crate::draws::{Draws, PcgDraws};
 use crate::opening::open;
 use crate::report::report_of;
 use crate::rounds::{Progress, run_rounds};
-use crate::settings::Settings;
 use crate::tally::Tally;
 use std::alloc::{AllocError, Global};
 use std::sync::Wait;
@@ -17,6 +16,7 @@ use std::thread::Threads;
 use stm_attempt::{Gate, NoGate};
 use stm_region::RegionFault;
 use thiserror::Error;
+use vac_draws::{Draws, PcgDraws, Settings};
 use vac_manager::{Fault, Manager, Report};
 
 /// What a load leaves: how its tasks ended, over all rounds, and the report of the words after all

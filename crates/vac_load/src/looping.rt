@@ -3,15 +3,13 @@
 ghost use Rattle.std.specs.Prelude.{◌≡◌, ◌≢◌, true, IfErr, IfOk};
 ghost use Rattle.vac_model.specs.Ranges.{is_task};
 ghost use Rattle.vac_manager.specs.Called.{is_try_count};
-ghost use Rattle.vac_load.specs.Setting.{is_settings};
+ghost use Rattle.vac_draws.specs.Setting.{is_settings};
 ghost use Rattle.vac_load.specs.Looping.{Looped, RanOne};
 
-use crate::draws::Draws;
-use crate::settings::Settings;
 use crate::tally::Tally;
-use crate::tasks::draw_task;
 use std::alloc::{AllocError, Global};
 use stm_attempt::{Gate, Point};
+use vac_draws::{Draws, Settings, draw_task};
 use vac_manager::{Client, Fault, Manager};
 use vac_model::{Reply, Task};
 

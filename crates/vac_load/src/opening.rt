@@ -3,15 +3,13 @@
 ghost use Rattle.std.specs.Prelude.{◌≡◌, ◌<◌, ◌≤◌, ◌^◌, true, IfOk, IfErr, [], ◌∷◌};
 ghost use Rattle.vac_model.specs.Ranges.{is_command};
 ghost use Rattle.vac_manager.specs.Called.{HasAllGrants};
-ghost use Rattle.vac_load.specs.Draws.{for_each};
-ghost use Rattle.vac_load.specs.Setting.{is_settings};
+ghost use Rattle.vac_draws.specs.Draws.{for_each};
+ghost use Rattle.vac_draws.specs.Setting.{is_settings};
 ghost use Rattle.vac_load.specs.Looping.{Answered};
-ghost use Rattle.vac_load.specs.Tasks.{stock, stocks, opening};
+ghost use Rattle.vac_draws.specs.Tasks.{stock, stocks, opening};
 ghost use Rattle.vac_load.specs.Opening.{Ran, IsOpeningFault};
 
-use crate::draws::Draws;
-use crate::settings::{LEVELS, Settings, UNITS};
-use crate::tasks::{draw_below, draw_price};
+use vac_draws::{Draws, Settings, draw_stock};
 use vac_manager::{Client, Fault, Manager};
 use vac_model::{Command, Kind, Task};
 
@@ -52,15 +50,7 @@ fn add_item<D: Draws>(
         client.old.value client.new.value draws.old draws.new) }
     ensures refused { IfErr result (λ fault. IsOpeningFault fault) }
 {
-    let num = (draw_below(draws, LEVELS) + 1) * UNITS;
-    let price = draw_price(draws);
-    let command = Command::Add {
-        kind,
-        id,
-        num,
-        price: Some(price),
-    };
-    ask_for(manager, client, command)
+    ask_for(manager, client, draw_stock(draws, id, kind))
 }
 
 /// Adds an item of each kind.

@@ -3,19 +3,18 @@
 ghost use Rattle.std.specs.Prelude.{◌≡◌, ◌≤◌, ◌<◌, ◌+◌, ◌*◌, ◌⊎◌, true, vec_len, IfOk, IfErr};
 ghost use Rattle.vac_manager.specs.Called.{HasAllGrants};
 ghost use Rattle.vac_load.specs.Looping.{total};
-ghost use Rattle.vac_load.specs.Setting.{is_settings};
-ghost use Rattle.vac_load.specs.declared.settings.TheConstants.{MOST_CLIENTS, MOST_ROUNDS, MOST_TASKS};
+ghost use Rattle.vac_draws.specs.Setting.{is_settings};
+ghost use Rattle.vac_draws.specs.declared.settings.TheConstants.{MOST_CLIENTS, MOST_ROUNDS, MOST_TASKS};
 ghost use Rattle.vac_load.specs.Load.{AreKnown, RanAll, RanMore};
 
-use crate::draws::Draws;
 use crate::gathering::{Round, run_clients};
 use crate::load::LoadFault;
-use crate::settings::Settings;
 use std::alloc::Global;
 use std::sync::Wait;
 use std::thread::Threads;
 use stm_attempt::Gate;
 use stm_region::RegionFault;
+use vac_draws::{Draws, Settings};
 use vac_manager::{Client, Manager, RenewFault};
 
 /// A load after some of its rounds: its manager, and what the last round left, with the tasks of

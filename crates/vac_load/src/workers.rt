@@ -1,13 +1,11 @@
 //! Clients in threads of their own.
 
 ghost use Rattle.std.specs.Prelude.{◌≡◌, ◌≤◌, ◌⊎◌, [], true, IfOk, IfErr, All, vec_len, vec_capacity};
-ghost use Rattle.vac_load.specs.Setting.{is_settings};
+ghost use Rattle.vac_draws.specs.Setting.{is_settings};
 ghost use Rattle.vac_load.specs.Load.{Paired, HasWorked, IsPromise};
 
-use crate::draws::Draws;
 use crate::load::LoadFault;
 use crate::looping::client_loop;
-use crate::settings::Settings;
 use crate::tally::Tally;
 use std::alloc::Global;
 use std::snapshot::Snapshot;
@@ -15,6 +13,7 @@ use std::sync::Wait;
 use std::thread;
 use std::thread::{Promise, PromisedHandle, Scope, Threads};
 use stm_attempt::Gate;
+use vac_draws::{Draws, Settings};
 use vac_manager::{Client, Manager};
 
 /// A client with what it draws its tasks from and its gate.

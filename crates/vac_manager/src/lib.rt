@@ -16,10 +16,11 @@ mod told;
 pub use client::Client;
 pub use fault::Fault;
 pub use law::{ManagerLaw, serial_records_are_legal};
-pub use manager::{MOST_TRIES, Manager};
+pub use manager::Manager;
 pub use renew::RenewFault;
 pub use stm_region::MOST_STRIPES;
 pub use told::Told;
+pub use vac_model::limits::MOST_TRIES;
 pub use vac_model::{
     Asks, Changes, Command, Item, Joined, Kind, Pick, Reply, Report, Task, TripReply, UpdateReply,
     Why,

@@ -21,11 +21,8 @@ use stm_attempt::{Gate, Logs, NoGate};
 use stm_region::{MOST_STRIPES, Region, RegionFault};
 use stm_words::{VERSION_LIMIT, Version};
 use tx_alloc::fresh_words;
-use vac_model::limits::MOST_BLOCKS;
+use vac_model::limits::{MOST_BLOCKS, MOST_TRIES};
 use vac_model::{Reply, Task};
-
-/// The most tries that a call may be given.
-pub const MOST_TRIES: u32 = 1_048_576;
 
 /// How many lists of free blocks there are.
 const LISTS: u32 = 8;

@@ -18,3 +18,6 @@ pub const MOST_TOTAL: u64 = 1_000_000_000;
 
 /// The most asks of a trip, and the most changes of an update.
 pub const MOST_PARTS: usize = 32;
+
+/// The most tries that a call of a manager may be given.
+pub const MOST_TRIES: u32 = 1_048_576;

@@ -1,5 +1,5 @@
 use Rattle.std.proofs.Common.{◌≡◌, vec_len, map}
-use Rattle.vac_load.specs.Streams.{streams_of}
+use Rattle.vac_draws.specs.Streams.{streams_of}
 use Rattle.vac_cli.proofs.telling.counters.Given as goal
 
 abbrev pub invariant-loop-number : goal.invariant-loop-number

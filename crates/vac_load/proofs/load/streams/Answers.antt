@@ -1,8 +1,8 @@
 use Rattle.std.proofs.Common.{rules, ◌∙◌, ap, ◌∷◌, [], ◌++◌, List, map}
 use Rattle.std.proofs.lemmas.List.{map-append}
 use Rattle.rand_pcg.specs.Lcg.{Lcg}
-use Rattle.vac_load.specs.Streams.{streams_of}
-use Rattle.vac_load.proofs.Loads.{next_stream}
+use Rattle.vac_draws.specs.Streams.{streams_of}
+use Rattle.vac_draws.proofs.Streaming.{next_stream}
 use Rattle.vac_load.proofs.load.streams.Goals as goal
 
 pub loop-number-preserved : goal.loop-number-preserved

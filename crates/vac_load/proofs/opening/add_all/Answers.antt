@@ -1,5 +1,5 @@
 use Rattle.std.proofs.Common.{rules}
-use Rattle.vac_load.specs.Tasks.{stocks}
+use Rattle.vac_draws.specs.Tasks.{stocks}
 use Rattle.vac_load.proofs.Opened.{ran_more}
 use Rattle.vac_load.proofs.opening.add_all.Goals as goal
 

@@ -1,7 +1,7 @@
 use Rattle.std.proofs.Common.{◌≡◌}
 use Rattle.vac_manager.specs.Called.{HasAllGrants}
-use Rattle.vac_load.specs.Draws.{for_each}
-use Rattle.vac_load.specs.Tasks.{stocks}
+use Rattle.vac_draws.specs.Draws.{for_each}
+use Rattle.vac_draws.specs.Tasks.{stocks}
 use Rattle.vac_load.specs.Opening.{Ran}
 use Rattle.vac_load.proofs.opening.add_all.Given as goal
 

@@ -1,6 +1,6 @@
 use Rattle.vac_model.specs.declared.items.Kind.TheVariants.{Car, Flight, Room}
-use Rattle.vac_load.specs.Draws.{joined}
-use Rattle.vac_load.specs.Tasks.{stock}
+use Rattle.vac_draws.specs.Draws.{joined}
+use Rattle.vac_draws.specs.Tasks.{stock}
 use Rattle.vac_load.proofs.Opened.{ran_joined, ran_both}
 use Rattle.vac_load.proofs.opening.add_items.Goals as goal
 

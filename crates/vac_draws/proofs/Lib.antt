@@ -1,0 +1,4 @@
+mod Ranges
+mod Turning
+pub mod Drawing
+pub mod Streaming

@@ -1,0 +1,27 @@
+use Rattle.std.proofs.Common.{rules, arith}
+use Rattle.vac_model.specs.declared.tasks.Task.TheVariants.{Update}
+use Rattle.vac_draws.specs.Draws.{always, after, times}
+use Rattle.vac_draws.specs.Tasks.{up_to, change}
+use Rattle.vac_draws.proofs.Drawing.{drawn_after, drawn_then_always}
+use Rattle.vac_draws.proofs.Ranges.{most_asks, update_in}
+use Rattle.vac_draws.proofs.tasks.draw_update.Goals as goal
+
+pub returns-clause-drawn : goal.returns-clause-drawn
+returns-clause-drawn g c =
+    let leads = g.D.Draws.leads in
+    let s = c.args.settings.now in
+    let count = c.draw_up_to-count.result in
+    record {
+      task = Update c.draw_changes-changes.result.items;
+      drawn =
+          drawn_after leads (up_to s.asks) (λ count. after (times count (change s)) (λ changes. always (Update changes))) _ _ _ _ _ c.draw_up_to-count.ensures.drawn
+          (drawn_then_always leads (times count (change s)) (λ changes. Update changes) _ _ _ c.draw_changes-changes.ensures.drawn);
+      built = search rules;
+    }
+
+pub returns-clause-range : goal.returns-clause-range
+returns-clause-range g c =
+    let most = most_asks c.args.settings.now c.requires in
+    let number = c.draw_changes-changes.ensures.number in
+    update_in _ c.draw_changes-changes.result.items (search rules)
+    (omega (arith, number, c.draw_up_to-count.ensures.least)) (omega (arith, number, most, c.draw_up_to-count.ensures.most)) c.draw_changes-changes.ensures.range

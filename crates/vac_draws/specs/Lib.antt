@@ -1,0 +1,4 @@
+pub mod Draws
+pub mod Setting
+pub mod Tasks
+pub mod Streams

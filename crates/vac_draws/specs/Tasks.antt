@@ -1,0 +1,144 @@
+-- The tasks of a load, and the commands of its opening, as they are read from drawn words.
+use Rattle.std.specs.Prelude.{◌≡◌, ℕ, zero, suc, ◌+◌, ◌*◌, ◌%◌, ◌==◌, nat_lt, if◌then◌else◌}
+use Rattle.std.specs.Prelude.{List, [], ◌∷◌, ◌++◌, Option, Some, None, Result, IfOk}
+use Rattle.std.specs.declared.alloc.AllocError.{AllocError}
+use Rattle.vac_model.specs.declared.items.Kind.{Kind}
+use Rattle.vac_model.specs.declared.items.Kind.TheVariants.{Car, Flight, Room}
+use Rattle.vac_model.specs.declared.commands.Command.{Command}
+use Rattle.vac_model.specs.declared.commands.Command.TheVariants as command
+use Rattle.vac_model.specs.declared.tasks.Task.{Task}
+use Rattle.vac_model.specs.declared.tasks.Task.TheVariants as task
+use Rattle.vac_draws.specs.declared.settings.Settings.{Settings}
+use Rattle.vac_draws.specs.declared.settings.TheConstants.{PERCENT, UNITS}
+use Rattle.vac_draws.specs.declared.settings.TheConstants.{LEVELS, PRICE_STEP, LOWEST_PRICE}
+use Rattle.vac_draws.specs.Draws.{Reader, always, below, after, joined, for_each, times, Drawn}
+
+-- a number from 1 to n
+abbrev pub up_to : ℕ → Reader ℕ
+up_to n = after (below n) (λ k. always (k + 1))
+
+-- the kind of this number
+abbrev pub kind_at : ℕ → Kind
+kind_at n = if n == 0 then Car else if n == 1 then Flight else Room
+
+abbrev pub kind : Reader Kind
+kind = after (below 3) (λ n. always (kind_at n))
+
+abbrev pub price : Reader ℕ
+price = after (below LEVELS) (λ level. always (level * PRICE_STEP + LOWEST_PRICE))
+
+-- an ask of a trip: the kind, then the id
+abbrev pub ask : Settings → Reader (Kind × ℕ)
+ask s = after kind (λ k. after (up_to s.items) (λ id. always (k, id)))
+
+-- a trip: how many asks, the customer, then the asks
+abbrev pub trip : Settings → Reader Task
+trip s =
+    after (up_to s.asks) (λ count.
+    after (up_to s.items) (λ customer.
+    after (times count (ask s)) (λ asks.
+    always (task.Trip customer asks))))
+
+abbrev pub leave : Settings → Reader Task
+leave s = after (up_to s.items) (λ customer. always (task.Leave customer))
+
+-- what takes an item away: a flight as a whole, of the others some units
+abbrev pub removal : Kind → ℕ → Command
+removal Car id = command.Delete Car id UNITS
+removal Flight id = command.DropFlight id
+removal Room id = command.Delete Room id UNITS
+
+-- the change of an item: with 1 it is added to, with 0 taken away
+abbrev pub change_of : Kind → ℕ → ℕ → Reader Command
+change_of k id o =
+    if o == 1 then after price (λ p. always (command.Add k id UNITS (Some p)))
+    else always (removal k id)
+
+-- a change of an update: the kind, the id, then which change
+abbrev pub change : Settings → Reader Command
+change s = after kind (λ k. after (up_to s.items) (λ id. after (below 2) (λ o. change_of k id o)))
+
+-- an update: how many changes, then the changes
+abbrev pub update : Settings → Reader Task
+update s =
+    after (up_to s.asks) (λ count.
+    after (times count (change s)) (λ changes.
+    always (task.Update changes)))
+
+-- the task that a number below 100 leads to
+abbrev pub task_at : Settings → ℕ → Reader Task
+task_at s r =
+    if nat_lt r s.user then trip s
+    else if r % 2 == 1 then leave s
+    else update s
+
+-- one task
+abbrev pub task_of : Settings → Reader Task
+task_of s = after (below PERCENT) (λ r. task_at s r)
+
+-- the tasks of a client
+abbrev pub tasks : Settings → Reader (List Task)
+tasks s = times s.tasks (task_of s)
+
+-- the words of exactly one task were drawn, and what was built is that task; where building it was
+-- refused, the same words were drawn
+pub record DrawnTask {D E : Type 0} (leads : D → ℕ → D → Type 0) (reader : Reader Task)
+    (state : D) (result : Result Task E) (last : D) : Type 0 where
+  pub task : Task
+  pub drawn : Drawn leads reader state task last
+  pub built : IfOk result (λ t. t ≡ task)
+
+-- a turn of an iterator over tasks: of some left one is drawn, and at the end no word is drawn
+abbrev pub IsTurn : {D E : Type 0} → (D → ℕ → D → Type 0) → Settings
+    → ℕ → D → Option (Result Task E) → ℕ → D → Type 0
+IsTurn leads s left state None left' last = (left ≡ 0) × (left' ≡ 0) × (last ≡ state)
+IsTurn leads s left state (Some result) left' last =
+    (left ≡ left' + 1) × DrawnTask leads (task_of s) state result last
+
+-- turns of an iterator over tasks, one after the other, with these items, until none is left
+abbrev pub Turns : {D E : Type 0} → (D → ℕ → D → Type 0) → Settings
+    → ℕ → D → List (Result Task E) → D → Type 0
+Turns leads s left state [] last = (left ≡ 0) × (last ≡ state)
+Turns {D} leads s left state (item ∷ items) last =
+    (left' : ℕ) × (next : D) × IsTurn leads s left state (Some item) left' next
+    × Turns leads s left' next items last
+
+-- each item that was built is the task at its place
+abbrev pub AreBuilt : {E : Type 0} → List (Result Task E) → List Task → Type 0
+AreBuilt [] [] = Unit {0}
+AreBuilt [] (t ∷ ts) = ⊥
+AreBuilt (item ∷ items) [] = ⊥
+AreBuilt (item ∷ items) (t ∷ ts) = IfOk item (λ built. built ≡ t) × AreBuilt items ts
+
+-- the words of exactly n tasks were drawn, and the items are those tasks as far as built
+pub record AreTasksOf {D E : Type 0} (leads : D → ℕ → D → Type 0) (s : Settings)
+    (n : ℕ) (state : D) (items : List (Result Task E)) (last : D) : Type 0 where
+  pub tasks : List Task
+  pub drawn : Drawn leads (times n (task_of s)) state tasks last
+  pub built : AreBuilt items tasks
+
+-- an iterator over tasks that was taken to its end gave the tasks of the words that it drew
+abbrev pub TurnsMakeTasks : {D : Type 0} → (D → ℕ → D → Type 0) → Type 0
+TurnsMakeTasks {D} leads =
+    (s : Settings) (n : ℕ) (a b : D) (items : List (Result Task AllocError))
+    → Turns leads s n a items b → AreTasksOf leads s n a items b
+
+-- the command that adds an item at the opening: the number of units, then the price
+abbrev pub stock : ℕ → Kind → Reader (List Command)
+stock id k =
+    after (below LEVELS) (λ level.
+    after price (λ p.
+    always (command.Add k id ((level + 1) * UNITS) (Some p) ∷ [])))
+
+-- an item of each kind
+abbrev pub stocks : ℕ → Reader (List Command)
+stocks id = joined (joined (stock id Car) (stock id Flight)) (stock id Room)
+
+-- the commands that make the customers from 1 to n, in this order
+abbrev pub customers : ℕ → List Command
+customers zero = []
+customers (suc n) = customers n ++ (command.NewCustomer (suc n) ∷ [])
+
+-- the commands of the opening: the items of each id, then the customers
+abbrev pub opening : Settings → Reader (List Command)
+opening s = after (for_each s.items stocks) (λ items. always (items ++ customers s.items))

@@ -1,0 +1,16 @@
+//! The drawn work of a load: its settings, where its words come from, and the commands and tasks
+//! that are read from them. No manager is needed to draw them.
+//!
+//! The tasks are like those of the client of the program Vacation of the STAMP benchmarks (Cao
+//! Minh, Chung, Kozyrakis, Olukotun, IISWC 2008).
+#![tactic(auto)]
+
+mod draws;
+mod opening;
+mod settings;
+mod tasks;
+
+pub use draws::{Draws, FixedDraws, PcgDraws};
+pub use opening::draw_stock;
+pub use settings::{MOST_CLIENTS, MOST_ITEMS, MOST_ROUNDS, MOST_TASKS, PERCENT, Settings};
+pub use tasks::{Tasks, draw_task, tasks_of, turns_make_tasks};

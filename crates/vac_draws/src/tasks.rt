@@ -1,0 +1,277 @@
+//! The tasks of a load, as they are drawn.
+
+ghost use Rattle.std.specs.Prelude.{◌≡◌, ◌<◌, ◌≤◌, ◌&&◌, true, length, IfOk};
+ghost use Rattle.std.specs.List.{list_all};
+ghost use Rattle.vac_model.specs.Amounts.{is_amount, is_id};
+ghost use Rattle.vac_model.specs.Ranges.{is_change, is_command, is_task};
+ghost use Rattle.vac_draws.specs.Draws.{Drawn, below, times};
+ghost use Rattle.vac_draws.specs.Setting.{is_settings};
+ghost use Rattle.vac_draws.specs.Tasks.{up_to, kind_at, kind, price, ask, trip, leave, removal};
+ghost use Rattle.vac_draws.specs.Tasks.{change_of, change, update, task_of, DrawnTask};
+ghost use Rattle.vac_draws.specs.Tasks.{IsTurn, TurnsMakeTasks};
+ghost use Rattle.std.specs.Iterator.{at_most};
+
+use crate::draws::Draws;
+use crate::settings::{LEVELS, LOWEST_PRICE, PERCENT, PRICE_STEP, Settings, UNITS};
+use arrayvec::ArrayVec;
+use std::alloc::{AllocError, Global};
+use vac_model::limits::MOST_PARTS;
+use vac_model::{Command, Kind, Task};
+
+/// How many kinds there are.
+const KINDS: u32 = 3;
+
+/// A number below `n`.
+pub(crate) fn draw_below<D: Draws>(draws: &mut D, n: u32) -> u32
+    requires { 0 < n }
+    ensures drawn { Drawn D.leads (below n) draws.old result draws.new }
+    ensures less { result < n }
+{
+    draws.word() % n
+}
+
+/// A number from 1 to `n`.
+fn draw_up_to<D: Draws>(draws: &mut D, n: u32) -> u32
+    requires { 0 < n }
+    ensures drawn { Drawn D.leads (up_to n) draws.old result draws.new }
+    ensures least { 1 ≤ result }
+    ensures most { result ≤ n }
+{
+    draw_below(draws, n) + 1
+}
+
+fn kind_of(number: u32) -> Kind
+    ensures { result ≡ kind_at number }
+{
+    match number {
+        0 => Kind::Car,
+        1 => Kind::Flight,
+        _ => Kind::Room,
+    }
+}
+
+fn draw_kind<D: Draws>(draws: &mut D) -> Kind
+    ensures { Drawn D.leads kind draws.old result draws.new }
+{
+    kind_of(draw_below(draws, KINDS))
+}
+
+pub(crate) fn draw_price<D: Draws>(draws: &mut D) -> u32
+    ensures drawn { Drawn D.leads price draws.old result draws.new }
+    ensures range { is_amount result ≡ true }
+{
+    draw_below(draws, LEVELS) * PRICE_STEP + LOWEST_PRICE
+}
+
+/// An ask of a trip.
+fn draw_ask<D: Draws>(draws: &mut D, settings: &Settings) -> (Kind, u32)
+    requires { is_settings settings.now ≡ true }
+    ensures drawn { Drawn D.leads (ask settings.now) draws.old result draws.new }
+    ensures range { is_id result.1 ≡ true }
+{
+    let kind = draw_kind(draws);
+    (kind, draw_up_to(draws, settings.items))
+}
+
+/// So many asks of a trip.
+fn draw_asks<D: Draws>(
+    draws: &mut D,
+    settings: &Settings,
+    count: u32,
+) -> ArrayVec<(Kind, u32), MOST_PARTS>
+    requires settings { is_settings settings.now ≡ true }
+    requires room { count ≤ MOST_PARTS }
+    ensures drawn { Drawn D.leads (times count (ask settings.now))
+        draws.old result.items draws.new }
+    ensures number { length result.items ≡ count }
+    ensures range { list_all (λ a. is_id a.1) result.items ≡ true }
+{
+    let mut asks = ArrayVec::new();
+    'asks: for _ in 0..count {
+        asks.push(draw_ask(draws, settings));
+    }
+    asks
+}
+
+/// A trip. All its words are drawn, also where there is no memory to build it.
+fn draw_trip<D: Draws>(
+    alloc: Global,
+    draws: &mut D,
+    settings: &Settings,
+) -> Result<Task, AllocError>
+    requires { is_settings settings.now ≡ true }
+    ensures drawn { DrawnTask D.leads (trip settings.now) draws.old result draws.new }
+    ensures range { IfOk result (λ task. is_task task ≡ true) }
+{
+    let count = draw_up_to(draws, settings.asks);
+    let customer = draw_up_to(draws, settings.items);
+    let asks = draw_asks(draws, settings, count);
+    Task::trip(alloc, customer, asks.as_slice())
+}
+
+fn draw_leave<D: Draws>(draws: &mut D, settings: &Settings) -> Task
+    requires { is_settings settings.now ≡ true }
+    ensures drawn { Drawn D.leads (leave settings.now) draws.old result draws.new }
+    ensures range { is_task result ≡ true }
+{
+    Task::Leave {
+        customer: draw_up_to(draws, settings.items),
+    }
+}
+
+/// The command that takes an item away.
+fn removal_of(kind: Kind, id: u32) -> Command
+    requires { is_id id ≡ true }
+    ensures removal { result ≡ removal kind id }
+    ensures change { is_change result ≡ true }
+    ensures range { is_command result ≡ true }
+{
+    match kind {
+        Kind::Car | Kind::Room => Command::Delete {
+            kind,
+            id,
+            num: UNITS,
+        },
+        Kind::Flight => Command::DropFlight { id },
+    }
+}
+
+/// The change of this item that a number below 2 leads to.
+fn draw_change_of<D: Draws>(draws: &mut D, kind: Kind, id: u32, number: u32) -> Command
+    requires { is_id id ≡ true }
+    ensures drawn { Drawn D.leads (change_of kind id number) draws.old result draws.new }
+    ensures change { is_change result ≡ true }
+    ensures range { is_command result ≡ true }
+{
+    if number == 1 {
+        Command::Add {
+            kind,
+            id,
+            num: UNITS,
+            price: Some(draw_price(draws)),
+        }
+    } else {
+        removal_of(kind, id)
+    }
+}
+
+/// A change of an update.
+fn draw_change<D: Draws>(draws: &mut D, settings: &Settings) -> Command
+    requires { is_settings settings.now ≡ true }
+    ensures drawn { Drawn D.leads (change settings.now) draws.old result draws.new }
+    ensures change { is_change result ≡ true }
+    ensures range { is_command result ≡ true }
+{
+    let kind = draw_kind(draws);
+    let id = draw_up_to(draws, settings.items);
+    let number = draw_below(draws, 2);
+    draw_change_of(draws, kind, id, number)
+}
+
+/// So many changes of an update.
+fn draw_changes<D: Draws>(
+    draws: &mut D,
+    settings: &Settings,
+    count: u32,
+) -> ArrayVec<Command, MOST_PARTS>
+    requires settings { is_settings settings.now ≡ true }
+    requires room { count ≤ MOST_PARTS }
+    ensures drawn { Drawn D.leads (times count (change settings.now))
+        draws.old result.items draws.new }
+    ensures number { length result.items ≡ count }
+    ensures range { list_all (λ c. is_change c && is_command c) result.items ≡ true }
+{
+    let mut changes = ArrayVec::new();
+    'changes: for _ in 0..count {
+        changes.push(draw_change(draws, settings));
+    }
+    changes
+}
+
+/// An update. All its words are drawn, also where there is no memory to build it.
+fn draw_update<D: Draws>(
+    alloc: Global,
+    draws: &mut D,
+    settings: &Settings,
+) -> Result<Task, AllocError>
+    requires { is_settings settings.now ≡ true }
+    ensures drawn { DrawnTask D.leads (update settings.now) draws.old result draws.new }
+    ensures range { IfOk result (λ task. is_task task ≡ true) }
+{
+    let count = draw_up_to(draws, settings.asks);
+    let changes = draw_changes(draws, settings, count);
+    Task::update(alloc, changes.as_slice())
+}
+
+/// A task. All its words are drawn, also where there is no memory to build it.
+pub fn draw_task<D: Draws>(
+    alloc: Global,
+    draws: &mut D,
+    settings: &Settings,
+) -> Result<Task, AllocError>
+    requires { is_settings settings.now ≡ true }
+    ensures drawn { DrawnTask D.leads (task_of settings.now) draws.old result draws.new }
+    ensures range { IfOk result (λ task. is_task task ≡ true) }
+{
+    let number = draw_below(draws, PERCENT);
+    if number < settings.user {
+        draw_trip(alloc, draws, settings)
+    } else if number % 2 == 1 {
+        Ok(draw_leave(draws, settings))
+    } else {
+        draw_update(alloc, draws, settings)
+    }
+}
+
+/// The tasks of a client, each made of the words that are drawn for it, as many as the settings
+/// say. Where there is no memory to build one, its words are drawn all the same, so that those
+/// after it stay the same.
+#[derive(Drop)]
+pub struct Tasks<'a, D> {
+    alloc: Global,
+    draws: &'a mut D,
+    settings: Settings,
+    left: u32,
+}
+
+/// The tasks that these draws make, with settings in their ranges.
+pub fn tasks_of<'a, D: Draws>(alloc: Global, draws: &'a mut D, settings: &Settings) -> Tasks<'a, D>
+    requires { is_settings settings.now ≡ true }
+    ensures same { result.draws ≡ draws.entry }
+    ensures settings { result.settings ≡ settings.now }
+    ensures all { result.left ≡ settings.now.tasks }
+{
+    Tasks {
+        alloc,
+        draws,
+        settings: *settings,
+        left: settings.tasks,
+    }
+}
+
+impl<'a, D: Draws> Iterator for Tasks<'a, D> {
+    type Item = Result<Task, AllocError>;
+
+    ghost can_next = { λ it. is_settings it.settings ≡ true };
+
+    ghost next_gives = { λ before item after. (after.settings ≡ before.settings)
+        × (after.draws.ghost_name ≡ before.draws.ghost_name)
+        × IsTurn D.leads before.settings
+        before.left before.draws.now item after.left after.draws.now };
+
+    ghost remaining = { λ it. at_most it.left };
+
+    fn next(&mut self) -> Option<Result<Task, AllocError>> {
+        if self.left == 0 {
+            return None;
+        }
+        self.left -= 1;
+        Some(draw_task(self.alloc, self.draws, &self.settings))
+    }
+}
+
+/// The tasks of an iterator that was taken to its end are those that the words it drew make, as
+/// far as they were built.
+pub fn turns_make_tasks<D: Draws>()
+    ensures { TurnsMakeTasks D.leads }
+{}
