@@ -25,9 +25,10 @@ use Rattle.stm_core.proofs.Histories.{image_fits}
 use Rattle.stm_core.proofs.Facts.{some_fits, grants_of_two, ahead, all_lawful, one_version}
 use Rattle.stm_region.specs.Shown.{Opened, RegionShown, joined, opened_with, bounds, unplaced, stripe_of}
 use Rattle.stm_region.specs.Layout.{place, first_cell, InRange, IsLaid, IsStore}
-use Rattle.stm_region.specs.Told.{IsLockWord, IsVersion, StandsOn, IsOfOneVersion, Decides, Told, acting, IsEarlier, AreEarlier}
+use Rattle.stm_region.specs.Told.{IsLockWord, IsVersion, StandsOn, IsRightAfter, IsOfOneVersionAt, DecidesAt, Told, acting, IsEarlier, AreEarlier}
+use Rattle.stm_region.specs.Traced.{IsTraced}
 use Rattle.stm_region.specs.Rule.{Holds}
-use Rattle.stm_region.proofs.Tracing.{step_traced, split_traced, gather_traced}
+use Rattle.stm_region.proofs.Tracing.{step_traced, step_listed, split_traced, gather_traced}
 use Rattle.stm_region.proofs.Places.{Stays, stays, found_there, left_there, in_table}
 
 not_in : {A : Type 0} (x : A) → In x [] → ⊥
@@ -107,24 +108,33 @@ module _ (fits : List ℕ → Type 0) (lawful : RecordLaw) (law : Keeping fits l
   abbrev o : Opened
   o = opened_with r
 
-  decides_of : (c : Core) → Matches o c → length r.opening ≡ r.size → fits r.first → Rule lawful lk c → (i : ℕ) (v : Client) → get_elem? c.clients i ≡ some v → Decides fits lawful r v
-  decides_of c m z f h i v at =
-      let all = whole_shared lawful lk c h i v at in record {
-        core = c;
-        rule = h;
-        first = m.first;
-        renewal = m.renewal;
-        opening = m.opening;
-        last = m.last;
-        locks = m.locks;
-        cells = h.inv.size ∙ (ap length m.opening ∙ z);
-        number = i;
-        member = at;
-        fitting = f;
-        abides = all.abides;
-        serial = subst (λ image. Serial image (all_records c.clients)) m.first all.serial;
-        among = all.among;
-      }
+  decides_of : (c : Core) → Matches o c → length r.opening ≡ r.size → fits r.first → Rule lawful lk c → (i : ℕ) (v : Client) → get_elem? c.clients i ≡ some v → (e : Action) (n : ℕ) (u : Client) → IsRightAfter lawful r e n u i c → DecidesAt fits lawful r e n u v
+  decides_of c m z f h i v at e n u g =
+      let all = whole_shared lawful lk c h i v at in (
+        record {
+          core = c;
+          rule = h;
+          first = m.first;
+          renewal = m.renewal;
+          opening = m.opening;
+          last = m.last;
+          locks = m.locks;
+          cells = h.inv.size ∙ (ap length m.opening ∙ z);
+          number = i;
+          member = at;
+          step = e;
+          word = n;
+          was = u;
+          after = g;
+          fitting = f;
+          abides = all.abides;
+          serial = subst (λ image. Serial image (all_records c.clients)) m.first all.serial;
+          among = all.among;
+        },
+        refl,
+        refl,
+        refl,
+      )
 
   stands_on : (image : List ℕ) (reads : List (ℕ × ℕ)) → SomeFits fits (length image) reads → StandsOn fits (length image) reads
   stands_on image reads h = record { image = h.0; length_is = h.2; fitting = h.1; agrees = h.3 }
@@ -135,23 +145,32 @@ module _ (fits : List ℕ → Type 0) (lawful : RecordLaw) (law : Keeping fits l
       subst (λ n. StandsOn fits n v.attempt.reads) (ap length m.opening ∙ z) (stands_on c.opening v.attempt.reads (some_fits lawful lk (now c) h.inv fits law k i (shed c.renewal v) (at_map (shed c.renewal) c.clients i v at)))
 
   -- the image of the read version fits, and agrees with what was read
-  version_of_reads : (c : Core) → Matches o c → length r.opening ≡ r.size → fits r.first → Rule lawful lk c → (i : ℕ) (v : Client) → get_elem? c.clients i ≡ some v → IsOfOneVersion fits lawful r v
-  version_of_reads c m z f h i v at =
+  version_of_reads : (c : Core) → Matches o c → length r.opening ≡ r.size → fits r.first → Rule lawful lk c → (i : ℕ) (v : Client) → get_elem? c.clients i ≡ some v → (e : Action) (n : ℕ) (u : Client) → IsRightAfter lawful r e n u i c → IsOfOneVersionAt fits lawful r e n u v
+  version_of_reads c m z f h i v at e n u g =
       let k : fits c.opening = opening_fits lawful lk c h fits law (subst fits (sym m.first) f) in
-      let all = all_records (now c).clients in record {
-        core = c;
-        rule = h;
-        first = m.first;
-        renewal = m.renewal;
-        opening = m.opening;
-        last = m.last;
-        locks = m.locks;
-        cells = h.inv.size ∙ (ap length m.opening ∙ z);
-        number = i;
-        member = at;
-        fitting = image_fits c.opening h.inv.story fits lawful law all c.opening 0 v.attempt.rv (ahead lawful lk (now c) h.inv) (all_lawful lawful lk (now c) h.inv) k;
-        agrees = one_version lawful lk (now c) h.inv i (shed c.renewal v) (at_map (shed c.renewal) c.clients i v at);
-      }
+      let all = all_records (now c).clients in (
+        record {
+          core = c;
+          rule = h;
+          first = m.first;
+          renewal = m.renewal;
+          opening = m.opening;
+          last = m.last;
+          locks = m.locks;
+          cells = h.inv.size ∙ (ap length m.opening ∙ z);
+          number = i;
+          member = at;
+          step = e;
+          word = n;
+          was = u;
+          after = g;
+          fitting = image_fits c.opening h.inv.story fits lawful law all c.opening 0 v.attempt.rv (ahead lawful lk (now c) h.inv) (all_lawful lawful lk (now c) h.inv) k;
+          agrees = one_version lawful lk (now c) h.inv i (shed c.renewal v) (at_map (shed c.renewal) c.clients i v at);
+        },
+        refl,
+        refl,
+        refl,
+      )
 
   lock_word : (c : Core) → Matches o c → r.last < 2 ^ 62 → Rule lawful lk c → (k : ℕ) → IsLockWord r.last (slice_index c.locks k)
   lock_word c m top inv k =
@@ -172,17 +191,17 @@ module _ (fits : List ℕ → Type 0) (lawful : RecordLaw) (law : Keeping fits l
 
   -- what a step tells, of the core before it and of the one after it
   told_of : (c d : Core) → Matches o c → Matches o d → length r.opening ≡ r.size → r.last < 2 ^ 62 → fits r.first → Rule lawful lk c → Rule lawful lk d → (i : ℕ) (v : Client) (e : Action) → get_elem? c.clients i ≡ some v
-      → get_elem? d.clients i ≡ some (after (unplaced r.renewal) lk e (found lk c e) v) → MayAct lawful lk (bounds_of c) e v.attempt → Told fits lawful r e (found lk c e) v (after (unplaced r.renewal) lk e (found lk c e) v)
-  told_of c d m m' z top f h h' i v begin was at may = (clock c m top h, (h.inv.version.sound i (shed c.renewal v) (at_map (shed c.renewal) c.clients i v was)).floor, opening_stands c m z f h, subst (λ n. AreEarlier n c.clock v.records) m.renewal (earlier lawful lk c h i v was), λ all. knows lawful lk c h i v was all)
-  told_of c d m m' z top f h h' i v (probe k) was at may = (lock_word c m top h k, λ y. (goes_on lawful lk c h.inv h.lone i v was y.0 y.1).probes k)
-  told_of c d m m' z top f h h' i v (check a) was at may = (lock_word c m top h (lk a), stands_of d m' z f h' i (after (unplaced r.renewal) lk (check a) (found lk c (check a)) v) at, (λ y. (goes_on lawful lk c h.inv h.lone i v was y.0 y.1).checks a may), version_of_reads d m' z f h' i (after (unplaced r.renewal) lk (check a) (found lk c (check a)) v) at)
-  told_of c d m m' z top f h h' i v (lock k) was at may = (lock_word c m top h k, λ y. (goes_on lawful lk c h.inv h.lone i v was y.0 y.1).locks k may)
-  told_of c d m m' z top f h h' i v (tick from tag writes) was at may =
+      → get_elem? d.clients i ≡ some (after (unplaced r.renewal) lk e (found lk c e) v) → IsRightAfter lawful r e (found lk c e) v i d → MayAct lawful lk (bounds_of c) e v.attempt → Told fits lawful r e (found lk c e) v (after (unplaced r.renewal) lk e (found lk c e) v)
+  told_of c d m m' z top f h h' i v begin was at g may = (clock c m top h, (h.inv.version.sound i (shed c.renewal v) (at_map (shed c.renewal) c.clients i v was)).floor, opening_stands c m z f h, subst (λ n. AreEarlier n c.clock v.records) m.renewal (earlier lawful lk c h i v was), λ all. knows lawful lk c h i v was all)
+  told_of c d m m' z top f h h' i v (probe k) was at g may = (lock_word c m top h k, λ y. (goes_on lawful lk c h.inv h.lone i v was y.0 y.1).probes k)
+  told_of c d m m' z top f h h' i v (check a) was at g may = (lock_word c m top h (lk a), stands_of d m' z f h' i (after (unplaced r.renewal) lk (check a) (found lk c (check a)) v) at, (λ y. (goes_on lawful lk c h.inv h.lone i v was y.0 y.1).checks a may), version_of_reads d m' z f h' i (after (unplaced r.renewal) lk (check a) (found lk c (check a)) v) at (check a) (found lk c (check a)) v g)
+  told_of c d m m' z top f h h' i v (lock k) was at g may = (lock_word c m top h k, λ y. (goes_on lawful lk c h.inv h.lone i v was y.0 y.1).locks k may)
+  told_of c d m m' z top f h h' i v (tick from tag writes) was at g may =
       let w = after (unplaced r.renewal) lk (tick from tag writes) c.clock v in
-      (clock c m top h, later d h' i w at, (λ s. decides_of d m' z f h' i w at), λ y. let g = (goes_on lawful lk c h.inv h.lone i v was y.0 y.1).ticks from tag writes may in (g.0, g.1 (unplaced r.renewal)))
-  told_of c d m m' z top f h h' i v (validate k) was at may = (lock_word c m top h k, λ s. decides_of d m' z f h' i (after (unplaced r.renewal) lk (validate k) (found lk c (validate k)) v) at)
-  told_of c d m m' z top f h h' i v (finish tag) was at may = decides_of d m' z f h' i (after (unplaced r.renewal) lk (finish tag) c.clock v) at
-  told_of c d m m' z top f h h' i v _ was at may = tt
+      (clock c m top h, later d h' i w at, (λ s. decides_of d m' z f h' i w at (tick from tag writes) c.clock v g), λ y. let g = (goes_on lawful lk c h.inv h.lone i v was y.0 y.1).ticks from tag writes may in (g.0, g.1 (unplaced r.renewal)))
+  told_of c d m m' z top f h h' i v (validate k) was at g may = (lock_word c m top h k, λ s. decides_of d m' z f h' i (after (unplaced r.renewal) lk (validate k) (found lk c (validate k)) v) at (validate k) (found lk c (validate k)) v g)
+  told_of c d m m' z top f h h' i v (finish tag) was at g may = decides_of d m' z f h' i (after (unplaced r.renewal) lk (finish tag) c.clock v) at (finish tag) c.clock v g
+  told_of c d m m' z top f h h' i v _ was at g may = tt
 
   in_clients : (cs : List Client) (i : ℕ) (v w : Client) → get_elem? cs i ≡ some v → get_elem? (set cs i w) i ≡ some w
   in_clients [] i v w e = absurd (some-ne-none v (sym e))
@@ -222,6 +241,8 @@ module _ (fits : List ℕ → Type 0) (lawful : RecordLaw) (law : Keeping fits l
         let st : Stays c (written e (left e (found lk c e) v) c) = stays c e (left e (found lk c e) v) in
         let m' : Matches o (stepped (unplaced r.renewal) lk e id v c) = record { last = st.last ∙ h.last; opening = st.opening ∙ h.opening; first = st.first ∙ h.first; renewal = st.renewal ∙ h.renewal; locks = st.locks ∙ h.locks } in
         let here : get_elem? (stepped (unplaced r.renewal) lk e id v c).clients id ≡ some (after (unplaced r.renewal) lk e (found lk c e) v) = in_clients c.clients id v _ at' in
+        let traced' : IsTraced lawful o (stepped (unplaced r.renewal) lk e id v c) = step_traced lawful o c h.traced id v at' e may' r.renewal (sym h.renewal) in
+        let right : IsRightAfter lawful r e (found lk c e) v id (stepped (unplaced r.renewal) lk e id v c) = record { before = c; member = at'; finds = refl; now = refl; traced = h.traced; listed = traced'; last_event = step_listed lawful o c h.traced id v at' e may' r.renewal (sym h.renewal) } in
         let does' : f (slice_index s.words word) ≡ left e (found lk c e) v = ap f there ∙ does c h.rule at' (subst (λ n. n < 18446744073709551616) there lt) in (
           after (unplaced r.renewal) lk e (slice_index s.words word) v,
           keeps,
@@ -240,12 +261,12 @@ module _ (fits : List ℕ → Type 0) (lawful : RecordLaw) (law : Keeping fits l
             first = m'.first;
             renewal = m'.renewal;
             rule = inv';
-            traced = step_traced lawful o c h.traced id v at' e may' r.renewal (sym h.renewal);
+            traced = traced';
             fitting = h.fitting;
             bounded = h.bounded;
             some = h.some;
           },
-          tells (slice_index s.words word) (rw there (told_of c (stepped (unplaced r.renewal) lk e id v c) (matches s h) m' z h.bounded h.fitting h.rule inv' id v e at' here may'.1)),
+          tells (slice_index s.words word) (rw there (told_of c (stepped (unplaced r.renewal) lk e id v c) (matches s h) m' z h.bounded h.fitting h.rule inv' id v e at' here right may'.1)),
         )
 
     -- the same at a table that was told what the region was opened with

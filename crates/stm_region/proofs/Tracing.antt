@@ -100,6 +100,10 @@ module _ (lawful : RecordLaw) (o : Opened) (c : Core) (t : IsTraced lawful o c) 
           clients = mirrors;
         }
 
+        pub step_listed : step_traced.events ≡ t.events ++ acts (suc (t.clients.number id)) e ∷ []
+        unfolding step_traced
+        step_listed = refl
+
     -- a split
     pub split_traced : IsFreeHanded v → 0 < v.grants → IsTraced lawful o (divided id v c)
     split_traced free some' =

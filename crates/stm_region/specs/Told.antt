@@ -1,16 +1,17 @@
 -- What a step tells its client of the region's state, beside the word that it found.
-use Rattle.std.specs.Prelude.{◌≡◌, ℕ, ◌*◌, ◌/◌, ◌<◌, ◌≤◌, ◌⊎◌, true, false, List, [], length}
+use Rattle.std.specs.Prelude.{◌≡◌, ℕ, suc, ◌*◌, ◌/◌, ◌<◌, ◌≤◌, ◌⊎◌, true, false, List, [], ◌∷◌, ◌++◌, length}
 use Rattle.atomic_table.specs.Table.{Me, Step}
 use mathlib.Core.Option.{some}
 use lib.ListN.{get_elem?}
 use Rattle.stm_words.specs.Image.{In, Agrees}
 use Rattle.stm_core.specs.Client.{Client, Record, decided, version_of, IsFree, word_before, RecordLaw}
-use Rattle.stm_core.specs.Core.{Core}
+use Rattle.stm_core.specs.Core.{Core, found, stepped, acts}
 use Rattle.stm_core.specs.Invariant.{Rule, now}
 use Rattle.stm_core.specs.Event.{Action, begin, probe, fetch, check, lock, tick, validate, put, release, give_back, finish}
 use Rattle.stm_core.specs.Guards.{Holds}
 use Rattle.stm_core.specs.History.{Serial, Sub, all_records, image_at}
-use Rattle.stm_region.specs.Shown.{RegionShown, value_after, stripe_of}
+use Rattle.stm_region.specs.Shown.{RegionShown, opened_with, unplaced, value_after, stripe_of}
+use Rattle.stm_region.specs.Traced.{IsTraced}
 use Rattle.stm_region.specs.declared.limits.TheConstants.{MOST_GRANTS}
 use Rattle.stm_words.specs.declared.version.TheConstants.{VERSION_LIMIT}
 
@@ -40,8 +41,25 @@ pub record StandsOn (fits : List ℕ → Type 0) (size : ℕ) (reads : List (ℕ
   pub fitting : fits image
   pub agrees : Agrees image reads
 
+-- a core state of a region is the one right after this step of the client at this place, which had
+-- this value and found this word
+pub record IsRightAfter (lawful : RecordLaw) (region : RegionShown) (step : Action) (word : ℕ)
+    (was : Client) (number : ℕ) (core : Core) : Type 0 where
+  -- the core state right before: the client had this value in it, and this is the word there
+  pub before : Core
+  pub member : get_elem? before.clients number ≡ some was
+  pub finds : found (stripe_of region.stripes) before step ≡ word
+  pub now : core
+      ≡ stepped (unplaced region.renewal) (stripe_of region.stripes) step number was before
+  -- the list of events that leads to this state is the one that leads to the state before, with
+  -- the step behind it
+  pub traced : IsTraced lawful (opened_with region) before
+  pub listed : IsTraced lawful (opened_with region) core
+  pub last_event : listed.events
+      ≡ traced.events ++ acts (suc (traced.clients.number number)) step ∷ []
+
 -- what the client has read is of one version: the image of its read version, in the region's core
--- state right after the step, fits and agrees with its reads
+-- state right after a step of its own, fits and agrees with its reads
 pub record IsOfOneVersion (fits : List ℕ → Type 0) (lawful : RecordLaw) (region : RegionShown)
     (v : Client) : Type 0 where
   -- the core state is this region's
@@ -56,6 +74,11 @@ pub record IsOfOneVersion (fits : List ℕ → Type 0) (lawful : RecordLaw) (reg
   -- this client has this value in it
   pub number : ℕ
   pub member : get_elem? core.clients number ≡ some v
+  -- the step, the word that it found, and the client's value before it
+  pub step : Action
+  pub word : ℕ
+  pub was : Client
+  pub after : IsRightAfter lawful region step word was number core
   pub fitting : fits (image_at core.opening v.attempt.rv (all_records (now core).clients))
   pub agrees : Agrees (image_at core.opening v.attempt.rv (all_records (now core).clients))
       v.attempt.reads
@@ -77,10 +100,25 @@ pub record Decides (fits : List ℕ → Type 0) (lawful : RecordLaw) (region : R
   -- this client has this value in it
   pub number : ℕ
   pub member : get_elem? core.clients number ≡ some v
+  -- the step, the word that it found, and the client's value before it
+  pub step : Action
+  pub word : ℕ
+  pub was : Client
+  pub after : IsRightAfter lawful region step word was number core
   pub fitting : fits region.first
   pub abides : (r : Record) → In r (all_records core.clients) → lawful r.tag r.reads r.writes
   pub serial : Serial region.first (all_records core.clients)
   pub among : Sub v.records (all_records core.clients)
+
+module _ (fits : List ℕ → Type 0) (lawful : RecordLaw) (region : RegionShown)
+    (e : Action) (n : ℕ) (v w : Client) where
+  -- it is so right after this step, which found this word and made the second value of the first
+  abbrev pub IsOfOneVersionAt : Type 0
+  IsOfOneVersionAt =
+      (d : IsOfOneVersion fits lawful region w) × (d.step ≡ e) × (d.word ≡ n) × (d.was ≡ v)
+
+  abbrev pub DecidesAt : Type 0
+  DecidesAt = (d : Decides fits lawful region w) × (d.step ≡ e) × (d.word ≡ n) × (d.was ≡ v)
 
 -- it was lone, and not decided
 abbrev pub IsLoneOpen : Client → Type 0
@@ -111,18 +149,19 @@ module _ (fits : List ℕ → Type 0) (lawful : RecordLaw) (r : RegionShown) whe
   Told (fetch a) n v w = Unit {0}
   Told (check a) n v w =
       IsLockWord r.last n × StandsOn fits r.size w.attempt.reads
-      × (IsLoneOpen v → LoneTold (check a) n v w) × IsOfOneVersion fits lawful r w
+      × (IsLoneOpen v → LoneTold (check a) n v w)
+      × IsOfOneVersionAt fits lawful r (check a) n v w
   Told (lock k) n v w = IsLockWord r.last n × (IsLoneOpen v → LoneTold (lock k) n v w)
   Told (tick from tag writes) n v w =
       IsVersion r.last n × (0 < w.attempt.wv → w.attempt.rv < w.attempt.wv)
-      × (decided w ≡ true → Decides fits lawful r w)
+      × (decided w ≡ true → DecidesAt fits lawful r (tick from tag writes) n v w)
       × (IsLoneOpen v → LoneTold (tick from tag writes) n v w)
   Told (validate k) n v w =
-      IsLockWord r.last n × (decided w ≡ true → Decides fits lawful r w)
+      IsLockWord r.last n × (decided w ≡ true → DecidesAt fits lawful r (validate k) n v w)
   Told (put a x) n v w = Unit {0}
   Told (release k) n v w = Unit {0}
   Told (give_back k) n v w = Unit {0}
-  Told (finish tag) n v w = Decides fits lawful r w
+  Told (finish tag) n v w = DecidesAt fits lawful r (finish tag) n v w
 
   -- a step has its effect on the client's value, and tells what it can
   abbrev pub acting : {S : Type 0} → Action → Step S → Me S Client → ℕ → Me S Client → Type 0

@@ -5,7 +5,7 @@ ghost use Rattle.stm_core.specs.Event.{begin as begins, probe as probes, fetch a
 ghost use Rattle.stm_logs.specs.Log.{log_pairs};
 ghost use Rattle.stm_region.specs.Shown.{Exchanged, IsAllowed, acted};
 ghost use Rattle.stm_region.specs.declared.limits.TheConstants.{MOST_GRANTS};
-ghost use Rattle.stm_region.specs.Told.{IsLockWord, IsLoneOpen, StandsOn, IsOfOneVersion, AreEarlier, Decides};
+ghost use Rattle.stm_region.specs.Told.{IsLockWord, IsLoneOpen, StandsOn, IsOfOneVersion, IsOfOneVersionAt, AreEarlier, Decides, DecidesAt};
 ghost use Rattle.std.specs.Prelude.{◌⊎◌};
 ghost use Rattle.stm_core.specs.Client.{version_of, IsFree};
 ghost use Rattle.stm_core.specs.Guards.{Holds};
@@ -78,6 +78,8 @@ impl<L: Law, A: Allocator> Region<L, A> {
         ensures lone { IsLoneOpen client.old.value
             → result ≡ word_before client.old.value.attempt.last }
         ensures version { IsOfOneVersion L.fits L.lawful self.now client.new.value }
+        ensures after { IsOfOneVersionAt L.fits L.lawful self.now (checks addr.0) result
+            client.old.value client.new.value }
     {
         let lock = self.lock_of(addr);
         self.load_as::<Brand>(&mut client.seat, FIRST_LOCK + lock as usize, addr.0)
@@ -132,6 +134,10 @@ impl<L: Law, A: Allocator> Region<L, A> {
             → client.new.value.attempt.rv < client.new.value.attempt.wv }
         ensures decides { decided client.new.value ≡ true →
             Decides L.fits L.lawful self.now client.new.value }
+        ensures after { decided client.new.value ≡ true →
+            DecidesAt L.fits L.lawful self.now
+            (ticks from (T.numbers tag.now) (log_pairs writes.now)) from
+            client.old.value client.new.value }
     {
         prove!(from < self.last);
         let found = self.tick_as::<Brand, T, B>(&mut client.seat, from, tag, writes);
@@ -152,6 +158,9 @@ impl<L: Law, A: Allocator> Region<L, A> {
         ensures word { IsLockWord self.now.last result }
         ensures decides { decided client.new.value ≡ true →
             Decides L.fits L.lawful self.now client.new.value }
+        ensures after { decided client.new.value ≡ true →
+            DecidesAt L.fits L.lawful self.now (validates lock) result
+            client.old.value client.new.value }
     {
         prove!(lock < self.stripes);
         self.load_as::<Brand>(&mut client.seat, FIRST_LOCK + lock as usize, lock)
@@ -205,6 +214,10 @@ impl<L: Law, A: Allocator> Region<L, A> {
         ensures client { (found : ℕ)
             × (client.new ≡ acted self.now (finishes (T.numbers tag.now)) found client.old) }
         ensures decides { Decides L.fits L.lawful self.now client.new.value }
+        ensures after { (found : ℕ)
+            × (client.new ≡ acted self.now (finishes (T.numbers tag.now)) found client.old)
+            × DecidesAt L.fits L.lawful self.now (finishes (T.numbers tag.now)) found
+            client.old.value client.new.value }
     {
         self.finish_as::<Brand, T>(&mut client.seat, tag);
     }

@@ -3,6 +3,7 @@ use Rattle.stm_core.specs.Event.{finish}
 use Rattle.stm_core.specs.Invariant.{Sorted}
 use Rattle.stm_core.proofs.Whole.{after_sorted}
 use Rattle.stm_region.specs.Shown.{unplaced, stripe_of}
+use Rattle.stm_region.specs.Told.{DecidesAt}
 use Rattle.stm_region.proofs.region.Region.finish.Goals as goal
 
 pub invariant_of-client : goal.invariant_of-client
@@ -17,3 +18,7 @@ invariant_of-client g c =
       search rules,
       subst Sorted (sym (ap (λ m. m.0.records) c.finish_as.ensures.me)) (after_sorted (unplaced r.renewal) (stripe_of r.stripes) (finish (g.T.Tag.numbers c.args.tag.now)) c.finish_as.result v c.client.invariant.6),
     )
+
+pub returns-clause-after : goal.returns-clause-after
+returns-clause-after g c =
+    (c.finish_as.result, search rules, subst (λ v. DecidesAt g.L.Law.fits g.L.Law.lawful c.args.self.now (finish (g.T.Tag.numbers c.args.tag.now)) c.finish_as.result v c.finish_as.new.seat.me.0) (ap (λ w. w.value) c.client.view_is) c.finish_as.ensures.told)

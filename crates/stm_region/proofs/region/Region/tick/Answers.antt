@@ -4,6 +4,7 @@ use Rattle.stm_core.specs.Invariant.{Sorted}
 use Rattle.stm_core.proofs.Whole.{after_sorted}
 use Rattle.stm_logs.specs.Log.{log_pairs}
 use Rattle.stm_region.specs.Shown.{unplaced, stripe_of}
+use Rattle.stm_region.specs.Told.{DecidesAt}
 use Rattle.stm_region.proofs.region.Region.tick.Goals as goal
 
 pub invariant_of-client : goal.invariant_of-client
@@ -18,3 +19,9 @@ invariant_of-client g c =
       search rules,
       subst Sorted (sym (ap (λ m. m.0.records) c.tick_as-found.ensures.me)) (after_sorted (unplaced r.renewal) (stripe_of r.stripes) (tick c.args.from (g.T.Tag.numbers c.args.tag.now) (log_pairs c.args.writes.now)) c.tick_as-found.result v c.client.invariant.6),
     )
+
+pub returns-then-found-from-clause-after : goal.returns-then-found-from-clause-after
+returns-then-found-from-clause-after g c d =
+    let e = tick c.args.from (g.T.Tag.numbers c.args.tag.now) (log_pairs c.args.writes.now) in
+    subst (λ n. DecidesAt g.L.Law.fits g.L.Law.lawful c.args.self.now e n c.args.client.now.value c.tick_as-found.new.seat.me.0) c.if-found-from.true
+    (subst (λ v. DecidesAt g.L.Law.fits g.L.Law.lawful c.args.self.now e c.tick_as-found.result v c.tick_as-found.new.seat.me.0) (ap (λ w. w.value) c.client.view_is) (c.tick_as-found.ensures.told.2 d))

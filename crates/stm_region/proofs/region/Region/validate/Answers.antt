@@ -4,6 +4,7 @@ use Rattle.stm_core.specs.Invariant.{Sorted}
 use Rattle.stm_core.proofs.Conditions.{can_act}
 use Rattle.stm_core.proofs.Whole.{after_sorted}
 use Rattle.stm_region.specs.Shown.{RegionShown, bounds, unplaced, stripe_of}
+use Rattle.stm_region.specs.Told.{DecidesAt}
 use Rattle.stm_region.proofs.region.Region.validate.Goals as goal
 
 pub prove-unreachable-requires : goal.prove-unreachable-requires
@@ -27,3 +28,7 @@ invariant_of-client g c =
       search rules,
       subst Sorted (sym (ap (λ m. m.0.records) c.load_as.ensures.me)) (after_sorted (unplaced r.renewal) (stripe_of r.stripes) (validate c.args.lock) _ v c.client.invariant.6),
     )
+
+pub returns-clause-after : goal.returns-clause-after
+returns-clause-after g c d =
+    subst (λ v. DecidesAt g.L.Law.fits g.L.Law.lawful c.args.self.now (validate c.args.lock) c.load_as.result v c.load_as.new.seat.me.0) (ap (λ w. w.value) c.client.view_is) (c.load_as.ensures.told.1 d)
