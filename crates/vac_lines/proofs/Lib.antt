@@ -3,3 +3,7 @@ pub mod Extends
 pub mod FewWords
 pub mod Reading
 pub mod Splitting
+pub mod Decimals
+pub mod Spacing
+pub mod TaskReading
+pub mod Lengths

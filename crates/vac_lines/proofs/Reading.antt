@@ -7,7 +7,7 @@ use Rattle.std.proofs.lemmas.List.{at_drop_more, at_drop_all, length_push}
 use Rattle.vac_lines.specs.declared.fault.LineFault.{LineFault}
 use Rattle.vac_lines.specs.Lines.{texts}
 use Rattle.vac_lines.specs.Words.{is_separator}
-use Rattle.vac_lines.specs.LineTable.{◌>>=◌, read_each, asks_of, cut_parts}
+use Rattle.vac_lines.specs.LineTable.{◌>>=◌, read_each, cut_parts}
 
 -- what was read so far, and behind it what is still to be read
 abbrev pub put_behind : {B : Type 0} → List B → Result (List B) LineFault → Result (List B) LineFault

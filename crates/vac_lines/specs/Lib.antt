@@ -5,3 +5,4 @@ pub mod LineTable
 pub mod Text
 pub mod Script
 pub mod Memory
+pub mod TaskText

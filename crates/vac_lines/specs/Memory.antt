@@ -1,5 +1,5 @@
 -- The words of a memory as text: a word a line.
-use Rattle.std.specs.Prelude.{ℕ, ◌==◌, Option, Some, None, List, [], ◌∷◌, decimal, flat_map}
+use Rattle.std.specs.Prelude.{ℕ, Option, Some, None, List, [], ◌∷◌, decimal, flat_map}
 use Rattle.vac_lines.specs.Lines.{lines_of}
 use Rattle.vac_lines.specs.Script.{as_line}
 use Rattle.vac_lines.specs.Words.{memory_word_of}

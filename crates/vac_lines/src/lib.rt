@@ -13,6 +13,7 @@ mod lists;
 mod names;
 mod numbers;
 mod reply;
+mod task_text;
 mod words;
 
 pub use cutting::cut_at;
@@ -20,3 +21,4 @@ pub use fault::LineFault;
 pub use line::{LINE_BYTES, read_line};
 pub use numbers::read_memory_word;
 pub use reply::{print_fault, print_reply, print_word, refusal_name};
+pub use task_text::{print_task, task_texts_are_read, task_texts_fit};

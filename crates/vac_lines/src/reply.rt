@@ -11,7 +11,7 @@ use std::alloc::AllocError;
 use vac_model::{Joined, Pick, Reply, Report, TripReply, UpdateReply, Why};
 
 /// Appends a text.
-fn append(out: &mut Vec<u8>, text: &[u8]) -> Result<(), AllocError>
+pub(crate) fn append(out: &mut Vec<u8>, text: &[u8]) -> Result<(), AllocError>
     ensures ok { OnOk result (out.new.items ≡ out.old.items ++ text.now) }
     ensures err { OnErr result (Extends out.old.items out.new.items) }
 {
@@ -59,7 +59,7 @@ pub fn print_word(word: u64, out: &mut Vec<u8>) -> Result<(), AllocError>
 }
 
 /// Takes back what was appended behind `start`, where not all of it could be.
-fn keep_whole(
+pub(crate) fn keep_whole(
     out: &mut Vec<u8>,
     start: usize,
     printed: Result<(), AllocError>,
@@ -120,7 +120,7 @@ fn append_done(out: &mut Vec<u8>, refused: Option<Why>) -> Result<(), AllocError
 }
 
 /// Appends a field of a report: its name and its number.
-fn append_field(out: &mut Vec<u8>, name: &[u8], number: u64) -> Result<(), AllocError>
+pub(crate) fn append_field(out: &mut Vec<u8>, name: &[u8], number: u64) -> Result<(), AllocError>
     ensures ok { OnOk result (out.new.items ≡ out.old.items ++ field_text name.now number) }
     ensures err { OnErr result (Extends out.old.items out.new.items) }
 {
@@ -129,7 +129,7 @@ fn append_field(out: &mut Vec<u8>, name: &[u8], number: u64) -> Result<(), Alloc
 }
 
 /// Appends two texts.
-fn append_pair(out: &mut Vec<u8>, first: &[u8], second: &[u8]) -> Result<(), AllocError>
+pub(crate) fn append_pair(out: &mut Vec<u8>, first: &[u8], second: &[u8]) -> Result<(), AllocError>
     ensures ok { OnOk result (out.new.items ≡ out.old.items ++ (first.now ++ second.now)) }
     ensures err { OnErr result (Extends out.old.items out.new.items) }
 {

@@ -13,6 +13,8 @@ mod clients;
 #[cfg(test)]
 mod draws;
 #[cfg(test)]
+mod lines;
+#[cfg(test)]
 mod meetings;
 mod opened;
 #[cfg(test)]

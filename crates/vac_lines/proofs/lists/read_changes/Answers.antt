@@ -1,4 +1,4 @@
-use Rattle.std.proofs.Common.{◌≡◌, ℕ, ◌≤◌, ◌<◌, List, ◌∷◌, ◌+◌, length, map, drop, ap, sym, ◌∙◌, Bor, arith, rules, ◌&&◌, refl}
+use Rattle.std.proofs.Common.{ℕ, ◌<◌, List, ◌+◌, length, map, drop, ap, sym, ◌∙◌, Bor, arith, rules, ◌&&◌, refl}
 use Rattle.std.proofs.lemmas.List.{length_push, length-map}
 use Rattle.std.proofs.lemmas.Iterator.Consumers.{YieldsList-turn, YieldsList-end, YieldsList-at}
 use Rattle.std.proofs.lemmas.Iterator.Splits.{YieldsList-from_slice_split}

@@ -1,4 +1,4 @@
-use Rattle.std.proofs.Common.{◌≡◌, ◌≤◌, ◌+◌, ◌-◌, ◌*◌, ◌^◌, get_or, ◌∙◌, sym, arith, rules}
+use Rattle.std.proofs.Common.{◌≤◌, ◌+◌, ◌-◌, ◌*◌, ◌^◌, get_or, ◌∙◌, sym, arith}
 use Rattle.vac_lines.proofs.Digits.{value_reaches, value_found}
 use Rattle.vac_lines.proofs.numbers.decimal_value.Goals as goal
 

@@ -1,0 +1,6 @@
+use Rattle.vac_lines.proofs.Extends.{extends_front, on_err}
+use Rattle.vac_lines.proofs.task_text.append_further.Goals as goal
+
+pub returns-in_err-append_separated-clause-err : goal.returns-in_err-append_separated-clause-err
+returns-in_err-append_separated-clause-err c =
+    on_err c.from_residual.result (extends_front _ _ _ _ c.loop-change.invariant c.in_err-append_separated.ensures.err)

@@ -1,0 +1,121 @@
+-- The line that makes a task, in its plain form: numbers without leading zeros, one unit of a
+-- reservation not written, no price as a dash.
+use Rattle.std.specs.Prelude.{◌≡◌, ◌≤◌, ◌^◌, ℕ, ◌==◌, ◌&&◌, ◌||◌, Bool, true, false, nat_le}
+use Rattle.std.specs.Prelude.{nat_lt, Option, Some, None, Ok, List, [], ◌∷◌, ◌++◌, length, codes}
+use Rattle.std.specs.Prelude.{decimal, if◌then◌else◌}
+use Rattle.std.specs.List.{flat_map, list_all}
+use Rattle.vac_model.specs.declared.items.Kind.{Kind}
+use Rattle.vac_model.specs.declared.items.Kind.TheVariants.{Car, Flight, Room}
+use Rattle.vac_model.specs.declared.commands.Command.{Command}
+use Rattle.vac_model.specs.declared.commands.Command.TheVariants as command
+use Rattle.vac_model.specs.declared.tasks.Task.{Task}
+use Rattle.vac_model.specs.declared.tasks.Task.TheVariants as task
+use Rattle.vac_model.specs.Ranges.{is_task}
+use Rattle.vac_lines.specs.declared.line.TheConstants.{LINE_BYTES}
+use Rattle.vac_lines.specs.LineTable.{line_task}
+
+-- the word of a kind
+abbrev pub kind_word : Kind → List ℕ
+kind_word Car = codes "car"
+kind_word Flight = codes "flight"
+kind_word Room = codes "room"
+
+-- KIND ID
+abbrev pub item_words : Kind → ℕ → List (List ℕ)
+item_words kind id = kind_word kind ∷ decimal id ∷ []
+
+-- PRICE, or a dash for none
+abbrev pub price_word : Option ℕ → List ℕ
+price_word None = codes "-"
+price_word (Some price) = decimal price
+
+-- UNITS, where they are not one
+abbrev pub units_words : ℕ → List (List ℕ)
+units_words units = if units == 1 then [] else decimal units ∷ []
+
+-- the words of the line of a command
+abbrev pub command_words : Command → List (List ℕ)
+command_words (command.Add kind id num price) =
+    codes "add" ∷ kind_word kind ∷ decimal id ∷ decimal num ∷ price_word price ∷ []
+command_words (command.Delete kind id num) =
+    codes "del" ∷ kind_word kind ∷ decimal id ∷ decimal num ∷ []
+command_words (command.DropFlight id) = codes "del" ∷ codes "flight" ∷ decimal id ∷ []
+command_words (command.NewCustomer id) = codes "newcust" ∷ decimal id ∷ []
+command_words (command.DropCustomer id) = codes "dropcust" ∷ decimal id ∷ []
+command_words (command.Free kind id) = codes "free" ∷ item_words kind id
+command_words (command.Price kind id) = codes "price" ∷ item_words kind id
+command_words (command.Bill id) = codes "bill" ∷ decimal id ∷ []
+command_words (command.Reserve customer kind id units) =
+    codes "reserve" ∷ decimal customer ∷ kind_word kind ∷ decimal id ∷ units_words units
+command_words (command.Cancel customer kind id) =
+    codes "cancel" ∷ decimal customer ∷ item_words kind id
+command_words command.Audit = codes "audit" ∷ []
+
+-- the words of a change behind another one
+abbrev pub further_words : Command → List (List ℕ)
+further_words change = codes ";" ∷ command_words change
+
+-- the words of changes, with a separator between two
+abbrev pub changes_words : List Command → List (List ℕ)
+changes_words [] = []
+changes_words (first ∷ rest) = command_words first ++ flat_map further_words rest
+
+-- the words of the line of a task
+abbrev pub task_words : Task → List (List ℕ)
+task_words (task.One command) = command_words command
+task_words (task.Trip customer asks) =
+    codes "trip" ∷ decimal customer ∷ flat_map (λ ask. item_words ask.0 ask.1) asks
+task_words (task.Leave customer) = codes "leave" ∷ decimal customer ∷ []
+task_words (task.Update changes) = codes "update" ∷ changes_words changes
+
+-- words, each behind a space
+abbrev pub spaced : List (List ℕ) → List ℕ
+spaced words = flat_map (λ word. codes " " ++ word) words
+
+-- words, with a space between two
+abbrev pub words_text : List (List ℕ) → List ℕ
+words_text [] = []
+words_text (first ∷ rest) = first ++ spaced rest
+
+-- the line that makes a task, in its plain form
+abbrev pub task_text : Task → List ℕ
+task_text task = words_text (task_words task)
+
+-- the line of a task in its ranges is read as that task, where it is no longer than a line may be
+abbrev pub TaskTextsAreRead : Type 0
+TaskTextsAreRead = (t : Task) → is_task t ≡ true → length (task_text t) ≤ LINE_BYTES
+    → line_task (task_text t) ≡ Ok t
+
+-- an update of so many changes fits into a line, whatever its numbers are
+abbrev pub FITTING_CHANGES : ℕ
+FITTING_CHANGES = 25
+
+-- the most digits of the numbers of an update that fits into a line, however many changes it has
+abbrev pub FITTING_DIGITS : ℕ
+FITTING_DIGITS = 5
+
+abbrev pub is_short : ℕ → Bool
+is_short n = nat_lt n (10 ^ FITTING_DIGITS)
+
+abbrev pub is_short_price : Option ℕ → Bool
+is_short_price None = true
+is_short_price (Some price) = is_short price
+
+-- a change whose numbers have few digits
+abbrev pub is_short_change : Command → Bool
+is_short_change (command.Add kind id num price) =
+    is_short id && is_short num && is_short_price price
+is_short_change (command.Delete kind id num) = is_short id && is_short num
+is_short_change (command.DropFlight id) = is_short id
+is_short_change _ = false
+
+-- a task whose line fits: each but an update of many changes, some of whose numbers are long
+abbrev pub is_fitting : Task → Bool
+is_fitting (task.Update changes) =
+    nat_le (length changes) FITTING_CHANGES || list_all is_short_change changes
+is_fitting _ = true
+
+-- the line of such a task, in its ranges, is no longer than a line may be
+abbrev pub TaskTextsFit : Type 0
+TaskTextsFit = (t : Task) → is_task t ≡ true → is_fitting t ≡ true
+    → length (task_text t) ≤ LINE_BYTES
