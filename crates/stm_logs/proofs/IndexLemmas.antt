@@ -108,24 +108,24 @@ entered ns ns' n q y ix room an free w = record {
 }
 
 -- a node with the slot of the place where it is put
-abbrev pub placed : Node → ℕ → ℕ → Node
-placed y place slot = record y { place = place; slot = slot }
+abbrev pub placed : Node → ℕ → ℕ → ℕ → Node
+placed y place slot finger = record y { place = place; slot = slot; finger = finger }
 
 abbrev pub leads : Node → ℕ → Node
 leads y slot = record y { slot = slot }
 
-unplaced : (y b : Node) (q s : ℕ) → SameNode (placed y q s) b → SameNode y b
-unplaced y b q s h = record { value = h.value; number = h.number; parent = h.parent; first = h.first; recent = h.recent; next = h.next }
+unplaced : (y b : Node) (q s f : ℕ) → SameNode (placed y q s f) b → SameNode y b
+unplaced y b q s f h = record { value = h.value; number = h.number; parent = h.parent; first = h.first; recent = h.recent; next = h.next }
 
-pub written : (ns : List Node) (n q : ℕ) (y : Node) → n + 1 < length ns → q < length ns → (at ns q).slot ≡ 0
-    → Written ns (set (set ns (n + 1) (placed y q (at ns (n + 1)).slot)) q (leads (at (set ns (n + 1) (placed y q (at ns (n + 1)).slot)) q) (n + 1))) n q y
-written ns n q y room l free =
-    let mid : List Node = set ns (n + 1) (placed y q (at ns (n + 1)).slot) in
+pub written : (ns : List Node) (n q f : ℕ) (y : Node) → n + 1 < length ns → q < length ns → (at ns q).slot ≡ 0
+    → Written ns (set (set ns (n + 1) (placed y q (at ns (n + 1)).slot f)) q (leads (at (set ns (n + 1) (placed y q (at ns (n + 1)).slot f)) q) (n + 1))) n q y
+written ns n q f y room l free =
+    let mid : List Node = set ns (n + 1) (placed y q (at ns (n + 1)).slot f) in
     let z : Node = leads (at mid q) (n + 1) in
     let end : List Node = set mid q z in
-    let m : length mid ≡ length ns = length-set ns (n + 1) (placed y q (at ns (n + 1)).slot) in
+    let m : length mid ≡ length ns = length-set ns (n + 1) (placed y q (at ns (n + 1)).slot f) in
     let lm : q < length mid = omega (arith, m) in
-    let here : at mid (n + 1) ≡ placed y q (at ns (n + 1)).slot = put_here ns (n + 1) _ room in
+    let here : at mid (n + 1) ≡ placed y q (at ns (n + 1)).slot f = put_here ns (n + 1) _ room in
     let slots : (j : ℕ) → (at mid j).slot ≡ (at ns j).slot = field_kept (λ x. x.slot) ns (n + 1) _ room refl in
     let others : (j : ℕ) → j ≢ n + 1 → at mid j ≡ at ns j = λ j ne. put_other ns (n + 1) j _ ne in
     let at_end : (j : ℕ) → SameNode (at mid j) (at end j) = λ j. record {
@@ -137,7 +137,7 @@ written ns n q y room l free =
       next = field_kept (λ x. x.next) mid q z lm refl j;
     } in
     let places : (j : ℕ) → (at end j).place ≡ (at mid j).place = field_kept (λ x. x.place) mid q z lm refl in
-    let first = taken_put ns (n + 1) (placed y q (at ns (n + 1)).slot) room in
+    let first = taken_put ns (n + 1) (placed y q (at ns (n + 1)).slot f) room in
     let second = taken_put mid q z lm in
     let empty : bit (at mid q).slot ≡ 0 = ap bit (slots q ∙ free) in
     let full : bit (n + 1) ≡ 1 = grind (arith, nat_tests) in
@@ -148,7 +148,7 @@ written ns n q y room l free =
       place_here = places (n + 1) ∙ ap (λ x. x.place) here;
       place_other = λ j ne. places j ∙ ap (λ x. x.place) (others j ne);
       others = λ j ne. subst (λ x. SameNode x (at end j)) (others j ne) (at_end j);
-      here = unplaced y _ q _ (subst (λ x. SameNode x (at end (n + 1))) here (at_end (n + 1)));
+      here = unplaced y _ q _ f (subst (λ x. SameNode x (at end (n + 1))) here (at_end (n + 1)));
       count = omega (arith, first, second, empty, full);
     }
 

@@ -6,6 +6,7 @@ pub mod NodeLemmas
 pub mod IndexLemmas
 pub mod TreeLemmas
 pub mod AddLemmas
+pub mod FingerLemmas
 pub mod TableLemmas
 pub mod LogLemmas
 pub mod RisingLemmas

@@ -319,7 +319,7 @@ abbrev pub behind_two : List Node → ℕ → ℕ → List Node
 behind_two ns n b = set (behind_one ns n b) b (with_next (at (behind_one ns n b) b) (n + 1))
 
 abbrev pub behind_three : List Node → ℕ → ℕ → ℕ → List Node
-behind_three ns n l b = set (behind_two ns n b) l (with_recent (at (behind_two ns n b) l) b)
+behind_three ns n l b = set (behind_two ns n b) l (with_recent (at (behind_two ns n b) l) (n + 1))
 
 -- the three nodes that `link_behind` puts anew
 pub behind_linked : (ns : List Node) (n l b : ℕ) → n + 1 < length ns → IsWaiting ns n l → IsBefore ns n l (at ns (n + 1)).number b → Linked ns (behind_three ns n l b) n
@@ -332,7 +332,7 @@ behind_linked ns n l b room w before =
     let lb : b < length one = omega (arith, l1) in
     let two : List Node = set one b z in
     let l2 : length two ≡ length ns = length-set one b z ∙ l1 in
-    let u : Node = with_recent (at two l) b in
+    let u : Node = with_recent (at two l) (n + 1) in
     let ll : l < length two = omega (arith, l2) in
     let end : List Node = set two l u in
     let firsts : (e : ℕ) → (at end e).first ≡ (at ns e).first = λ e. field_kept (λ x. x.first) two l u ll refl e ∙ field_kept (λ x. x.first) one b z lb refl e ∙ field_kept (λ x. x.first) ns (n + 1) y room refl e in
@@ -343,8 +343,8 @@ behind_linked ns n l b room w before =
       first_other = λ e ne. firsts e;
       recent_other = λ e ne. ap (λ x. x.recent) (put_other two l e u ne) ∙ field_kept (λ x. x.recent) one b z lb refl e ∙ field_kept (λ x. x.recent) ns (n + 1) y room refl e;
       recent_here = λ some.
-          let r : (at end l).recent ≡ b = ap (λ x. x.recent) (put_here two l u ll) in
-          (omega (arith, r), ap (λ j. (at ns j).parent) r ∙ before.below.child);
+          let r : (at end l).recent ≡ n + 1 = ap (λ x. x.recent) (put_here two l u ll) in
+          (omega (arith, r), ap (λ j. (at ns j).parent) r ∙ w.child);
     }) before
     (λ e ne nb. field_kept (λ x. x.next) two l u ll refl e ∙ ap (λ x. x.next) (put_other one b e z nb) ∙ ap (λ x. x.next) (put_other ns (n + 1) e y ne))
     (field_kept (λ x. x.next) two l u ll refl (n + 1) ∙ ap (λ x. x.next) (put_other one b (n + 1) z other) ∙ ap (λ x. x.next) (put_here ns (n + 1) y room))

@@ -14,6 +14,7 @@ blank = record {
   next = 0;
   place = 0;
   slot = 0;
+  finger = 0;
 }
 
 -- the node at a position

@@ -6,7 +6,7 @@ use Rattle.std.specs.FinMap.{FinMap, empty, insert}
 use Rattle.std.specs.Ordering.{nat_cmp}
 use Rattle.stm_logs.specs.declared.nodes.Node.{Node}
 use Rattle.stm_logs.specs.Nodes.{Block, at}
-use Rattle.stm_logs.specs.Index.{is_lock_node, HasNone, IsIndexed, IsTaken}
+use Rattle.stm_logs.specs.Index.{is_lock_node, HasNone, IsIndexed, IsTaken, SameNode}
 use Rattle.stm_logs.specs.Log.{LogValue}
 
 -- p is the child of l with the least number from low on, or 0 where there is none
@@ -90,6 +90,9 @@ with_first node first = record node { first = first; recent = first }
 abbrev pub with_recent : Node → ℕ → Node
 with_recent node recent = record node { recent = recent }
 
+abbrev pub with_finger : Node → ℕ → Node
+with_finger node finger = record node { finger = finger }
+
 -- nodes 1 to n are a tree, and node n + 1 waits to be chained below l
 pub record IsWaiting (ns : List Node) (n l : ℕ) : Type 0 where
   pub tree : IsTree ns n
@@ -106,6 +109,13 @@ pub record SameKeys (old new : Node) : Type 0 where
   pub parent : new.parent ≡ old.parent
   pub place : new.place ≡ old.place
   pub slot : new.slot ≡ old.slot
+
+-- all but the fingers is the same
+pub record OnlyFingers (old new : List Node) : Type 0 where
+  pub len : length new ≡ length old
+  pub nodes : (e : ℕ) → SameNode (at old e) (at new e)
+  pub places : (e : ℕ) → (at new e).place ≡ (at old e).place
+  pub slots : (e : ℕ) → (at new e).slot ≡ (at old e).slot
 
 -- node n + 1 is chained, and all but the chains is as before
 pub record Linked (old new : List Node) (n : ℕ) : Type 0 where

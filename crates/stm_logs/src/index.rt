@@ -10,11 +10,12 @@ const WORD_FACTOR: u64 = 2_654_435_769;
 
 const LOCK_FACTOR: u64 = 2_246_822_519;
 
-const NUMBERS: u64 = 4_294_967_296;
+/// The numbers of a node, from 0 on.
+pub(crate) const NUMBERS: u64 = 4_294_967_296;
 
-// Where the search for a node begins: a multiplicative hash, scaled to the length.
+/// Where the search for a node begins: a multiplicative hash, scaled to the length.
 #[inline]
-fn start(is_lock: bool, number: u32, len: usize) -> usize
+pub(crate) fn start(is_lock: bool, number: u32, len: usize) -> usize
     requires some { 0 < len }
     requires limit { len ≤ 2147483648 }
     ensures place { result ≡ home is_lock number len }
@@ -86,12 +87,13 @@ pub(crate) fn enter<A: Allocator>(nodes: &mut Nodes<A>, place: usize, node: Node
     ensures count { nodes.new.count ≡ nodes.old.count }
 {
     let position = nodes.count() + 1;
-    let slot = nodes.get(position).slot;
+    let old = *nodes.get(position);
     nodes.put(
         position,
         Node {
             place: place as u32,
-            slot,
+            slot: old.slot,
+            finger: old.finger,
             ..node
         },
     );

@@ -6,6 +6,7 @@
 #![tactic(auto)]
 
 mod chain;
+mod finger;
 mod grow;
 mod index;
 mod link;

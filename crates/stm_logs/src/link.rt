@@ -4,8 +4,12 @@ ghost use Rattle.stm_logs.specs.Nodes.{Block, at, with_node};
 ghost use Rattle.stm_logs.specs.Index.{is_lock_node, HasNone};
 ghost use Rattle.stm_logs.specs.Tree.{IsTree, IsBelow, IsBefore, ComesFirst, GoesBehind, IsWaiting, Linked, with_next, with_first, with_recent};
 
+use crate::finger::{nearer, point};
 use crate::nodes::{Node, Nodes};
 use std::alloc::Allocator;
+
+/// The places of a block whose chains are so short that a walk needs no finger.
+const SHORT: usize = 256;
 
 #[inline]
 fn set_next<A: Allocator>(nodes: &mut Nodes<A>, e: usize, next: usize)
@@ -56,8 +60,8 @@ fn set_recent<A: Allocator>(nodes: &mut Nodes<A>, e: usize, recent: usize)
     );
 }
 
-// A child of the parent with a smaller number, to walk on from: where the last child was chained,
-// or the first. 0 where the number comes before them all.
+// A child of the parent with a smaller number, to walk on from: the last that was chained, or the
+// first. 0 where the number comes before them all.
 #[inline]
 fn start<A: Allocator>(nodes: &Nodes<A>, parent: usize, number: u32) -> usize
     requires tree { IsTree nodes.now.list nodes.now.count }
@@ -113,10 +117,44 @@ pub(crate) fn link<A: Allocator>(nodes: &mut Nodes<A>, parent: usize)
     let start = start(nodes, parent, number);
     if start == 0 {
         link_first(nodes, parent, child);
-    } else {
+    } else if nodes.len() <= SHORT || comes_next(nodes, start, number) {
         let before = walk(nodes, parent, start, number);
         link_behind(nodes, parent, before, child);
+    } else {
+        link_far(nodes, parent, start, child);
     }
+}
+
+// Whether no number of the chain behind a node is below the given one.
+#[inline]
+fn comes_next<A: Allocator>(nodes: &Nodes<A>, before: usize, number: u32) -> bool
+    requires tree { IsTree nodes.now.list nodes.now.count }
+    requires room { nodes.now.count < length nodes.now.list }
+    requires inside { (0 < before) × (before ≤ nodes.now.count) }
+    ensures { IsTrue result → 0 < (at nodes.now.list before).next
+        → number ≤ (at nodes.now.list ((at nodes.now.list before).next)).number }
+{
+    let next = nodes.get(before).next as usize;
+    next == 0 || number <= nodes.get(next).number
+}
+
+// Chains a child behind one that may be far before it.
+#[cold]
+fn link_far<A: Allocator>(nodes: &mut Nodes<A>, parent: usize, start: usize, child: usize)
+    requires waits { IsWaiting nodes.old.list nodes.old.count parent }
+    requires room { nodes.old.count + 1 < length nodes.old.list }
+    requires limit { length nodes.old.list ≤ 2147483648 }
+    requires child { child ≡ nodes.old.count + 1 }
+    requires start { IsBelow nodes.old.list nodes.old.count parent (at nodes.old.list child).number
+        start }
+    ensures linked { Linked nodes.old.list nodes.new.list nodes.old.count }
+    ensures count { nodes.new.count ≡ nodes.old.count }
+{
+    let number = nodes.get(child).number;
+    let start = nearer(nodes, parent, start, number);
+    let before = walk(nodes, parent, start, number);
+    link_behind(nodes, parent, before, child);
+    point(nodes, parent, number, child);
 }
 
 #[inline]
@@ -147,5 +185,5 @@ fn link_behind<A: Allocator>(nodes: &mut Nodes<A>, parent: usize, before: usize,
     let next = nodes.get(before).next as usize;
     set_next(nodes, child, next);
     set_next(nodes, before, child);
-    set_recent(nodes, parent, before);
+    set_recent(nodes, parent, child);
 }

@@ -20,7 +20,7 @@ pub(crate) struct Node {
     pub(crate) parent: u32,
     /// The child with the least number.
     pub(crate) first: u32,
-    /// The child where the last child was chained.
+    /// The last child that was chained.
     pub(crate) recent: u32,
     /// The child of the same parent with the next greater number.
     pub(crate) next: u32,
@@ -28,6 +28,8 @@ pub(crate) struct Node {
     pub(crate) place: u32,
     /// The index at this place: the node that it leads to.
     pub(crate) slot: u32,
+    /// The finger at this place: a node where a walk may start, or any number.
+    pub(crate) finger: u32,
 }
 
 /// An empty place.
@@ -40,6 +42,7 @@ pub(crate) const BLANK: Node = Node {
     next: 0,
     place: 0,
     slot: 0,
+    finger: 0,
 };
 
 /// A block of places, all of them filled, and the number of nodes beside the root.

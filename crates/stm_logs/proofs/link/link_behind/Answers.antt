@@ -18,6 +18,6 @@ returns-clause-linked g c =
     let two : c.set_next-2.new.nodes.list ≡ behind_two ns n b =
     ap (λ s. s.list) c.set_next-2.ensures ∙ ap (λ xs. set xs b (with_next (at xs b) c.args.child)) one ∙ ap (λ i. set (behind_one ns n b) b (with_next (at (behind_one ns n b) b) i)) child in
     let three : c.set_recent.new.nodes.list ≡ behind_three ns n l b =
-    ap (λ s. s.list) c.set_recent.ensures ∙ ap (λ xs. set xs l (with_recent (at xs l) b)) two in
+    ap (λ s. s.list) c.set_recent.ensures ∙ ap (λ xs. set xs l (with_recent (at xs l) c.args.child)) two ∙ ap (λ i. set (behind_two ns n b) l (with_recent (at (behind_two ns n b) l) i)) child in
     let before : IsBefore ns n l (at ns (n + 1)).number b = subst (λ i. IsBefore ns n l (at ns i).number b) child c.requires.before in
     subst (λ xs. Linked ns xs n) (sym three) (behind_linked ns n l b c.requires.room c.requires.waits before)

@@ -5,7 +5,7 @@ use Rattle.stm_logs.proofs.AddLemmas.{waiting, added}
 use Rattle.stm_logs.proofs.tree.add.Goals as goal
 
 abbrev entering : ℕ → ℕ → ℕ → Node
-entering parent number value = record { value = value; number = number; parent = parent; first = 0; recent = 0; next = 0; place = 0; slot = 0 }
+entering parent number value = record { value = value; number = number; parent = parent; first = 0; recent = 0; next = 0; place = 0; slot = 0; finger = 0 }
 
 pub link-requires-clause-waits : goal.link-requires-clause-waits
 link-requires-clause-waits g c =
