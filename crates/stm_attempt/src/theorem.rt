@@ -1,3 +1,6 @@
+//! What the records of transactions make of images, as the contract of a function that does
+//! nothing.
+
 ghost use Rattle.std.specs.Prelude.{ℕ, List};
 ghost use Rattle.stm_attempt.specs.Leading.{IsFitting, KeepsFitting, Leads, ReadingsLead, RecordsLead};
 

@@ -1,3 +1,5 @@
+//! The core theorem, and worked lists of events, as contracts of functions that do nothing.
+
 ghost use Rattle.stm_core.specs.Examples.{WorkedLists};
 ghost use Rattle.stm_core.specs.Theorem.{EveryListStands, free_law};
 

@@ -1,3 +1,5 @@
+//! The client of a region.
+
 ghost use Rattle.std.specs.Prelude.{◌≡◌, ◌≤◌, []};
 ghost use Rattle.stm_core.specs.Client.{nothing};
 ghost use Rattle.stm_core.specs.Invariant.{Sorted};

@@ -1,3 +1,5 @@
+//! Why a call of a region is refused.
+
 ghost use Rattle.std.specs.Prelude.{◌≡◌};
 ghost use Rattle.stm_region.specs.declared.fault.RegionFault.TheVariants.{Memory};
 

@@ -1,3 +1,5 @@
+//! What a region's table is opened with, and its rule.
+
 ghost use Rattle.stm_region.specs.Rule.{Holds};
 
 use crate::view::View;

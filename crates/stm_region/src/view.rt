@@ -1,3 +1,5 @@
+//! What a seat of a region's table knows.
+
 use std::marker::Model;
 
 /// What a seat of the table knows: a client's value. No value of it is made.

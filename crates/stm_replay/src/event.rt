@@ -1,3 +1,5 @@
+//! The events that the running core plays, and what it answers.
+
 ghost use Rattle.std.specs.Prelude.{◌≡◌, IfOk};
 
 use std::alloc::{AllocError, Global};

@@ -1,3 +1,5 @@
+//! The decided records in the order of their point steps.
+
 ghost use Rattle.std.specs.Prelude.{◌≡◌, ◌<◌, ◌≤◌, [], length, vec_len, vec_capacity, OnOk, OnErr};
 ghost use Rattle.std.specs.List.{insert};
 ghost use Rattle.stm_replay.specs.Placing.{place_in, put_in};

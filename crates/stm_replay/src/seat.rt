@@ -1,3 +1,5 @@
+//! What the running core keeps of one client, and when that allows a step.
+
 ghost use Rattle.std.specs.Prelude.{◌≡◌, ℕ, ◌<◌, ◌≤◌, ◌+◌, ◌^◌, length, OnOk, OnErr, List, [], ◌∷◌, not, eqb, false, ◌&&◌, ◌||◌};
 ghost use Rattle.stm_core.specs.Client.{Client};
 ghost use Rattle.stm_replay.specs.Seat.{blank, seat_after, tag_number};

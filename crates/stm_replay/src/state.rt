@@ -1,3 +1,6 @@
+//! The words, the clients and the decided records of the running core: when it allows an event, and
+//! what it makes of one.
+
 ghost use Rattle.std.specs.Prelude.{◌≡◌, ◌≢◌, ℕ, ◌<◌, ◌≤◌, ◌+◌, ◌-◌, ◌*◌, ◌^◌, ◌&&◌, true, length, OnOk, OnErr, IfOk, List, [], ◌∷◌};
 ghost use Rattle.stm_core.specs.Core.{client_of, is_out, bounds_of, splits, gathers, renews};
 ghost use Rattle.stm_core.specs.Event.{begin, probe, fetch, check, lock, tick, validate, put, release, give_back, finish};

@@ -1,3 +1,5 @@
+//! What the running core shows of the core, as contracts of functions that do nothing.
+
 ghost use Rattle.stm_replay.specs.Follows.{RunningFollows};
 ghost use Rattle.stm_replay.specs.Numbered.{AllowedWithNumbers, EveryEventIsPlayable, EveryListHasNumbers, LegalHistories, PlayedWithNumbers, SameButTags};
 

@@ -1,3 +1,5 @@
+//! Tags of records, and laws of which records are lawful.
+
 ghost use Rattle.std.specs.Prelude.{ℕ, List, [], ◌∷◌};
 ghost use Rattle.stm_words.specs.Image.{Agrees, laid};
 

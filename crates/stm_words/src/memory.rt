@@ -1,3 +1,5 @@
+//! Memories whose words are read and written in a transaction.
+
 ghost use Rattle.std.specs.Prelude.{◌≡◌, ℕ, ◌<◌, List, IfOk, IfErr, MatchResult};
 ghost use Rattle.std.specs.FinMap.{insert};
 ghost use Rattle.stm_words.specs.View.{View, Stands, SameFrame, HasRead, Loaded, Stored};

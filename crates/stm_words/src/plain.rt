@@ -1,3 +1,5 @@
+//! Plain memory as a memory of transactions.
+
 ghost use Rattle.std.specs.Prelude.{◌≡◌, ℕ, List};
 
 use super::memory::{Addr, TxMem, TxRead};

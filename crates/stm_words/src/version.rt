@@ -1,3 +1,5 @@
+//! Versions, and the encoding of lock words.
+
 ghost use Rattle.std.specs.Prelude.{◌≡◌, ℕ, ◌+◌, ◌*◌, ◌^◌, ◌<◌, ◌≤◌, ◌↔◌, IsNone, IfSome, true, false};
 ghost use Rattle.stm_words.specs.LockWord.{free_word, held_word};
 

@@ -1,3 +1,5 @@
+//! The height of a table, as the contract of a function that does nothing.
+
 ghost use Rattle.std.specs.Prelude.{ℕ, ◌+◌, ◌≤◌, ◌^◌, length};
 ghost use Rattle.tx_alloc.specs.Rows.{Rows};
 ghost use Rattle.tx_tree.specs.Table.{IsTable, Descends};

@@ -1,3 +1,5 @@
+//! The way down a table, as links from node to node.
+
 ghost use Rattle.std.specs.Prelude.{◌≡◌, ◌-◌, ◌%◌, ◌<◌, length, slice_index, slice_set};
 
 use std::marker::Model;

@@ -1,3 +1,5 @@
+//! Takes a block out of a table.
+
 ghost use Rattle.std.specs.Prelude.{◌≡◌, IfOk, MatchOption};
 ghost use Rattle.tx_tree.specs.Table.{HasTable, Found, Removed};
 ghost use Rattle.tx_tree.specs.Removal.{HasLoose, Lightened, HasLast, Unlinked};

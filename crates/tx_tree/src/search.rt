@@ -1,3 +1,5 @@
+//! Looks for the entries of a table by key.
+
 ghost use Rattle.std.specs.Prelude.{◌≡◌, IfOk, IfErr, MatchOption};
 ghost use Rattle.tx_tree.specs.Table.{HasTable, Found, FoundAt, NextFound, row_of};
 ghost use Rattle.tx_tree.specs.Steps.{Sought};
