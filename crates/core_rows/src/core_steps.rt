@@ -305,7 +305,7 @@ fn spent(rt: &impl Abort, alloc: Global) -> Core {
     played(rt, core, Event::Release { client: 1, lock: 9 }, 1, None)
 }
 
-// The renewal that lets the clock go on to 100.
+/// The renewal that lets the clock go on to 100.
 fn renewal() -> Event {
     Event::Renew {
         client: 1,

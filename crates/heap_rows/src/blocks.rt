@@ -8,7 +8,7 @@ use stm_words::{Addr, Flat, TxMem};
 use tx_alloc::place::LISTS;
 use tx_alloc::{Block, fresh_words, give, rows_are_a_map, take};
 
-// The words that are not 0, with their places.
+/// The words that are not 0, with their places.
 fn filled(alloc: Global, words: &[u64]) -> Result<Vec<(usize, u64)>, AllocError> {
     words
         .iter()
@@ -44,7 +44,7 @@ fn words_of_heaps_without_entries(rt: HostRuntime) -> Result<(), Fail> {
     Ok(())
 }
 
-// Takes three blocks, looked for from these lists on.
+/// Takes three blocks, looked for from these lists on.
 fn take_three<M: TxMem>(
     memory: &mut M,
     first: u32,
@@ -62,7 +62,7 @@ fn take_three<M: TxMem>(
     Ok([one, two, three])
 }
 
-// Takes a block and gives it back to another list.
+/// Takes a block and gives it back to another list.
 fn take_and_give<M: TxMem>(memory: &mut M, from: u32, to: u32) -> Result<Option<Block>, M::Stop>
     requires pool { HasPool (M.view memory.old) }
     requires lists { (from < LISTS) × (to < LISTS) }

@@ -21,7 +21,7 @@ fn clear<A: Allocator + Copy>(log: &mut WriteLog<A>)
     log.clear();
 }
 
-// Puts a value at an address whose lock is its remainder by the number of stripes.
+/// Puts a value at an address whose lock is its remainder by the number of stripes.
 fn put<A: Allocator + Copy>(
     log: &mut WriteLog<A>,
     stripes: u32,
@@ -97,7 +97,7 @@ fn a_read_log_is_a_list(rt: HostRuntime) -> Result<(), Fail> {
     Ok(())
 }
 
-// Puts the addresses below count, up or down, each with its own number for a value.
+/// Puts the addresses below count, up or down, each with its own number for a value.
 fn put_all<A: Allocator + Copy>(
     log: &mut WriteLog<A>,
     stripes: u32,
@@ -115,7 +115,7 @@ fn put_all<A: Allocator + Copy>(
     Ok(())
 }
 
-// The log has the addresses below count and no others, each below its lock, all of them ascending.
+/// The log has the addresses below count and no others, each below its lock, all of them ascending.
 fn expect_all<A: Allocator + Copy, R: Abort>(
     rt: &R,
     log: &WriteLog<A>,
@@ -161,7 +161,7 @@ fn many_addresses(rt: HostRuntime) -> Result<(), Fail> {
     Ok(())
 }
 
-// Puts addresses until memory is refused, and says how many the log then has.
+/// Puts addresses until memory is refused, and says how many the log then has.
 fn put_some<A: Allocator + Copy>(log: &mut WriteLog<A>, count: u32) -> u32
     requires { IsStriped log.old 1000000 }
     ensures striped { IsStriped log.new 1000000 }
@@ -175,7 +175,7 @@ fn put_some<A: Allocator + Copy>(log: &mut WriteLog<A>, count: u32) -> u32
     count
 }
 
-// In heaps of these sizes no growth, the first, and so on up to all of them have room.
+/// In heaps of these sizes no growth, the first, and so on up to all of them have room.
 #[test]
 fn each_growth_of_the_write_log_is_refused(rt: HostRuntime) -> Result<(), Fail> {
     for (size, most) in [

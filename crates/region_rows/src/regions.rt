@@ -12,7 +12,7 @@ use stm_region::{
 };
 use stm_words::{Addr, FreeLaw};
 
-// What a read finds at an address, where no lock stops it.
+/// What a read finds at an address, where no lock stops it.
 pub(crate) fn read_at(
     region: &Region<FreeLaw>,
     client: &mut Client<FreeLaw>,
@@ -38,7 +38,7 @@ pub(crate) fn read_at(
     Some(value)
 }
 
-// Writes a word without reading any, by one try. Answers whether it committed.
+/// Writes a word without reading any, by one try. Answers whether it committed.
 pub(crate) fn write_at(
     alloc: Global,
     region: &Region<FreeLaw>,
@@ -148,7 +148,7 @@ fn a_spent_clock_ticks_no_more(rt: HostRuntime) -> Result<(), Fail> {
     Ok(())
 }
 
-// Writes the address as long as no try commits.
+/// Writes the address as long as no try commits.
 fn write_until_done(
     alloc: Global,
     region: &Region<FreeLaw>,

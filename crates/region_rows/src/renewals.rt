@@ -11,7 +11,7 @@ use stm_words::{Addr, FreeLaw};
 
 type Renewed = (Region<FreeLaw>, Client<FreeLaw>);
 
-// Renews so many times, or as often as it can.
+/// Renews so many times, or as often as it can.
 fn renew_times(
     alloc: Global,
     mut region: Region<FreeLaw>,
@@ -71,7 +71,7 @@ fn a_spent_clock_goes_on(rt: HostRuntime) -> Result<(), Fail> {
     Ok(())
 }
 
-// The contracts say it of each region, whatever the clock before had reached.
+/// The contracts say it of each region, whatever the clock before had reached.
 #[test]
 fn a_new_and_a_renewed_region_begin_at_version_0(rt: HostRuntime) -> Result<(), Fail> {
     let alloc = rt.alloc();
@@ -88,7 +88,7 @@ fn a_new_and_a_renewed_region_begin_at_version_0(rt: HostRuntime) -> Result<(), 
     Ok(())
 }
 
-// Each refusal keeps the region, so that the next one meets it as it was.
+/// Each refusal keeps the region, so that the next one meets it as it was.
 #[test]
 fn refuses_a_renewal_in_order(rt: HostRuntime) -> Result<(), Fail> {
     let none = LocalHeap::new(rt.alloc(), 1_000)?;
@@ -130,7 +130,7 @@ fn refuses_a_renewal_in_order(rt: HostRuntime) -> Result<(), Fail> {
     Ok(())
 }
 
-// How a renewal came out.
+/// How a renewal came out.
 #[derive(Clone, Copy, Debug, PartialEq, Eq, Drop)]
 enum Outcome {
     Renewed,
@@ -138,8 +138,8 @@ enum Outcome {
     Closed,
 }
 
-// Opens a region in a heap, renews it in another one, and ends it. Answers how the renewal came
-// out, and whether the words are those of the opening.
+/// Opens a region in a heap, renews it in another one, and ends it. Answers how the renewal came
+/// out, and whether the words are those of the opening.
 fn renew_in<A: Allocator + Copy>(heap: A, small: A) -> Result<(Outcome, bool), RegionFault> {
     let (region, client) = Region::<FreeLaw, A>::new(heap, &[3; 512], 100, 32)?;
     let (outcome, closed) = match region.renew(small, client, 1) {
@@ -156,7 +156,7 @@ fn renew_in<A: Allocator + Copy>(heap: A, small: A) -> Result<(Outcome, bool), R
     }
 }
 
-// The first growth is made before any word moves; after it the region can only be closed.
+/// The first growth is made before any word moves; after it the region can only be closed.
 #[test]
 fn each_growth_of_a_renewal_is_refused(rt: HostRuntime) -> Result<(), Fail> {
     let heap = LocalHeap::new(rt.alloc(), 100_000)?;

@@ -41,7 +41,7 @@ pub struct Attempt<'a, L: Law, R: Allocator = Global, A: Allocator + Copy = Glob
         standing.size.value standing.client.value.value.attempt.reads },
 }
 
-// The value that the attempt has written at an address. An empty log costs one test.
+/// The value that the attempt has written at an address. An empty log costs one test.
 #[inline]
 fn own_write<A: Allocator + Copy>(writes: &WriteLog<A>, addr: Addr) -> Option<u64>
     ensures { result ≡ get writes.now.words addr.0 }

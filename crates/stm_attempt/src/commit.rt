@@ -27,7 +27,7 @@ use stm_logs::WriteLog;
 use stm_region::{Client, Region};
 use stm_words::{Law, Tag, Version};
 
-// Whether the tick to a write version decides the attempt, so that no validation follows.
+/// Whether the tick to a write version decides the attempt, so that no validation follows.
 #[inline]
 fn decides_at_once(reads: usize, rv: Version, version: Version) -> bool
     ensures { result ≡ (eqb reads 0 || eqb version (rv + 1)) }
@@ -35,7 +35,7 @@ fn decides_at_once(reads: usize, rv: Version, version: Version) -> bool
     reads == 0 || version.get() == rv.get() + 1
 }
 
-// With all locks held: ticks the clock, and validates the reads where the tick does not decide.
+/// With all locks held: ticks the clock, and validates the reads where the tick does not decide.
 fn decide<L: Law, R: Allocator, A: Allocator + Copy, T: Tag, G: Gate>(
     region: &Region<L, R>,
     client: &mut Client<L>,
@@ -72,7 +72,7 @@ fn decide<L: Law, R: Allocator, A: Allocator + Copy, T: Tag, G: Gate>(
     Ok(version)
 }
 
-// With the attempt decided: stores its values, and releases its locks.
+/// With the attempt decided: stores its values, and releases its locks.
 fn settle<L: Law, R: Allocator, A: Allocator + Copy, G: Gate>(
     region: &Region<L, R>,
     client: &mut Client<L>,
@@ -90,7 +90,7 @@ fn settle<L: Law, R: Allocator, A: Allocator + Copy, G: Gate>(
     release_all(region, client, writes);
 }
 
-// Commits an attempt that has written: with all its locks, or none.
+/// Commits an attempt that has written: with all its locks, or none.
 fn commit_writes<L: Law, R: Allocator, A: Allocator + Copy, T: Tag, G: Gate>(
     region: &Region<L, R>,
     client: &mut Client<L>,
@@ -130,7 +130,7 @@ fn commit_writes<L: Law, R: Allocator, A: Allocator + Copy, T: Tag, G: Gate>(
     answer
 }
 
-// Commits what was read and written, unless a read met a conflict. The logs are out of use.
+/// Commits what was read and written, unless a read met a conflict. The logs are out of use.
 fn end<L: Law, R: Allocator, A: Allocator + Copy, T: Tag, G: Gate>(
     region: &Region<L, R>,
     logs: &mut Logs<A>,

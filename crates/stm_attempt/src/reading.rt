@@ -12,7 +12,7 @@ use std::alloc::Allocator;
 use stm_region::{Client, Region};
 use stm_words::{Addr, Law, LockWord, Version};
 
-// The version of a free lock's word, or `None` for a held lock.
+/// The version of a free lock's word, or `None` for a held lock.
 #[inline]
 pub(crate) fn free_version(word: u64) -> Option<Version>
     requires { word < 2 ^ 63 }
@@ -23,8 +23,8 @@ pub(crate) fn free_version(word: u64) -> Option<Version>
     if held { None } else { Some(version) }
 }
 
-// Reads a word between a probe and a check of its lock, which must find the same free lock word,
-// of a version of at most the read version.
+/// Reads a word between a probe and a check of its lock, which must find the same free lock word,
+/// of a version of at most the read version.
 #[inline]
 pub(crate) fn read_word<L: Law, R: Allocator>(
     region: &Region<L, R>,

@@ -7,8 +7,8 @@ use std::snapshot::Snapshot;
 use stm_region::{Client, Region};
 use stm_words::Law;
 
-// Some fitting image of this size agrees with what the client had read. It has no bytes: a ghost
-// field of the attempt itself cannot speak of the law, since the attempt refers to a region.
+/// Some fitting image of this size agrees with what the client had read. It has no bytes: a ghost
+/// field of the attempt itself cannot speak of the law, since the attempt refers to a region.
 #[derive(Drop)]
 pub(crate) struct Standing<L: Law> {
     pub(crate) size: Snapshot<usize>,

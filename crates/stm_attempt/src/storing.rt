@@ -12,7 +12,7 @@ use stm_logs::WriteLog;
 use stm_region::{Client, Region};
 use stm_words::Law;
 
-// Stores the values of the addresses of one lock.
+/// Stores the values of the addresses of one lock.
 fn store_words<L: Law, R: Allocator, A: Allocator + Copy>(
     region: &Region<L, R>,
     client: &mut Client<L>,
@@ -34,7 +34,7 @@ fn store_words<L: Law, R: Allocator, A: Allocator + Copy>(
     }
 }
 
-// Stores all written values.
+/// Stores all written values.
 pub(crate) fn store_all<L: Law, R: Allocator, A: Allocator + Copy>(
     region: &Region<L, R>,
     client: &mut Client<L>,
@@ -52,7 +52,7 @@ pub(crate) fn store_all<L: Law, R: Allocator, A: Allocator + Copy>(
     }
 }
 
-// Releases all locks with the write version.
+/// Releases all locks with the write version.
 pub(crate) fn release_all<L: Law, R: Allocator, A: Allocator + Copy>(
     region: &Region<L, R>,
     client: &mut Client<L>,

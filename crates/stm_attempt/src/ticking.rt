@@ -16,7 +16,7 @@ use stm_logs::WriteLog;
 use stm_region::{Client, Region};
 use stm_words::{Law, Tag, Version};
 
-// How often a commit tries to tick the clock.
+/// How often a commit tries to tick the clock.
 const TICKS: u32 = 16;
 
 #[inline]
@@ -30,7 +30,7 @@ fn as_version(number: u64) -> Version
     version
 }
 
-// Ticks the clock from the read version, and after each loss from the version found.
+/// Ticks the clock from the read version, and after each loss from the version found.
 pub(crate) fn tick<L: Law, R: Allocator, A: Allocator + Copy, T: Tag>(
     region: &Region<L, R>,
     client: &mut Client<L>,

@@ -17,8 +17,8 @@ use stm_logs::WriteLog;
 use stm_region::{Client, Region};
 use stm_words::{Law, LockWord, Version};
 
-// Validates the lock of a read word: it must be free or the client's own, with a version of at
-// most the read version.
+/// Validates the lock of a read word: it must be free or the client's own, with a version of at
+/// most the read version.
 fn validate_lock<L: Law, R: Allocator, A: Allocator + Copy>(
     region: &Region<L, R>,
     client: &mut Client<L>,
@@ -50,7 +50,7 @@ fn validate_lock<L: Law, R: Allocator, A: Allocator + Copy>(
     Ok(())
 }
 
-// Validates the lock of each read word. The last one decides the attempt.
+/// Validates the lock of each read word. The last one decides the attempt.
 pub(crate) fn validate_reads<L: Law, R: Allocator, A: Allocator + Copy>(
     region: &Region<L, R>,
     client: &mut Client<L>,

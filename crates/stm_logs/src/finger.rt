@@ -52,7 +52,7 @@ fn widths_of(parent: usize, len: usize) -> Widths
     }
 }
 
-// The place of the finger of the numbers in so many steps of a width.
+/// The place of the finger of the numbers in so many steps of a width.
 #[inline]
 fn place(scale: u64, parent: usize, step: u64, len: usize) -> usize
     requires some { 0 < len }
@@ -65,8 +65,8 @@ fn place(scale: u64, parent: usize, step: u64, len: usize) -> usize
     start(true, mixed as u32, len)
 }
 
-// The node of the finger at a place, if it lies between a node below the number and the number,
-// and not further before it than its width lets expect.
+/// The node of the finger at a place, if it lies between a node below the number and the number,
+/// and not further before it than its width lets expect.
 #[inline]
 fn nearer_at<A: Allocator>(
     nodes: &Nodes<A>,
@@ -97,7 +97,7 @@ fn nearer_at<A: Allocator>(
     finger
 }
 
-// The nearest node of the fingers of a number and of those before it.
+/// The nearest node of the fingers of a number and of those before it.
 #[inline]
 fn nearer_by<A: Allocator>(
     nodes: &Nodes<A>,
@@ -177,7 +177,7 @@ fn set_finger<A: Allocator>(nodes: &mut Nodes<A>, place: usize, e: usize)
     );
 }
 
-// Points the finger of one scale.
+/// Points the finger of one scale.
 #[inline]
 fn point_at<A: Allocator>(
     nodes: &mut Nodes<A>,

@@ -33,7 +33,7 @@ fn has_key(node: &Node, is_lock: bool, number: u32) -> bool
     node.number == number && (node.parent == 0) == is_lock
 }
 
-// The next place, and behind the last the first.
+/// The next place, and behind the last the first.
 #[inline]
 fn behind(place: usize, len: usize) -> usize
     requires { place < len }

@@ -60,8 +60,8 @@ fn set_recent<A: Allocator>(nodes: &mut Nodes<A>, e: usize, recent: usize)
     );
 }
 
-// A child of the parent with a smaller number, to walk on from: the last that was chained, or the
-// first. 0 where the number comes before them all.
+/// A child of the parent with a smaller number, to walk on from: the last that was chained, or the
+/// first. 0 where the number comes before them all.
 #[inline]
 fn start<A: Allocator>(nodes: &Nodes<A>, parent: usize, number: u32) -> usize
     requires tree { IsTree nodes.now.list nodes.now.count }
@@ -82,7 +82,7 @@ fn start<A: Allocator>(nodes: &Nodes<A>, parent: usize, number: u32) -> usize
     }
 }
 
-// From a child with a smaller number, the last child with a smaller number.
+/// From a child with a smaller number, the last child with a smaller number.
 #[inline]
 fn walk<A: Allocator>(nodes: &Nodes<A>, parent: usize, start: usize, number: u32) -> usize
     requires tree { IsTree nodes.now.list nodes.now.count }
@@ -125,7 +125,7 @@ pub(crate) fn link<A: Allocator>(nodes: &mut Nodes<A>, parent: usize)
     }
 }
 
-// Whether no number of the chain behind a node is below the given one.
+/// Whether no number of the chain behind a node is below the given one.
 #[inline]
 fn comes_next<A: Allocator>(nodes: &Nodes<A>, before: usize, number: u32) -> bool
     requires tree { IsTree nodes.now.list nodes.now.count }
@@ -138,7 +138,7 @@ fn comes_next<A: Allocator>(nodes: &Nodes<A>, before: usize, number: u32) -> boo
     next == 0 || number <= nodes.get(next).number
 }
 
-// Chains a child behind one that may be far before it.
+/// Chains a child behind one that may be far before it.
 #[cold]
 fn link_far<A: Allocator>(nodes: &mut Nodes<A>, parent: usize, start: usize, child: usize)
     requires waits { IsWaiting nodes.old.list nodes.old.count parent }

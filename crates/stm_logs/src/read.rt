@@ -134,7 +134,7 @@ impl<A: Allocator + Copy> ReadLog<A> {
     }
 }
 
-// Room for one address more than `len`.
+/// Room for one address more than `len`.
 #[inline]
 fn make_room<A: Allocator + Copy>(
     alloc: A,
@@ -150,7 +150,7 @@ fn make_room<A: Allocator + Copy>(
     Ok(())
 }
 
-// Appends a chunk.
+/// Appends a chunk.
 #[cold]
 fn grow<A: Allocator + Copy>(alloc: A, chunks: &mut Vec<Chunk<A>, A>) -> Result<(), AllocError>
     requires { HasRoom chunks.old.items (1024 * length chunks.old.items) }

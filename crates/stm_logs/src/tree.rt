@@ -141,7 +141,7 @@ impl<A: Allocator + Copy> Tree<A> {
     }
 }
 
-// The first word of a lock, or 0.
+/// The first word of a lock, or 0.
 #[inline]
 fn first_word<A: Allocator>(nodes: &Nodes<A>, lock: u32) -> usize
     requires { IsLog nodes.now.list nodes.now.count }
@@ -155,7 +155,7 @@ fn first_word<A: Allocator>(nodes: &Nodes<A>, lock: u32) -> usize
     nodes.get(there).first as usize
 }
 
-// Takes the nodes out of the index, and leaves the root alone.
+/// Takes the nodes out of the index, and leaves the root alone.
 #[inline]
 fn clear_nodes<A: Allocator>(nodes: &mut Nodes<A>)
     requires { IsLog nodes.old.list nodes.old.count }
@@ -187,7 +187,7 @@ fn set_free<A: Allocator>(nodes: &mut Nodes<A>, place: usize)
     nodes.put(place, Node { slot: 0, ..node });
 }
 
-// Puts a word that is not there at its free place of the index, where memory is not refused.
+/// Puts a word that is not there at its free place of the index, where memory is not refused.
 #[inline]
 fn put_new<A: Allocator + Copy>(
     nodes: &mut Nodes<A>,
@@ -208,7 +208,7 @@ fn put_new<A: Allocator + Copy>(
     Ok(())
 }
 
-// Puts a word that is not there into a block that grows for it.
+/// Puts a word that is not there into a block that grows for it.
 #[cold]
 fn put_grown<A: Allocator + Copy>(
     nodes: &mut Nodes<A>,
@@ -226,7 +226,7 @@ fn put_grown<A: Allocator + Copy>(
     Ok(())
 }
 
-// Puts a word that is not there, where there is room for it and its lock.
+/// Puts a word that is not there, where there is room for it and its lock.
 fn put_roomy<A: Allocator>(nodes: &mut Nodes<A>, place: usize, number: u32, lock: u32, value: u64)
     requires log { IsLog nodes.old.list nodes.old.count }
     requires room { nodes.old.count + 2 < length nodes.old.list }
@@ -239,7 +239,7 @@ fn put_roomy<A: Allocator>(nodes: &mut Nodes<A>, place: usize, number: u32, lock
     add(nodes, place, parent, number, value);
 }
 
-// The place of the index where a word enters, which is the given one if that is free.
+/// The place of the index where a word enters, which is the given one if that is free.
 #[inline]
 fn place_of_word<A: Allocator>(nodes: &Nodes<A>, place: usize, number: u32) -> usize
     requires indexed { IsIndexed nodes.now.list nodes.now.count }
@@ -255,7 +255,7 @@ fn place_of_word<A: Allocator>(nodes: &Nodes<A>, place: usize, number: u32) -> u
     }
 }
 
-// The node of a lock, which enters where it is not there.
+/// The node of a lock, which enters where it is not there.
 #[inline]
 fn lock_node<A: Allocator>(nodes: &mut Nodes<A>, lock: u32) -> usize
     requires log { IsLog nodes.old.list nodes.old.count }
@@ -271,7 +271,7 @@ fn lock_node<A: Allocator>(nodes: &mut Nodes<A>, lock: u32) -> usize
     nodes.count()
 }
 
-// A node enters below its parent, and at its place of the index.
+/// A node enters below its parent, and at its place of the index.
 #[inline]
 fn add<A: Allocator>(nodes: &mut Nodes<A>, place: usize, parent: usize, number: u32, value: u64)
     requires ready { IsReady nodes.old.list nodes.old.count }

@@ -19,7 +19,7 @@ use stm_logs::WriteLog;
 use stm_words::{Law, Tag};
 
 impl<L: Law, A: Allocator> Region<L, A> {
-    // A load. The number, a lock or an address, is for the proof alone.
+    /// A load. The number, a lock or an address, is for the proof alone.
     #[inline]
     pub(crate) fn load_as<T: Acting>(
         &self,
@@ -42,7 +42,7 @@ impl<L: Law, A: Allocator> Region<L, A> {
         self.table.shared.load::<Acts<L, T>>(seat, word)
     }
 
-    // A compare-and-exchange from a word to the next.
+    /// A compare-and-exchange from a word to the next.
     #[inline]
     pub(crate) fn exchange_as<T: Acting>(
         &self,
@@ -69,7 +69,7 @@ impl<L: Law, A: Allocator> Region<L, A> {
             .compare_exchange::<Acts<L, T>>(seat, word, from, from + 1)
     }
 
-    // A store.
+    /// A store.
     #[inline]
     pub(crate) fn store_as<T: Acting>(
         &self,
@@ -92,7 +92,7 @@ impl<L: Law, A: Allocator> Region<L, A> {
         self.table.shared.store::<Acts<L, T>>(seat, word, new)
     }
 
-    // A held lock word less 1 is the free word of its version.
+    /// A held lock word less 1 is the free word of its version.
     #[inline]
     pub(crate) fn give_back_as<T: Acting>(
         &self,
@@ -114,7 +114,7 @@ impl<L: Law, A: Allocator> Region<L, A> {
         self.table.shared.fetch_sub::<Acts<L, T>>(seat, word, 1);
     }
 
-    // The tick of a record with this tag and these writes.
+    /// The tick of a record with this tag and these writes.
     #[inline]
     pub(crate) fn tick_as<S: Acting, T: Tag, B: Allocator + Copy>(
         &self,
@@ -138,7 +138,7 @@ impl<L: Law, A: Allocator> Region<L, A> {
         self.exchange_as::<S>(seat, CLOCK, from, 0)
     }
 
-    // The load that ends an attempt with this tag.
+    /// The load that ends an attempt with this tag.
     #[inline]
     pub(crate) fn finish_as<S: Acting, T: Tag>(&self, seat: &mut Seat<(), View>, tag: &T) -> u64
         requires told { S.region ≡ self.now }

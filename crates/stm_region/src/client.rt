@@ -41,7 +41,7 @@ impl<L: Law> Model for Client<L> {
 }
 
 impl<L: Law> Client<L> {
-    // A client that has made no step, with so many grants.
+    /// A client that has made no step, with so many grants.
     pub(crate) fn of_seat(seat: Seat<(), View>, grants: u64) -> Client<L>
         requires none { (seat.me.1 ≡ []) × (seat.me.0.attempt.wv ≡ 0)
             × (seat.me.0.attempt.last ≡ nothing) }
@@ -58,7 +58,7 @@ impl<L: Law> Client<L> {
         }
     }
 
-    // The seat, and the number of grants.
+    /// The seat, and the number of grants.
     pub(crate) fn into_parts(self) -> (Seat<(), View>, u64)
         ensures seat { (result.0.table_id ≡ self.table) × (result.0.me ≡ (self.value, [])) }
         ensures grants { (result.1 ≡ self.value.grants) × (result.1 ≤ MOST_GRANTS) }

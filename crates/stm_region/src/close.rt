@@ -14,7 +14,7 @@ use atomic_table::Closed;
 use std::alloc::Allocator;
 use stm_words::{Law, Version};
 
-// There is room.
+/// There is room.
 fn push<A: Allocator>(words: &mut Vec<u64, A>, word: u64)
     requires { vec_len words.old < vec_capacity words.old }
     ensures items { words.new.items ≡ words.old.items ++ word ∷ [] }
@@ -25,7 +25,7 @@ fn push<A: Allocator>(words: &mut Vec<u64, A>, word: u64)
     }
 }
 
-// The clock, and the words from a place on.
+/// The clock, and the words from a place on.
 fn unload<A: Allocator, B: Allocator>(
     closed: &Closed<(), A>,
     from: usize,
@@ -74,7 +74,7 @@ impl<L: Law, A: Allocator> Region<L, A> {
         Ok((words, version))
     }
 
-    // The words go into a vector that has room for them.
+    /// The words go into a vector that has room for them.
     pub(crate) fn take_out<B: Allocator>(
         self,
         client: Client<L>,

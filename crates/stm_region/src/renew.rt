@@ -27,7 +27,7 @@ pub enum RenewFault<L: Law, A: Allocator = Global> {
     Closed(Vec<u64, A>, Version),
 }
 
-// The words of a region's first opening, for the proof alone.
+/// The words of a region's first opening, for the proof alone.
 pub struct FirstWords;
 
 impl<L: Law, A: Allocator> Names<Region<L, A>> for FirstWords {
@@ -35,7 +35,7 @@ impl<L: Law, A: Allocator> Names<Region<L, A>> for FirstWords {
 }
 
 impl<L: Law, A: Allocator> Region<L, A> {
-    // The first reason against a renewal, beside memory.
+    /// The first reason against a renewal, beside memory.
     fn renewal_fault(&self, client: &Client<L>, last: u64) -> Option<RegionFault>
         ensures none { result ≡ None → MayRenew self.now.renewal last client.now.value.grants }
         ensures some { IfSome result (λ fault.

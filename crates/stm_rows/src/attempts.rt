@@ -11,8 +11,8 @@ pub(crate) fn version(number: u64) -> Result<Version, Fail> {
     Ok(Version::new(number).ok_or("it is no version")?)
 }
 
-// One attempt that writes a word. Its client then knows the version that it answers, and no later
-// one.
+/// One attempt that writes a word. Its client then knows the version that it answers, and no later
+/// one.
 pub(crate) fn write_one(
     region: &Region<FreeLaw>,
     client: &mut Client<FreeLaw>,
@@ -37,7 +37,7 @@ pub(crate) fn write_one(
     }
 }
 
-// One attempt that reads a word.
+/// One attempt that reads a word.
 pub(crate) fn read_one(
     region: &Region<FreeLaw>,
     client: &mut Client<FreeLaw>,

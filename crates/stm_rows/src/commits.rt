@@ -7,7 +7,7 @@ use stm_attempt::{Attempt, Conflict, Logs, NoGate, ReadAttempt, Stop};
 use stm_region::Region;
 use stm_words::{Addr, FreeLaw, TxMem, TxRead};
 
-// The sum of two words.
+/// The sum of two words.
 fn sum_of<M: TxRead>(memory: &mut M, first: Addr, second: Addr) -> Result<u64, M::Stop>
     requires first { first.0 < (M.view memory.old).size }
     requires second { second.0 < (M.view memory.old).size }

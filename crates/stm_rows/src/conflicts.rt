@@ -8,7 +8,7 @@ use stm_attempt::{Attempt, Conflict, Logs, NoGate, Stop};
 use stm_region::{Client, Region};
 use stm_words::{Addr, FreeLaw, TxMem, TxRead, Version};
 
-// Reads word 9 and writes a word, while the other client writes 1 to word 9.
+/// Reads word 9 and writes a word, while the other client writes 1 to word 9.
 fn write_beside_a_commit(
     region: &Region<FreeLaw>,
     client: &mut Client<FreeLaw>,
@@ -34,8 +34,8 @@ fn write_beside_a_commit(
     Ok(committed)
 }
 
-// The word that was read has a version above the read version, be its lock free or the client's
-// own.
+/// The word that was read has a version above the read version, be its lock free or the client's
+/// own.
 #[test]
 fn a_validation_meets_a_newer_version(rt: HostRuntime) -> Result<(), Fail> {
     let alloc = rt.alloc();
@@ -70,8 +70,8 @@ fn a_validation_meets_a_newer_version(rt: HostRuntime) -> Result<(), Fail> {
     Ok(())
 }
 
-// The other one has made the last version, which the first tick finds; no validation comes after
-// it.
+/// The other one has made the last version, which the first tick finds; no validation comes after
+/// it.
 #[test]
 fn a_lost_tick_finds_the_clock_spent(rt: HostRuntime) -> Result<(), Fail> {
     let alloc = rt.alloc();

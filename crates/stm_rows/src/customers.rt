@@ -22,7 +22,7 @@ const BOOKING: Block = Block(Addr(32));
 
 const FLIGHT: u32 = 7;
 
-// A customer who books three units at 50.
+/// A customer who books three units at 50.
 fn make_customer<M: TxMem>(memory: &mut M) -> Result<(), M::Stop>
     requires sized { Holds (λ m n. IsSized m n) 96 (M.view memory.old) }
     ensures origin { M.origin memory.new ≡ M.origin memory.old }
@@ -33,7 +33,7 @@ fn make_customer<M: TxMem>(memory: &mut M) -> Result<(), M::Stop>
     Ok(())
 }
 
-// The bill, and then two units more at 80.
+/// The bill, and then two units more at 80.
 fn bill_and_extend<M: TxMem>(memory: &mut M) -> Result<u64, M::Stop>
     requires booking { HasOneBooking (M.view memory.old) flight_key 3 150 }
     ensures origin { M.origin memory.new ≡ M.origin memory.old }
@@ -44,7 +44,7 @@ fn bill_and_extend<M: TxMem>(memory: &mut M) -> Result<u64, M::Stop>
     Ok(total)
 }
 
-// The booking, and its numbers one by one.
+/// The booking, and its numbers one by one.
 fn read_booking<M: TxMem>(memory: &mut M) -> Result<(Booking, [u64; 2]), M::Stop>
     requires booking { HasOneBooking (M.view memory.old) flight_key 5 310 }
     ensures origin { M.origin memory.new ≡ M.origin memory.old }
@@ -58,7 +58,7 @@ fn read_booking<M: TxMem>(memory: &mut M) -> Result<(Booking, [u64; 2]), M::Stop
 
 type Gone = (Option<Block>, u64, Option<(Block, u64)>);
 
-// The booking's block, the bill, and the block and the units of the booking that goes.
+/// The booking's block, the bill, and the block and the units of the booking that goes.
 fn bill_and_unbook<M: TxMem>(memory: &mut M) -> Result<Gone, M::Stop>
     requires booking { HasOneBooking (M.view memory.old) flight_key 5 310 }
     ensures origin { M.origin memory.new ≡ M.origin memory.old }

@@ -11,7 +11,7 @@ use stm_words::{Addr, FreeLaw, TxMem, TxRead, Version};
 
 type Answer = Result<Version, Stop>;
 
-// Keeps the points that it is told.
+/// Keeps the points that it is told.
 #[derive(Drop)]
 struct Told {
     points: [Option<Point>; 6],
@@ -82,8 +82,8 @@ fn gates_are_told_each_point(rt: HostRuntime) -> Result<(), Fail> {
     Ok(())
 }
 
-// Reads word 9, writes word 10 and commits under the gate, while the other client writes to word 9
-// after the read.
+/// Reads word 9, writes word 10 and commits under the gate, while the other client writes to word 9
+/// after the read.
 fn commit_after_a_newer_write<G: Gate>(
     region: &Region<FreeLaw>,
     client: &mut Client<FreeLaw>,
@@ -110,8 +110,8 @@ fn commit_after_a_newer_write<G: Gate>(
     }
 }
 
-// Reads word 9 and commits under the gate, where the other client has written to word 9 since the
-// attempt began.
+/// Reads word 9 and commits under the gate, where the other client has written to word 9 since the
+/// attempt began.
 fn commit_after_a_stopped_read<G: Gate>(
     region: &Region<FreeLaw>,
     client: &mut Client<FreeLaw>,
@@ -138,7 +138,7 @@ fn commit_after_a_stopped_read<G: Gate>(
     }
 }
 
-// The word that was read is newer than the read version.
+/// The word that was read is newer than the read version.
 fn newer() -> Result<Stop, Fail> {
     Ok(Stop::Conflict(Conflict::Newer {
         lock: 9,
@@ -209,7 +209,7 @@ fn nothing_is_told_where_a_read_was_stopped(rt: HostRuntime) -> Result<(), Fail>
     Ok(())
 }
 
-// The other client has made the last version.
+/// The other client has made the last version.
 #[test]
 fn no_tick_is_told_where_the_clock_is_spent(rt: HostRuntime) -> Result<(), Fail> {
     let alloc = rt.alloc();
@@ -237,14 +237,14 @@ fn no_tick_is_told_where_the_clock_is_spent(rt: HostRuntime) -> Result<(), Fail>
     Ok(())
 }
 
-// Another client's attempt, which has not ended.
+/// Another client's attempt, which has not ended.
 pub(crate) struct Running<'b> {
     pub(crate) attempt: Attempt<'b, FreeLaw>,
     ghost runs: { attempt.logs.now.in_use ≡ true },
     ghost range: { 9 < attempt.region.now.size },
 }
 
-// Reads word 9 by another client's attempt at one point, and ends that one.
+/// Reads word 9 by another client's attempt at one point, and ends that one.
 struct ReadsAt<'a, 'b> {
     other: Option<Running<'b>>,
     when: Point,
@@ -263,7 +263,7 @@ impl<'a, 'b> Gate for ReadsAt<'a, 'b> {
     }
 }
 
-// Writes 1 to word 9 under the gate.
+/// Writes 1 to word 9 under the gate.
 pub(crate) fn write_under<G: Gate>(
     region: &Region<FreeLaw>,
     client: &mut Client<FreeLaw>,
@@ -286,7 +286,7 @@ pub(crate) fn write_under<G: Gate>(
     }
 }
 
-// What another client's attempt, which began before the commit, reads in word 9 at a point.
+/// What another client's attempt, which began before the commit, reads in word 9 at a point.
 fn read_at(
     region: &Region<FreeLaw>,
     client: &mut Client<FreeLaw>,
@@ -328,7 +328,7 @@ fn read_in_new_region(alloc: Global, when: Point) -> Result<Read, RegionFault> {
     Ok(read_at(&region, &mut a, &mut b, &mut logs_a, &mut logs_b, when))
 }
 
-// The locks are held until all values are stored, and are free when nothing is written yet.
+/// The locks are held until all values are stored, and are free when nothing is written yet.
 #[test]
 fn locks_are_held_from_locked_to_written(rt: HostRuntime) -> Result<(), Fail> {
     let held = Stop::Conflict(Conflict::Held { lock: 9, word: 1 });
@@ -344,7 +344,7 @@ fn locks_are_held_from_locked_to_written(rt: HostRuntime) -> Result<(), Fail> {
     Ok(())
 }
 
-// Commits another client's attempt at one point.
+/// Commits another client's attempt at one point.
 pub(crate) struct CommitsAt<'a, 'b> {
     pub(crate) other: Option<Running<'b>>,
     pub(crate) when: Point,
@@ -361,8 +361,8 @@ impl<'a, 'b> Gate for CommitsAt<'a, 'b> {
     }
 }
 
-// The answers of another client's attempt, which writes word 10 and commits at a point, and of the
-// commit that comes by that point.
+/// The answers of another client's attempt, which writes word 10 and commits at a point, and of the
+/// commit that comes by that point.
 fn commit_at(
     region: &Region<FreeLaw>,
     client: &mut Client<FreeLaw>,
@@ -410,8 +410,8 @@ fn commit_in_new_region(
     Ok(commit_at(&region, &mut a, &mut b, &mut logs_a, &mut logs_b, when))
 }
 
-// The clock is ticked after the locks are taken and before the next point: what commits before the
-// tick has the lower version.
+/// The clock is ticked after the locks are taken and before the next point: what commits before the
+/// tick has the lower version.
 #[test]
 fn the_clock_is_ticked_between_locked_and_ticked(rt: HostRuntime) -> Result<(), Fail> {
     let locked = commit_in_new_region(rt.alloc(), Point::Locked)?;

@@ -15,8 +15,8 @@ use stm_words::{Addr, Flat, Law, TxMem, Version};
 use tx_alloc::place::LISTS;
 use tx_alloc::{Block, fresh_words, give, take};
 
-// An image fits where it is a heap of ten blocks, and a record is lawful where it keeps fitting
-// images that agree with its reads.
+/// An image fits where it is a heap of ten blocks, and a record is lawful where it keeps fitting
+/// images that agree with its reads.
 struct HeapLaw;
 
 impl Law for HeapLaw {
@@ -51,7 +51,7 @@ fn take_block<M: TxMem>(memory: &mut M, start: u32) -> Result<Option<Block>, M::
     Ok(taken)
 }
 
-// One attempt that takes a block.
+/// One attempt that takes a block.
 fn take_and_commit(
     region: &Region<HeapLaw>,
     client: &mut Client<HeapLaw>,
@@ -75,7 +75,7 @@ fn take_and_commit(
     Some((block?, version))
 }
 
-// An attempt that takes a block, while another client takes one and commits.
+/// An attempt that takes a block, while another client takes one and commits.
 fn take_beside_another(
     region: &Region<HeapLaw>,
     client: &mut Client<HeapLaw>,
@@ -103,7 +103,7 @@ fn take_beside_another(
     }
 }
 
-// Neither takes what the other one reads, so that both commit.
+/// Neither takes what the other one reads, so that both commit.
 #[test]
 fn two_clients_take_from_different_lists(rt: HostRuntime) -> Result<(), Fail> {
     let alloc = rt.alloc();
@@ -130,7 +130,7 @@ fn two_clients_take_from_different_lists(rt: HostRuntime) -> Result<(), Fail> {
     Ok(())
 }
 
-// Takes a block and gives it back to another list.
+/// Takes a block and gives it back to another list.
 fn take_and_give<M: TxMem>(memory: &mut M, from: u32, to: u32) -> Result<Option<Block>, M::Stop>
     requires pool { HasPool (M.view memory.old) }
     requires lists { (from < LISTS) × (to < LISTS) }
@@ -147,7 +147,7 @@ fn take_and_give<M: TxMem>(memory: &mut M, from: u32, to: u32) -> Result<Option<
     }
 }
 
-// Moves two blocks to list 7, and takes the first from there.
+/// Moves two blocks to list 7, and takes the first from there.
 fn move_two<M: TxMem>(memory: &mut M) -> Result<[Option<Block>; 3], M::Stop>
     requires pool { HasPool (M.view memory.old) }
     ensures origin { M.origin memory.new ≡ M.origin memory.old }

@@ -12,8 +12,8 @@ use stm_words::{Addr, Flat, Law, TxMem, TxRead};
 use tx_alloc::Block;
 use tx_list::{Key, find, first, insert, next, remove};
 
-// An image fits where its head leads to a list and each block has its key, and a record is lawful
-// where it keeps fitting images that agree with its reads.
+/// An image fits where its head leads to a list and each block has its key, and a record is lawful
+/// where it keeps fitting images that agree with its reads.
 struct ListLaw;
 
 impl Law for ListLaw {
@@ -35,7 +35,7 @@ const IDS: u32 = 40;
 
 const WORDS: usize = 976;
 
-// The block that has this key written from the start.
+/// The block that has this key written from the start.
 fn block_of(key: Key) -> Block
     requires { IsStockKey key }
     ensures { result.0.0 ≡ stock_block (40 * key.kind + key.id) }
@@ -43,7 +43,7 @@ fn block_of(key: Key) -> Block
     Block(Addr(16 + 8 * (IDS * key.kind as u32 + key.id as u32)))
 }
 
-// A word of the memory before the first change.
+/// A word of the memory before the first change.
 fn word_at(place: usize) -> u64
     requires { place < WORDS }
     ensures { result ≡ stock_word place }
@@ -69,7 +69,7 @@ fn stock_words(alloc: Global) -> Result<Vec<u64>, AllocError>
     Ok(words)
 }
 
-// Takes the booking of a key out, or hangs it in where there is none.
+/// Takes the booking of a key out, or hangs it in where there is none.
 fn turn<M: TxMem>(memory: &mut M, key: Key) -> Result<Option<Block>, M::Stop>
     requires stock { HasStock (M.view memory.old) }
     requires key { IsStockKey key }
@@ -96,7 +96,7 @@ fn look<M: TxRead>(memory: &mut M, key: Key) -> Result<Option<Block>, M::Stop>
     Ok(found)
 }
 
-// The first two blocks of the list.
+/// The first two blocks of the list.
 fn first_and_next<M: TxRead>(memory: &mut M) -> Result<[Option<Block>; 2], M::Stop>
     requires stock { HasStock (M.view memory.old) }
     ensures origin { M.origin memory.new ≡ M.origin memory.old }
@@ -118,7 +118,7 @@ const ROOM: Key = Key { kind: 2, id: 39 };
 
 type Answers = ([Option<Block>; 4], [Option<Block>; 2]);
 
-// Hangs in a room and a flight, and takes the room out.
+/// Hangs in a room and a flight, and takes the room out.
 fn change<M: TxMem>(memory: &mut M) -> Result<Answers, M::Stop>
     requires stock { HasStock (M.view memory.old) }
     ensures origin { M.origin memory.new ≡ M.origin memory.old }

@@ -12,7 +12,7 @@ use stm_logs::{ReadLog, WriteLog};
 use stm_region::{Client, Region};
 use stm_words::{Addr, FreeLaw, TxMem, TxRead, Version};
 
-// Pushes addresses until memory is refused. Gives the length of the log.
+/// Pushes addresses until memory is refused. Gives the length of the log.
 fn fill<A: Allocator + Copy>(log: &mut ReadLog<A>) -> usize {
     for addr in 0..100_000 {
         if log.push(Addr(addr)).is_err() {
@@ -22,7 +22,7 @@ fn fill<A: Allocator + Copy>(log: &mut ReadLog<A>) -> usize {
     log.len()
 }
 
-// Room for two chunks: one log has the first, and the other the second.
+/// Room for two chunks: one log has the first, and the other the second.
 #[test]
 fn a_cleared_read_log_keeps_its_chunks(rt: HostRuntime) -> Result<(), Fail> {
     let heap = LocalHeap::new(rt.alloc(), 10_000)?;
@@ -61,7 +61,7 @@ fn put<A: Allocator + Copy>(log: &mut WriteLog<A>, addr: u32) -> bool
     log.put(Addr(addr), addr % 1_000, 7).is_ok()
 }
 
-// Puts so many addresses into the emptied log. Gives how many it took.
+/// Puts so many addresses into the emptied log. Gives how many it took.
 fn put_again<A: Allocator + Copy>(log: &mut WriteLog<A>, count: u32) -> u32
     ensures { IsStriped log.new 1000 }
 {
@@ -74,7 +74,7 @@ fn put_again<A: Allocator + Copy>(log: &mut WriteLog<A>, count: u32) -> u32
     count
 }
 
-// Other logs take what is left of the heap, and nothing more once the log is cleared.
+/// Other logs take what is left of the heap, and nothing more once the log is cleared.
 #[test]
 fn a_cleared_write_log_keeps_its_memory(rt: HostRuntime) -> Result<(), Fail> {
     let heap = LocalHeap::new(rt.alloc(), 20_000)?;
@@ -93,7 +93,7 @@ fn a_cleared_write_log_keeps_its_memory(rt: HostRuntime) -> Result<(), Fail> {
     Ok(())
 }
 
-// One attempt that writes word 9 and reads so many words.
+/// One attempt that writes word 9 and reads so many words.
 fn write_and_read<A: Allocator + Copy>(
     region: &Region<FreeLaw>,
     client: &mut Client<FreeLaw>,
@@ -138,8 +138,8 @@ fn logs_keep_their_memory_from_attempt_to_attempt(rt: HostRuntime) -> Result<(),
     Ok(())
 }
 
-// An attempt in logs in which an attempt before has read word 3 and written word 9: it reads
-// word 9 and commits.
+/// An attempt in logs in which an attempt before has read word 3 and written word 9: it reads
+/// word 9 and commits.
 fn read_in_used_logs(
     region: &Region<FreeLaw>,
     client: &mut Client<FreeLaw>,
@@ -158,7 +158,7 @@ fn read_in_used_logs(
     (read, committed)
 }
 
-// It writes word 5 and commits, while another client writes word 3: it has read nothing itself.
+/// It writes word 5 and commits, while another client writes word 3: it has read nothing itself.
 fn write_in_used_logs(
     region: &Region<FreeLaw>,
     client: &mut Client<FreeLaw>,

@@ -7,8 +7,8 @@ use stm_attempt::{Attempt, Conflict, Logs, Point, Stop};
 use stm_region::Region;
 use stm_words::{Addr, FreeLaw, TxMem, TxRead};
 
-// Its tick comes between the locks and the tick of the other one, and is the first after its read
-// version: it decides, though the word that it has read is locked.
+/// Its tick comes between the locks and the tick of the other one, and is the first after its read
+/// version: it decides, though the word that it has read is locked.
 #[test]
 fn a_commit_at_locked_decides_by_its_tick(rt: HostRuntime) -> Result<(), Fail> {
     let alloc = rt.alloc();
@@ -44,8 +44,8 @@ fn a_commit_at_locked_decides_by_its_tick(rt: HostRuntime) -> Result<(), Fail> {
     Ok(())
 }
 
-// Another commit came before, so that it must validate the word that it has read, and finds it
-// held.
+/// Another commit came before, so that it must validate the word that it has read, and finds it
+/// held.
 #[test]
 fn a_commit_at_locked_meets_a_held_lock(rt: HostRuntime) -> Result<(), Fail> {
     let alloc = rt.alloc();
@@ -88,8 +88,8 @@ fn a_commit_at_locked_meets_a_held_lock(rt: HostRuntime) -> Result<(), Fail> {
     Ok(())
 }
 
-// It writes the same word, and one below it: it takes that one's lock, finds the other one held,
-// and gives the first back.
+/// It writes the same word, and one below it: it takes that one's lock, finds the other one held,
+/// and gives the first back.
 #[test]
 fn a_commit_at_locked_finds_a_lock_taken(rt: HostRuntime) -> Result<(), Fail> {
     let alloc = rt.alloc();

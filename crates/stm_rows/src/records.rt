@@ -16,8 +16,8 @@ use vac_records::{
 
 const ITEM: Addr = Addr(16);
 
-// An image fits where it has 96 words, and a record is lawful where it keeps fitting images that
-// agree with its reads.
+/// An image fits where it has 96 words, and a record is lawful where it keeps fitting images that
+/// agree with its reads.
 pub(crate) struct SizeLaw;
 
 impl Law for SizeLaw {
@@ -33,7 +33,7 @@ impl Law for SizeLaw {
     ghost keeps = { λ tag image reads writes f a l. l image f a };
 }
 
-// An item of 100 units at 50, of which three are taken away.
+/// An item of 100 units at 50, of which three are taken away.
 fn make_item<M: TxMem>(memory: &mut M) -> Result<(), M::Stop>
     requires node { IsNode (M.view memory.old) 16 }
     ensures origin { M.origin memory.new ≡ M.origin memory.old }
@@ -44,7 +44,7 @@ fn make_item<M: TxMem>(memory: &mut M) -> Result<(), M::Stop>
     Ok(())
 }
 
-// Ten units are booked, and four given back.
+/// Ten units are booked, and four given back.
 fn use_item<M: TxMem>(memory: &mut M) -> Result<(), M::Stop>
     requires item { HasItem (M.view memory.old) 16 0 97 97 50 }
     ensures origin { M.origin memory.new ≡ M.origin memory.old }
@@ -55,7 +55,7 @@ fn use_item<M: TxMem>(memory: &mut M) -> Result<(), M::Stop>
     Ok(())
 }
 
-// Five units more, and another price.
+/// Five units more, and another price.
 fn extend_item<M: TxMem>(memory: &mut M) -> Result<(), M::Stop>
     requires item { HasItem (M.view memory.old) 16 6 91 97 50 }
     ensures origin { M.origin memory.new ≡ M.origin memory.old }
@@ -66,7 +66,7 @@ fn extend_item<M: TxMem>(memory: &mut M) -> Result<(), M::Stop>
     Ok(())
 }
 
-// The item, and its numbers one by one.
+/// The item, and its numbers one by one.
 fn read_item<M: TxRead>(memory: &mut M) -> Result<(Item, [u64; 4]), M::Stop>
     requires node { IsNode (M.view memory.old) 16 }
     ensures origin { M.origin memory.new ≡ M.origin memory.old }

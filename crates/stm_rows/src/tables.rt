@@ -17,8 +17,8 @@ const ROOT: Addr = Addr(3);
 
 const BLOCKS: u32 = 10;
 
-// An image fits where it is a heap of ten blocks with an empty table, and a record is lawful where
-// it keeps fitting images that agree with its reads.
+/// An image fits where it is a heap of ten blocks with an empty table, and a record is lawful where
+/// it keeps fitting images that agree with its reads.
 struct TableLaw;
 
 impl Law for TableLaw {
@@ -33,7 +33,7 @@ impl Law for TableLaw {
     ghost keeps = { λ tag image reads writes f a l. l image f a };
 }
 
-// Ten blocks with different keys below 50, and no table.
+/// Ten blocks with different keys below 50, and no table.
 fn table_words(alloc: Global) -> Result<Vec<u64>, Fail>
     ensures { IfOk result (λ words. IsTableless words.items) }
 {
@@ -52,7 +52,7 @@ fn table_words(alloc: Global) -> Result<Vec<u64>, Fail>
     Ok(words)
 }
 
-// Puts a block under its key. Answers how many entries there are.
+/// Puts a block under its key. Answers how many entries there are.
 fn put<M: TxMem>(memory: &mut M, count: usize, number: u32) -> Result<usize, M::Stop>
     requires table { HoldsTable (M.view memory.old) count }
     ensures origin { M.origin memory.new ≡ M.origin memory.old }
@@ -73,7 +73,7 @@ fn put<M: TxMem>(memory: &mut M, count: usize, number: u32) -> Result<usize, M::
     }
 }
 
-// Takes the entry of a key out. Answers how many entries are left, and the block.
+/// Takes the entry of a key out. Answers how many entries are left, and the block.
 fn cut<M: TxMem>(memory: &mut M, count: usize, key: u64) -> Result<(usize, Option<Block>), M::Stop>
     requires table { HoldsTable (M.view memory.old) count }
     ensures origin { M.origin memory.new ≡ M.origin memory.old }
@@ -86,7 +86,7 @@ fn cut<M: TxMem>(memory: &mut M, count: usize, key: u64) -> Result<(usize, Optio
     }
 }
 
-// The keys of the table in their order, and zeros for those that it lacks.
+/// The keys of the table in their order, and zeros for those that it lacks.
 fn keys<M: TxRead>(memory: &mut M, count: usize) -> Result<[u64; 10], M::Stop>
     requires table { HoldsTable (M.view memory.old) count }
     ensures origin { M.origin memory.new ≡ M.origin memory.old }
@@ -104,7 +104,7 @@ fn keys<M: TxRead>(memory: &mut M, count: usize) -> Result<[u64; 10], M::Stop>
     Ok(keys)
 }
 
-// Puts all blocks under their keys, from the last one on.
+/// Puts all blocks under their keys, from the last one on.
 fn put_all<M: TxMem>(memory: &mut M) -> Result<usize, M::Stop>
     requires table { HoldsTable (M.view memory.old) 0 }
     ensures origin { M.origin memory.new ≡ M.origin memory.old }
@@ -126,7 +126,7 @@ struct Answers {
     rest: [u64; 10],
 }
 
-// Puts all, and takes two keys out, of which the table has one.
+/// Puts all, and takes two keys out, of which the table has one.
 fn change<M: TxMem>(memory: &mut M) -> Result<Answers, M::Stop>
     requires table { HoldsTable (M.view memory.old) 0 }
     ensures origin { M.origin memory.new ≡ M.origin memory.old }

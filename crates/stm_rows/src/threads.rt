@@ -14,7 +14,7 @@ use stm_words::{Addr, FreeLaw, TxMem};
 
 const COMMITS: usize = 2_000;
 
-// A committed attempt: its version, the amount, and the two words with the values written.
+/// A committed attempt: its version, the amount, and the two words with the values written.
 #[derive(Clone, Copy, Debug, PartialEq, Eq, PartialOrd, Ord)]
 struct Move {
     version: u64,
@@ -27,7 +27,7 @@ struct Move {
 
 type Moved = Result<(Client<FreeLaw>, Vec<Move>), AllocError>;
 
-// Moves an amount from one word to another. Gives the values written.
+/// Moves an amount from one word to another. Gives the values written.
 fn move_amount<M: TxMem>(
     memory: &mut M,
     from: Addr,
@@ -44,7 +44,7 @@ fn move_amount<M: TxMem>(
     Ok((left, there))
 }
 
-// One attempt of a move.
+/// One attempt of a move.
 fn try_move(
     region: &Region<FreeLaw>,
     client: &mut Client<FreeLaw>,
@@ -75,7 +75,7 @@ fn try_move(
     })
 }
 
-// Tries moves between 64 words until so many are committed.
+/// Tries moves between 64 words until so many are committed.
 fn move_many(
     alloc: Global,
     region: &Region<FreeLaw>,
@@ -133,7 +133,7 @@ fn two_clients<R: Threads + Sync>(
     )
 }
 
-// The moves in order of version, played one after the other: each found what those before it left.
+/// The moves in order of version, played one after the other: each found what those before it left.
 fn replay(rt: &impl Abort, moves: &[Move]) -> [u64; 64] {
     let mut words = [1_000u64; 64];
     let mut last = 0;

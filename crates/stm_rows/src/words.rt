@@ -3,7 +3,7 @@ ghost use Rattle.std.specs.Prelude.{◌≡◌, ◌≤◌};
 
 use stm_words::{Addr, TxRead};
 
-// Whether the first words are these.
+/// Whether the first words are these.
 pub(crate) fn has_words<M: TxRead>(
     memory: &mut M,
     size: u32,

@@ -59,7 +59,7 @@ pub fn next<M: TxRead>(memory: &mut M, block: Block) -> Result<Option<Block>, M:
     Ok(found)
 }
 
-// What the pointer at a word leads to.
+/// What the pointer at a word leads to.
 fn follow<M: TxRead>(memory: &mut M, link: Addr) -> Result<Option<Block>, M::Stop>
     requires leads { Leads (M.view memory.old) link.0 }
     ensures origin { M.origin memory.new ≡ M.origin memory.old }

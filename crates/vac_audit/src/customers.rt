@@ -9,7 +9,7 @@ use tx_alloc::place::MOST_BLOCKS;
 use vac_records::place::BOOKINGS;
 use vac_records::{sum_at, units_at};
 
-// The root word of the table of customers.
+/// The root word of the table of customers.
 const CUSTOMERS: Addr = Addr(4);
 
 /// How many customers there are, and the units and the sums of their bookings added up.
@@ -21,7 +21,7 @@ pub(crate) struct CustomerSums {
 }
 
 impl CustomerSums {
-    // The sums over both.
+    /// The sums over both.
     fn plus(self, other: CustomerSums) -> CustomerSums
         requires { CustomersFit self other }
         ensures { result ≡ customers_together self other }
@@ -34,7 +34,7 @@ impl CustomerSums {
     }
 }
 
-// The one customer of a block, with all bookings.
+/// The one customer of a block, with all bookings.
 fn sums_of_customer<M: TxRead>(memory: &mut M, customer: Addr) -> Result<CustomerSums, M::Stop>
     requires { CanCount (M.view memory.old) customer.0 }
     ensures origin { M.origin memory.new ≡ M.origin memory.old }

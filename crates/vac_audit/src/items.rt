@@ -35,7 +35,7 @@ impl ItemSums {
     }
 }
 
-// The root word of the table of a kind.
+/// The root word of the table of a kind.
 fn root_of(kind: Kind) -> Addr
     ensures { result.0 ≡ 1 + kind_number kind }
 {
@@ -46,7 +46,7 @@ fn root_of(kind: Kind) -> Addr
     }
 }
 
-// The one item of a block.
+/// The one item of a block.
 fn sums_of_item<M: TxRead>(memory: &mut M, node: Addr) -> Result<ItemSums, M::Stop>
     requires { IsNode (M.view memory.old) node.0 }
     ensures origin { M.origin memory.new ≡ M.origin memory.old }

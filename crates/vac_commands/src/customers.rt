@@ -129,8 +129,8 @@ pub fn drop_customer_at<M: TxMem>(
     Ok(())
 }
 
-// Cancels the customer's first booking until there is none. A customer has no more bookings than
-// there are blocks.
+/// Cancels the customer's first booking until there is none. A customer has no more bookings than
+/// there are blocks.
 fn give_bookings_back<M: TxMem>(
     memory: &mut M,
     id: u32,
@@ -154,7 +154,7 @@ fn give_bookings_back<M: TxMem>(
     Ok(())
 }
 
-// Cancels the customer's first booking, by its block.
+/// Cancels the customer's first booking, by its block.
 fn cancel_first<M: TxMem>(
     memory: &mut M,
     id: u32,
@@ -181,7 +181,7 @@ fn cancel_first<M: TxMem>(
     }
 }
 
-// The item that is booked.
+/// The item that is booked.
 fn place_at<M: TxRead>(memory: &mut M, booking: Block) -> Result<(Kind, u32), M::Stop>
     requires booking { HasBooking (M.view memory.old) booking.0.0 }
     requires room { booking.0.0 + 8 ≤ (M.view memory.old).size }
@@ -194,7 +194,7 @@ fn place_at<M: TxRead>(memory: &mut M, booking: Block) -> Result<(Kind, u32), M:
     Ok((kind_from(number), id as u32))
 }
 
-// The kind of a number, as a booking's words have it.
+/// The kind of a number, as a booking's words have it.
 fn kind_from(number: u64) -> Kind
     ensures { result ≡ kind_of number }
 {
@@ -205,8 +205,8 @@ fn kind_from(number: u64) -> Kind
     }
 }
 
-// Takes a customer without bookings out of the table. The block becomes the first of free list
-// `start`.
+/// Takes a customer without bookings out of the table. The block becomes the first of free list
+/// `start`.
 fn remove_customer<M: TxMem>(memory: &mut M, id: u32, start: u32) -> Result<(), M::Stop>
     requires start { start < 8 }
     requires state { HoldsState (M.view memory.old) }

@@ -56,7 +56,7 @@ pub(crate) fn init_booking<M: TxMem>(
     Ok(())
 }
 
-// The first of the three spare words of a booking's block and of a customer's.
+/// The first of the three spare words of a booking's block and of a customer's.
 pub(crate) const FIRST_SPARE: u32 = 5;
 
 /// The booking of the block.

@@ -161,7 +161,7 @@ fn four_and_another<R: Threads + Sync + Abort>(
     (a, reports)
 }
 
-// A report with one number from before a reservation and one from after it would not be sound.
+/// A report with one number from before a reservation and one from after it would not be sound.
 #[test]
 fn reports_amid_random_tasks(rt: HostRuntime) {
     let alloc = rt.alloc();

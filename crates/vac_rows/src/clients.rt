@@ -88,7 +88,7 @@ fn close_late(rt: &impl Abort, manager: Manager, client: Client, other: Client) 
     (words, version.get())
 }
 
-// The one block is in the list of the first client, and serves both.
+/// The one block is in the list of the first client, and serves both.
 #[test]
 fn one_block_and_two_clients(rt: HostRuntime) {
     let alloc = rt.alloc();
@@ -124,9 +124,9 @@ fn closed_words(rt: &impl Abort, manager: Manager, client: Client) -> Vec<u64>
     words
 }
 
-// The second client's entries take their blocks from the second list, blocks 1 and 9, and then
-// from the next one, which begins with block 2. All that it frees goes to the second list, whose
-// blocks are at last 9, 1 and 2. Block 0, of the first list, is the first client's.
+/// The second client's entries take their blocks from the second list, blocks 1 and 9, and then
+/// from the next one, which begins with block 2. All that it frees goes to the second list, whose
+/// blocks are at last 9, 1 and 2. Block 0, of the first list, is the first client's.
 #[test]
 fn each_client_has_a_list_of_its_own(rt: HostRuntime) {
     let alloc = rt.alloc();
@@ -155,7 +155,7 @@ fn each_client_has_a_list_of_its_own(rt: HostRuntime) {
     assert_eq!(rt; found, [0, 16, 80, 88, 24, 32, 0, 96].map(Some));
 }
 
-// The same of tasks of several commands: an update, a trip and a leave of the second client.
+/// The same of tasks of several commands: an update, a trip and a leave of the second client.
 #[test]
 fn tasks_keep_to_the_list_of_their_client(rt: HostRuntime) {
     let alloc = rt.alloc();
@@ -184,7 +184,7 @@ fn tasks_keep_to_the_list_of_their_client(rt: HostRuntime) {
     assert_eq!(rt; found, [24, 88, 32, 0, 16, 96].map(Some));
 }
 
-// A client that is taken in gives a grant back, to the one that takes it in.
+/// A client that is taken in gives a grant back, to the one that takes it in.
 #[test]
 fn grants_go_with_clients(rt: HostRuntime) {
     let (manager, client) = Manager::new(rt.alloc(), 8, LAST).expect(&rt, "it opens");

@@ -12,8 +12,8 @@ use vac_model::Why::{
     TotalLimit, UnitLimit,
 };
 
-// A missing customer before a missing item; sold out before full; a customer that is there before
-// full; a trip's ask of which nothing is free is found; the bills of the report.
+/// A missing customer before a missing item; sold out before full; a customer that is there before
+/// full; a trip's ask of which nothing is free is found; the bills of the report.
 #[test]
 fn four_blocks(rt: HostRuntime) {
     let script = [
@@ -37,7 +37,7 @@ fn four_blocks(rt: HostRuntime) {
     play(&rt, rt.alloc(), 4, &script);
 }
 
-// Sold out before the limit of a booking, which comes once there are units.
+/// Sold out before the limit of a booking, which comes once there are units.
 #[test]
 fn the_limit_of_a_booking(rt: HostRuntime) {
     let hundred = reserve_command(3, Car, 7, 100);
@@ -55,7 +55,7 @@ fn the_limit_of_a_booking(rt: HostRuntime) {
     play(&rt, rt.alloc(), 3, &script);
 }
 
-// The report counts the units of a booking; a new price leaves what older units cost.
+/// The report counts the units of a booking; a new price leaves what older units cost.
 #[test]
 fn bookings_of_several_units(rt: HostRuntime) {
     let script = [
@@ -77,7 +77,7 @@ fn bookings_of_several_units(rt: HostRuntime) {
     play(&rt, rt.alloc(), 3, &script);
 }
 
-// Whoever drops a customer gives the units of all kinds back.
+/// Whoever drops a customer gives the units of all kinds back.
 #[test]
 fn a_dropped_customer(rt: HostRuntime) {
     let script = [
@@ -103,7 +103,7 @@ fn a_dropped_customer(rt: HostRuntime) {
     play(&rt, rt.alloc(), 7, &script);
 }
 
-// A deletion keeps the price and takes free units alone; of none it is done.
+/// A deletion keeps the price and takes free units alone; of none it is done.
 #[test]
 fn deletions(rt: HostRuntime) {
     let script = [
@@ -147,7 +147,7 @@ fn items_made_and_asked_for(rt: HostRuntime) {
     play(&rt, rt.alloc(), 1024, &script);
 }
 
-// Each item, customer and booking is an entry; want of a count comes before want of a block.
+/// Each item, customer and booking is an entry; want of a count comes before want of a block.
 #[test]
 fn capacities(rt: HostRuntime) {
     let three = [
@@ -174,7 +174,7 @@ fn capacities(rt: HostRuntime) {
     play(&rt, rt.alloc(), 1, &one);
 }
 
-// A refused addition changes neither count nor price.
+/// A refused addition changes neither count nor price.
 #[test]
 fn the_limit_of_a_total(rt: HostRuntime) {
     let million = add_command(Car, 7, 1_000_000, Some(50));

@@ -9,8 +9,8 @@ use vac_model::Reply::{Done, Number};
 use vac_model::Why::{Exists, Full, InUse, NoCustomer, NoItem, NotFree};
 use vac_model::{Command, Joined};
 
-// The first of the dearest is picked, any price beats no pick, and asks that are not found pick
-// nothing; a second trip adds a unit to the booking.
+/// The first of the dearest is picked, any price beats no pick, and asks that are not found pick
+/// nothing; a second trip adds a unit to the booking.
 #[test]
 fn trips_and_leaves(rt: HostRuntime) {
     let first = [pick(1, 50, None), None, None];
@@ -46,8 +46,8 @@ fn trips_and_leaves(rt: HostRuntime) {
     play(&rt, rt.alloc(), 1024, &script);
 }
 
-// The car is reserved before the flight, and the flight before the room, whatever was asked first:
-// with one entry left the car is booked, and with two the flight, too.
+/// The car is reserved before the flight, and the flight before the room, whatever was asked first:
+/// with one entry left the car is booked, and with two the flight, too.
 #[test]
 fn the_order_of_a_trip(rt: HostRuntime) {
     for (blocks, flight, booked, free, billed) in [(5, Some(Full), 1, 2, 10), (6, None, 2, 1, 30)] {
@@ -72,7 +72,7 @@ fn the_order_of_a_trip(rt: HostRuntime) {
     }
 }
 
-// The trip goes on where its customer was not added, and each pick says why it was not booked.
+/// The trip goes on where its customer was not added, and each pick says why it was not booked.
 #[test]
 fn trips_without_room(rt: HostRuntime) {
     for (blocks, joined, why) in [
@@ -90,7 +90,7 @@ fn trips_without_room(rt: HostRuntime) {
     }
 }
 
-// Each refusal of a change is noted, and the changes after it follow.
+/// Each refusal of a change is noted, and the changes after it follow.
 #[test]
 fn updates(rt: HostRuntime) {
     let changes = [
