@@ -4,7 +4,10 @@ use Rattle.std.specs.FinMap.{insert}
 use Rattle.stm_core.specs.Client.{Client}
 use Rattle.stm_logs.specs.Log.{LogValue}
 use Rattle.stm_attempt.specs.declared.conflict.Conflict.{Conflict}
+use Rattle.stm_attempt.specs.declared.conflict.Refusal.{Refusal}
+use Rattle.stm_attempt.specs.declared.conflict.Refusal.TheVariants.{Memory as OutOfMemory, Stopped}
 use Rattle.stm_attempt.specs.declared.conflict.Stop.{Stop}
+use Rattle.stm_attempt.specs.declared.conflict.Stopped as reading
 use Rattle.stm_attempt.specs.declared.conflict.Stop.TheVariants.{Memory, Spent, Conflict as Conflicting}
 use Rattle.stm_attempt.specs.Begun.{HasReadWord}
 use Rattle.stm_attempt.specs.Conflicts.{IsReadConflict}
@@ -16,33 +19,31 @@ IsSpent (Conflicting conflict) = ⊥
 IsSpent (Spent version) = Unit {0}
 
 -- a read showed a conflict, which the attempt keeps, and read nothing
-abbrev pub HasMetOne : (ℕ → ℕ) → ℕ → Client → Client → Option Conflict → Conflict → Type 0
-HasMetOne lk address v v' stopped conflict =
-    IsReadConflict lk address conflict v' × (v'.attempt.reads ≡ v.attempt.reads) ×
-    (v'.attempt.steps ≤ v.attempt.steps + 3) × (stopped ≡ Some conflict)
+abbrev pub HasMetOne : (ℕ → ℕ) → ℕ → Client → Client → Option Conflict → Type 0
+HasMetOne lk address v v' stopped =
+    (conflict : Conflict) × (stopped ≡ Some conflict) × IsReadConflict lk address conflict v' ×
+    (v'.attempt.reads ≡ v.attempt.reads) × (v'.attempt.steps ≤ v.attempt.steps + 3)
 
 -- a read of the region answered a value that entered the reads; or nothing but the log's growth
 -- was refused; or a conflict was shown
 abbrev pub HasReadRegion : (ℕ → ℕ) → ℕ → Client → Client → Option Conflict →
-    Result ℕ Stop → Type 0
+    Result ℕ Refusal → Type 0
 HasReadRegion lk address v v' stopped (Ok x) = HasReadWord v v' address x × (stopped ≡ None)
-HasReadRegion lk address v v' stopped (Err Memory) = (v' ≡ v) × (stopped ≡ None)
-HasReadRegion lk address v v' stopped (Err (Conflicting conflict)) =
-    HasMetOne lk address v v' stopped conflict
-HasReadRegion lk address v v' stopped (Err (Spent version)) = ⊥
+HasReadRegion lk address v v' stopped (Err OutOfMemory) = (v' ≡ v) × (stopped ≡ None)
+HasReadRegion lk address v v' stopped (Err Stopped) = HasMetOne lk address v v' stopped
 
 -- the same of a read that keeps no log
 abbrev pub HasReadOnly : (ℕ → ℕ) → ℕ → Client → Client → Option Conflict →
-    Result ℕ Conflict → Type 0
+    Result ℕ reading.Stopped → Type 0
 HasReadOnly lk address v v' stopped (Ok x) = HasReadWord v v' address x × (stopped ≡ None)
-HasReadOnly lk address v v' stopped (Err conflict) = HasMetOne lk address v v' stopped conflict
+HasReadOnly lk address v v' stopped (Err refused) = HasMetOne lk address v v' stopped
 
 -- a write entered the log, or nothing was done for want of memory
-abbrev pub HasWritten : ℕ → ℕ → ℕ → LogValue → LogValue → Result (Unit {0}) Stop → Type 0
+abbrev pub HasWritten : ℕ → ℕ → ℕ → LogValue → LogValue → Result (Unit {0}) Refusal →
+    Type 0
 HasWritten lock address value w w' (Ok u) = w' ≡ record {
   words = insert w.words address value;
   locks = insert w.locks address lock;
 }
-HasWritten lock address value w w' (Err Memory) = w' ≡ w
-HasWritten lock address value w w' (Err (Conflicting conflict)) = ⊥
-HasWritten lock address value w w' (Err (Spent version)) = ⊥
+HasWritten lock address value w w' (Err OutOfMemory) = w' ≡ w
+HasWritten lock address value w w' (Err Stopped) = ⊥

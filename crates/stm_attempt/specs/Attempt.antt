@@ -13,6 +13,7 @@ use Rattle.stm_attempt.specs.Answers.{HasReadRegion, HasWritten}
 use Rattle.stm_attempt.specs.Committing.{HasCommitted, HasStopped}
 use Rattle.stm_attempt.specs.declared.attempt.Attempt.{Attempt}
 use Rattle.stm_attempt.specs.declared.logs.Logs.{Logs}
+use Rattle.stm_attempt.specs.declared.conflict.Refusal.{Refusal}
 use Rattle.stm_attempt.specs.declared.conflict.Stop.{Stop}
 
 module _ {L R A : Type 0} {l : Law.Ghosts L} where
@@ -54,13 +55,13 @@ module _ {L R A : Type 0} {l : Law.Ghosts L} where
   IsAsBefore s s' = (s'.client.now ≡ s.client.now) × (s'.stopped ≡ s.stopped)
 
   -- a read at an address that it has not written answered this
-  abbrev pub Reads : Attempt L R A l → Attempt L R A l → ℕ → Result ℕ Stop → Type 0
+  abbrev pub Reads : Attempt L R A l → Attempt L R A l → ℕ → Result ℕ Refusal → Type 0
   Reads s s' address result =
       HasReadRegion (lock_of s) address (client_of s) (client_of s') s'.stopped result
 
   -- a write answered this
   abbrev pub Writes : Attempt L R A l → Attempt L R A l → ℕ → ℕ →
-      Result (Unit {0}) Stop → Type 0
+      Result (Unit {0}) Refusal → Type 0
   Writes s s' address x result =
       HasWritten (lock_of s address) address x (log_of s) (log_of s') result
 

@@ -9,7 +9,7 @@ use Rattle.stm_attempt.specs.Begun.{is_unfinished}
 use Rattle.stm_attempt.specs.Meaning.{memory_of, Origin, origin_of}
 use Rattle.stm_attempt.specs.Conflicts.{refused, most_steps}
 use Rattle.stm_attempt.specs.Answers.{HasReadOnly}
-use Rattle.stm_attempt.specs.declared.conflict.Conflict.{Conflict}
+use Rattle.stm_attempt.specs.declared.conflict.Stopped.{Stopped}
 use Rattle.stm_attempt.specs.declared.read_attempt.ReadAttempt.{ReadAttempt}
 
 module _ {L R : Type 0} {l : Law.Ghosts L} where
@@ -38,7 +38,7 @@ module _ {L R : Type 0} {l : Law.Ghosts L} where
   IsAsBefore s s' = (s'.client.now ≡ s.client.now) × (s'.stopped ≡ s.stopped)
 
   -- a read at an address answered this
-  abbrev pub Reads : ReadAttempt L R l → ReadAttempt L R l → ℕ → Result ℕ Conflict → Type 0
+  abbrev pub Reads : ReadAttempt L R l → ReadAttempt L R l → ℕ → Result ℕ Stopped → Type 0
   Reads s s' address result =
       HasReadOnly (lock_of s) address (client_of s) (client_of s') s'.stopped result
 

@@ -9,7 +9,7 @@ ghost use Rattle.stm_attempt.specs.Begun.{AreInside, IsPlaced, IsRunning, IsUnst
 ghost use Rattle.stm_attempt.specs.Conflicts.{HasMet};
 ghost use Rattle.stm_attempt.specs.Meaning.{IsStanding};
 
-use crate::conflict::{Conflict, Stop};
+use crate::conflict::{Conflict, Refusal};
 use crate::logs::Logs;
 use crate::reading::read_word;
 use crate::standing::Standing;
@@ -123,9 +123,9 @@ impl<'a, L: Law, R: Allocator, A: Allocator + Copy> TxRead for Attempt<'a, L, R,
     ghost use Rattle.stm_attempt.specs.Meaning.{Origin, attempt_seen};
     ghost use Rattle.stm_attempt.specs.Attempt.{view, origin, client_of, log_of, written_at, IsAsBefore, Reads};
     ghost use Rattle.stm_attempt.specs.declared.conflict.Conflict.{Conflict};
-    ghost use Rattle.stm_attempt.specs.declared.conflict.Stop.TheVariants.{Memory, Conflict as conflicting};
+    ghost use Rattle.stm_attempt.specs.declared.conflict.Refusal.TheVariants.{Memory, Stopped};
 
-    type Stop = Stop;
+    type Stop = Refusal;
 
     ghost view = { view };
 
@@ -133,14 +133,13 @@ impl<'a, L: Law, R: Allocator, A: Allocator + Copy> TxRead for Attempt<'a, L, R,
 
     ghost origin = { origin };
 
-    ghost stopped_for = { λ s stop. (conflict : Conflict) → stop ≡ conflicting conflict
-        → s.stopped ≡ Some conflict };
+    ghost stopped_for = { λ s stop. stop ≡ Stopped → s.stopped ≢ None };
 
     /// The attempt's own write of this address, or a value that a probe and a check of its lock
     /// enclose, with equal words, and which enters the reads. The probe answers `Held` before
     /// `Newer`, the check `Moved` where it differs.
     #[inline]
-    fn read(&mut self, addr: Addr) -> Result<u64, Stop>
+    fn read(&mut self, addr: Addr) -> Result<u64, Refusal>
         requires { addr.0 < (view self.old).size }
         ensures origin { origin self.new ≡ origin self.old }
         ensures frame { SameFrame (view self.old) (view self.new) }
@@ -148,11 +147,10 @@ impl<'a, L: Law, R: Allocator, A: Allocator + Copy> TxRead for Attempt<'a, L, R,
         ensures answer { MatchResult result
             (λ v. HasRead (view self.old) (view self.new) addr.0 v)
             (λ _. (view self.new).reads ≡ (view self.old).reads) }
-        ensures stopped { IfErr result (λ stop. (conflict : Conflict)
-            → stop ≡ conflicting conflict → self.new.stopped ≡ Some conflict) }
+        ensures stopped { IfErr result (λ stop. stop ≡ Stopped → self.new.stopped ≢ None) }
         ensures log { log_of self.new ≡ log_of self.old }
         ensures again { (conflict : Conflict) → self.old.stopped ≡ Some conflict →
-            (result ≡ Err (conflicting conflict)) × IsAsBefore self.old self.new }
+            (result ≡ Err Stopped) × IsAsBefore self.old self.new }
         ensures own { self.old.stopped ≡ None → (v : ℕ) → written_at self.old addr.0 ≡ Some v →
             (result ≡ Ok v) × IsAsBefore self.old self.new }
         ensures lone { (client_of self.old).attempt.lone ≡ true
@@ -160,8 +158,8 @@ impl<'a, L: Law, R: Allocator, A: Allocator + Copy> TxRead for Attempt<'a, L, R,
         ensures region { self.old.stopped ≡ None → written_at self.old addr.0 ≡ None →
             Reads self.old self.new addr.0 result }
     {
-        if let Some(conflict) = self.stopped {
-            return Err(Stop::Conflict(conflict));
+        if self.stopped.is_some() {
+            return Err(Refusal::Stopped);
         }
         if let Some(value) = own_write(&self.logs.writes, addr) {
             return Ok(value);
@@ -173,9 +171,8 @@ impl<'a, L: Law, R: Allocator, A: Allocator + Copy> TxRead for Attempt<'a, L, R,
                 Ok(value)
             }
             Err(conflict) => {
-                let shown = conflict;
-                self.stopped = Some(shown);
-                Err(Stop::Conflict(conflict))
+                self.stopped = Some(conflict);
+                Err(Refusal::Stopped)
             }
         }
     }
@@ -191,11 +188,11 @@ impl<'a, L: Law, R: Allocator, A: Allocator + Copy> TxMem for Attempt<'a, L, R, 
     ghost use Rattle.stm_words.specs.View.{SameFrame};
     ghost use Rattle.stm_attempt.specs.Attempt.{view, origin, log_of, written_at, IsAsBefore, Writes};
     ghost use Rattle.stm_attempt.specs.declared.conflict.Conflict.{Conflict};
-    ghost use Rattle.stm_attempt.specs.declared.conflict.Stop.TheVariants.{Conflict as conflicting};
+    ghost use Rattle.stm_attempt.specs.declared.conflict.Refusal.TheVariants.{Stopped};
 
     /// Puts the value into the write log.
     #[inline]
-    fn write(&mut self, addr: Addr, value: u64) -> Result<(), Stop>
+    fn write(&mut self, addr: Addr, value: u64) -> Result<(), Refusal>
         requires { addr.0 < (view self.old).size }
         ensures origin { origin self.new ≡ origin self.old }
         ensures frame { SameFrame (view self.old) (view self.new) }
@@ -205,12 +202,12 @@ impl<'a, L: Law, R: Allocator, A: Allocator + Copy> TxMem for Attempt<'a, L, R, 
             (λ _. (view self.new).writes ≡ (view self.old).writes) }
         ensures client { IsAsBefore self.old self.new }
         ensures again { (conflict : Conflict) → self.old.stopped ≡ Some conflict →
-            (result ≡ Err (conflicting conflict)) × (log_of self.new ≡ log_of self.old) }
+            (result ≡ Err Stopped) × (log_of self.new ≡ log_of self.old) }
         ensures log { self.old.stopped ≡ None → Writes self.old self.new addr.0 value result }
         ensures there { self.old.stopped ≡ None → written_at self.old addr.0 ≢ None → IsOk result }
     {
-        if let Some(conflict) = self.stopped {
-            return Err(Stop::Conflict(conflict));
+        if self.stopped.is_some() {
+            return Err(Refusal::Stopped);
         }
         let lock = self.region.lock_of(addr);
         self.logs.writes.put(addr, lock, value)?;

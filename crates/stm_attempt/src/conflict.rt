@@ -1,6 +1,7 @@
 //! Why a transaction stopped.
 ghost use Rattle.std.specs.Prelude.{◌≡◌};
 ghost use Rattle.stm_attempt.specs.declared.conflict.Stop.TheVariants.{Memory};
+ghost use Rattle.stm_attempt.specs.declared.conflict.Refusal.TheVariants.{Memory as OutOfMemory};
 
 use std::alloc::AllocError;
 use stm_words::Version;
@@ -36,7 +37,29 @@ pub enum Conflict {
     },
 }
 
-/// Why a read, a write or a commit was refused.
+/// Why a read or a write was refused. It has one byte, so that an answer travels in registers.
+#[derive(Clone, Copy, Debug, PartialEq, Eq)]
+pub enum Refusal {
+    /// A log could not grow. The attempt is as it was, and may go on.
+    Memory,
+    /// The attempt has met a conflict, which `stopped` tells, and can only end.
+    Stopped,
+}
+
+impl From<AllocError> for Refusal {
+    ghost from_gives = { λ _ refusal. refusal ≡ OutOfMemory };
+
+    fn from(_error: AllocError) -> Refusal {
+        Refusal::Memory
+    }
+}
+
+/// Why a read of an attempt that only reads was refused: it has met a conflict, which `stopped`
+/// tells, and can only end.
+#[derive(Clone, Copy, Debug, PartialEq, Eq)]
+pub struct Stopped;
+
+/// Why a commit was refused.
 #[derive(Clone, Copy, Debug, PartialEq, Eq)]
 pub enum Stop {
     /// A log could not grow. The attempt is as it was, and may go on.

@@ -20,7 +20,7 @@ mod ticking;
 mod validating;
 
 pub use attempt::Attempt;
-pub use conflict::{Conflict, Stop};
+pub use conflict::{Conflict, Refusal, Stop, Stopped};
 pub use gate::{Gate, NoGate, Point};
 pub use logs::Logs;
 pub use read_attempt::ReadAttempt;

@@ -8,7 +8,7 @@ ghost use Rattle.stm_attempt.specs.Begun.{IsRunning, IsUnstopped, is_unfinished}
 ghost use Rattle.stm_attempt.specs.Conflicts.{HasMet, most_steps};
 ghost use Rattle.stm_attempt.specs.Meaning.{IsStanding};
 
-use crate::conflict::Conflict;
+use crate::conflict::{Conflict, Stopped};
 use crate::reading::read_word;
 use crate::standing::Standing;
 use std::alloc::{Allocator, Global};
@@ -114,14 +114,14 @@ impl<'a, L: Law, R: Allocator> ReadAttempt<'a, L, R> {
 }
 
 impl<'a, L: Law, R: Allocator> TxRead for ReadAttempt<'a, L, R> {
-    ghost use Rattle.std.specs.Prelude.{◌≡◌, ◌<◌, ℕ, Some, None, Ok, Err, MatchResult, IsOk, IfErr, true};
+    ghost use Rattle.std.specs.Prelude.{◌≡◌, ◌≢◌, ◌<◌, ℕ, Some, None, MatchResult, IsOk, IsErr, IfErr, true};
     ghost use Rattle.stm_words.specs.View.{SameFrame, HasRead};
     ghost use Rattle.stm_logs.specs.Log.{empty_log};
     ghost use Rattle.stm_attempt.specs.Meaning.{Origin, attempt_seen};
     ghost use Rattle.stm_attempt.specs.ReadAttempt.{runs, view, origin, client_of, IsAsBefore, Reads};
     ghost use Rattle.stm_attempt.specs.declared.conflict.Conflict.{Conflict};
 
-    type Stop = Conflict;
+    type Stop = Stopped;
 
     ghost view = { view };
 
@@ -129,12 +129,12 @@ impl<'a, L: Law, R: Allocator> TxRead for ReadAttempt<'a, L, R> {
 
     ghost origin = { origin };
 
-    ghost stopped_for = { λ s conflict. s.stopped ≡ Some conflict };
+    ghost stopped_for = { λ s _. s.stopped ≢ None };
 
     /// A value that a probe and a check of its lock enclose, with equal words, and which enters
     /// the reads. The probe answers `Held` before `Newer`, the check `Moved` where it differs.
     #[inline]
-    fn read(&mut self, addr: Addr) -> Result<u64, Conflict>
+    fn read(&mut self, addr: Addr) -> Result<u64, Stopped>
         requires { addr.0 < (view self.old).size }
         ensures origin { origin self.new ≡ origin self.old }
         ensures frame { SameFrame (view self.old) (view self.new) }
@@ -142,14 +142,14 @@ impl<'a, L: Law, R: Allocator> TxRead for ReadAttempt<'a, L, R> {
         ensures answer { MatchResult result
             (λ v. HasRead (view self.old) (view self.new) addr.0 v)
             (λ _. (view self.new).reads ≡ (view self.old).reads) }
-        ensures stopped { IfErr result (λ conflict. self.new.stopped ≡ Some conflict) }
+        ensures stopped { IfErr result (λ _. self.new.stopped ≢ None) }
         ensures again { (conflict : Conflict) → self.old.stopped ≡ Some conflict →
-            (result ≡ Err conflict) × IsAsBefore self.old self.new }
+            IsErr result × IsAsBefore self.old self.new }
         ensures lone { (client_of self.old).attempt.lone ≡ true → IsOk result }
         ensures region { self.old.stopped ≡ None → Reads self.old self.new addr.0 result }
     {
-        if let Some(conflict) = self.stopped {
-            return Err(conflict);
+        if self.stopped.is_some() {
+            return Err(Stopped);
         }
         match read_word(self.region, self.client, self.rv, addr) {
             Ok(value) => {
@@ -157,9 +157,8 @@ impl<'a, L: Law, R: Allocator> TxRead for ReadAttempt<'a, L, R> {
                 Ok(value)
             }
             Err(conflict) => {
-                let shown = conflict;
-                self.stopped = Some(shown);
-                Err(conflict)
+                self.stopped = Some(conflict);
+                Err(Stopped)
             }
         }
     }
