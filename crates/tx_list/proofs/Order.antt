@@ -2,14 +2,11 @@
 use Rattle.std.proofs.Common.{◌≡◌, inl, inr, ℕ, ◌<◌, ◌^◌, sym, arith}
 use Rattle.std.proofs.lemmas.Bool.{cases_lt}
 use Rattle.std.proofs.lemmas.Cmp.{ranked}
-use Rattle.std.specs.declared.cmp.Ordering.{Ordering}
 use Rattle.std.specs.declared.cmp.Ordering.TheVariants.{Less, Equal, Greater}
 use Rattle.std.specs.Cmp.{nat_cmp_is}
-use Rattle.std.specs.Ordering.{nat_cmp, ordering_then}
+use Rattle.std.specs.Ordering.{nat_cmp}
 use Rattle.tx_list.specs.Bookings.{key_code}
-
-abbrev pub key_cmp : ℕ → ℕ → ℕ → ℕ → Ordering
-key_cmp k i k' i' = ordering_then (nat_cmp k k') (nat_cmp i i')
+use Rattle.tx_list.specs.Search.{key_cmp}
 
 pub less_code : (k i k' i' : ℕ) → i < 2 ^ 32 → key_cmp k i k' i' ≡ Less → key_code k i < key_code k' i'
 less_code k i k' i' small e =

@@ -1,23 +1,22 @@
 -- The search for a key, over every memory that there may be.
-use Rattle.std.proofs.Common.{◌≡◌, ◌≢◌, ℕ, ◌+◌, ◌<◌, ◌≤◌, ◌^◌, List, length, Option, Some, None, refl, ◌∙◌, subst, arith}
+use Rattle.std.proofs.Common.{◌≡◌, ◌≢◌, ℕ, ◌+◌, ◌<◌, ◌≤◌, ◌^◌, List, length, Option, Some, None, refl, sym, ◌∙◌, arith}
+use Rattle.std.specs.declared.cmp.Ordering.{Ordering}
+use Rattle.std.specs.declared.cmp.Ordering.TheVariants.{Less, Equal, Greater}
 use Rattle.stm_words.specs.Seen.{some_le}
 use Rattle.stm_words.specs.View.{View, Sees, Stands, Kept, Loaded}
 use Rattle.tx_alloc.specs.Pool.{IsBlock}
 use Rattle.tx_alloc.specs.declared.pool.Block.{Block}
 use Rattle.tx_alloc.specs.Rows.{Rows}
 use Rattle.tx_alloc.specs.Steps.{mem, kept_none, kept_both, at_start}
-use Rattle.tx_list.specs.Bookings.{key_code, code_of, place_code}
+use Rattle.tx_list.specs.Bookings.{code_of, place_code}
+use Rattle.tx_list.specs.declared.place.TheConstants.{KIND, ID}
 use Rattle.tx_list.specs.declared.key.Key.{Key}
 use Rattle.tx_list.specs.declared.search.Spot.{Spot}
 use Rattle.tx_list.specs.Lists.{IsListAt, HasList}
-use Rattle.tx_list.specs.Search.{HasKey, Sought}
-use Rattle.tx_list.proofs.Trail.{Trail, Ended, trail_start, trail_opened, trail_end, trail_here, trail_past, trail_step}
+use Rattle.tx_list.specs.Search.{Compared, Sought, key_cmp}
+use Rattle.tx_list.proofs.Order.{less_code, equal_code, greater_code}
+use Rattle.tx_list.proofs.Trail.{Trail, Ended, trail_start, trail_opened, trail_end, trail_here, trail_past, trail_step, trail_lower}
 use Rattle.tx_list.proofs.Reading.{Inside}
-
--- one more than the code of the last booking that was passed
-abbrev pub low_of : Option Key → ℕ
-low_of None = 0
-low_of (Some key) = code_of key + 1
 
 pub record Seeking (s0 s : View) (head key link low : ℕ) : Type 0 where
   pub kept : Kept s0 s
@@ -49,37 +48,30 @@ seek_in s0 s s' head key link low p k has l ne ws =
       small = omega (arith, room, l.kept.size, k.kept.size, has.small);
     }
 
--- the block that was read, and its key
-pub record AtBlock (m : ℕ → ℕ) (link low p kind id : ℕ) : Type 0 where
+-- the block that was read, and how its key stands to the one that is sought
+pub record AtBlock (m : ℕ → ℕ) (link low p : ℕ) (key : Key) (order : Ordering) : Type 0 where
   pub at : m link ≡ p
-  pub is : place_code m p ≡ key_code kind id
-  pub small : id < 2 ^ 32
-  pub above : low ≤ key_code kind id
+  pub small : m (p + ID) < 2 ^ 32
+  pub above : low ≤ place_code m p
+  pub is : order ≡ key_cmp (m (p + KIND)) (m (p + ID)) key.kind key.id
 
-pub seek_at : (s0 s s1 s2 : View) (head key link low p kind id : ℕ) → Seeking s0 s head key link low → Loaded s s1 link p → HasKey s1 s2 p kind id → p ≢ 0 → (image : List ℕ) (rs : Rows) → Sees s2 image → IsListAt (mem s0 image) (length image) head rs → AtBlock (mem s0 image) link low p kind id
-seek_at s0 s s1 s2 head key link low p kind id k l r ne image rs seen h =
+pub seek_at : (s0 s s1 s2 : View) (head : ℕ) (key : Key) (link low p : ℕ) (order : Ordering) → Seeking s0 s head (code_of key) link low → Loaded s s1 link p → Compared s1 s2 p key order → p ≢ 0 → (image : List ℕ) (rs : Rows) → Sees s2 image → IsListAt (mem s0 image) (length image) head rs → AtBlock (mem s0 image) link low p key order
+seek_at s0 s s1 s2 head key link low p order k l r ne image rs seen h =
     let seen1 = r.kept.seen image seen in
     let at = at_start s0 s s1 link p k.writes l image seen1 in
-    let o = trail_opened (mem s0 image) (length image) head link low key p rs (k.trail image rs (l.kept.seen image seen1) h) at ne in
-    let kind_is : mem s0 image (p + 0) ≡ kind = rw (l.writes ∙ k.writes) at (r.kind_is image seen) in
-    let id_is : mem s0 image (p + 1) ≡ id = rw (l.writes ∙ k.writes) at (r.id_is image seen) in
-    record { at = at; is = omega (arith, kind_is, id_is); small = omega (arith, id_is, o.id); above = omega (arith, o.low, kind_is, id_is) }
+    let o = trail_opened (mem s0 image) (length image) head link low (code_of key) p rs (k.trail image rs (l.kept.seen image seen1) h) at ne in
+    let is : order ≡ key_cmp (mem s0 image (p + KIND)) (mem s0 image (p + ID)) key.kind key.id = rw (l.writes ∙ k.writes) at (r.is image seen) in
+    record { at = at; small = o.id; above = o.low; is = is }
 
--- the same of some image
-pub record Numbers (low kind id : ℕ) : Type 0 where
-  pub small : id < 2 ^ 32
-  pub above : low ≤ key_code kind id
-
-pub seek_numbers : (s0 s s1 s2 : View) (head key link low p kind id : ℕ) → Seeking s0 s head key link low → HasList s0 head → Loaded s s1 link p → HasKey s1 s2 p kind id → p ≢ 0 → ∥ ((image : List ℕ) × Stands s2 image) ∥₁ → Numbers low kind id
-seek_numbers s0 s s1 s2 head key link low p kind id k has l r ne ws =
-    let at : (w : (image : List ℕ) × Stands s2 image) → AtBlock (mem s0 w.0) link low p kind id = λ w.
+-- a block that is passed has a lower key
+pub seek_below : (s0 s s1 s2 : View) (head : ℕ) (key : Key) (link low p : ℕ) (order : Ordering) → Seeking s0 s head (code_of key) link low → HasList s0 head → Loaded s s1 link p → Compared s1 s2 p key order → p ≢ 0 → order ≡ Less → ∥ ((image : List ℕ) × Stands s2 image) ∥₁ → low + 1 ≤ code_of key
+seek_below s0 s s1 s2 head key link low p order k has l r ne less ws =
+    some_le (low + 1) (code_of key) ws (λ w.
     let t = has.under w.0 (k.kept.seen w.0 (l.kept.seen w.0 (r.kept.seen w.0 w.1.sees))) in
-    seek_at s0 s s1 s2 head key link low p kind id k l r ne w.0 t.entries w.1.sees t.is in
-    let less : id + 1 ≤ 2 ^ 32 = some_le (id + 1) (2 ^ 32) ws (λ w. omega (arith, (at w).small)) in
-    record {
-      small = omega (arith, less);
-      above = some_le low (key_code kind id) ws (λ w. (at w).above);
-    }
+    let a = seek_at s0 s s1 s2 head key link low p order k l r ne w.0 t.entries w.1.sees t.is in
+    let b : place_code (mem s0 w.0) p < code_of key = less_code (mem s0 w.0 (p + KIND)) (mem s0 w.0 (p + ID)) key.kind key.id a.small (sym a.is ∙ less) in
+    let c : low ≤ place_code (mem s0 w.0) p = a.above in
+    omega (arith, b, c))
 
 abbrev pub spot : ℕ → ℕ → Option Block → Spot
 spot link word entry = record { link = record { 0 = link }; word = word; entry = entry }
@@ -100,11 +92,11 @@ seek_end s0 s s1 head key link low p k l z =
     }
 
 -- the block here has the key
-pub seek_here : (s0 s s1 s2 : View) (head key link low p kind id : ℕ) → Seeking s0 s head key link low → Loaded s s1 link p → HasKey s1 s2 p kind id → p ≢ 0 → Inside s1 p → key_code kind id ≡ key → Sought s0 s2 head key (spot link p (Some (record { 0 = record { 0 = p } })))
-seek_here s0 s s1 s2 head key link low p kind id k l r ne i same =
-    let ended : (image : List ℕ) (rs : Rows) → Sees s2 image → IsListAt (mem s0 image) (length image) head rs → Ended head link p key rs = λ image rs seen h.
-    let t = seek_at s0 s s1 s2 head key link low p kind id k l r ne image rs seen h in
-    trail_here (mem s0 image) (length image) head link low key p rs (k.trail image rs (l.kept.seen image (r.kept.seen image seen)) h) t.at ne (t.is ∙ same) in
+pub seek_here : (s0 s s1 s2 : View) (head : ℕ) (key : Key) (link low p : ℕ) (order : Ordering) → Seeking s0 s head (code_of key) link low → Loaded s s1 link p → Compared s1 s2 p key order → p ≢ 0 → Inside s1 p → order ≡ Equal → Sought s0 s2 head (code_of key) (spot link p (Some (record { 0 = record { 0 = p } })))
+seek_here s0 s s1 s2 head key link low p order k l r ne i same =
+    let ended : (image : List ℕ) (rs : Rows) → Sees s2 image → IsListAt (mem s0 image) (length image) head rs → Ended head link p (code_of key) rs = λ image rs seen h.
+    let t = seek_at s0 s s1 s2 head key link low p order k l r ne image rs seen h in
+    trail_here (mem s0 image) (length image) head link low (code_of key) p rs (k.trail image rs (l.kept.seen image (r.kept.seen image seen)) h) t.at ne (equal_code (mem s0 image (p + KIND)) (mem s0 image (p + ID)) key.kind key.id (sym t.is ∙ same)) in
     record {
       kept = kept_both s0 s s2 k.kept (kept_both s s1 s2 l.kept r.kept);
       writes = r.writes ∙ (l.writes ∙ k.writes);
@@ -116,11 +108,11 @@ seek_here s0 s s1 s2 head key link low p kind id k l r ne i same =
     }
 
 -- the block here has a later key
-pub seek_past : (s0 s s1 s2 : View) (head key link low p kind id : ℕ) → Seeking s0 s head key link low → Loaded s s1 link p → HasKey s1 s2 p kind id → p ≢ 0 → key < key_code kind id → Sought s0 s2 head key (spot link p None)
-seek_past s0 s s1 s2 head key link low p kind id k l r ne later =
-    let ended : (image : List ℕ) (rs : Rows) → Sees s2 image → IsListAt (mem s0 image) (length image) head rs → Ended head link 0 key rs = λ image rs seen h.
-    let t = seek_at s0 s s1 s2 head key link low p kind id k l r ne image rs seen h in
-    trail_past (mem s0 image) (length image) head link low key p rs (k.trail image rs (l.kept.seen image (r.kept.seen image seen)) h) t.at ne (omega (arith, t.is, later)) in
+pub seek_past : (s0 s s1 s2 : View) (head : ℕ) (key : Key) (link low p : ℕ) (order : Ordering) → Seeking s0 s head (code_of key) link low → Loaded s s1 link p → Compared s1 s2 p key order → p ≢ 0 → key.id < 2 ^ 32 → order ≡ Greater → Sought s0 s2 head (code_of key) (spot link p None)
+seek_past s0 s s1 s2 head key link low p order k l r ne small later =
+    let ended : (image : List ℕ) (rs : Rows) → Sees s2 image → IsListAt (mem s0 image) (length image) head rs → Ended head link 0 (code_of key) rs = λ image rs seen h.
+    let t = seek_at s0 s s1 s2 head key link low p order k l r ne image rs seen h in
+    trail_past (mem s0 image) (length image) head link low (code_of key) p rs (k.trail image rs (l.kept.seen image (r.kept.seen image seen)) h) t.at ne (greater_code (mem s0 image (p + KIND)) (mem s0 image (p + ID)) key.kind key.id small (sym t.is ∙ later)) in
     record {
       kept = kept_both s0 s s2 k.kept (kept_both s s1 s2 l.kept r.kept);
       writes = r.writes ∙ (l.writes ∙ k.writes);
@@ -132,14 +124,15 @@ seek_past s0 s s1 s2 head key link low p kind id k l r ne later =
     }
 
 -- the block here is passed
-pub seek_step : (s0 s s1 s2 : View) (head key link low p kind id : ℕ) → Seeking s0 s head key link low → Loaded s s1 link p → HasKey s1 s2 p kind id → p ≢ 0 → Inside s1 p → key_code kind id < key → Seeking s0 s2 head key (p + 3) (key_code kind id + 1)
-seek_step s0 s s1 s2 head key link low p kind id k l r ne i earlier = record {
+pub seek_step : (s0 s s1 s2 : View) (head : ℕ) (key : Key) (link low p : ℕ) (order : Ordering) → Seeking s0 s head (code_of key) link low → Loaded s s1 link p → Compared s1 s2 p key order → p ≢ 0 → Inside s1 p → order ≡ Less → low + 1 ≤ code_of key → Seeking s0 s2 head (code_of key) (p + 3) (low + 1)
+seek_step s0 s s1 s2 head key link low p order k l r ne i earlier below = record {
   kept = kept_both s0 s s2 k.kept (kept_both s s1 s2 l.kept r.kept);
   writes = r.writes ∙ (l.writes ∙ k.writes);
-  lower = omega (arith, earlier);
+  lower = below;
   room = omega (arith, i.room, r.kept.size);
   trail = λ image rs seen h.
-      let t = seek_at s0 s s1 s2 head key link low p kind id k l r ne image rs seen h in
-      let step = trail_step (mem s0 image) (length image) head link low key p rs (k.trail image rs (l.kept.seen image (r.kept.seen image seen)) h) t.at ne (omega (arith, t.is, earlier)) in
-      subst (λ (x : ℕ). Trail (mem s0 image) (length image) head (p + 3) (x + 1) key rs) t.is step;
+      let t = seek_at s0 s s1 s2 head key link low p order k l r ne image rs seen h in
+      let l' : place_code (mem s0 image) p < code_of key = less_code (mem s0 image (p + KIND)) (mem s0 image (p + ID)) key.kind key.id t.small (sym t.is ∙ earlier) in
+      let a : low ≤ place_code (mem s0 image) p = t.above in
+      trail_lower (mem s0 image) (length image) head (p + 3) (place_code (mem s0 image) p + 1) (low + 1) (code_of key) rs (omega (arith, a)) (trail_step (mem s0 image) (length image) head link low (code_of key) p rs (k.trail image rs (l.kept.seen image (r.kept.seen image seen)) h) t.at ne l');
 }

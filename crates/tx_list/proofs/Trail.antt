@@ -1,8 +1,9 @@
 -- A search that goes from link to link.
-use Rattle.std.proofs.Common.{◌≡◌, ◌≢◌, ℕ, ◌+◌, ◌<◌, refl, sym, ap, ◌∙◌, arith}
+use Rattle.std.proofs.Common.{◌≡◌, ◌≢◌, ℕ, ◌+◌, ◌<◌, ◌≤◌, refl, sym, ap, ◌∙◌, arith}
 use Rattle.std.proofs.lemmas.Bool.Decides.{nat_tests}
 use Rattle.tx_alloc.specs.Rows.{Rows, block_at}
 use Rattle.tx_list.specs.Bookings.{place_code, Linked, link_of}
+use Rattle.tx_list.proofs.Frame.{linked_lower}
 use Rattle.tx_list.proofs.Open.{Opened, open_list, closed_list, none_below}
 
 -- the search for the key stands at link, with rows from low on before it
@@ -63,3 +64,12 @@ trail_step m n head link low key p rs t at ne l =
       same_link = grind (arith, nat_tests, t.same_link, first);
       same_entry = grind (arith, nat_tests, t.same_entry, first');
     }
+
+-- rows from low on are rows from any lower key on
+pub trail_lower : (m : ℕ → ℕ) (n head link low lower key : ℕ) (rs : Rows) → lower ≤ low → Trail m n head link low key rs → Trail m n head link lower key rs
+trail_lower m n head link low lower key rs l t = record {
+  rest = t.rest;
+  linked = linked_lower m n (m link) low lower t.rest l t.linked;
+  same_link = t.same_link;
+  same_entry = t.same_entry;
+}

@@ -1,5 +1,7 @@
 -- What the steps of a search say.
 use Rattle.std.specs.Prelude.{◌≡◌, ◌≢◌, ℕ, ◌+◌, ◌<◌, ◌≤◌, ◌^◌, List, length, Option}
+use Rattle.std.specs.declared.cmp.Ordering.{Ordering}
+use Rattle.std.specs.Ordering.{nat_cmp, ordering_then}
 use Rattle.stm_words.specs.View.{View, Sees, Kept}
 use Rattle.tx_alloc.specs.declared.pool.Block.{Block}
 use Rattle.tx_alloc.specs.Pointer.{pointer, IsWithin}
@@ -8,15 +10,20 @@ use Rattle.tx_alloc.specs.Rows.{Rows, block_at}
 use Rattle.tx_alloc.specs.Steps.{mem}
 use Rattle.tx_list.specs.Bookings.{link_of}
 use Rattle.tx_list.specs.Lists.{IsListAt}
+use Rattle.tx_list.specs.declared.key.Key.{Key}
 use Rattle.tx_list.specs.declared.place.TheConstants.{KIND, ID}
 use Rattle.tx_list.specs.declared.search.Spot.{Spot}
 
--- only reads were made, and the block b has this kind and id
-pub record HasKey (s s' : View) (b kind id : ℕ) : Type 0 where
+-- how one kind and id stand to another: by kind, and then by id
+abbrev pub key_cmp : ℕ → ℕ → ℕ → ℕ → Ordering
+key_cmp k i k' i' = ordering_then (nat_cmp k k') (nat_cmp i i')
+
+-- only reads were made, and the key in the block b stands so to this one
+pub record Compared (s s' : View) (b : ℕ) (key : Key) (order : Ordering) : Type 0 where
   pub kept : Kept s s'
   pub writes : s'.writes ≡ s.writes
-  pub kind_is : (image : List ℕ) → Sees s' image → mem s image (b + KIND) ≡ kind
-  pub id_is : (image : List ℕ) → Sees s' image → mem s image (b + ID) ≡ id
+  pub is : (image : List ℕ) → Sees s' image →
+      order ≡ key_cmp (mem s image (b + KIND)) (mem s image (b + ID)) key.kind key.id
 
 -- the word at the link is the pointer to a block, or to none
 pub record Leads (s : View) (link : ℕ) : Type 0 where

@@ -1,9 +1,10 @@
 //! What the bookings of a list are told apart by.
 
 ghost use Rattle.std.specs.Prelude.{◌≡◌, ◌+◌, ◌≤◌, ◌^◌, IfOk};
-ghost use Rattle.tx_list.specs.Search.{HasKey};
+ghost use Rattle.tx_list.specs.Search.{Compared};
 
 use crate::place::{ID, KIND};
+use std::cmp::Ordering;
 use stm_words::{Addr, TxRead, load};
 use tx_alloc::place::BLOCK_WORDS;
 
@@ -16,15 +17,25 @@ pub struct Key {
     pub id: u64,
 }
 
-/// The key in a booking's block.
-pub(crate) fn load_key<M: TxRead>(memory: &mut M, block: Addr) -> Result<Key, M::Stop>
+/// How the key in a booking's block stands to this one. The id is read only where the kinds are the
+/// same.
+#[inline]
+pub(crate) fn compare_key<M: TxRead>(
+    memory: &mut M,
+    block: Addr,
+    key: Key,
+) -> Result<Ordering, M::Stop>
     requires small { (M.view memory.old).size ≤ 2 ^ 32 }
     requires block { block.0 + BLOCK_WORDS ≤ (M.view memory.old).size }
     ensures origin { M.origin memory.new ≡ M.origin memory.old }
-    ensures answer { IfOk result (λ key.
-        HasKey (M.view memory.old) (M.view memory.new) block.0 key.kind key.id) }
+    ensures answer { IfOk result (λ order.
+        Compared (M.view memory.old) (M.view memory.new) block.0 key order) }
 {
     let kind = load(memory, Addr(block.0 + KIND))?;
+    let by_kind = kind.cmp(&key.kind);
+    if by_kind != Ordering::Equal {
+        return Ok(by_kind);
+    }
     let id = load(memory, Addr(block.0 + ID))?;
-    Ok(Key { kind, id })
+    Ok(id.cmp(&key.id))
 }

@@ -5,7 +5,7 @@ ghost use Rattle.tx_list.specs.Bookings.{IsKey, code_of};
 ghost use Rattle.tx_list.specs.Lists.{HasList, HasBooking, Found, First, Next};
 ghost use Rattle.tx_list.specs.Search.{Leads, Followed, Sought};
 
-use crate::key::{Key, load_key};
+use crate::key::{Key, compare_key};
 use crate::place::NEXT;
 use std::cmp::Ordering;
 use stm_words::{Addr, TxRead, load};
@@ -83,10 +83,9 @@ pub(crate) fn seek<M: TxRead>(memory: &mut M, head: Addr, key: Key) -> Result<Sp
         Sought (M.view memory.old) (M.view memory.new) head.0 (code_of key) spot) }
 {
     let mut link = head;
-    // The last key that was passed, for the proof alone: the walk ends since keys rise.
-    let mut passed = None;
+    // How many bookings were passed, for the proof alone: the walk ends since keys rise.
+    let mut passed: u64 = 0;
     loop {
-        let _ = passed;
         let word = load(memory, link)?;
         if word == 0 {
             return Ok(Spot {
@@ -96,8 +95,8 @@ pub(crate) fn seek<M: TxRead>(memory: &mut M, head: Addr, key: Key) -> Result<Sp
             });
         }
         let block = Addr(word as u32);
-        let found = load_key(memory, block)?;
-        match found.cmp(&key) {
+        let order = compare_key(memory, block, key)?;
+        match order {
             Ordering::Less => {}
             Ordering::Equal => {
                 return Ok(Spot {
@@ -114,7 +113,7 @@ pub(crate) fn seek<M: TxRead>(memory: &mut M, head: Addr, key: Key) -> Result<Sp
                 });
             }
         }
-        passed = Some(found);
+        passed += 1;
         link = Addr(block.0 + NEXT);
     }
 }
