@@ -1,0 +1,5 @@
+pub mod Texts
+pub mod Totals
+pub mod Sending
+pub mod OneText
+pub mod ReadBack

@@ -1,0 +1,20 @@
+use Rattle.std.proofs.Common.{rules, ◌<◌, ◌*◌}
+use Rattle.vac_lines.proofs.Extends.{on_err}
+use Rattle.vac_draws.specs.Draws.{one}
+use Rattle.vac_draws.specs.Tasks.{task_of}
+use Rattle.vac_worklist.specs.Worklist.{task_line}
+use Rattle.vac_worklist.proofs.Totals.{one_total, task_total}
+use Rattle.vac_worklist.proofs.Sending.{sent_more, part_more}
+use Rattle.vac_worklist.proofs.clients.send_tasks.Goals as goal
+
+pub returns-in_err-send_task-clause-err : goal.returns-in_err-send_task-clause-err
+returns-in_err-send_task-clause-err g c =
+    let s = c.args.settings.now in
+    let less : c.tasks.counter < s.rounds * s.tasks = search rules in
+    on_err c.from_residual.result
+    (part_more (task_line c.args.client) (λ _. one (task_of s)) (λ _. one_total (task_of s) (task_total s)) c.tasks.counter (s.rounds * s.tasks) less _ _ _ _ _ _ _
+    c.tasks.invariant c.in_err-send_task.ensures.err)
+
+pub tasks-preserved : goal.tasks-preserved
+tasks-preserved g c =
+    sent_more (task_line c.args.client) c.tasks.counter (λ _. one (task_of c.args.settings.now)) _ _ _ _ _ _ _ _ _ c.tasks.invariant c.in_ok-send_task.ensures.ok

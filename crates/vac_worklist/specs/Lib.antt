@@ -1,0 +1,3 @@
+pub mod Worklist
+pub mod Sending
+pub mod Laws

@@ -1,0 +1,35 @@
+-- Lines that are gathered before they are written.
+use Rattle.std.specs.Prelude.{◌≡◌, ℕ, List, [], ◌++◌, Option}
+use Rattle.std.specs.Io.KnownBytes.{Appends}
+use Rattle.rand_pcg.specs.Lcg.{Lcg}
+use Rattle.vac_draws.specs.declared.settings.Settings.{Settings}
+use Rattle.vac_draws.specs.Draws.{Reader}
+use Rattle.vac_worklist.specs.Worklist.{DrawnLines, IsTextOf, AppendsPrefix}
+
+-- of what was at hand and of a text behind it some was written, and the rest is at hand
+pub record Sent (held holds : Option (List ℕ)) (hand hand' text : List ℕ) : Type 0 where
+  pub front : List ℕ
+  pub written : Appends held holds front
+  pub all : hand ++ text ≡ front ++ hand'
+
+-- the lines of drawn items were sent so
+pub record SentLines {X : Type 0} (reader : Reader (List X)) (line : X → List ℕ)
+    (state last : Lcg) (held holds : Option (List ℕ)) (hand hand' : List ℕ) : Type 0 where
+  pub text : List ℕ
+  pub lines : DrawnLines reader line state last text
+  pub sent : Sent held holds hand hand' text
+
+-- a prefix of what was at hand and of the lines of drawn items was written
+pub record SentInPart {X : Type 0} (reader : Reader (List X)) (line : X → List ℕ)
+    (state : Lcg) (held holds : Option (List ℕ)) (hand : List ℕ) : Type 0 where
+  pub text : List ℕ
+  pub last : Lcg
+  pub lines : DrawnLines reader line state last text
+  pub written : AppendsPrefix held holds (hand ++ text)
+
+-- the lines of the opening and of the clients from 1 to n were sent
+pub record SentTasks (s : Settings) (n : ℕ) (held holds : Option (List ℕ)) (hand : List ℕ) :
+    Type 0 where
+  pub text : List ℕ
+  pub is : IsTextOf s n text
+  pub sent : Sent held holds [] hand text

@@ -1,0 +1,67 @@
+-- The tasks of a load as text, one a line, and what writing them out does.
+use Rattle.std.specs.Prelude.{◌≡◌, ℕ, zero, suc, ◌*◌, List, ◌++◌, Option, take, codes}
+use Rattle.std.specs.Prelude.{decimal, flat_map}
+use Rattle.std.specs.Io.KnownBytes.{Appends}
+use Rattle.rand_pcg.specs.Lcg.{Lcg}
+use Rattle.vac_model.specs.declared.commands.Command.{Command}
+use Rattle.vac_model.specs.declared.tasks.Task.{Task}
+use Rattle.vac_model.specs.declared.tasks.Task.TheVariants as task
+use Rattle.vac_draws.specs.declared.settings.Settings.{Settings}
+use Rattle.vac_draws.specs.Draws.{Reader, times, Drawn}
+use Rattle.vac_draws.specs.Streams.{stream_of, gives}
+use Rattle.vac_draws.specs.Tasks.{task_of, opening}
+use Rattle.vac_lines.specs.Script.{as_line}
+use Rattle.vac_lines.specs.TaskText.{task_text}
+
+-- CLIENT LINE: a task as an output line, behind the number of its client
+abbrev pub task_line : ℕ → Task → List ℕ
+task_line client t = as_line (decimal client ++ codes " " ++ task_text t)
+
+-- a command of the opening as an output line: it is one of client 0
+abbrev pub opening_line : Command → List ℕ
+opening_line c = task_line 0 (task.One c)
+
+-- items are read from the words that a generator gives from the first state to the last one, and
+-- these are their lines, one behind the other
+pub record DrawnLines {X : Type 0} (reader : Reader (List X)) (line : X → List ℕ)
+    (state last : Lcg) (text : List ℕ) : Type 0 where
+  pub items : List X
+  pub drawn : Drawn gives reader state items last
+  pub text_is : text ≡ flat_map line items
+
+-- the lines of the opening, which is drawn from stream 0
+abbrev pub IsOpeningText : Settings → List ℕ → Type 0
+IsOpeningText s text =
+    (last : Lcg) × DrawnLines (opening s) opening_line (stream_of s.seed 0) last text
+
+-- the lines of the tasks of a client in all rounds, which are drawn from the stream of its number
+abbrev pub IsClientText : Settings → ℕ → List ℕ → Type 0
+IsClientText s client text = (last : Lcg) × DrawnLines (times (s.rounds * s.tasks) (task_of s))
+    (task_line client) (stream_of s.seed client) last text
+
+-- the lines of the opening, and behind them those of the clients from 1 to n, one client behind the
+-- other
+abbrev pub IsTextOf : Settings → ℕ → List ℕ → Type 0
+IsTextOf s zero text = IsOpeningText s text
+IsTextOf s (suc n) text = (before : List ℕ) × (own : List ℕ)
+    × IsTextOf s n before × IsClientText s (suc n) own × (text ≡ before ++ own)
+
+-- the tasks of a load of these settings, one a line
+abbrev pub IsTasksText : Settings → List ℕ → Type 0
+IsTasksText s text = IsTextOf s s.clients text
+
+-- the tasks of a load were written, and nothing else
+pub record WroteTasks (s : Settings) (held holds : Option (List ℕ)) : Type 0 where
+  pub text : List ℕ
+  pub is : IsTasksText s text
+  pub written : Appends held holds text
+
+-- a prefix of the text was appended
+abbrev pub AppendsPrefix : Option (List ℕ) → Option (List ℕ) → List ℕ → Type 0
+AppendsPrefix held holds text = (n : ℕ) × Appends held holds (take n text)
+
+-- a prefix of the tasks of a load was written
+pub record WroteTasksPrefix (s : Settings) (held holds : Option (List ℕ)) : Type 0 where
+  pub text : List ℕ
+  pub is : IsTasksText s text
+  pub written : AppendsPrefix held holds text

@@ -1,0 +1,15 @@
+//! The work of a load as lines: the commands of its opening and the tasks of its clients, each
+//! behind the number of its client. No manager is needed to write them.
+#![tactic(auto)]
+
+mod clients;
+mod fault;
+mod laws;
+mod lines;
+mod opening;
+mod worklist;
+mod writing;
+
+pub use fault::TasksFault;
+pub use laws::{drawn_lines_are_read, tasks_have_one_text};
+pub use worklist::write_tasks;
