@@ -69,6 +69,8 @@ impl<'a, L: Law, R: Allocator, A: Allocator + Copy> Attempt<'a, L, R, A> {
         ensures region { result.region.now ≡ region.now }
         ensures value { result.client.now ≡ acted region.now begins result.rv client.old }
         ensures version { client.old.value.floor ≤ result.rv }
+        ensures last { result.rv ≤ region.now.last }
+        ensures alone { client.old.value.grants ≡ 63 → result.rv ≡ client.old.value.floor }
         ensures earlier { AreEarlier region.now.renewal result.rv client.old.value.records }
         ensures empty { IsFresh result }
         ensures running { result.stopped ≡ None }
@@ -86,6 +88,15 @@ impl<'a, L: Law, R: Allocator, A: Allocator + Copy> Attempt<'a, L, R, A> {
             stopped: None,
             standing,
         }
+    }
+
+    /// The read version: what the clock said when the attempt began.
+    pub fn read_version(&self) -> Version
+        requires { runs self.now ≡ true }
+        ensures { result ≡ (client_of self.now).attempt.rv }
+    {
+        let Self { rv, .. } = self;
+        *rv
     }
 
     /// The conflict that a read of this attempt met, after which it can only end.

@@ -1,6 +1,6 @@
 //! The commit of an attempt: its locks in ascending order, one tick of the clock, the validation
 //! of each read word's lock, the stores, and the releases.
-ghost use Rattle.std.specs.Prelude.{◌≡◌, ◌≢◌, ℕ, ◌+◌, ◌*◌, ◌<◌, ◌≤◌, ◌||◌, eqb, true, false, [], length, Ok, Err, Some, None, IfOk, IfErr};
+ghost use Rattle.std.specs.Prelude.{◌≡◌, ◌≢◌, ℕ, ◌+◌, ◌*◌, ◌<◌, ◌≤◌, ◌||◌, eqb, true, false, [], length, Ok, Err, Some, None, IfOk, IfErr, MatchResult};
 ghost use Rattle.std.specs.FinMap.{len};
 ghost use Rattle.stm_core.specs.Core.{IsFreeHanded};
 ghost use Rattle.stm_logs.specs.Log.{SameAddresses, log_pairs, log_locks};
@@ -57,6 +57,8 @@ fn decide<L: Law, R: Allocator, A: Allocator + Copy, T: Tag, G: Gate>(
     ensures version { IfOk result (λ version. version ≤ region.now.last) }
     ensures decides { IfOk result (λ _. Decides L.fits L.lawful region.now client.new.value) }
     ensures lone { client.old.value.attempt.lone ≡ true → IfErr result (λ stop. IsSpent stop) }
+    ensures next { client.old.value.attempt.lone ≡ true →
+        MatchResult result (λ version. version ≡ rv + 1) (λ _. rv ≡ region.now.last) }
     ensures failed { IfErr result (λ stop. HasFailedDeciding region.now logs.now.writes stop
         client.old.value client.new.value) }
 {
@@ -111,6 +113,8 @@ fn commit_writes<L: Law, R: Allocator, A: Allocator + Copy, T: Tag, G: Gate>(
     ensures version { IfOk result (λ version. version ≤ region.now.last) }
     ensures decides { IfOk result (λ _. WasDecided L.fits L.lawful region.now client.new.value) }
     ensures lone { client.old.value.attempt.lone ≡ true → IfErr result (λ stop. IsSpent stop) }
+    ensures next { client.old.value.attempt.lone ≡ true →
+        MatchResult result (λ version. version ≡ rv + 1) (λ _. rv ≡ region.now.last) }
     ensures stopped { IfErr result (λ stop. HasStopped region.now logs.now.writes stop
         client.old.value client.new.value) }
     ensures steps { client.new.value.attempt.steps
@@ -160,6 +164,8 @@ fn end<L: Law, R: Allocator, A: Allocator + Copy, T: Tag, G: Gate>(
     ensures refused { stopped ≡ None → IfErr result (λ stop.
         HasStopped region.now logs.old.writes stop client.old.value client.new.value) }
     ensures lone { client.old.value.attempt.lone ≡ true → IfErr result (λ stop. IsSpent stop) }
+    ensures next { client.old.value.attempt.lone ≡ true →
+        MatchResult result (λ version. version ≤ rv + 1) (λ _. rv ≡ region.now.last) }
     ensures logs { IfErr result (λ _. AreEmpty logs.new) }
     ensures steps { client.new.value.attempt.steps
         ≤ commit_bound client.old.value logs.old.writes }
@@ -201,6 +207,9 @@ impl<'a, L: Law, R: Allocator, A: Allocator + Copy> Attempt<'a, L, R, A> {
         ensures met { HasMet (lock_of self.entry) self.entry.stopped (value_left self.exit) }
         ensures lone { (client_of self.entry).attempt.lone ≡ true
             → IfErr result (λ stop. IsSpent stop) }
+        ensures next { (client_of self.entry).attempt.lone ≡ true → MatchResult result
+            (λ version. version ≤ (client_of self.entry).attempt.rv + 1)
+            (λ _. (client_of self.entry).attempt.rv ≡ self.entry.region.now.last) }
         ensures ok { IfOk result (λ version.
             Commits self.entry (T.numbers tag.now) (value_left self.exit) version) }
         ensures version { IfOk result (λ version. version ≤ self.entry.region.now.last) }

@@ -44,6 +44,8 @@ impl<'a, L: Law, R: Allocator> ReadAttempt<'a, L, R> {
         ensures region { result.region.now ≡ region.now }
         ensures value { result.client.now ≡ acted region.now begins result.rv client.old }
         ensures version { client.old.value.floor ≤ result.rv }
+        ensures last { result.rv ≤ region.now.last }
+        ensures alone { client.old.value.grants ≡ 63 → result.rv ≡ client.old.value.floor }
         ensures earlier { AreEarlier region.now.renewal result.rv client.old.value.records }
         ensures running { result.stopped ≡ None }
         ensures lone { ((client_of result).attempt.lone ≡ true) ↔ (client.old.value.grants ≡ 63) }
@@ -76,7 +78,8 @@ impl<'a, L: Law, R: Allocator> ReadAttempt<'a, L, R> {
         requires running { runs self ≡ true }
         requires unrefused { self.stopped ≡ None }
         requires lawful { L.lawful (T.numbers tag.now) (client_of self).attempt.reads [] }
-        ensures version { result ≡ self.entry.rv }
+        ensures version { (result ≡ self.entry.rv) × (result ≡ (client_of self.entry).attempt.rv) }
+        ensures floor { (value_left self.exit).floor ≡ result }
         ensures client { (found : ℕ) × (client_left self.exit ≡ acted self.entry.region.now
             (finishes (T.numbers tag.now)) found self.entry.client.now) }
         ensures free_handed { IsFreeHanded (value_left self.exit) }

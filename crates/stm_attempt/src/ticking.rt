@@ -57,6 +57,8 @@ pub(crate) fn tick<L: Law, R: Allocator, A: Allocator + Copy, T: Tag>(
         IsCounted stop client.old.value.attempt.steps client.new.value) }
     ensures lone { client.old.value.attempt.lone ≡ true →
         MatchResult result (λ _. decided client.new.value ≡ true) (λ stop. IsSpent stop) }
+    ensures next { client.old.value.attempt.lone ≡ true →
+        MatchResult result (λ version. version ≡ rv + 1) (λ _. rv ≡ region.now.last) }
     ensures steps { client.new.value.attempt.steps ≤ client.old.value.attempt.steps + 16 }
 {
     let last = region.last();

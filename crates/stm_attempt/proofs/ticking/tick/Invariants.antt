@@ -7,4 +7,4 @@ invariant-loop g l =
     (l.client.table ≡ l.initial.client.table) ×
     (l.from ≤ l.region.last) ×
     IsTicking l.initial.client.value l.client.value l.counter l.from ×
-    (l.initial.client.value.attempt.lone ≡ true → l.counter ≡ 0)
+    (l.initial.client.value.attempt.lone ≡ true → (l.counter ≡ 0) × (l.from ≡ l.fn.rv))
