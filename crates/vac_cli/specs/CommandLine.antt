@@ -6,11 +6,12 @@ use Rattle.clap.specs.Simple.{new_shape}
 use Rattle.clap.specs.Values.{bool_text}
 use Rattle.clap.specs.Walk.{one_of}
 use Rattle.clap.specs.Words.{App, Shape, Rule, Row, Text, app_of, new_rule, rule_of, subcommand_of}
-use Rattle.clap.specs.Words.{with_rule}
+use Rattle.clap.specs.Words.{with_rule, with_subcommand}
 use Rattle.clap.specs.declared.builder.action.ArgAction.TheVariants.{SetTrue}
 use Rattle.clap.specs.declared.builder.arg.Arg.{Arg}
 use Rattle.clap.specs.declared.builder.command.Command.{Command}
 use Rattle.clap.specs.declared.builder.command.Command.TheViews.{out-Command}
+use Rattle.clap.specs.declared.builder.value_parser.ValueParser.{ValueParser}
 use Rattle.clap.specs.declared.builder.value_parser.ValueParser.TheVariants as parser
 use Rattle.vac_model.specs.declared.limits.TheConstants.{MOST_BLOCKS, MOST_PARTS}
 use Rattle.vac_draws.specs.declared.settings.TheConstants.{MOST_CLIENTS, MOST_TASKS, MOST_ITEMS}
@@ -24,26 +25,35 @@ use Rattle.vac_cli.specs.declared.asked.Asked.TheVariants.{Run, Dump, Check, Loa
 
 -- ---- what the program takes
 
+-- an option `--name N`
+abbrev pub valued_option : Text → Rule
+valued_option name = record (new_rule name) { long = Some name; value_names = 1 }
+
+-- what reads a whole number in a range
+abbrev pub number_parser : ℕ → ℕ → ValueParser
+number_parser least most = parser.Signed (pos least) (pos most)
+
 -- an option `--name N` of a whole number in a range, and its default
 abbrev pub number_option : Text → ℕ → ℕ → Text → Rule
-number_option name least most default = record (new_rule name) {
-  long = Some name;
-  value_names = 1;
-  parser = Some (parser.Signed (pos least) (pos most));
+number_option name least most default = record (valued_option name) {
+  parser = Some (number_parser least most);
   defaults = default ∷ [];
 }
 
 abbrev pub blocks_option : Rule
 blocks_option = number_option (codes "blocks") 1 MOST_BLOCKS (codes "1024")
 
--- the option of the seed, any number of 64 bits
-abbrev pub seed_option : Rule
-seed_option = record (new_rule (codes "seed")) {
-  long = Some (codes "seed");
-  value_names = 1;
-  parser = Some (parser.Unsigned 0 18446744073709551615);
-  defaults = codes "1" ∷ [];
-}
+abbrev pub clients_option : Rule
+clients_option = number_option (codes "clients") 1 MOST_CLIENTS (codes "4")
+
+abbrev pub tasks_option : Rule
+tasks_option = number_option (codes "tasks") 1 MOST_TASKS (codes "100")
+
+abbrev pub rounds_option : Rule
+rounds_option = number_option (codes "rounds") 1 MOST_ROUNDS (codes "1")
+
+abbrev pub tries_option : Rule
+tries_option = number_option (codes "tries") 1 MOST_TRIES (codes "64")
 
 abbrev pub progress_flag : Rule
 progress_flag = record (new_rule (codes "progress")) {
@@ -53,32 +63,65 @@ progress_flag = record (new_rule (codes "progress")) {
 
 -- the options of a load that say how many clients ask how often
 abbrev pub client_options : List Rule
-client_options = number_option (codes "clients") 1 MOST_CLIENTS (codes "4")
-    ∷ number_option (codes "tasks") 1 MOST_TASKS (codes "100")
-    ∷ number_option (codes "rounds") 1 MOST_ROUNDS (codes "1")
-    ∷ number_option (codes "tries") 1 MOST_TRIES (codes "64") ∷ progress_flag ∷ []
+client_options = clients_option ∷ tasks_option ∷ rounds_option ∷ tries_option ∷ progress_flag ∷ []
+
+abbrev pub items_option : Rule
+items_option = number_option (codes "items") 1 MOST_ITEMS (codes "16")
+
+abbrev pub asks_option : Rule
+asks_option = number_option (codes "asks") 1 MOST_PARTS (codes "4")
+
+abbrev pub user_option : Rule
+user_option = number_option (codes "user") 0 PERCENT (codes "80")
+
+-- the option of the seed, any number of 64 bits
+abbrev pub seed_option : Rule
+seed_option = record (valued_option (codes "seed")) {
+  parser = Some (parser.Unsigned 0 18446744073709551615);
+  defaults = codes "1" ∷ [];
+}
 
 -- those that say what the tasks are
 abbrev pub task_options : List Rule
-task_options = number_option (codes "items") 1 MOST_ITEMS (codes "16")
-    ∷ number_option (codes "asks") 1 MOST_PARTS (codes "4")
-    ∷ number_option (codes "user") 0 PERCENT (codes "80") ∷ seed_option ∷ blocks_option ∷ []
+task_options = items_option ∷ asks_option ∷ user_option ∷ seed_option ∷ blocks_option ∷ []
+
+-- the options of a load
+abbrev pub load_options : List Rule
+load_options = client_options ++ task_options
 
 -- a subcommand with these options
 abbrev pub with_options : Text → List Rule → Shape
 with_options name options = record (new_shape name) { rules = options }
 
-abbrev pub load_command : Shape
-load_command = with_options (codes "load") (client_options ++ task_options)
-
--- the program and its subcommands, of which one must be named
-abbrev pub vacation : App
-vacation = record {
-  top = record (new_shape (codes "vacation")) { is_leaf = false; subcommand_required = true };
-  subs = with_options (codes "run") (blocks_option ∷ [])
-      ∷ with_options (codes "dump") (blocks_option ∷ []) ∷ with_options (codes "check") []
-      ∷ load_command ∷ [];
+-- the program without its subcommands, of which one must be named
+abbrev pub top_command : App
+top_command = record {
+  top = record (new_shape (codes "vacation")) { subcommand_required = true };
+  subs = [];
 }
+
+-- the subcommands that read a script
+abbrev pub script_commands : List Shape
+script_commands = with_options (codes "run") (blocks_option ∷ [])
+    ∷ with_options (codes "dump") (blocks_option ∷ []) ∷ []
+
+-- those that judge what others did
+abbrev pub judging_commands : List Shape
+judging_commands = with_options (codes "check") [] ∷ []
+
+-- those that run loads
+abbrev pub load_commands : List Shape
+load_commands = with_options (codes "load") load_options ∷ []
+
+-- a command with subcommands more
+abbrev pub with_commands : App → List Shape → App
+with_commands a [] = a
+with_commands a (s ∷ subs) = with_commands (with_subcommand a s) subs
+
+-- the program and its subcommands
+abbrev pub vacation : App
+vacation = with_commands (with_commands (with_commands top_command script_commands)
+    judging_commands) load_commands
 
 -- ---- how it is made
 
@@ -101,6 +144,10 @@ with_rules a (option ∷ options) = with_rules (with_rule a option) options
 pub record AddsOptions (before : Command) (options : List Rule) (after : Command) : Type 0 where
   pub app : app_of after ≡ with_rules (app_of before) options
   pub own : (out-Command after).has_globals ≡ (out-Command before).has_globals
+
+-- these subcommands were added to a command
+pub record AddsCommands (before : Command) (subs : List Shape) (after : Command) : Type 0 where
+  pub app : app_of after ≡ with_commands (app_of before) subs
 
 -- ---- what its words ask for
 
