@@ -1,0 +1,98 @@
+-- What the tests on a call say of it and the calls before it.
+use Rattle.std.proofs.Common.{◌≡◌, ℕ, ◌≤◌, ◌==◌, ◌&&◌, ◌||◌, Bool, true, false, cond, List, [], ◌∷◌, Option, Some, None, refl, sym, ap, ◌∙◌, arith, nat_lt}
+use Rattle.std.specs.Prelude.{⊤}
+use Rattle.std.specs.List.{list_any}
+use Rattle.std.specs.Str.{bytes_eq}
+use Rattle.std.proofs.lemmas.Bool.Decides.{nat_tests}
+use Rattle.std.proofs.lemmas.Slice.Eq.{bytes_eq-Decides}
+use Rattle.vac_model.specs.State.{State}
+use Rattle.vac_model.specs.Run.{run}
+use Rattle.vac_lines.specs.Text.{reply_text}
+use Rattle.vac_judge.specs.declared.verdict.Wrong.{Wrong}
+use Rattle.vac_judge.specs.declared.verdict.Wrong.TheVariants.{Client, Time, Reply}
+use Rattle.vac_judge.specs.Call.{Call}
+use Rattle.vac_judge.specs.Order.{overlaps, ended_before, breaks_client, breaks_time, wrong_of}
+
+-- a fact of each element
+abbrev pub Each : {X : Type 0} → (X → Type 0) → List X → Type 0
+Each P [] = ⊤
+Each P (x ∷ xs) = P x × Each P xs
+
+-- the call e fits in front of the call c
+pub record FitsBefore (e c : Call) : Type 0 where
+  pub turn : e.client ≡ c.client → e.end ≤ c.begin
+  pub time : e.begin ≤ c.end
+
+-- nothing is wrong with the call behind these
+pub record IsRight (s : State) (earlier : List Call) (c : Call) : Type 0 where
+  pub own : c.begin ≤ c.end
+  pub fits : Each (λ e. FitsBefore e c) earlier
+  pub reply : reply_text (run s c.task).1 ≡ c.reply
+
+turn_from : (a b x y : ℕ) → (a == b && nat_lt x y) ≡ false → a ≡ b → y ≤ x
+turn_from a b x y h e = grind (arith, nat_tests)
+
+turn_test : (a b x y : ℕ) → (a ≡ b → y ≤ x) → (a == b && nat_lt x y) ≡ false
+turn_test a b x y h = grind (arith, nat_tests)
+
+time_from : (x y : ℕ) → nat_lt x y ≡ false → y ≤ x
+time_from x y h = grind (arith, nat_tests)
+
+time_test : (x y : ℕ) → y ≤ x → nat_lt x y ≡ false
+time_test x y h = grind (arith, nat_tests)
+
+pub both_false : (a b : Bool) → (a || b) ≡ false → (a ≡ false) × (b ≡ false)
+both_false true b h = cc
+both_false false b h = (refl, h)
+
+pub false_both : (a b : Bool) → a ≡ false → b ≡ false → (a || b) ≡ false
+false_both a b h g = rw (h, g) refl
+
+-- two tests that pass none say that all fit
+fits_all : (c : Call) (earlier : List Call) → list_any (overlaps c) earlier ≡ false → list_any (ended_before c) earlier ≡ false → Each (λ e. FitsBefore e c) earlier
+fits_all c [] h g = tt
+fits_all c (e ∷ es) h g =
+    let x = both_false (overlaps c e) (list_any (overlaps c) es) h in
+    let y = both_false (ended_before c e) (list_any (ended_before c) es) g in
+    (record { turn = turn_from e.client c.client c.begin e.end x.0; time = time_from c.end e.begin y.0 }, fits_all c es x.1 y.1)
+
+none_overlaps : (c : Call) (earlier : List Call) → Each (λ e. FitsBefore e c) earlier → list_any (overlaps c) earlier ≡ false
+none_overlaps c [] h = refl
+none_overlaps c (e ∷ es) h = false_both (overlaps c e) (list_any (overlaps c) es) (turn_test e.client c.client c.begin e.end h.0.turn) (none_overlaps c es h.1)
+
+none_ended : (c : Call) (earlier : List Call) → Each (λ e. FitsBefore e c) earlier → list_any (ended_before c) earlier ≡ false
+none_ended c [] h = refl
+none_ended c (e ∷ es) h = false_both (ended_before c e) (list_any (ended_before c) es) (time_test c.end e.begin h.0.time) (none_ended c es h.1)
+
+-- the order of the tests
+abbrev found : Bool → Bool → Bool → Option Wrong → Option Wrong
+found client time reply last = cond client (Some Client) (cond time (Some Time) (cond reply None last))
+
+some_none : (w : Wrong) → Some w ≡ None → ⊥
+some_none w e = cc
+
+found_none : (client time reply : Bool) (w : Wrong) → found client time reply (Some w) ≡ None → (client ≡ false) × (time ≡ false) × (reply ≡ true)
+found_none true time reply w h = absurd (some_none Client h)
+found_none false true reply w h = absurd (some_none Time h)
+found_none false false true w h = (refl, refl, refl)
+found_none false false false w h = absurd (some_none w h)
+
+-- no wrong is found in a call that is right, and in no other
+pub right_of : (s : State) (earlier : List Call) (c : Call) → wrong_of s earlier c ≡ None → IsRight s earlier c
+right_of s earlier c h =
+    let tests = found_none (breaks_client earlier c) (breaks_time earlier c) (bytes_eq c.reply (reply_text (run s c.task).1)) (Reply (run s c.task).1) h in
+    let client = both_false (nat_lt c.end c.begin) (list_any (overlaps c) earlier) tests.0 in
+    record {
+      own = time_from c.end c.begin client.0;
+      fits = fits_all c earlier client.1 tests.1;
+      reply = sym ((bytes_eq-Decides c.reply (reply_text (run s c.task).1)).0 tests.2);
+    }
+
+pub wrong_none : (s : State) (earlier : List Call) (c : Call) → IsRight s earlier c → wrong_of s earlier c ≡ None
+wrong_none s earlier c h =
+    let last : Option Wrong = Some (Reply (run s c.task).1) in
+    let client : breaks_client earlier c ≡ false = false_both (nat_lt c.end c.begin) (list_any (overlaps c) earlier) (time_test c.end c.begin h.own) (none_overlaps c earlier h.fits) in
+    let reply : bytes_eq c.reply (reply_text (run s c.task).1) ≡ true = (bytes_eq-Decides c.reply (reply_text (run s c.task).1)).1 (sym h.reply) in
+    ap (λ b. found b (breaks_time earlier c) (bytes_eq c.reply (reply_text (run s c.task).1)) last) client
+    ∙ ap (λ b. found false b (bytes_eq c.reply (reply_text (run s c.task).1)) last) (none_ended c earlier h.fits)
+    ∙ ap (λ b. found false false b last) reply

@@ -1,0 +1,40 @@
+use Rattle.std.proofs.Common.{◌≡◌, true, false, Some, sym, ap, ◌∙◌}
+use Rattle.std.specs.Str.{bytes_eq}
+use Rattle.vac_model.specs.Run.{run}
+use Rattle.vac_lines.specs.Text.{reply_text}
+use Rattle.vac_judge.specs.declared.verdict.Wrong.TheVariants.{Reply}
+use Rattle.vac_judge.specs.Parts.{shown_call}
+use Rattle.vac_judge.proofs.Keeping.{wrong_times, wrong_reply, no_wrong, keeps_more}
+use Rattle.vac_judge.proofs.judge.Judge.judge_call.Goals as goal
+
+pub returns-in-Some : goal.returns-in-Some
+returns-in-Some c = λ s earlier f n. record {
+  found_is = wrong_times s earlier (shown_call c.args.call.now) c.in-Some.wrong (c.in-Some.ensures s earlier f);
+  taken = λ e. absurd (no_wrong c.in-Some.wrong e);
+}
+
+pub returns-then-not-branch : goal.returns-then-not-branch
+returns-then-not-branch c = λ s earlier f n.
+    let call = shown_call c.args.call.now in
+    let reply = c.run-reply.ensures.reply s f.heap in
+    let same : false ≡ bytes_eq call.reply (reply_text (run s call.task).1) =
+    sym c.if-not-branch.true ∙ c.in_ok-is_text_of.ensures ∙ ap (λ r. bytes_eq call.reply (reply_text r)) (sym reply) in
+    record {
+      found_is = wrong_reply s earlier call false (c.in_default.ensures s earlier f) same ∙ ap (λ r. Some (Reply r)) reply;
+      taken = λ e. absurd (no_wrong _ e);
+    }
+
+pub returns : goal.returns
+returns c = λ s earlier f n.
+    let call = shown_call c.args.call.now in
+    let reply = c.run-reply.ensures.reply s f.heap in
+    let times = c.in_default.ensures s earlier f in
+    let same : true ≡ bytes_eq call.reply (reply_text (run s call.task).1) =
+    sym c.if-not-branch.false ∙ c.in_ok-is_text_of.ensures ∙ ap (λ r. bytes_eq call.reply (reply_text r)) (sym reply) in
+    record {
+      found_is = wrong_reply s earlier call true times same;
+      taken = λ e. record {
+        heap = c.run-reply.ensures.state s f.heap;
+        keeps = keeps_more _ _ _ _ _ _ call earlier f.keeps times c.in_ok-insert.ensures c.max-self.ensures n;
+      };
+    }

@@ -1,0 +1,93 @@
+-- Which call a line of a history stands for: CLIENT BEGIN END LINE -> REPLY.
+use Rattle.std.specs.Prelude.{ℕ, Option, Some, None, Result, Ok, Err, List, ◌∷◌, length, nat_lt, codes, if◌then◌else◌}
+use Rattle.std.specs.Option.{ok_or}
+use Rattle.std.specs.Prelude.{Bool}
+use Rattle.std.specs.List.{list_any, join_with_byte, before_first, after_first}
+use Rattle.std.specs.Str.{bytes_eq}
+use Rattle.vac_model.specs.declared.tasks.Task.{Task}
+use Rattle.vac_lines.specs.declared.fault.LineFault.{LineFault}
+use Rattle.vac_lines.specs.declared.fault.LineFault.TheVariants.{LongLine, BadByte, BadNumber}
+use Rattle.vac_lines.specs.Lines.{words_of}
+use Rattle.vac_lines.specs.Words.{number_between, memory_word_of}
+use Rattle.vac_lines.specs.LineTable.{line_task, is_bad_byte}
+use Rattle.vac_judge.specs.declared.fault.CallFault.{CallFault}
+use Rattle.vac_judge.specs.declared.fault.CallFault.TheVariants.{BadCall, Line}
+use Rattle.vac_judge.specs.declared.call.TheConstants.{CALL_BYTES, MOST_CLIENT_DIGITS, MOST_CLIENT}
+
+-- a call of a client, with readings of the clock before it began and after it was answered, the
+-- task that was asked for, and the text of the reply
+pub record Call : Type 0 where
+  pub client : ℕ
+  pub begin : ℕ
+  pub end : ℕ
+  pub task : Task
+  pub reply : List ℕ
+
+-- the word between a task's line and its reply
+abbrev pub is_arrow : List ℕ → Bool
+is_arrow word = bytes_eq word (codes "->")
+
+-- the texts that a call's line is made of
+pub record Parts : Type 0 where
+  pub client : List ℕ
+  pub begin : List ℕ
+  pub end : List ℕ
+  pub line : List ℕ
+  pub reply : List ℕ
+
+-- these words as a text again
+abbrev pub joined : List (List ℕ) → List ℕ
+joined words = join_with_byte 32 words
+
+-- four words or more stand before the arrow, and one or more behind it
+abbrev pub parts_of : List (List ℕ) → List (List ℕ) → Option Parts
+parts_of (client ∷ begin ∷ end ∷ word ∷ words) (reply ∷ more) =
+    Some (record {
+      client = client;
+      begin = begin;
+      end = end;
+      line = joined (word ∷ words);
+      reply = joined (reply ∷ more);
+    })
+parts_of _ _ = None
+
+-- the parts of a line, at the first word that is an arrow
+abbrev pub call_parts : List ℕ → Option Parts
+call_parts line =
+    parts_of (before_first is_arrow (words_of line)) (after_first is_arrow (words_of line))
+
+-- goes on with what was read; the first fault ends the reading
+infixl 10 ◌>>=◌
+abbrev pub ◌>>=◌ : {A B : Type 0} → Result A CallFault → (A → Result B CallFault)
+    → Result B CallFault
+(Ok x) >>= f = f x
+(Err e) >>= f = Err e
+
+-- CLIENT: 0 to 4,294,967,295, of 1 to 10 digits
+abbrev pub at_client : List ℕ → Result ℕ CallFault
+at_client word = ok_or (number_between MOST_CLIENT_DIGITS 0 MOST_CLIENT word) (Line BadNumber)
+
+-- BEGIN and END: 0 to 2 ^ 64 - 1, of 1 to 20 digits
+abbrev pub at_time : List ℕ → Result ℕ CallFault
+at_time word = ok_or (memory_word_of word) (Line BadNumber)
+
+-- a fault of the task's line is one of the call's line
+abbrev pub as_call_fault : {A : Type 0} → Result A LineFault → Result A CallFault
+as_call_fault (Ok x) = Ok x
+as_call_fault (Err fault) = Err (Line fault)
+
+-- the call of these parts, or its first fault
+abbrev pub parts_call : Parts → Result Call CallFault
+parts_call parts = do
+  client ← at_client parts.client
+  begin ← at_time parts.begin
+  end ← at_time parts.end
+  task ← as_call_fault (line_task parts.line)
+  Ok (record { client = client; begin = begin; end = end; task = task; reply = parts.reply })
+
+-- the call of a line, or its first fault
+abbrev pub line_call : List ℕ → Result Call CallFault
+line_call line =
+    if nat_lt CALL_BYTES (length line) then Err (Line LongLine)
+    else if list_any is_bad_byte line then Err (Line BadByte)
+    else (ok_or (call_parts line) BadCall >>= parts_call)

@@ -1,0 +1,8 @@
+-- When the words of plain memory are those of a state.
+use Rattle.std.specs.Prelude.{ℕ, List, length, slice_index}
+use Rattle.vac_model.specs.State.{State}
+use Rattle.vac_records.specs.Represents.{IsState}
+
+-- the words represent this balanced state
+abbrev pub Holds : List ℕ → State → Type 0
+Holds words s = IsState (slice_index words) (length words) s

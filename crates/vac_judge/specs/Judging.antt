@@ -1,0 +1,47 @@
+-- What judging a call, or a line, does to a judge.
+use Rattle.std.specs.Prelude.{◌≡◌, Option, Some, None, Result, List, ◌∷◌}
+use Rattle.vac_model.specs.State.{State}
+use Rattle.vac_model.specs.Run.{run}
+use Rattle.vac_judge.specs.declared.fault.CallFault.{CallFault}
+use Rattle.vac_judge.specs.declared.judge.Judge.{Judge}
+use Rattle.vac_judge.specs.declared.verdict.Wrong.{Wrong}
+use Rattle.vac_judge.specs.declared.verdict.Wrong.TheVariants.{Client, Time, Reply}
+use Rattle.vac_judge.specs.declared.verdict.Verdict.{Verdict}
+use Rattle.vac_judge.specs.Call.{Call}
+use Rattle.vac_judge.specs.Order.{breaks_client, breaks_time, wrong_of}
+use Rattle.vac_judge.specs.Verdict.{judged}
+use Rattle.vac_judge.specs.Holds.{Holds}
+use Rattle.vac_judge.specs.Follows.{Keeps}
+use Rattle.std.specs.Prelude.{true, false}
+
+-- the judge has judged these calls, which leave the state s
+pub record Follows (judge : Judge) (s : State) (earlier : List Call) : Type 0 where
+  pub heap : Holds judge.heap s
+  pub keeps : Keeps judge.ends judge.latest judge.calls earlier
+
+-- this is wrong with the times of a call
+abbrev pub JudgesTimes : List Call → Call → Option Wrong → Type 0
+JudgesTimes earlier call None =
+    (breaks_client earlier call ≡ false) × (breaks_time earlier call ≡ false)
+JudgesTimes earlier call (Some Client) = breaks_client earlier call ≡ true
+JudgesTimes earlier call (Some Time) =
+    (breaks_client earlier call ≡ false) × (breaks_time earlier call ≡ true)
+JudgesTimes earlier call (Some (Reply expected)) = ⊥
+
+-- this is wrong with a call; where nothing is, it was taken
+pub record Judges (after : Judge) (s : State) (earlier : List Call) (call : Call)
+    (found : Option Wrong) : Type 0 where
+  pub found_is : wrong_of s earlier call ≡ found
+  pub taken : found ≡ None → Follows after (run s call.task).0 (call ∷ earlier)
+
+-- the judge has taken a line: the verdict on it and those behind it is that on those behind it
+pub record Takes (judge after : Judge) (line : Result Call CallFault) : Type 0 where
+  pub on : (s : State) (earlier : List Call) → Follows judge s earlier →
+      (t : State) × (calls : List Call) × Follows after t calls
+      × ((more : List (Result Call CallFault)) →
+      judged s earlier (line ∷ more) ≡ judged t calls more)
+
+-- this is the verdict, whatever lines follow
+pub record Ends (judge : Judge) (line : Result Call CallFault) (verdict : Verdict) : Type 0 where
+  pub on : (s : State) (earlier : List Call) → Follows judge s earlier →
+      (more : List (Result Call CallFault)) → judged s earlier (line ∷ more) ≡ verdict

@@ -1,0 +1,67 @@
+-- The verdict is right: a history is legal exactly where the order in which its calls are given is
+-- a linearization of it (Herlihy and Wing, TOPLAS 1990).
+use Rattle.std.specs.Prelude.{◌≡◌, ◌↔◌, ⊤, ℕ, ◌<◌, ◌≤◌, Some, Ok, List, [], ◌∷◌, map, slice_get, true, reverse}
+use Rattle.vac_model.specs.State.{State, empty_state}
+use Rattle.vac_model.specs.Run.{run}
+use Rattle.vac_lines.specs.Lines.{lines_of}
+use Rattle.vac_lines.specs.Text.{reply_text}
+use Rattle.vac_judge.specs.declared.verdict.Verdict.TheVariants.{Legal}
+use Rattle.vac_judge.specs.Call.{Call, line_call}
+use Rattle.vac_judge.specs.Verdict.{verdict_on, is_legal, summary_of}
+
+-- this call stands at a place of the order
+abbrev pub IsAt : List Call → ℕ → Call → Type 0
+IsAt calls place call = slice_get calls place ≡ Some call
+
+-- run one after the other from a state, the calls give their replies
+abbrev pub GiveReplies : State → List Call → Type 0
+GiveReplies s [] = ⊤
+GiveReplies s (call ∷ rest) =
+    (reply_text (run s call.task).1 ≡ call.reply) × GiveReplies (run s call.task).0 rest
+
+-- no call ends before it begins
+abbrev pub TakeTime : List Call → Type 0
+TakeTime calls = (i : ℕ) (a : Call) → IsAt calls i a → a.begin ≤ a.end
+
+-- the calls of each client do not overlap, and stand in their order
+abbrev pub AreSequential : List Call → Type 0
+AreSequential calls = (i j : ℕ) (a b : Call) → IsAt calls i a → IsAt calls j b → i < j →
+    a.client ≡ b.client → a.end ≤ b.begin
+
+-- a call that had ended before another began stands before it
+abbrev pub KeepPrecedence : List Call → Type 0
+KeepPrecedence calls = (i j : ℕ) (a b : Call) → IsAt calls i a → IsAt calls j b →
+    a.end < b.begin → i < j
+
+-- the order in which the calls are given is a linearization of them, for a system of n blocks
+pub record IsLinearization (n : ℕ) (calls : List Call) : Type 0 where
+  pub replies : GiveReplies (empty_state n) calls
+  pub times : TakeTime calls
+  pub clients : AreSequential calls
+  pub precedence : KeepPrecedence calls
+
+-- each line of a text is a call, and these are the calls
+abbrev pub Lists : List ℕ → List Call → Type 0
+Lists bytes calls = map line_call (lines_of bytes) ≡ map Ok calls
+
+-- each line is a call, and their order is a linearization
+pub record IsLegalHistory (n : ℕ) (bytes : List ℕ) : Type 0 where
+  pub calls : List Call
+  pub listed : Lists bytes calls
+  pub linearization : IsLinearization n calls
+
+-- the verdict is legal exactly for such a history
+abbrev pub LegalIsLinearization : Type 0
+LegalIsLinearization = (n : ℕ) (bytes : List ℕ) →
+    (is_legal (verdict_on n bytes) ≡ true) ↔ IsLegalHistory n bytes
+
+-- the state that the calls leave, run one after the other
+abbrev pub state_after : State → List Call → State
+state_after s [] = s
+state_after s (call ∷ rest) = state_after (run s call.task).0 rest
+
+-- it then says how many calls and clients there are, and what the state is that they leave
+abbrev pub LegalSummary : Type 0
+LegalSummary = (n : ℕ) (bytes : List ℕ) (calls : List Call) → Lists bytes calls →
+    IsLinearization n calls →
+    verdict_on n bytes ≡ Legal (summary_of (state_after (empty_state n) calls) (reverse calls))

@@ -1,0 +1,9 @@
+pub mod Call
+pub mod Parts
+pub mod Order
+pub mod Verdict
+pub mod Laws
+pub mod Holds
+pub mod Follows
+pub mod Judging
+pub mod Reading

@@ -1,0 +1,45 @@
+-- When a call does not fit the calls before it. Earlier calls are listed from the newest on.
+use Rattle.std.specs.Prelude.{ℕ, ◌+◌, ◌==◌, ◌&&◌, ◌||◌, Bool, Option, Some, None, List, [], ◌∷◌, nat_lt, if◌then◌else◌}
+use Rattle.std.specs.List.{list_any}
+use Rattle.std.specs.Str.{bytes_eq}
+use Rattle.vac_model.specs.State.{State}
+use Rattle.vac_model.specs.Run.{run}
+use Rattle.vac_lines.specs.Text.{reply_text}
+use Rattle.vac_judge.specs.declared.verdict.Wrong.{Wrong}
+use Rattle.vac_judge.specs.declared.verdict.Wrong.TheVariants.{Client, Time, Reply}
+use Rattle.vac_judge.specs.Call.{Call}
+
+-- both calls are of one client
+abbrev pub same_client : Call → Call → Bool
+same_client call earlier = earlier.client == call.client
+
+-- the call began before an earlier one of its client had ended
+abbrev pub overlaps : Call → Call → Bool
+overlaps call earlier = same_client call earlier && nat_lt call.begin earlier.end
+
+-- the call had ended before an earlier one in the order began
+abbrev pub ended_before : Call → Call → Bool
+ended_before call earlier = nat_lt call.end earlier.begin
+
+-- the call ends before it begins, or overlaps an earlier one of its client
+abbrev pub breaks_client : List Call → Call → Bool
+breaks_client earlier call = nat_lt call.end call.begin || list_any (overlaps call) earlier
+
+-- the call stands behind one that began only after this one had ended
+abbrev pub breaks_time : List Call → Call → Bool
+breaks_time earlier call = list_any (ended_before call) earlier
+
+-- the first that is wrong with a call behind these earlier ones, which leave the state s
+abbrev pub wrong_of : State → List Call → Call → Option Wrong
+wrong_of s earlier call =
+    let expected = (run s call.task).1 in
+    if breaks_client earlier call then Some Client
+    else if breaks_time earlier call then Some Time
+    else if bytes_eq call.reply (reply_text expected) then None
+    else Some (Reply expected)
+
+-- how many clients made these calls
+abbrev pub clients_of : List Call → ℕ
+clients_of [] = 0
+clients_of (call ∷ earlier) =
+    if list_any (same_client call) earlier then clients_of earlier else clients_of earlier + 1

@@ -1,0 +1,36 @@
+-- How a call's line is cut at its first arrow.
+use Rattle.std.specs.Prelude.{◌≡◌, ℕ, false, None, List, ◌∷◌, ◌++◌, codes}
+use Rattle.std.specs.List.{list_any}
+use Rattle.vac_lines.specs.Lines.{words_of}
+use Rattle.vac_judge.specs.declared.arrow.CallParts.{CallParts}
+use Rattle.vac_judge.specs.declared.call.CallLine.{CallLine}
+use Rattle.vac_judge.specs.Call.{Call, Parts, is_arrow, call_parts}
+
+-- these texts stand before and behind the first word that is an arrow
+pub record IsCutAtArrow (line before behind : List ℕ) : Type 0 where
+  pub words : words_of line ≡ words_of before ++ codes "->" ∷ words_of behind
+  pub first : list_any is_arrow (words_of before) ≡ false
+
+-- the line is no call's
+abbrev pub NoParts : List ℕ → Type 0
+NoParts line = call_parts line ≡ None
+
+-- the parts as texts
+abbrev pub shown_parts : CallParts → Parts
+shown_parts parts = record {
+  client = parts.client.now;
+  begin = parts.begin.now;
+  end = parts.end.now;
+  line = parts.line.now;
+  reply = parts.reply.now;
+}
+
+-- the call of a line that is one
+abbrev pub shown_call : CallLine → Call
+shown_call line = record {
+  client = line.client;
+  begin = line.begin;
+  end = line.end;
+  task = line.task;
+  reply = line.reply.now;
+}

@@ -1,0 +1,57 @@
+//! Cutting a call's line into its parts.
+
+ghost use Rattle.std.specs.Prelude.{◌≡◌, MatchOption, None, Some};
+ghost use Rattle.vac_judge.specs.Call.{call_parts};
+ghost use Rattle.vac_judge.specs.Parts.{IsCutAtArrow, shown_parts, NoParts};
+
+use vac_lines::cut_at;
+
+/// The word between a task's line and its reply.
+const ARROW: &[u8] = b"->";
+
+/// The texts that a call's line is made of.
+#[derive(Clone, Copy)]
+pub(crate) struct CallParts<'a> {
+    pub(crate) client: &'a [u8],
+    pub(crate) begin: &'a [u8],
+    pub(crate) end: &'a [u8],
+    pub(crate) line: &'a [u8],
+    pub(crate) reply: &'a [u8],
+}
+
+/// What stands before the first word that is an arrow, and what stands behind it.
+fn cut_at_arrow(line: &[u8]) -> Option<(&[u8], &[u8])>
+    ensures { MatchOption result (NoParts line.now)
+        (λ cut. IsCutAtArrow line.now cut.0.now cut.1.now) }
+{
+    let mut start = 0;
+    while let Some((word, behind)) = cut_at(b' ', &line[start..]) {
+        if word == ARROW {
+            if start == 0 {
+                return None;
+            }
+            return Some((&line[..start - 1], behind));
+        }
+        start += word.len() + 1;
+    }
+    None
+}
+
+/// The parts of a call's line, or `None` where no arrow has four words or more before it and one
+/// or more behind it.
+pub(crate) fn cut_parts(line: &[u8]) -> Option<CallParts<'_>>
+    ensures { MatchOption result (call_parts line.now ≡ None)
+        (λ parts. call_parts line.now ≡ Some (shown_parts parts)) }
+{
+    let (claim, reply) = cut_at_arrow(line)?;
+    let (client, rest) = cut_at(b' ', claim)?;
+    let (begin, rest) = cut_at(b' ', rest)?;
+    let (end, line) = cut_at(b' ', rest)?;
+    Some(CallParts {
+        client,
+        begin,
+        end,
+        line,
+        reply,
+    })
+}

@@ -1,0 +1,105 @@
+//! Reading a line of a history: the call that it stands for, or its first fault.
+
+ghost use Rattle.std.specs.Prelude.{◌≡◌, ◌≢◌, true, IfOk, IfErr, Ok, Err};
+ghost use Rattle.std.specs.List.{list_any};
+ghost use Rattle.vac_model.specs.Ranges.{is_task};
+ghost use Rattle.vac_lines.specs.LineTable.{is_bad_byte};
+ghost use Rattle.vac_judge.specs.Call.{line_call, parts_call, at_client, at_time};
+ghost use Rattle.vac_judge.specs.Parts.{shown_parts, shown_call};
+
+use crate::arrow::{CallParts, cut_parts};
+use crate::fault::CallFault;
+use std::alloc::Global;
+use vac_lines::{LineFault, read_line, read_memory_word};
+use vac_model::Task;
+
+/// The most bytes that a line of a history has before its end.
+pub const CALL_BYTES: usize = 4096;
+
+/// The most digits of a client's number. Zeros in front count.
+const MOST_CLIENT_DIGITS: usize = 10;
+
+/// The greatest number of a client.
+const MOST_CLIENT: u32 = u32::MAX;
+
+/// A call of a history.
+#[derive(Drop)]
+pub struct CallLine<'a> {
+    /// Who called.
+    pub client: u32,
+    /// A reading of the clock before the call began.
+    pub begin: u64,
+    /// A reading of the clock after the call was answered.
+    pub end: u64,
+    /// What was asked for.
+    pub task: Task,
+    /// The text of the answer.
+    pub reply: &'a [u8],
+}
+
+/// The client that a word names.
+fn client_at(word: &[u8]) -> Result<u32, CallFault>
+    ensures { result ≡ at_client word.now }
+{
+    if word.len() > MOST_CLIENT_DIGITS {
+        return Err(CallFault::Line(LineFault::BadNumber));
+    }
+    match read_memory_word(word) {
+        Some(client) if client <= u64::from(MOST_CLIENT) => Ok(client as u32),
+        _ => Err(CallFault::Line(LineFault::BadNumber)),
+    }
+}
+
+/// The reading of the clock that a word writes.
+fn time_at(word: &[u8]) -> Result<u64, CallFault>
+    ensures { result ≡ at_time word.now }
+{
+    read_memory_word(word).ok_or(CallFault::Line(LineFault::BadNumber))
+}
+
+/// Whether a byte of the line is below 32 or above 126.
+fn has_bad_byte(line: &[u8]) -> bool
+    ensures { result ≡ list_any is_bad_byte line.now }
+{
+    line.iter().any(|byte| *byte < 32 || *byte > 126)
+}
+
+/// The call of these parts, or its first fault.
+fn parts_call<'a>(alloc: Global, parts: CallParts<'a>) -> Result<CallLine<'a>, CallFault>
+    ensures call { IfOk result (λ call.
+        parts_call (shown_parts parts.entry) ≡ Ok (shown_call call)) }
+    ensures fault { IfErr result (λ fault. fault ≢ CallFault.Line LineFault.Memory →
+        parts_call (shown_parts parts.entry) ≡ Err fault) }
+    ensures in_range { IfOk result (λ call. is_task call.task ≡ true) }
+{
+    let client = client_at(parts.client)?;
+    let begin = time_at(parts.begin)?;
+    let end = time_at(parts.end)?;
+    let task = read_line(alloc, parts.line)?;
+    Ok(CallLine {
+        client,
+        begin,
+        end,
+        task,
+        reply: parts.reply,
+    })
+}
+
+/// Reads a line of a history, which is given without its line end: the call that it stands for,
+/// or its first fault. Where memory is refused for a task of many words, the fault is
+/// [`LineFault::Memory`], which is none of the line.
+pub fn read_call(alloc: Global, line: &[u8]) -> Result<CallLine<'_>, CallFault>
+    ensures call { IfOk result (λ call. line_call line.now ≡ Ok (shown_call call)) }
+    ensures fault { IfErr result (λ fault. fault ≢ CallFault.Line LineFault.Memory →
+        line_call line.now ≡ Err fault) }
+    ensures in_range { IfOk result (λ call. is_task call.task ≡ true) }
+{
+    if line.len() > CALL_BYTES {
+        return Err(CallFault::Line(LineFault::LongLine));
+    }
+    if has_bad_byte(line) {
+        return Err(CallFault::Line(LineFault::BadByte));
+    }
+    let parts = cut_parts(line).ok_or(CallFault::BadCall)?;
+    parts_call(alloc, parts)
+}

@@ -1,0 +1,152 @@
+//! Judging one call after another.
+
+ghost use Rattle.std.specs.Prelude.{◌≡◌, ◌≢◌, ◌≤◌, ◌+◌, IfOk, OnOk, MatchOption, List, [], ◌∷◌, true};
+ghost use Rattle.std.specs.Str.{bytes_eq};
+ghost use Rattle.vac_model.specs.Ranges.{is_task};
+ghost use Rattle.vac_model.specs.State.{State, empty_state};
+ghost use Rattle.vac_lines.specs.Text.{reply_text};
+ghost use Rattle.vac_judge.specs.Call.{Call, line_call};
+ghost use Rattle.vac_judge.specs.Parts.{shown_call};
+ghost use Rattle.vac_judge.specs.Order.{wrong_of};
+ghost use Rattle.vac_judge.specs.Judging.{Follows, JudgesTimes, Judges, Takes, Ends as IsEnd};
+ghost use Rattle.vac_judge.specs.Verdict.{summary_of};
+
+use crate::call::{CallLine, read_call};
+use crate::ends::Ends;
+use crate::fault::{CallFault, JudgeFault};
+use crate::heap::Heap;
+use crate::verdict::{Summary, Verdict, Wrong};
+use std::alloc::{AllocError, Global};
+use vac_lines::{LineFault, print_reply};
+use vac_model::Reply;
+use vac_model::limits::MOST_BLOCKS;
+
+/// A judge of a history that is given line by line: the state that the calls so far leave, and
+/// what the order of a further call is judged by.
+///
+/// It keeps the memory of the state and one number for each client, and nothing of the calls.
+#[derive(Drop)]
+pub struct Judge {
+    heap: Heap,
+    /// When each client's last call ended.
+    ends: Ends,
+    /// The latest reading at which a call began.
+    latest: u64,
+    /// How many calls there are.
+    calls: u64,
+    /// The text of the last reply that was expected.
+    expected: Vec<u8>,
+}
+
+/// Whether a text is that of a reply.
+fn is_text_of(buffer: &mut Vec<u8>, reply: &Reply, text: &[u8]) -> Result<bool, AllocError>
+    ensures { IfOk result (λ same. same ≡ bytes_eq text.now (reply_text reply.now)) }
+{
+    buffer.clear();
+    print_reply(reply, buffer)?;
+    Ok(text == buffer.as_slice())
+}
+
+/// The fault of a line, where it is not want of memory.
+fn own_fault(fault: CallFault) -> Result<CallFault, JudgeFault>
+    ensures { IfOk result (λ found.
+        (found ≡ fault) × (fault ≢ CallFault.Line LineFault.Memory)) }
+{
+    if matches!(fault, CallFault::Line(LineFault::Memory)) {
+        return Err(JudgeFault::Memory);
+    }
+    Ok(fault)
+}
+
+impl Judge {
+    /// A history without calls, of a system of so many blocks.
+    pub fn new(alloc: Global, blocks: u32) -> Result<Judge, JudgeFault>
+        requires some { 1 ≤ blocks }
+        requires most { blocks ≤ MOST_BLOCKS }
+        ensures { IfOk result (λ judge. Follows judge (empty_state blocks) []) }
+    {
+        Ok(Judge {
+            heap: Heap::new(alloc, blocks)?,
+            ends: Ends::new(alloc),
+            latest: 0,
+            calls: 0,
+            expected: Vec::new(alloc),
+        })
+    }
+
+    /// What is wrong with the times of a call, behind those before it.
+    fn judge_times(&self, call: &CallLine<'_>) -> Option<Wrong>
+        ensures { (s : State) (earlier : List Call) → Follows self.now s earlier →
+            JudgesTimes earlier (shown_call call.now) result }
+    {
+        if call.end < call.begin {
+            return Some(Wrong::Client);
+        }
+        if let Some(end) = self.ends.get(call.client) {
+            if call.begin < end {
+                return Some(Wrong::Client);
+            }
+        }
+        if call.end < self.latest {
+            return Some(Wrong::Time);
+        }
+        None
+    }
+
+    /// Judges a call with this line's number, and takes it where it is right.
+    fn judge_call(&mut self, line: u64, call: &CallLine<'_>) -> Result<Option<Wrong>, AllocError>
+        requires in_range { is_task call.now.task ≡ true }
+        ensures { IfOk result (λ found. (s : State) (earlier : List Call) →
+            Follows self.old s earlier → line ≡ self.old.calls + 1 →
+            Judges self.new s earlier (shown_call call.now) found) }
+    {
+        if let Some(wrong) = self.judge_times(call) {
+            return Ok(Some(wrong));
+        }
+        let reply = self.heap.run(&call.task);
+        if !is_text_of(&mut self.expected, &reply, call.reply)? {
+            return Ok(Some(Wrong::Reply(reply)));
+        }
+        self.ends.insert(call.client, call.end)?;
+        self.latest = self.latest.max(call.begin);
+        self.calls = line;
+        Ok(None)
+    }
+
+    /// Judges a line, which is given without its end. Answers the verdict that it brings, whatever
+    /// lines follow; or `None`, where its call is right and was taken.
+    ///
+    /// After a verdict or a fault, no further line can be judged by it.
+    pub fn judge_line(&mut self, alloc: Global, text: &[u8]) -> Result<Option<Verdict>, JudgeFault>
+        ensures { IfOk result (λ found. MatchOption found
+            (Takes self.old self.new (line_call text.now))
+            (λ verdict. IsEnd self.old (line_call text.now) verdict)) }
+    {
+        if self.calls == u64::MAX {
+            return Err(JudgeFault::Bound);
+        }
+        let line = self.calls + 1;
+        match read_call(alloc, text) {
+            Ok(call) => match self.judge_call(line, &call)? {
+                Some(wrong) => Ok(Some(Verdict::Illegal { line, wrong })),
+                None => Ok(None),
+            },
+            Err(fault) => {
+                let fault = own_fault(fault)?;
+                Ok(Some(Verdict::Fault { line, fault }))
+            }
+        }
+    }
+
+    /// What is said of the calls, where no further line comes.
+    pub fn summary(&mut self) -> Summary
+        ensures { (s : State) (earlier : List Call) → Follows self.old s earlier →
+            result ≡ summary_of s earlier }
+    {
+        Summary {
+            calls: self.calls,
+            clients: self.ends.len(),
+            report: self.heap.report(),
+        }
+    }
+}

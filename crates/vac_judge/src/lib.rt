@@ -1,0 +1,25 @@
+//! A judge of histories: it says whether the order in which the calls of a transactional runtime
+//! are given is a linearization of them.
+//!
+//! A history is a text of lines `CLIENT BEGIN END LINE -> REPLY`, in the order in which the
+//! runtime claims that the calls took effect. The tasks are run over plain memory, one after the
+//! other in that order.
+#![tactic(auto)]
+
+mod arrow;
+mod call;
+mod ends;
+mod fault;
+mod heap;
+mod judge;
+mod laws;
+mod reading;
+mod verdict;
+mod writing;
+
+pub use call::{CALL_BYTES, CallLine, read_call};
+pub use fault::{CallFault, JudgeFault};
+pub use judge::Judge;
+pub use laws::{a_legal_history_has_this_summary, a_verdict_finds_the_linearizations};
+pub use reading::judge_history;
+pub use verdict::{Summary, Verdict, Wrong, print_verdict};

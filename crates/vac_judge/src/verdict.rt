@@ -1,0 +1,113 @@
+//! What is said of a history, and its text.
+
+ghost use Rattle.std.specs.Prelude.{◌≡◌, ◌++◌, OnOk, codes, decimal};
+ghost use Rattle.vac_lines.specs.Text.{reply_text, field_text};
+ghost use Rattle.vac_judge.specs.Verdict.{counts_text, wrong_text, call_fault_text, verdict_text};
+
+use crate::fault::CallFault;
+use std::alloc::AllocError;
+use vac_lines::{print_fault, print_reply};
+use vac_model::{Reply, Report};
+
+/// What is wrong with a call, behind the calls that stand before it.
+#[derive(Clone, Copy, Debug, PartialEq, Eq)]
+pub enum Wrong {
+    /// It ends before it begins, or begins before an earlier call of its client ends.
+    Client,
+    /// It ends before an earlier call begins.
+    Time,
+    /// The sequential manager, after the calls before, answers this.
+    Reply(Reply),
+}
+
+/// What is said of a legal history.
+#[derive(Clone, Copy, Debug, PartialEq, Eq)]
+pub struct Summary {
+    /// How many calls there are.
+    pub calls: u64,
+    /// How many clients made them.
+    pub clients: u64,
+    /// The report of the state that they leave.
+    pub report: Report,
+}
+
+/// What is said of a history. Lines are numbered from 1.
+#[derive(Clone, Copy, Debug, PartialEq, Eq)]
+pub enum Verdict {
+    /// Each line is a call, and their order is a linearization.
+    Legal(Summary),
+    /// This line is no call.
+    Fault { line: u64, fault: CallFault },
+    /// This line's call is wrong behind those before it.
+    Illegal { line: u64, wrong: Wrong },
+}
+
+/// Appends a text and a number in decimal.
+fn append_counted(out: &mut Vec<u8>, text: &[u8], number: u64) -> Result<(), AllocError>
+    ensures { OnOk result (out.new.items ≡ out.old.items ++ field_text text.now number) }
+{
+    out.extend_from_slice(text)?;
+    print_reply(&Reply::Number(Some(number)), out)
+}
+
+/// Appends the counts of a legal history.
+fn append_counts(out: &mut Vec<u8>, found: &Summary) -> Result<(), AllocError>
+    ensures { OnOk result (out.new.items ≡ out.old.items ++ counts_text found.now) }
+{
+    append_counted(out, b"legal calls=", found.calls)?;
+    append_counted(out, b" clients=", found.clients)
+}
+
+/// Appends what is said of a legal history.
+fn append_summary(out: &mut Vec<u8>, found: &Summary) -> Result<(), AllocError>
+    ensures { OnOk result
+        (out.new.items ≡ out.old.items ++ verdict_text (Verdict.Legal found.now)) }
+{
+    append_counts(out, found)?;
+    out.extend_from_slice(b"\n")?;
+    print_reply(&Reply::Report(found.report), out)?;
+    out.extend_from_slice(b"\n")
+}
+
+/// Appends the fault of a line, without its number.
+fn append_fault(out: &mut Vec<u8>, fault: CallFault) -> Result<(), AllocError>
+    ensures { OnOk result (out.new.items ≡ out.old.items ++ call_fault_text fault) }
+{
+    match fault {
+        CallFault::BadCall => out.extend_from_slice(b"fault bad-call"),
+        CallFault::Line(fault) => print_fault(fault, out),
+    }
+}
+
+/// Appends what is wrong with the call of a line.
+fn append_wrong(out: &mut Vec<u8>, wrong: &Wrong, line: u64) -> Result<(), AllocError>
+    ensures { OnOk result (out.new.items ≡ out.old.items ++ wrong_text wrong.now line) }
+{
+    match wrong {
+        Wrong::Client => append_counted(out, b"illegal client ", line),
+        Wrong::Time => append_counted(out, b"illegal time ", line),
+        Wrong::Reply(expected) => {
+            append_counted(out, b"illegal reply ", line)?;
+            out.extend_from_slice(b" ")?;
+            print_reply(expected, out)
+        }
+    }
+}
+
+/// Appends the text of a verdict: two lines for a legal history, and one for any other.
+pub fn print_verdict(verdict: &Verdict, out: &mut Vec<u8>) -> Result<(), AllocError>
+    ensures { OnOk result (out.new.items ≡ out.old.items ++ verdict_text verdict.now) }
+{
+    match verdict {
+        Verdict::Legal(found) => append_summary(out, found),
+        Verdict::Fault { line, fault } => {
+            append_fault(out, *fault)?;
+            append_counted(out, b" ", *line)?;
+            out.extend_from_slice(b"\n")
+        }
+        Verdict::Illegal { line, wrong } => {
+            append_wrong(out, wrong, *line)?;
+            out.extend_from_slice(b"\n")
+        }
+    }
+}
