@@ -3,7 +3,7 @@ ghost use Rattle.std.specs.Prelude.{◌≡◌, ◌<◌, IfOk};
 ghost use Rattle.stm_core.specs.Core.{IsFreeHanded};
 
 use std::test::Fail;
-use stm_attempt::{Attempt, Logs, NoGate, Stop};
+use stm_attempt::{Attempt, Logs, NoGate, Refusal, Stop};
 use stm_region::{Client, Region};
 use stm_words::{Addr, FreeLaw, TxMem, TxRead, Version};
 
@@ -30,9 +30,9 @@ pub(crate) fn write_one(
     let mut attempt = Attempt::begin(region, client, logs);
     match attempt.write(addr, value) {
         Ok(()) => attempt.commit(&1u64, &mut NoGate),
-        Err(stop) => {
+        Err(_) => {
             attempt.drop_it();
-            Err(stop)
+            Err(Stop::Memory)
         }
     }
 }
@@ -43,7 +43,7 @@ pub(crate) fn read_one(
     client: &mut Client<FreeLaw>,
     logs: &mut Logs,
     addr: Addr,
-) -> Result<u64, Stop>
+) -> Result<u64, Refusal>
     requires own { client.old.table ≡ region.now.table }
     requires free { IsFreeHanded client.old.value }
     requires range { addr.0 < region.now.size }

@@ -3,7 +3,7 @@ ghost use Rattle.std.specs.Prelude.{◌≡◌, ◌<◌};
 
 use crate::attempts::{read_one, version, write_one};
 use std::test::Fail;
-use stm_attempt::{Attempt, Conflict, Logs, NoGate, ReadAttempt, Stop};
+use stm_attempt::{Attempt, Conflict, Logs, NoGate, ReadAttempt, Refusal, Stop};
 use stm_region::Region;
 use stm_words::{Addr, FreeLaw, TxMem, TxRead};
 
@@ -66,7 +66,7 @@ fn a_reader_finishes_at_its_read_version(rt: HostRuntime) -> Result<(), Fail> {
 #[test]
 fn a_reader_meets_a_newer_version_and_repeats(rt: HostRuntime) -> Result<(), Fail> {
     let alloc = rt.alloc();
-    let (between, stops, value, committed, words, last) = {
+    let (between, stops, met, ended, value, committed, words, last) = {
         let (region, mut a) = Region::<FreeLaw>::new(alloc, &[0; 32], 100, 32)?;
         let mut b = region.split(&mut a)?;
         let mut logs_a = Logs::new(alloc);
@@ -77,8 +77,9 @@ fn a_reader_meets_a_newer_version_and_repeats(rt: HostRuntime) -> Result<(), Fai
             reading.read(Addr(9)).err(),
             reading.read(Addr(9)).err(),
             reading.write(Addr(9), 6).err(),
-            reading.commit(&2u64, &mut NoGate).err(),
         ];
+        let met = reading.stopped();
+        let ended = reading.commit(&2u64, &mut NoGate);
         let mut reading = Attempt::begin(&region, &mut a, &mut logs_a);
         let value = reading.read(Addr(9));
         let committed = reading.commit(&3u64, &mut NoGate);
@@ -86,15 +87,17 @@ fn a_reader_meets_a_newer_version_and_repeats(rt: HostRuntime) -> Result<(), Fai
         let Ok((words, last)) = region.close(alloc, a) else {
             panic!(rt; "it stayed open")
         };
-        (between, stops, value, committed, words, last)
+        (between, stops, met, ended, value, committed, words, last)
     };
     assert_eq!(rt; between?, version(1)?);
-    let newer = Stop::Conflict(Conflict::Newer {
+    let newer = Conflict::Newer {
         lock: 9,
         version: version(1)?,
         rv: version(0)?,
-    });
-    assert_eq!(rt; stops, [Some(newer); 4]);
+    };
+    assert_eq!(rt; stops, [Some(Refusal::Stopped); 3]);
+    assert_eq!(rt; met, Some(newer));
+    assert_eq!(rt; ended, Err(Stop::Conflict(newer)));
     assert_eq!(rt; value?, 5);
     assert_eq!(rt; committed?, version(1)?);
     let mut expected = [0u64; 32];
@@ -135,7 +138,7 @@ fn a_spent_clock_refuses_what_writes(rt: HostRuntime) -> Result<(), Fail> {
 #[test]
 fn two_words_of_one_stripe(rt: HostRuntime) -> Result<(), Fail> {
     let alloc = rt.alloc();
-    let (stops, first, refused, read, second) = {
+    let (stops, first, refused, met, read, second) = {
         let (region, mut a) = Region::<FreeLaw>::new(alloc, &[0; 32], 100, 4)?;
         let mut b = region.split(&mut a)?;
         let mut logs_a = Logs::new(alloc);
@@ -147,13 +150,14 @@ fn two_words_of_one_stripe(rt: HostRuntime) -> Result<(), Fail> {
         let three = writing.write(Addr(10), 3);
         let first = writing.commit(&1u64, &mut NoGate);
         let refused = reading.read(Addr(5));
+        let met = reading.stopped();
         reading.drop_it();
         let mut writing = Attempt::begin(&region, &mut a, &mut logs_a);
         let read = writing.read(Addr(9));
         let four = writing.write(Addr(13), 4);
         let second = writing.commit(&2u64, &mut NoGate);
         let stops = [one.err(), two.err(), three.err(), four.err()];
-        (stops, first, refused, read, second)
+        (stops, first, refused, met, read, second)
     };
     assert_eq!(rt; stops, [None; 4]);
     assert_eq!(rt; first?, version(1)?);
@@ -162,7 +166,8 @@ fn two_words_of_one_stripe(rt: HostRuntime) -> Result<(), Fail> {
         version: version(1)?,
         rv: version(0)?,
     };
-    assert_eq!(rt; refused, Err(Stop::Conflict(newer)));
+    assert_eq!(rt; refused, Err(Refusal::Stopped));
+    assert_eq!(rt; met, Some(newer));
     assert_eq!(rt; read?, 1);
     assert_eq!(rt; second?, version(2)?);
     Ok(())

@@ -28,8 +28,9 @@ fn write_beside_a_commit(
     let written = attempt.write(addr, 7);
     let between = write_one(region, other, others, Addr(9), 1);
     let committed = attempt.commit(&2u64, &mut NoGate);
-    read?;
-    written?;
+    if read.is_err() || written.is_err() {
+        return Err(Stop::Memory);
+    }
     between?;
     Ok(committed)
 }

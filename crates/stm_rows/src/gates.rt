@@ -5,7 +5,7 @@ ghost use Rattle.stm_core.specs.Core.{IsFreeHanded};
 use crate::attempts::{read_one, version, write_one};
 use std::alloc::Global;
 use std::test::Fail;
-use stm_attempt::{Attempt, Conflict, Gate, Logs, NoGate, Point, Stop};
+use stm_attempt::{Attempt, Conflict, Gate, Logs, NoGate, Point, Refusal, Stop};
 use stm_region::{Client, Region, RegionFault};
 use stm_words::{Addr, FreeLaw, TxMem, TxRead, Version};
 
@@ -244,11 +244,14 @@ pub(crate) struct Running<'b> {
     ghost range: { 9 < attempt.region.now.size },
 }
 
+/// What a read answers, and the conflict that its attempt has met.
+type Met = (Result<u64, Refusal>, Option<Conflict>);
+
 /// Reads word 9 by another client's attempt at one point, and ends that one.
 struct ReadsAt<'a, 'b> {
     other: Option<Running<'b>>,
     when: Point,
-    answer: &'a mut Option<Result<u64, Stop>>,
+    answer: &'a mut Option<Met>,
 }
 
 impl<'a, 'b> Gate for ReadsAt<'a, 'b> {
@@ -257,7 +260,8 @@ impl<'a, 'b> Gate for ReadsAt<'a, 'b> {
             && let Some(Running { attempt }) = self.other.take()
         {
             let mut attempt = attempt;
-            *self.answer = Some(attempt.read(Addr(9)));
+            let read = attempt.read(Addr(9));
+            *self.answer = Some((read, attempt.stopped()));
             attempt.drop_it();
         }
     }
@@ -279,9 +283,9 @@ pub(crate) fn write_under<G: Gate>(
     let mut attempt = Attempt::begin(region, client, logs);
     match attempt.write(Addr(9), 1) {
         Ok(()) => attempt.commit(&1u64, gate),
-        Err(stop) => {
+        Err(_) => {
             attempt.drop_it();
-            Err(stop)
+            Err(Stop::Memory)
         }
     }
 }
@@ -294,7 +298,7 @@ fn read_at(
     logs: &mut Logs,
     others: &mut Logs,
     when: Point,
-) -> (Option<Result<u64, Stop>>, Answer)
+) -> (Option<Met>, Answer)
     requires own { (client.old.table ≡ region.now.table) × (other.old.table ≡ region.now.table) }
     requires free { IsFreeHanded client.old.value × IsFreeHanded other.old.value }
     requires range { 9 < region.now.size }
@@ -318,7 +322,7 @@ fn read_at(
     (answer, committed)
 }
 
-type Read = (Option<Result<u64, Stop>>, Answer);
+type Read = (Option<Met>, Answer);
 
 fn read_in_new_region(alloc: Global, when: Point) -> Result<Read, RegionFault> {
     let (region, mut a) = Region::<FreeLaw>::new(alloc, &[0; 32], 100, 32)?;
@@ -331,15 +335,15 @@ fn read_in_new_region(alloc: Global, when: Point) -> Result<Read, RegionFault> {
 /// The locks are held until all values are stored, and are free when nothing is written yet.
 #[test]
 fn locks_are_held_from_locked_to_written(rt: HostRuntime) -> Result<(), Fail> {
-    let held = Stop::Conflict(Conflict::Held { lock: 9, word: 1 });
+    let held = Conflict::Held { lock: 9, word: 1 };
     let before = read_in_new_region(rt.alloc(), Point::ReadsDone)?;
     let locked = read_in_new_region(rt.alloc(), Point::Locked)?;
     let ticked = read_in_new_region(rt.alloc(), Point::Ticked)?;
     let decided = read_in_new_region(rt.alloc(), Point::Decided)?;
     let written = read_in_new_region(rt.alloc(), Point::Written)?;
     let committed = Ok(version(1)?);
-    let expected = (Some(Err(held)), committed);
-    assert_eq!(rt; before, (Some(Ok(0)), committed));
+    let expected = (Some((Err(Refusal::Stopped), Some(held))), committed);
+    assert_eq!(rt; before, (Some((Ok(0), None)), committed));
     assert_eq!(rt; [locked, ticked, decided, written], [expected; 4]);
     Ok(())
 }

@@ -7,7 +7,7 @@ use crate::attempts::{version, write_one};
 use linked_list_allocator::LocalHeap;
 use std::alloc::Allocator;
 use std::test::Fail;
-use stm_attempt::{Attempt, Logs, NoGate, Stop};
+use stm_attempt::{Attempt, Logs, NoGate, Refusal, Stop};
 use stm_logs::{ReadLog, WriteLog};
 use stm_region::{Client, Region};
 use stm_words::{Addr, FreeLaw, TxMem, TxRead, Version};
@@ -144,7 +144,7 @@ fn read_in_used_logs(
     region: &Region<FreeLaw>,
     client: &mut Client<FreeLaw>,
     logs: &mut Logs,
-) -> (Result<u64, Stop>, Result<Version, Stop>)
+) -> (Result<u64, Refusal>, Result<Version, Stop>)
     requires own { client.old.table ≡ region.now.table }
     requires free { IsFreeHanded client.old.value }
     requires range { 9 < region.now.size }

@@ -3,7 +3,7 @@
 use crate::attempts::version;
 use linked_list_allocator::LocalHeap;
 use std::test::Fail;
-use stm_attempt::{Attempt, Logs, NoGate, Stop};
+use stm_attempt::{Attempt, Logs, NoGate, Refusal};
 use stm_region::Region;
 use stm_words::{Addr, FreeLaw, TxMem, TxRead};
 
@@ -32,8 +32,8 @@ fn a_refused_write_leaves_the_attempt(rt: HostRuntime) -> Result<(), Fail> {
         };
         (written, refused, again, own, read, committed, words)
     };
-    assert_eq!(rt; refused, Some(Stop::Memory));
-    assert_eq!(rt; again, Err(Stop::Memory));
+    assert_eq!(rt; refused, Some(Refusal::Memory));
+    assert_eq!(rt; again, Err(Refusal::Memory));
     own?;
     assert_eq!(rt; read?, 2);
     assert_eq!(rt; committed?, version(1)?);
@@ -69,9 +69,9 @@ fn a_refused_read_leaves_the_attempt(rt: HostRuntime) -> Result<(), Fail> {
         let committed = attempt.commit(&1u64, &mut NoGate);
         (read, refused, again, committed)
     };
-    assert_eq!(rt; refused, Some(Stop::Memory));
+    assert_eq!(rt; refused, Some(Refusal::Memory));
     assert_eq!(rt; read, 1_024);
-    assert_eq!(rt; again, Err(Stop::Memory));
+    assert_eq!(rt; again, Err(Refusal::Memory));
     assert_eq!(rt; committed?, version(0)?);
     Ok(())
 }
