@@ -1,0 +1,18 @@
+use Rattle.std.proofs.Common.{rules, ap, ◌∙◌}
+use Rattle.stm_attempt.specs.Meaning.{Origin}
+use Rattle.bank.specs.declared.entry.Entry.TheVariants.{Transfer}
+use Rattle.bank.proofs.Lawful.{has_bank, lawful}
+use Rattle.bank.proofs.Histories.{in_order}
+use Rattle.bank.proofs.attempts.try_transfer.Goals as goal
+
+pub transfer-answer-requires-clause-bank : goal.transfer-answer-requires-clause-bank
+transfer-answer-requires-clause-bank c =
+    has_bank _ _ _ _ _ c.begin-attempt.ensures.empty.2 c.begin-attempt.ensures.region c.requires.opened c.begin-attempt.ensures.empty.1
+
+pub commit-requires-clause-lawful : goal.commit-requires-clause-lawful
+commit-requires-clause-lawful c = λ _.
+    lawful _ _ _ _ _ _ _ _ _ _ _ _ (Transfer c.args.from c.args.to c.args.amount c.in-Ok.moved) c.begin-attempt.ensures.empty.2 c.begin-attempt.ensures.empty.1 c.in-Ok.ensures.origin c.in-Ok.ensures.answer
+
+pub returns-in-Ok-commit-clause-order : goal.returns-in-Ok-commit-clause-order
+returns-in-Ok-commit-clause-order c =
+    in_order _ _ _ _ (ap (λ (o : Origin). o.region) c.transfer-answer.ensures.origin ∙ c.begin-attempt.ensures.region) c.requires.opened c.in-Ok-commit.ensures.decides (search rules)

@@ -1,0 +1,28 @@
+-- Accounts, and what the bank's transactions do to them.
+use Rattle.std.specs.Prelude.{◌≡◌, ℕ, ◌+◌, ◌-◌, ◌<◌, ◌≤◌, true, false, cond, List, [], ◌∷◌, length, slice_index, slice_set, sum}
+use Rattle.bank.specs.declared.entry.Entry.{Entry}
+use Rattle.bank.specs.declared.entry.Entry.TheVariants.{Transfer, Sum}
+
+-- the balances after an amount was taken from one account and then put to another
+abbrev pub moving : List ℕ → ℕ → ℕ → ℕ → List ℕ
+moving xs from to amount =
+    let taken = slice_set xs from (slice_index xs from - amount) in
+    slice_set taken to (slice_index taken to + amount)
+
+-- the balances after an entry
+abbrev pub after : Entry → List ℕ → List ℕ
+after (Transfer from to amount true) xs = moving xs from to amount
+after (Transfer from to amount false) xs = xs
+after (Sum total) xs = xs
+
+-- what an entry says of the balances before it: there was enough, or not; or this is their sum
+abbrev pub Finds : Entry → List ℕ → Type 0
+Finds (Transfer from to amount true) xs =
+    (from < length xs) × (to < length xs) × (amount ≤ slice_index xs from)
+Finds (Transfer from to amount false) xs = slice_index xs from < amount
+Finds (Sum total) xs = total ≡ sum xs
+
+-- an entry as numbers
+abbrev pub code : Entry → List ℕ
+code (Transfer from to amount moved) = 0 ∷ from ∷ to ∷ amount ∷ cond moved 1 0 ∷ []
+code (Sum total) = 1 ∷ total ∷ []

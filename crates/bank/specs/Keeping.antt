@@ -1,0 +1,48 @@
+-- The law's one proof: no entry changes the number of accounts, or the sum of all balances.
+use Rattle.std.proofs.Common.{◌≡◌, ℕ, ◌+◌, ◌-◌, ◌<◌, ◌≤◌, true, false, List, length, slice_index, slice_set, sum, refl, sym, ◌∙◌, subst, arith, length-set}
+use Rattle.std.proofs.lemmas.List.Sums.{sum_by-set}
+use Rattle.stm_words.specs.Image.{Agrees, laid}
+use Rattle.bank.specs.declared.entry.Entry.{Entry}
+use Rattle.bank.specs.declared.entry.Entry.TheVariants.{Transfer, Sum}
+use Rattle.bank.specs.Accounts.{moving, after, Finds}
+use Rattle.bank.specs.Law.{IsBank, IsLawful}
+
+pub sum_set : (xs : List ℕ) (i y : ℕ) → i < length xs → sum (slice_set xs i y) + slice_index xs i ≡ sum xs + y
+sum_set xs i y less = sum_by-set (λ x. x) xs i y 0 less
+
+pub sum_taken : (xs : List ℕ) (from amount : ℕ) → from < length xs → amount ≤ slice_index xs from → sum (slice_set xs from (slice_index xs from - amount)) + amount ≡ sum xs
+sum_taken xs from amount less enough =
+    let s = sum_set xs from (slice_index xs from - amount) less in
+    omega (arith, s, enough)
+
+sum_moving : (xs : List ℕ) (from to amount : ℕ) → from < length xs → to < length xs → amount ≤ slice_index xs from → sum (moving xs from to amount) ≡ sum xs
+sum_moving xs from to amount f t enough =
+    let taken = slice_set xs from (slice_index xs from - amount) in
+    let long = length-set xs from (slice_index xs from - amount) in
+    let s = sum_taken xs from amount f enough in
+    let p = sum_set taken to (slice_index taken to + amount) (omega (arith, long, t)) in
+    omega (arith, s, p)
+
+pub same_sum : (e : Entry) (xs : List ℕ) → Finds e xs → sum (after e xs) ≡ sum xs
+same_sum (Transfer from to amount true) xs h = sum_moving xs from to amount h.0 h.1 h.2
+same_sum (Transfer from to amount false) xs h = refl
+same_sum (Sum total) xs h = refl
+
+pub same_length : (e : Entry) (xs : List ℕ) → length (after e xs) ≡ length xs
+same_length (Transfer from to amount true) xs =
+    let taken = slice_set xs from (slice_index xs from - amount) in
+    length-set taken to (slice_index taken to + amount) ∙ length-set xs from (slice_index xs from - amount)
+same_length (Transfer from to amount false) xs = refl
+same_length (Sum total) xs = refl
+
+pub bank_after : (e : Entry) (xs : List ℕ) → IsBank xs → Finds e xs → IsBank (after e xs)
+bank_after e xs b h = record {
+  size = same_length e xs ∙ b.size;
+  small = let s = same_sum e xs h in omega (arith, s, b.small);
+}
+
+pub keeps_fitting : (tag image : List ℕ) (reads writes : List (ℕ × ℕ)) → IsBank image →
+    Agrees image reads → IsLawful tag reads writes → IsBank (laid image writes)
+keeps_fitting tag image reads writes b agrees l =
+    let d = l.does image b agrees in
+    subst IsBank (sym d.1) (bank_after l.entry image b d.0)
