@@ -1,5 +1,6 @@
 -- The code's walks of free lists, beside the definition's.
 use Rattle.std.proofs.Common.{◌≡◌, ℕ, ◌+◌, ◌*◌, ◌-◌, ◌<◌, Bool, false, cond, List, [], ◌∷◌, length, zero, suc, refl, sym, ap, ◌∙◌, subst, arith}
+use Rattle.std.specs.Result.{IsErrAnd}
 use Rattle.std.specs.Prelude.{Result, Ok, Err, Option, None, MatchResult, slice_index, slice_index_or, ⊤}
 use Rattle.tx_alloc.specs.Pool.{IsBlock, with_at}
 use Rattle.vac_check.specs.Walk.{then, wants, follow, walk_free, walk_lists, check_reached}
@@ -7,6 +8,11 @@ use Rattle.vac_check.specs.Marks.{Marks, Lands, Fewer, Followed, FreeListRan, Li
 use Rattle.vac_check.specs.declared.Flaw.{Flaw}
 use Rattle.vac_check.specs.declared.Flaw.TheVariants.{Lost}
 use Rattle.vac_check.proofs.Steps.{then_with, not_none}
+
+-- a fault that is passed on by `?`
+pub handed : {T E : Type 0} (P : Result T E → Type 0) (r : Result T E) (e : E) → IsErrAnd r (λ f. f ≡ e) → P (Err e) → P r
+handed P (Ok x) e h p = absurd h
+handed P (Err f) e h p = subst (λ (z : _). P (Err z)) (sym h) p
 
 pub then_err : {A B : Type 0} (x : Result A Flaw) (k : A → Result B Flaw) (f : Flaw) → x ≡ Err f → then x k ≡ Err f
 then_err x k f e = ap (λ (z : Result _ Flaw). then z k) e

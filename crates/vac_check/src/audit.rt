@@ -49,18 +49,9 @@ fn walk_items(
     ensures size { length reached.new.items ≡ length reached.old.items }
     ensures ran { ItemsRan words.now reached.old.items reached.new.items notes.new result }
 {
-    let cars = match walk_table(alloc, words, reached, notes, Table::Items { kind: 0 }, 1) {
-        Err(fault) => return Err(fault),
-        Ok(cars) => cars,
-    };
-    let flights = match walk_table(alloc, words, reached, notes, Table::Items { kind: 1 }, 2) {
-        Err(fault) => return Err(fault),
-        Ok(flights) => flights,
-    };
-    let rooms = match walk_table(alloc, words, reached, notes, Table::Items { kind: 2 }, 3) {
-        Err(fault) => return Err(fault),
-        Ok(rooms) => rooms,
-    };
+    let cars = walk_table(alloc, words, reached, notes, Table::Items { kind: 0 }, 1)?;
+    let flights = walk_table(alloc, words, reached, notes, Table::Items { kind: 1 }, 2)?;
+    let rooms = walk_table(alloc, words, reached, notes, Table::Items { kind: 2 }, 3)?;
     Ok(Kinds {
         cars,
         flights,
@@ -83,10 +74,7 @@ fn walk_customers(
     ensures ran { CustomersRan words.now reached.old.items reached.new.items
         notes.old notes.new result }
 {
-    notes.booked = match Vec::from_elem(alloc, 0u64, notes.places.len()) {
-        Err(_) => return Err(Fault::Memory),
-        Ok(booked) => booked,
-    };
+    notes.booked = Vec::from_elem(alloc, 0u64, notes.places.len())?;
     walk_table(alloc, words, reached, notes, Table::Customers, 4)
 }
 
@@ -113,10 +101,7 @@ fn audit_heap(alloc: Global, words: &[u64], blocks: usize) -> Result<Report, Fau
     requires size { length words.now ≡ 16 + 8 * blocks }
     ensures ran { HeapRan words.now blocks result }
 {
-    let mut reached = match Vec::from_elem(alloc, false, blocks) {
-        Err(_) => return Err(Fault::Memory),
-        Ok(reached) => reached,
-    };
+    let mut reached = Vec::from_elem(alloc, false, blocks)?;
     let mut notes = Notes {
         places: Vec::new(alloc),
         blocks: Vec::new(alloc),
@@ -129,26 +114,11 @@ fn audit_heap(alloc: Global, words: &[u64], blocks: usize) -> Result<Report, Fau
             billed: 0,
         },
     };
-    let kinds = match walk_items(alloc, words, &mut reached, &mut notes) {
-        Err(fault) => return Err(fault),
-        Ok(kinds) => kinds,
-    };
-    let customers = match walk_customers(alloc, words, &mut reached, &mut notes) {
-        Err(fault) => return Err(fault),
-        Ok(customers) => customers,
-    };
-    match check_used(words, &notes) {
-        Err(flaw) => return Err(Fault::Found(flaw)),
-        Ok(()) => {}
-    }
-    match walk_lists(words, &mut reached) {
-        Err(flaw) => return Err(Fault::Found(flaw)),
-        Ok(()) => {}
-    }
-    match check_reached(&reached) {
-        Err(flaw) => return Err(Fault::Found(flaw)),
-        Ok(()) => {}
-    }
+    let kinds = walk_items(alloc, words, &mut reached, &mut notes)?;
+    let customers = walk_customers(alloc, words, &mut reached, &mut notes)?;
+    check_used(words, &notes)?;
+    walk_lists(words, &mut reached)?;
+    check_reached(&reached)?;
     Ok(Report {
         cars: kinds.cars,
         flights: kinds.flights,

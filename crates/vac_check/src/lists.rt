@@ -21,10 +21,9 @@ fn walk_free(words: &[u64], reached: &mut Vec<bool>, head: usize) -> Result<(), 
 {
     let mut at = head;
     for _level in 0..reached.len() + 1 {
-        match follow(words, reached, at) {
-            Err(flaw) => return Err(flaw),
-            Ok(None) => return Ok(()),
-            Ok(Some(place)) => at = place,
+        match follow(words, reached, at)? {
+            None => return Ok(()),
+            Some(place) => at = place,
         }
     }
     Err(Flaw::Shared(at as u32))
@@ -37,10 +36,7 @@ pub fn walk_lists(words: &[u64], reached: &mut Vec<bool>) -> Result<(), Flaw>
     ensures ran { ListsRan words.now reached.old.items reached.new.items result }
 {
     for list in 0..LISTS {
-        match walk_free(words, reached, FIRST_HEAD + list) {
-            Err(flaw) => return Err(flaw),
-            Ok(()) => {}
-        }
+        walk_free(words, reached, FIRST_HEAD + list)?;
     }
     Ok(())
 }

@@ -1,7 +1,7 @@
 //! Tables: red-black trees by key.
 
 ghost use Rattle.std.specs.Prelude.{◌≡◌, ◌+◌, ◌<◌, ◌≤◌, [], ◌∷◌, ◌++◌, IfErr, IfOk, OnOk, length, slice_index};
-ghost use Rattle.vac_check.specs.declared.tree.Fault.TheVariants.{Memory};
+ghost use Rattle.vac_check.specs.declared.tree.Fault.TheVariants.{Memory, Found};
 ghost use Rattle.vac_check.specs.Marks.{IsMarked, unmarked};
 ghost use Rattle.vac_check.specs.TreeRan.{ItemLooked, ColourLooked, LookRan, TableRan};
 ghost use Rattle.vac_check.specs.TreeRan.{Ready, HasRoom, Pushed};
@@ -10,7 +10,7 @@ use crate::Flaw;
 use crate::bookings::{KIND, walk_bookings};
 use crate::notes::Notes;
 use crate::pointers::follow;
-use std::alloc::{AllocError, Global};
+use std::alloc::{AllocError, AllocFailed, Global};
 use vac_model::limits::{MOST_AMOUNT, MOST_TOTAL};
 use vac_records::place;
 
@@ -39,6 +39,30 @@ const LAST_KEY: u64 = 4_294_967_295;
 pub enum Fault {
     Memory,
     Found(Flaw),
+}
+
+impl From<AllocError> for Fault {
+    ghost from_gives = { λ _ fault. fault ≡ Memory };
+
+    fn from(_error: AllocError) -> Fault {
+        Fault::Memory
+    }
+}
+
+impl<T: Drop> From<AllocFailed<T>> for Fault {
+    ghost from_gives = { λ _ fault. fault ≡ Memory };
+
+    fn from(_failed: AllocFailed<T>) -> Fault {
+        Fault::Memory
+    }
+}
+
+impl From<Flaw> for Fault {
+    ghost from_gives = { λ flaw fault. fault ≡ Found flaw };
+
+    fn from(flaw: Flaw) -> Fault {
+        Fault::Found(flaw)
+    }
 }
 
 /// What a table has: items of one kind, or customers.
@@ -118,27 +142,16 @@ fn look_at_node(
 {
     match table {
         Table::Items { kind } => {
-            match look_at_item(words, node) {
-                Err(flaw) => return Err(Fault::Found(flaw)),
-                Ok(()) => {}
-            }
+            look_at_item(words, node)?;
             notes.tally.used += words[node + USED];
             notes.tally.free += words[node + FREE];
             notes.tally.total += words[node + TOTAL];
-            match notes.places.push(kind * KIND + words[node]) {
-                Err(_) => return Err(Fault::Memory),
-                Ok(()) => {}
-            }
-            match notes.blocks.push(node) {
-                Err(_) => Err(Fault::Memory),
-                Ok(()) => Ok(()),
-            }
+            notes.places.push(kind * KIND + words[node])?;
+            notes.blocks.push(node)?;
         }
-        Table::Customers => match walk_bookings(words, reached, notes, node + BOOKINGS) {
-            Err(flaw) => Err(Fault::Found(flaw)),
-            Ok(()) => Ok(()),
-        },
+        Table::Customers => walk_bookings(words, reached, notes, node + BOOKINGS)?,
     }
+    Ok(())
 }
 
 /// The colour of a node between two trees.
@@ -169,10 +182,8 @@ fn go_down(path: &mut Vec<Step>, step: Step) -> Result<(), Fault>
     ensures down { OnOk result (path.new.items ≡ path.old.items ++ step ∷ []) }
     ensures memory { IfErr result (λ fault. fault ≡ Memory) }
 {
-    match path.push(step) {
-        Err(_) => Err(Fault::Memory),
-        Ok(()) => Ok(()),
-    }
+    path.push(step)?;
+    Ok(())
 }
 
 /// Walks a table, and answers how many nodes it has.
@@ -204,10 +215,9 @@ pub fn walk_table(
                 if path.len() > reached.len() {
                     return Err(Fault::Found(Flaw::Shared(at as u32)));
                 }
-                match follow(words, reached, at) {
-                    Err(flaw) => return Err(Fault::Found(flaw)),
-                    Ok(None) => turn = Turn::Up { done: LEAF },
-                    Ok(Some(node)) => {
+                match follow(words, reached, at)? {
+                    None => turn = Turn::Up { done: LEAF },
+                    Some(node) => {
                         go_down(&mut path, Step::Left { node })?;
                         turn = Turn::Down { at: node + LEFT };
                     }
@@ -232,10 +242,10 @@ pub fn walk_table(
                     go_down(&mut path, Step::Right { node, left: done })?;
                     turn = Turn::Down { at: node + RIGHT };
                 }
-                Some(Step::Right { node, left }) => match look_at_colour(words, node, left, done) {
-                    Err(flaw) => return Err(Fault::Found(flaw)),
-                    Ok(side) => turn = Turn::Up { done: side },
-                },
+                Some(Step::Right { node, left }) => {
+                    let side = look_at_colour(words, node, left, done)?;
+                    turn = Turn::Up { done: side };
+                }
             },
         }
     }

@@ -12,25 +12,27 @@ walk-init c = as_pushed c.args.words.now c.args.reached.now.items c.args.notes.n
 pub returns-then-len-clause-ran : goal.returns-then-len-clause-ran
 returns-then-len-clause-ran c = goes_out c.args.words.now c.args.reached.now.items c.args.notes.now c.args.table c.args.root c.walk.reached.items c.walk.notes c.walk.path.items c.in-Down.at c.walk.above c.walk.nodes (turn_as c.args.words.now c.args.reached.now.items c.args.notes.now c.args.table c.args.root c.walk.reached.items c.walk.notes c.walk.path.items c.walk.turn (Down c.in-Down.at) c.walk.above c.walk.nodes c.in-Down.is c.walk.invariant) (omega arith)
 
-pub returns-in-Err-clause-ran : goal.returns-in-Err-clause-ran
-returns-in-Err-clause-ran c = goes_flaw c.args.words.now c.args.reached.now.items c.args.notes.now c.args.table c.args.root c.walk.reached.items c.follow.new.reached.items c.walk.notes c.walk.path.items c.in-Down.at c.walk.above c.walk.nodes _ (turn_as c.args.words.now c.args.reached.now.items c.args.notes.now c.args.table c.args.root c.walk.reached.items c.walk.notes c.walk.path.items c.walk.turn (Down c.in-Down.at) c.walk.above c.walk.nodes c.in-Down.is c.walk.invariant) (omega arith) c.in-Err.ensures.followed
+pub returns-in_err-follow-in-Down-clause-ran : goal.returns-in_err-follow-in-Down-clause-ran
+returns-in_err-follow-in-Down-clause-ran c =
+    handed_table c.args.words.now c.args.reached.now.items c.follow.new.reached.items c.args.notes.now c.walk.notes c.args.table c.args.root c.from_residual.result _ c.from_residual.ensures.1 (
+    goes_flaw c.args.words.now c.args.reached.now.items c.args.notes.now c.args.table c.args.root c.walk.reached.items c.follow.new.reached.items c.walk.notes c.walk.path.items c.in-Down.at c.walk.above c.walk.nodes _ (turn_as c.args.words.now c.args.reached.now.items c.args.notes.now c.args.table c.args.root c.walk.reached.items c.walk.notes c.walk.path.items c.walk.turn (Down c.in-Down.at) c.walk.above c.walk.nodes c.in-Down.is c.walk.invariant) (omega arith) c.in_err-follow-in-Down.ensures.followed)
 
-pub walk-preserved-in-Ok-None : goal.walk-preserved-in-Ok-None
-walk-preserved-in-Ok-None c = goes_end c.args.words.now c.args.reached.now.items c.args.notes.now c.args.table c.args.root c.walk.reached.items c.follow.new.reached.items c.walk.notes c.walk.path.items c.in-Down.at c.walk.above c.walk.nodes _ (turn_as c.args.words.now c.args.reached.now.items c.args.notes.now c.args.table c.args.root c.walk.reached.items c.walk.notes c.walk.path.items c.walk.turn (Down c.in-Down.at) c.walk.above c.walk.nodes c.in-Down.is c.walk.invariant) (omega arith) c.follow.ensures.size
-    (fewer_as _ _ _ _ c.in-Ok-None.field-0-is c.in-Ok-None.ensures.fewer) (found_as c.args.words.now c.walk.reached.items c.follow.new.reached.items c.in-Down.at _ _ c.in-Ok-None.field-0-is c.in-Ok-None.ensures.followed) refl refl
+pub walk-preserved-in-None : goal.walk-preserved-in-None
+walk-preserved-in-None c = goes_end c.args.words.now c.args.reached.now.items c.args.notes.now c.args.table c.args.root c.walk.reached.items c.follow.new.reached.items c.walk.notes c.walk.path.items c.in-Down.at c.walk.above c.walk.nodes _ (turn_as c.args.words.now c.args.reached.now.items c.args.notes.now c.args.table c.args.root c.walk.reached.items c.walk.notes c.walk.path.items c.walk.turn (Down c.in-Down.at) c.walk.above c.walk.nodes c.in-Down.is c.walk.invariant) (omega arith) c.follow.ensures.size
+    (fewer_as _ _ _ _ c.in-None.is c.in_ok-follow-in-Down.ensures.fewer) (found_as c.args.words.now c.walk.reached.items c.follow.new.reached.items c.in-Down.at _ _ c.in-None.is c.in_ok-follow-in-Down.ensures.followed) refl refl
 
-pub walk-smaller-in-Ok-Some : goal.walk-smaller-in-Ok-Some
-walk-smaller-in-Ok-Some c = omega (arith, weight_pushed _ _ _ c.in_ok-go_down-in-Ok-Some.ensures.down, fewer_as _ _ _ _ c.in-Ok-Some.field-0-is c.in-Ok-Some.ensures.fewer, ap turn_weight c.in-Down.is)
+pub walk-smaller-in-Some : goal.walk-smaller-in-Some
+walk-smaller-in-Some c = omega (arith, weight_pushed _ _ _ c.in_ok-go_down-in-Some.ensures.down, fewer_as _ _ _ _ c.in-Some.is c.in_ok-follow-in-Down.ensures.fewer, ap turn_weight c.in-Down.is)
 
-pub walk-preserved-in-Ok-Some : goal.walk-preserved-in-Ok-Some
-walk-preserved-in-Ok-Some c = as_pushed c.args.words.now c.args.reached.now.items c.args.notes.now c.args.table c.args.root c.follow.new.reached.items c.walk.notes _ _ _ _ _ c.in_ok-go_down-in-Ok-Some.ensures.down (goes_block c.args.words.now c.args.reached.now.items c.args.notes.now c.args.table c.args.root c.walk.reached.items c.follow.new.reached.items c.walk.notes c.walk.path.items c.in-Down.at _ c.walk.above c.walk.nodes (turn_as c.args.words.now c.args.reached.now.items c.args.notes.now c.args.table c.args.root c.walk.reached.items c.walk.notes c.walk.path.items c.walk.turn (Down c.in-Down.at) c.walk.above c.walk.nodes c.in-Down.is c.walk.invariant) (omega arith) c.follow.ensures.size
-    (fewer_as _ _ _ _ c.in-Ok-Some.field-0-is c.in-Ok-Some.ensures.fewer) (found_as c.args.words.now c.walk.reached.items c.follow.new.reached.items c.in-Down.at _ _ c.in-Ok-Some.field-0-is c.in-Ok-Some.ensures.followed) (lands_as c.args.words.now _ _ c.in-Ok-Some.field-0-is c.in-Ok-Some.ensures.lands))
+pub walk-preserved-in-Some : goal.walk-preserved-in-Some
+walk-preserved-in-Some c = as_pushed c.args.words.now c.args.reached.now.items c.args.notes.now c.args.table c.args.root c.follow.new.reached.items c.walk.notes _ _ _ _ _ c.in_ok-go_down-in-Some.ensures.down (goes_block c.args.words.now c.args.reached.now.items c.args.notes.now c.args.table c.args.root c.walk.reached.items c.follow.new.reached.items c.walk.notes c.walk.path.items c.in-Down.at _ c.walk.above c.walk.nodes (turn_as c.args.words.now c.args.reached.now.items c.args.notes.now c.args.table c.args.root c.walk.reached.items c.walk.notes c.walk.path.items c.walk.turn (Down c.in-Down.at) c.walk.above c.walk.nodes c.in-Down.is c.walk.invariant) (omega arith) c.follow.ensures.size
+    (fewer_as _ _ _ _ c.in-Some.is c.in_ok-follow-in-Down.ensures.fewer) (found_as c.args.words.now c.walk.reached.items c.follow.new.reached.items c.in-Down.at _ _ c.in-Some.is c.in_ok-follow-in-Down.ensures.followed) (lands_as c.args.words.now _ _ c.in-Some.is c.in_ok-follow-in-Down.ensures.lands))
 
 pub returns-then-done-clause-ran : goal.returns-then-done-clause-ran
-returns-then-done-clause-ran c = goes_red c.args.words.now c.args.reached.now.items c.args.notes.now c.args.table c.args.root c.walk.reached.items c.walk.notes c.walk.above _ c.walk.nodes c.in-Up.done (turn_as c.args.words.now c.args.reached.now.items c.args.notes.now c.args.table c.args.root c.walk.reached.items c.walk.notes [] c.walk.turn (Up c.in-Up.done) c.walk.above c.walk.nodes c.in-Up.is (as_pushed c.args.words.now c.args.reached.now.items c.args.notes.now c.args.table c.args.root c.walk.reached.items c.walk.notes c.walk.path.items [] c.walk.turn c.walk.above c.walk.nodes (empty_of c.walk.path.items (λ l. c.in-None.ensures.variant.1 (omega (arith, c.walk.path.ok)))) c.walk.invariant)) c.if-done.true (λ l. small_sum _ (omega (arith, l, c.requires.marked.size, c.requires.marked.few)))
+returns-then-done-clause-ran c = goes_red c.args.words.now c.args.reached.now.items c.args.notes.now c.args.table c.args.root c.walk.reached.items c.walk.notes c.walk.above _ c.walk.nodes c.in-Up.done (turn_as c.args.words.now c.args.reached.now.items c.args.notes.now c.args.table c.args.root c.walk.reached.items c.walk.notes [] c.walk.turn (Up c.in-Up.done) c.walk.above c.walk.nodes c.in-Up.is (as_pushed c.args.words.now c.args.reached.now.items c.args.notes.now c.args.table c.args.root c.walk.reached.items c.walk.notes c.walk.path.items [] c.walk.turn c.walk.above c.walk.nodes (empty_of c.walk.path.items (λ l. c.in-None-pop.ensures.variant.1 (omega (arith, c.walk.path.ok)))) c.walk.invariant)) c.if-done.true (λ l. small_sum _ (omega (arith, l, c.requires.marked.size, c.requires.marked.few)))
 
-pub returns-in-None-clause-ran : goal.returns-in-None-clause-ran
-returns-in-None-clause-ran c = goes_done c.args.words.now c.args.reached.now.items c.args.notes.now c.args.table c.args.root c.walk.reached.items c.walk.notes c.walk.above c.walk.nodes c.in-Up.done (turn_as c.args.words.now c.args.reached.now.items c.args.notes.now c.args.table c.args.root c.walk.reached.items c.walk.notes [] c.walk.turn (Up c.in-Up.done) c.walk.above c.walk.nodes c.in-Up.is (as_pushed c.args.words.now c.args.reached.now.items c.args.notes.now c.args.table c.args.root c.walk.reached.items c.walk.notes c.walk.path.items [] c.walk.turn c.walk.above c.walk.nodes (empty_of c.walk.path.items (λ l. c.in-None.ensures.variant.1 (omega (arith, c.walk.path.ok)))) c.walk.invariant)) c.if-done.false
+pub returns-in-None-pop-clause-ran : goal.returns-in-None-pop-clause-ran
+returns-in-None-pop-clause-ran c = goes_done c.args.words.now c.args.reached.now.items c.args.notes.now c.args.table c.args.root c.walk.reached.items c.walk.notes c.walk.above c.walk.nodes c.in-Up.done (turn_as c.args.words.now c.args.reached.now.items c.args.notes.now c.args.table c.args.root c.walk.reached.items c.walk.notes [] c.walk.turn (Up c.in-Up.done) c.walk.above c.walk.nodes c.in-Up.is (as_pushed c.args.words.now c.args.reached.now.items c.args.notes.now c.args.table c.args.root c.walk.reached.items c.walk.notes c.walk.path.items [] c.walk.turn c.walk.above c.walk.nodes (empty_of c.walk.path.items (λ l. c.in-None-pop.ensures.variant.1 (omega (arith, c.walk.path.ok)))) c.walk.invariant)) c.if-done.false
 
 pub offset_bounds-words-node : goal.offset_bounds-words-node
 offset_bounds-words-node c = let h = (popped c.args.words.now c.args.reached.now.items c.args.notes.now c.args.table c.args.root c.walk.reached.items c.walk.notes c.walk.path.items c.pop.new.self.items c.in-Some-Left.field-0 _ c.walk.turn c.in-Up.done c.walk.above c.walk.nodes c.in-Some-Left.ensures.items c.in-Some-Left.field-0-is c.in-Up.is c.walk.invariant) in let b = blocks_split (length c.args.words.now) c.pop.new.self.items (Left c.in-Some-Left.node) h.in_blocks in omega (arith, b.1.1.0, c.requires.marked.size, c.requires.marked.few)
@@ -70,11 +72,13 @@ walk-preserved-in-Some-Left c = let h = (popped c.args.words.now c.args.reached.
 pub look_at_colour-requires-clause-inside : goal.look_at_colour-requires-clause-inside
 look_at_colour-requires-clause-inside c = let h = (popped c.args.words.now c.args.reached.now.items c.args.notes.now c.args.table c.args.root c.walk.reached.items c.walk.notes c.walk.path.items c.pop.new.self.items c.in-Some-Right.field-0 _ c.walk.turn c.in-Up.done c.walk.above c.walk.nodes c.in-Some-Right.ensures.items c.in-Some-Right.field-0-is c.in-Up.is c.walk.invariant) in let b = blocks_split (length c.args.words.now) c.pop.new.self.items (Right c.in-Some-Right.node c.in-Some-Right.left) h.in_blocks in b.1.1.0
 
-pub returns-in-Err-look_at_colour-clause-ran : goal.returns-in-Err-look_at_colour-clause-ran
-returns-in-Err-look_at_colour-clause-ran c = goes_colour c.args.words.now c.args.reached.now.items c.args.notes.now c.args.table c.args.root c.walk.reached.items c.walk.notes c.pop.new.self.items c.in-Some-Right.node c.walk.above c.walk.nodes c.in-Some-Right.left c.in-Up.done _ (popped c.args.words.now c.args.reached.now.items c.args.notes.now c.args.table c.args.root c.walk.reached.items c.walk.notes c.walk.path.items c.pop.new.self.items c.in-Some-Right.field-0 _ c.walk.turn c.in-Up.done c.walk.above c.walk.nodes c.in-Some-Right.ensures.items c.in-Some-Right.field-0-is c.in-Up.is c.walk.invariant) c.in-Err-look_at_colour.ensures.looked
+pub returns-in_err-side-in-Some-Right-clause-ran : goal.returns-in_err-side-in-Some-Right-clause-ran
+returns-in_err-side-in-Some-Right-clause-ran c =
+    handed_table c.args.words.now c.args.reached.now.items c.walk.reached.items c.args.notes.now c.walk.notes c.args.table c.args.root c.from_residual-in_err-side-in-Some-Right.result _ c.from_residual-in_err-side-in-Some-Right.ensures.1 (
+    goes_colour c.args.words.now c.args.reached.now.items c.args.notes.now c.args.table c.args.root c.walk.reached.items c.walk.notes c.pop.new.self.items c.in-Some-Right.node c.walk.above c.walk.nodes c.in-Some-Right.left c.in-Up.done _ (popped c.args.words.now c.args.reached.now.items c.args.notes.now c.args.table c.args.root c.walk.reached.items c.walk.notes c.walk.path.items c.pop.new.self.items c.in-Some-Right.field-0 _ c.walk.turn c.in-Up.done c.walk.above c.walk.nodes c.in-Some-Right.ensures.items c.in-Some-Right.field-0-is c.in-Up.is c.walk.invariant) c.in_err-side-in-Some-Right.ensures.looked)
 
 pub walk-smaller : goal.walk-smaller
 walk-smaller c = omega (arith, popped_weight _ _ _ _ c.in-Some-Right.ensures.items c.in-Some-Right.field-0-is, ap turn_weight c.in-Up.is)
 
 pub walk-preserved : goal.walk-preserved
-walk-preserved c = let h = (popped c.args.words.now c.args.reached.now.items c.args.notes.now c.args.table c.args.root c.walk.reached.items c.walk.notes c.walk.path.items c.pop.new.self.items c.in-Some-Right.field-0 _ c.walk.turn c.in-Up.done c.walk.above c.walk.nodes c.in-Some-Right.ensures.items c.in-Some-Right.field-0-is c.in-Up.is c.walk.invariant) in let b = blocks_split (length c.args.words.now) c.pop.new.self.items (Right c.in-Some-Right.node c.in-Some-Right.left) h.in_blocks in goes_up c.args.words.now c.args.reached.now.items c.args.notes.now c.args.table c.args.root c.walk.reached.items c.walk.notes c.pop.new.self.items c.in-Some-Right.node c.walk.above c.walk.nodes c.in-Some-Right.left c.in-Up.done _ h b.0 c.in-Ok.ensures.low c.in-Ok.ensures.looked
+walk-preserved c = let h = (popped c.args.words.now c.args.reached.now.items c.args.notes.now c.args.table c.args.root c.walk.reached.items c.walk.notes c.walk.path.items c.pop.new.self.items c.in-Some-Right.field-0 _ c.walk.turn c.in-Up.done c.walk.above c.walk.nodes c.in-Some-Right.ensures.items c.in-Some-Right.field-0-is c.in-Up.is c.walk.invariant) in let b = blocks_split (length c.args.words.now) c.pop.new.self.items (Right c.in-Some-Right.node c.in-Some-Right.left) h.in_blocks in goes_up c.args.words.now c.args.reached.now.items c.args.notes.now c.args.table c.args.root c.walk.reached.items c.walk.notes c.pop.new.self.items c.in-Some-Right.node c.walk.above c.walk.nodes c.in-Some-Right.left c.in-Up.done _ h b.0 c.in_ok-side-in-Some-Right.ensures.low c.in_ok-side-in-Some-Right.ensures.looked
