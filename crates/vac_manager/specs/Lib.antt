@@ -4,3 +4,4 @@ pub mod Called
 pub mod Faults
 pub mod Opening
 pub mod Renewed
+pub mod Session

@@ -11,6 +11,7 @@ mod fault;
 mod law;
 mod manager;
 mod renew;
+mod session;
 mod told;
 
 pub use client::Client;
@@ -18,6 +19,7 @@ pub use fault::Fault;
 pub use law::{ManagerLaw, serial_records_are_legal};
 pub use manager::Manager;
 pub use renew::RenewFault;
+pub use session::Session;
 pub use stm_region::MOST_STRIPES;
 pub use told::Told;
 pub use vac_model::limits::MOST_TRIES;
