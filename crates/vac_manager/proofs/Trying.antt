@@ -1,17 +1,21 @@
 -- Attempts, one after the other, and why they stopped.
-use Rattle.std.proofs.Common.{◌≡◌, inl, inr, ℕ, ◌+◌, ◌≤◌, false, Ok, subst, sym}
+use Rattle.std.proofs.Common.{◌≡◌, inl, inr, ℕ, ◌+◌, ◌≤◌, true, false, eqb, List, Ok, Err, ap, ◌∙◌, arith, refl, subst, sym}
 use Rattle.stm_core.specs.Client.{Client}
 use Rattle.stm_logs.specs.Log.{LogValue}
-use Rattle.stm_region.specs.Shown.{RegionShown, stripe_of}
+use Rattle.stm_core.specs.Event.{begin, finish}
+use Rattle.stm_core.specs.declared.limits.TheConstants.{MOST_GRANTS}
+use Rattle.stm_region.specs.Shown.{RegionShown, ClientShown, acted, stripe_of}
+use Rattle.stm_attempt.specs.Begun.{still}
+use Rattle.stm_attempt.specs.Answers.{IsSpent as IsSpentStop}
 use Rattle.stm_attempt.specs.Conflicts.{IsReadConflict}
-use Rattle.stm_attempt.specs.Committing.{HasStopped}
+use Rattle.stm_attempt.specs.Committing.{HasCommitted, HasStopped}
 use Rattle.stm_attempt.specs.declared.conflict.Conflict.{Conflict}
 use Rattle.stm_attempt.specs.declared.conflict.Stop.{Stop}
 use Rattle.stm_attempt.specs.declared.conflict.Stop.TheVariants as stop
 use Rattle.vac_model.specs.declared.tasks.Task.{Task}
 use Rattle.vac_model.specs.declared.replies.Reply.{Reply}
 use Rattle.vac_tasks.specs.Reading.{only_reads}
-use Rattle.vac_manager.specs.Called.{Tried, WasShown, IsStop}
+use Rattle.vac_manager.specs.Called.{Tried, WasShown, IsStop, IsNear, HasAllGrants}
 
 -- of so many tries this many are left, and all others met a conflict
 pub record Trying (v v' : Client) (left tries : ℕ) : Type 0 where
@@ -39,3 +43,34 @@ stop_is region log t (stop.Spent version) v v' writes h = (writes, record { vers
 pub commit_stop : (region region' : RegionShown) (log : LogValue) (t : Task) (s : Stop) (v w w' : Client) → region' ≡ region → only_reads t ≡ false → HasStopped region' log s v w → w' ≡ w → IsStop region t s w'
 commit_stop region region' log t s v w w' same writes h e =
     subst (λ (x : Client). IsStop region t s x) (sym e) (subst (λ (r : RegionShown). IsStop r t s w) same (stop_is region' log t s v w writes h))
+
+-- what an attempt of a client that is alone began with
+module _ (region : RegionShown) (rv : ℕ) (c c0 : ClientShown) (v : Client) (begun : c0 ≡ acted region begin rv c) (same : still v ≡ still c0.value) (alone : c.value.grants ≡ 63 → rv ≡ c.value.floor) (all : HasAllGrants c.value) where
+  is_lone : v.attempt.lone ≡ true
+  is_lone = ap (λ (x : Client). x.attempt.lone) same ∙ (ap (λ (x : ClientShown). x.value.attempt.lone) begun ∙ ap (λ (n : ℕ). eqb n MOST_GRANTS) all)
+
+  began_at : v.attempt.rv ≡ c.value.floor
+  began_at = ap (λ (x : Client). x.attempt.rv) same ∙ (ap (λ (x : ClientShown). x.value.attempt.rv) begun ∙ alone all)
+
+  -- an attempt that made no record
+  pub near_begun : (n : ℕ) → n ≡ v.floor → n ≡ c.value.floor
+  near_begun n end = end ∙ (ap (λ (x : Client). x.floor) same ∙ (ap (λ (x : ClientShown). x.value.floor) begun ∙ alone all))
+
+  -- one that was committed
+  pub near_committed : (region' : RegionShown) (tag : List ℕ) (pairs : List (ℕ × ℕ)) (version : ℕ) (v2 : Client) (n : ℕ) → (v.attempt.lone ≡ true → version ≤ v.attempt.rv + 1) → HasCommitted region' tag pairs v v2 version → n ≡ v2.floor → n ≤ c.value.floor + 1
+  near_committed region' tag pairs version v2 n next done end =
+      let few = next is_lone in
+      let at = began_at in
+      omega (arith, few, at, end, done.known)
+
+  -- one whose commit stopped
+  pub near_stopped : (region' : RegionShown) (log : LogValue) (s : Stop) (v2 : Client) (n : ℕ) → region' ≡ region → (v.attempt.lone ≡ true → v.attempt.rv ≡ region'.last) → (v.attempt.lone ≡ true → IsSpentStop s) → HasStopped region' log s v v2 → IsNear region.last c.value.floor n (Err s)
+  near_stopped region' log stop.Memory v2 n same_region next spent h = absurd h.shown
+  near_stopped region' log (stop.Conflict conflict) v2 n same_region next spent h = absurd (spent is_lone)
+  near_stopped region' log (stop.Spent version) v2 n same_region next spent h = sym began_at ∙ (next is_lone ∙ ap (λ (r : RegionShown). r.last) same_region)
+
+-- one that only read
+pub near_finished : (region region' : RegionShown) (tag : List ℕ) (rv found : ℕ) (c c0 c1 c2 : ClientShown) (n : ℕ) → c0 ≡ acted region begin rv c → still c1.value ≡ still c0.value → (c.value.grants ≡ 63 → rv ≡ c.value.floor) → HasAllGrants c.value →
+    c2 ≡ acted region' (finish tag) found c1 → n ≡ c2.value.floor → n ≡ c.value.floor
+near_finished region region' tag rv found c c0 c1 c2 n begun same alone all ended end =
+    end ∙ (ap (λ (x : ClientShown). x.value.floor) ended ∙ near_begun region rv c c0 c1.value begun same alone all c1.value.floor refl)

@@ -134,6 +134,14 @@ IsCount tries before now (Err stop.Memory) = (before < now) × (now ≤ before +
 IsCount tries before now (Err (stop.Conflict conflict)) = now ≡ before + tries
 IsCount tries before now (Err (stop.Spent version)) = (before < now) × (now ≤ before + tries)
 
+-- what an attempt leaves of the version that its client knows, where that client is alone: a record
+-- takes it on by at most one, want of memory leaves it, and a spent clock was spent before
+abbrev pub IsNear : ℕ → ℕ → ℕ → Result Reply Stop → Type 0
+IsNear last before now (Ok reply) = now ≤ before + 1
+IsNear last before now (Err stop.Memory) = now ≡ before
+IsNear last before now (Err (stop.Conflict conflict)) = ⊥
+IsNear last before now (Err (stop.Spent version)) = before ≡ last
+
 -- some attempts were made, one after the other
 pub record Repeated (region : RegionShown) (t : Task) (tries : ℕ) (v v' : Client)
     (result : Result Reply Stop) : Type 0 where
@@ -150,6 +158,14 @@ Attempts tries before now (Err fault.Arguments) = now ≡ before
 Attempts tries before now (Err fault.Memory) = (before < now) × (now ≤ before + tries)
 Attempts tries before now (Err (fault.Busy conflict)) = now ≡ before + tries
 Attempts tries before now (Err (fault.Spent version)) = (before < now) × (now ≤ before + tries)
+
+-- what a call leaves of the version that its client knows, where that client is alone
+abbrev pub IsNext : ℕ → ℕ → ℕ → Result Reply Fault → Type 0
+IsNext last before now (Ok reply) = now ≤ before + 1
+IsNext last before now (Err fault.Arguments) = now ≡ before
+IsNext last before now (Err fault.Memory) = now ≡ before
+IsNext last before now (Err (fault.Busy conflict)) = ⊥
+IsNext last before now (Err (fault.Spent version)) = before ≡ last
 
 -- why a call of a task was not made: its numbers, a conflict that the last attempt showed, or,
 -- where the task may write, want of memory or a spent clock

@@ -6,7 +6,7 @@ ghost use Rattle.vac_model.specs.Ranges.{is_task};
 ghost use Rattle.vac_tasks.specs.Reading as reading;
 ghost use Rattle.vac_manager.specs.Legal.{WasLegal};
 ghost use Rattle.vac_manager.specs.Called.{HasAllGrants, IsOpened, IsUnplaced, Tried, Repeated};
-ghost use Rattle.vac_manager.specs.Called.{WasShown, IsStop, IsNoConflict};
+ghost use Rattle.vac_manager.specs.Called.{WasShown, IsStop, IsNoConflict, IsNear, IsCount};
 
 use crate::law::ManagerLaw;
 use crate::told::Told;
@@ -36,6 +36,8 @@ fn try_reading<G: Gate>(
     ensures legal { IfOk result (λ _. WasLegal region.now client.new.value) }
     ensures stopped { IfErr result (λ conflict. WasShown region.now conflict client.new.value) }
     ensures lone { HasAllGrants client.old.value → IsOk result }
+    ensures near { HasAllGrants client.old.value
+        → client.new.value.floor ≡ client.old.value.floor }
 {
     let mut attempt = ReadAttempt::begin(region, client);
     let answer = read_task(&mut attempt, task);
@@ -78,6 +80,9 @@ fn try_writing<G: Gate>(
     ensures legal { IfOk result (λ _. WasLegal region.now client.new.value) }
     ensures stopped { IfErr result (λ stop. IsStop region.now task.now stop client.new.value) }
     ensures lone { HasAllGrants client.old.value → IfErr result (λ stop. IsNoConflict stop) }
+    ensures near { HasAllGrants client.old.value
+        → IsNear region.now.last
+        client.old.value.floor client.new.value.floor result }
 {
     let mut attempt = Attempt::begin(region, client, logs);
     let answer = run_task(&mut attempt, task, start);
@@ -121,6 +126,9 @@ fn try_once<G: Gate>(
     ensures legal { IfOk result (λ _. WasLegal region.now client.new.value) }
     ensures stopped { IfErr result (λ stop. IsStop region.now task.now stop client.new.value) }
     ensures lone { HasAllGrants client.old.value → IfErr result (λ stop. IsNoConflict stop) }
+    ensures near { HasAllGrants client.old.value
+        → IsNear region.now.last
+        client.old.value.floor client.new.value.floor result }
 {
     if only_reads(task) {
         match try_reading(region, client, task, gate) {
@@ -153,11 +161,16 @@ pub(crate) fn run_in_attempts<G: Gate>(
     ensures own { client.new.table ≡ client.old.table }
     ensures free_handed { IsFreeHanded client.new.value }
     ensures unplaced { IsUnplaced client.new.value }
+    ensures once { HasAllGrants client.old.value → IsCount 1
+        client.old.value.attempt.number client.new.value.attempt.number result }
     ensures repeated { Repeated region.now task.now tries
         client.old.value client.new.value result }
     ensures legal { IfOk result (λ _. WasLegal region.now client.new.value) }
     ensures stopped { IfErr result (λ stop. IsStop region.now task.now stop client.new.value) }
     ensures lone { HasAllGrants client.old.value → IfErr result (λ stop. IsNoConflict stop) }
+    ensures near { HasAllGrants client.old.value
+        → IsNear region.now.last
+        client.old.value.floor client.new.value.floor result }
 {
     let backoff = Backoff::new();
     let mut left = tries;

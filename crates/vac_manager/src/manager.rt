@@ -8,7 +8,7 @@ ghost use Rattle.stm_region.specs.Shown.{joined};
 ghost use Rattle.stm_region.specs.Refused.{ClosesNot};
 ghost use Rattle.vac_manager.specs.Legal.{WasLegal};
 ghost use Rattle.vac_manager.specs.Called.{is_call, HasAllGrants, Records, Continues, IsWhole, Attempts};
-ghost use Rattle.vac_manager.specs.Called.{IsFault, IsNotBusy, Splits, SplitsNot, OnlyOf};
+ghost use Rattle.vac_manager.specs.Called.{IsFault, IsNotBusy, IsNext, Splits, SplitsNot, OnlyOf};
 ghost use Rattle.vac_manager.specs.Opening.{is_opening, Opens, Closes};
 
 use crate::attempts::run_in_attempts;
@@ -102,7 +102,7 @@ impl Manager {
 
     /// Runs a task as a transaction, by at most this many attempts, 1 to 1,048,576, and answers
     /// its reply. After any fault the client may call again. A client that has
-    /// all grants is alone, and meets no conflict.
+    /// all grants is alone, and meets no conflict: it makes one attempt.
     pub fn call(&self, client: &mut Client, task: &Task, tries: u32) -> Result<Reply, Fault>
         requires own { client.old.table ≡ self.now.table }
         ensures client { client.new ≡ record client.old { value = client.new.value } }
@@ -114,6 +114,10 @@ impl Manager {
             client.old.value client.new.value }
         ensures attempts { Attempts tries
             client.old.value.attempt.number client.new.value.attempt.number result }
+        ensures once { HasAllGrants client.old.value → Attempts 1
+            client.old.value.attempt.number client.new.value.attempt.number result }
+        ensures next { HasAllGrants client.old.value
+            → IsNext self.now.last client.old.value.floor client.new.value.floor result }
         ensures legal { IfOk result (λ _. WasLegal self.now client.new.value) }
         ensures whole { HasAllGrants client.old.value
             → IfOk result (λ _. IsWhole self.now client.new.value) }
@@ -145,6 +149,10 @@ impl Manager {
             client.old.value client.new.value }
         ensures attempts { Attempts tries
             client.old.value.attempt.number client.new.value.attempt.number result }
+        ensures once { HasAllGrants client.old.value → Attempts 1
+            client.old.value.attempt.number client.new.value.attempt.number result }
+        ensures next { HasAllGrants client.old.value
+            → IsNext self.now.last client.old.value.floor client.new.value.floor result }
         ensures legal { IfOk result (λ _. WasLegal self.now client.new.value) }
         ensures whole { HasAllGrants client.old.value
             → IfOk result (λ _. IsWhole self.now client.new.value) }

@@ -1,6 +1,6 @@
 use Rattle.std.proofs.Common.{◌≡◌, ◌≤◌}
 use Rattle.stm_core.specs.Core.{IsFreeHanded}
-use Rattle.vac_manager.specs.Called.{IsUnplaced}
+use Rattle.vac_manager.specs.Called.{IsUnplaced, HasAllGrants}
 use Rattle.vac_manager.proofs.Trying.{Trying}
 use Rattle.vac_manager.proofs.attempts.run_in_attempts.Given as goal
 
@@ -11,6 +11,7 @@ invariant-tries g l = record {
   unplaced : IsUnplaced l.client.value;
   some : 1 ≤ l.left;
   few : l.left ≤ l.tries;
+  alone : HasAllGrants l.initial.client.value → (l.left ≡ l.tries) × (l.client.value ≡ l.initial.client.value);
   trying : Trying l.initial.client.value l.client.value l.left l.tries;
 }
 

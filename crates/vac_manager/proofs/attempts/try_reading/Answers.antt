@@ -5,7 +5,7 @@ use Rattle.stm_attempt.specs.Begun.{is_unfinished}
 use Rattle.vac_manager.proofs.Adding.{finished, unplaced_begun}
 use Rattle.vac_manager.proofs.Lawful.{holds_begun, lawful_read}
 use Rattle.vac_manager.proofs.Legality.{finished_legal}
-use Rattle.vac_manager.proofs.Trying.{shown_by_read, tried_as}
+use Rattle.vac_manager.proofs.Trying.{shown_by_read, tried_as, near_begun, near_finished}
 use Rattle.vac_manager.proofs.attempts.try_reading.Goals as goal
 
 pub read_task-answer-requires-clause-state : goal.read_task-answer-requires-clause-state
@@ -39,3 +39,11 @@ pub returns-in-Some-clause-stopped : goal.returns-in-Some-clause-stopped
 returns-in-Some-clause-stopped g c =
     shown_by_read _ _ _ _ _ (ap (λ (o : Origin). o.region) c.read_task-answer.ensures.origin ∙ c.begin-attempt.ensures.region) (c.stopped.ensures.shown _ c.in-Some.is)
     (search rules)
+
+pub returns-clause-near : goal.returns-clause-near
+returns-clause-near g c = λ all.
+    near_finished c.args.region.now c.read_task-answer.new.memory.region.now _ _ _ c.args.client.now c.begin-attempt.result.client.now c.read_task-answer.new.memory.client.now _ _ c.begin-attempt.ensures.value (ap (λ (o : Origin). o.client.value) c.in-Ok.ensures.origin) c.begin-attempt.ensures.alone all c.finish.ensures.client.1 (search rules)
+
+pub returns-in-Some-clause-near : goal.returns-in-Some-clause-near
+returns-in-Some-clause-near g c = λ all.
+    near_begun c.args.region.now _ c.args.client.now c.begin-attempt.result.client.now c.read_task-answer.new.memory.client.now.value c.begin-attempt.ensures.value (ap (λ (o : Origin). o.client.value) c.read_task-answer.ensures.origin) c.begin-attempt.ensures.alone all _ (search rules)

@@ -4,7 +4,7 @@ use Rattle.stm_attempt.specs.Meaning.{Origin}
 use Rattle.vac_manager.proofs.Adding.{committed, unplaced_begun, unplaced_stopped}
 use Rattle.vac_manager.proofs.Lawful.{holds_begun, lawful}
 use Rattle.vac_manager.proofs.Legality.{committed_legal}
-use Rattle.vac_manager.proofs.Trying.{shown_by_read, commit_stop}
+use Rattle.vac_manager.proofs.Trying.{shown_by_read, commit_stop, near_begun, near_committed, near_stopped}
 use Rattle.vac_manager.proofs.attempts.try_writing.Goals as goal
 
 pub run_task-answer-requires-clause-state : goal.run_task-answer-requires-clause-state
@@ -51,3 +51,16 @@ returns-in-Some-clause-unplaced g c =
 pub returns-in_default-answer-clause-unplaced : goal.returns-in_default-answer-clause-unplaced
 returns-in_default-answer-clause-unplaced g c =
     unplaced_begun c.args.region.now _ _ _ c.run_task-answer.new.memory.client.now.value _ c.requires.unplaced c.begin-attempt.ensures.value (ap (λ (o : Origin). o.client.value) c.run_task-answer.ensures.origin) (search rules)
+
+pub returns-in_default-answer-clause-near : goal.returns-in_default-answer-clause-near
+returns-in_default-answer-clause-near g c = λ all.
+    near_begun c.args.region.now _ c.args.client.now c.begin-attempt.result.client.now c.run_task-answer.new.memory.client.now.value c.begin-attempt.ensures.value (ap (λ (o : Origin). o.client.value) c.run_task-answer.ensures.origin) c.begin-attempt.ensures.alone all _ (search rules)
+
+pub returns-in-Ok-commit-clause-near : goal.returns-in-Ok-commit-clause-near
+returns-in-Ok-commit-clause-near g c = λ all.
+    near_committed c.args.region.now _ c.args.client.now c.begin-attempt.result.client.now c.run_task-answer.new.memory.client.now.value c.begin-attempt.ensures.value (ap (λ (o : Origin). o.client.value) c.run_task-answer.ensures.origin) c.begin-attempt.ensures.alone all c.run_task-answer.new.memory.region.now _ _ _ _ _ c.in-Ok-commit.ensures.next c.in-Ok-commit.ensures.ok (search rules)
+
+pub returns-in-Err-clause-near : goal.returns-in-Err-clause-near
+returns-in-Err-clause-near g c = λ all.
+    near_stopped c.args.region.now _ c.args.client.now c.begin-attempt.result.client.now c.run_task-answer.new.memory.client.now.value c.begin-attempt.ensures.value (ap (λ (o : Origin). o.client.value) c.run_task-answer.ensures.origin) c.begin-attempt.ensures.alone all c.run_task-answer.new.memory.region.now _ _ _ _
+    (ap (λ (o : Origin). o.region) c.run_task-answer.ensures.origin ∙ c.begin-attempt.ensures.region) c.in-Err.ensures.next c.in-Err.ensures.lone (c.in-Err.ensures.refused (search rules))
