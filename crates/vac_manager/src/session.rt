@@ -6,7 +6,7 @@ ghost use Rattle.stm_core.specs.History.{Sub};
 ghost use Rattle.stm_region.specs.Shown.{joined};
 ghost use Rattle.vac_manager.specs.Legal.{WasLegal};
 ghost use Rattle.vac_manager.specs.Called.{is_call, HasAllGrants, Records, Continues, IsWhole, Attempts};
-ghost use Rattle.vac_manager.specs.Called.{IsFault, IsNotBusy, Splits, SplitsNot, OnlyOf};
+ghost use Rattle.vac_manager.specs.Called.{IsFault, IsNotBusy, IsNext, Splits, SplitsNot, OnlyOf};
 
 use crate::client::Client;
 use crate::fault::Fault;
@@ -64,6 +64,10 @@ impl<'a> Session<'a> {
             self.old.client.value self.new.client.value }
         ensures attempts { Attempts tries
             self.old.client.value.attempt.number self.new.client.value.attempt.number result }
+        ensures once { HasAllGrants self.old.client.value → Attempts 1
+            self.old.client.value.attempt.number self.new.client.value.attempt.number result }
+        ensures next { HasAllGrants self.old.client.value → IsNext self.old.manager.last
+            self.old.client.value.floor self.new.client.value.floor result }
         ensures legal { IfOk result (λ _. WasLegal self.old.manager self.new.client.value) }
         ensures whole { HasAllGrants self.old.client.value
             → IfOk result (λ _. IsWhole self.old.manager self.new.client.value) }
@@ -96,6 +100,10 @@ impl<'a> Session<'a> {
             self.old.client.value self.new.client.value }
         ensures attempts { Attempts tries
             self.old.client.value.attempt.number self.new.client.value.attempt.number result }
+        ensures once { HasAllGrants self.old.client.value → Attempts 1
+            self.old.client.value.attempt.number self.new.client.value.attempt.number result }
+        ensures next { HasAllGrants self.old.client.value → IsNext self.old.manager.last
+            self.old.client.value.floor self.new.client.value.floor result }
         ensures legal { IfOk result (λ _. WasLegal self.old.manager self.new.client.value) }
         ensures whole { HasAllGrants self.old.client.value
             → IfOk result (λ _. IsWhole self.old.manager self.new.client.value) }
