@@ -133,17 +133,20 @@ fit own plain valued = record { own = own; plain = plain; valued = valued }
 shape_at : ℕ → Shape
 shape_at k = slice_index_or (built vacation).subs k (new_shape [])
 
-run_fits : AllFit (shape_at 0).rules
-unfolding shape_at
-run_fits = (fit refl refl refl, (fit refl refl refl, tt))
+-- a subcommand with the option of the blocks alone, and one with the options of a load
+with_blocks : Text → Shape
+with_blocks name = record (shape_at 0) { name = name }
 
-dump_fits : AllFit (shape_at 1).rules
-unfolding shape_at
-dump_fits = (fit refl refl refl, (fit refl refl refl, tt))
+with_settings : Text → Shape
+with_settings name = record (shape_at 3) { name = name }
 
-load_fits : AllFit (shape_at 3).rules
-unfolding shape_at
-load_fits = (
+blocks_fit : (name : Text) → AllFit (with_blocks name).rules
+unfolding shape_at with_blocks
+blocks_fit name = (fit refl refl refl, (fit refl refl refl, tt))
+
+settings_fit : (name : Text) → AllFit (with_settings name).rules
+unfolding shape_at with_settings
+settings_fit name = (
   fit refl refl refl,
   (
     fit refl refl refl,
@@ -162,83 +165,86 @@ load_fits = (
 
 -- ---- what the words give
 
-load_number : (rows : List Row) → IsEntered (shape_at 3) rows → (name : Text) (least most : ℕ) (default : Text)
-    → arg_by_id (shape_at 3).rules name ≡ Some (filled (number_option name least most default)) → GivesIn rows name least most
-load_number rows e name least most default own = number_given rows (filled (number_option name least most default)) least most refl
-    (subst (IsGiven (filled (number_option name least most default))) e.rows_are (level_gives (shape_at 3) e.words (filled (number_option name least most default)) load_fits e.passes own (omega arith)))
+settings_number : (of : Text) (rows : List Row) → IsEntered (with_settings of) rows → (name : Text) (least most : ℕ) (default : Text)
+    → arg_by_id (with_settings of).rules name ≡ Some (filled (number_option name least most default)) → GivesIn rows name least most
+settings_number of rows e name least most default own = number_given rows (filled (number_option name least most default)) least most refl
+    (subst (IsGiven (filled (number_option name least most default))) e.rows_are
+    (level_gives (with_settings of) e.words (filled (number_option name least most default)) (settings_fit of) e.passes own (omega arith)))
 
-load_seed : (rows : List Row) → IsEntered (shape_at 3) rows → GivesIn rows (codes "seed") 0 18446744073709551615
-unfolding shape_at
-load_seed rows e = seed_given rows (filled seed_option) 18446744073709551615 refl
-    (subst (IsGiven (filled seed_option)) e.rows_are (level_gives (shape_at 3) e.words (filled seed_option) load_fits e.passes refl (omega arith)))
+settings_seed : (of : Text) (rows : List Row) → IsEntered (with_settings of) rows → GivesIn rows (codes "seed") 0 18446744073709551615
+unfolding shape_at with_settings
+settings_seed of rows e = seed_given rows (filled seed_option) 18446744073709551615 refl
+    (subst (IsGiven (filled seed_option)) e.rows_are (level_gives (with_settings of) e.words (filled seed_option) (settings_fit of) e.passes refl (omega arith)))
 
-load_tells : (rows : List Row) → IsEntered (shape_at 3) rows → Tells rows true ⊎ Tells rows false
-unfolding shape_at
-load_tells rows e = flag_given rows (subst (IsGiven (filled progress_flag)) e.rows_are (level_gives (shape_at 3) e.words (filled progress_flag) load_fits e.passes refl (omega arith)))
+settings_tell : (of : Text) (rows : List Row) → IsEntered (with_settings of) rows → Tells rows true ⊎ Tells rows false
+unfolding shape_at with_settings
+settings_tell of rows e = flag_given rows
+    (subst (IsGiven (filled progress_flag)) e.rows_are (level_gives (with_settings of) e.words (filled progress_flag) (settings_fit of) e.passes refl (omega arith)))
 
-load_settings : (rows : List Row) → IsEntered (shape_at 3) rows → HasSettings rows
-unfolding shape_at
-load_settings rows e = record {
-  clients = load_number rows e (codes "clients") 1 MOST_CLIENTS (codes "4") refl;
-  tasks = load_number rows e (codes "tasks") 1 MOST_TASKS (codes "100") refl;
-  items = load_number rows e (codes "items") 1 MOST_ITEMS (codes "16") refl;
-  asks = load_number rows e (codes "asks") 1 MOST_PARTS (codes "4") refl;
-  user = load_number rows e (codes "user") 0 PERCENT (codes "80") refl;
-  seed = load_seed rows e;
-  blocks = load_number rows e (codes "blocks") 1 MOST_BLOCKS (codes "1024") refl;
-  tries = load_number rows e (codes "tries") 1 MOST_TRIES (codes "64") refl;
-  rounds = load_number rows e (codes "rounds") 1 MOST_ROUNDS (codes "1") refl;
-  tells = load_tells rows e;
+settings_given : (of : Text) (rows : List Row) → IsEntered (with_settings of) rows → HasSettings rows
+unfolding shape_at with_settings
+settings_given of rows e = record {
+  clients = settings_number of rows e (codes "clients") 1 MOST_CLIENTS (codes "4") refl;
+  tasks = settings_number of rows e (codes "tasks") 1 MOST_TASKS (codes "100") refl;
+  items = settings_number of rows e (codes "items") 1 MOST_ITEMS (codes "16") refl;
+  asks = settings_number of rows e (codes "asks") 1 MOST_PARTS (codes "4") refl;
+  user = settings_number of rows e (codes "user") 0 PERCENT (codes "80") refl;
+  seed = settings_seed of rows e;
+  blocks = settings_number of rows e (codes "blocks") 1 MOST_BLOCKS (codes "1024") refl;
+  tries = settings_number of rows e (codes "tries") 1 MOST_TRIES (codes "64") refl;
+  rounds = settings_number of rows e (codes "rounds") 1 MOST_ROUNDS (codes "1") refl;
+  tells = settings_tell of rows e;
 }
+
+blocks_given : (of : Text) (rows : List Row) → IsEntered (with_blocks of) rows → GivesIn rows (codes "blocks") 1 MOST_BLOCKS
+unfolding shape_at with_blocks
+blocks_given of rows e = number_given rows (filled blocks_option) 1 MOST_BLOCKS refl
+    (subst (IsGiven (filled blocks_option)) e.rows_are (level_gives (with_blocks of) e.words (filled blocks_option) (blocks_fit of) e.passes refl (omega arith)))
 
 -- ---- the subcommand that the words name
 
 differ : (a b : Text) → bytes_eq a b ≡ false → a ≡ b → ⊥
 differ a b e same = let bad : false ≡ true = sym e ∙ (bytes_eq-Decides a b).1 same in cc
 
+-- each subcommand of this name is this one
+abbrev IsAlone : Text → Shape → Type 0
+IsAlone name target = Each (λ s. s.name ≡ name → s ≡ target) (built vacation).subs
+
 -- the words enter the subcommand that they name
-entered_run : (words : List Text) (rows : List Row) → fault_of vacation words ≡ [] → Names words (codes "run") rows → IsEntered (shape_at 0) rows
-unfolding shape_at
-entered_run words rows fault names =
-    let found = subcommand_entered (λ s. s.name ≡ codes "run" → s ≡ shape_at 0) vacation words (codes "run") rows
-    (λ e. refl, (λ e. absurd (differ _ _ refl e), (λ e. absurd (differ _ _ refl e), (λ e. absurd (differ _ _ refl e), (λ e. absurd (differ _ _ refl e), tt))))) fault names in
+enters : (name : Text) (target : Shape) (words : List Text) (rows : List Row) → IsAlone name target → fault_of vacation words ≡ [] → Names words name rows → IsEntered target rows
+enters name target words rows alone fault names =
+    let found = subcommand_entered (λ s. s.name ≡ name → s ≡ target) vacation words name rows alone fault names in
     subst (λ (s : Shape). IsEntered s rows) (found.1 found.2) found.3
 
-entered_dump : (words : List Text) (rows : List Row) → fault_of vacation words ≡ [] → Names words (codes "dump") rows → IsEntered (shape_at 1) rows
-unfolding shape_at
-entered_dump words rows fault names =
-    let found = subcommand_entered (λ s. s.name ≡ codes "dump" → s ≡ shape_at 1) vacation words (codes "dump") rows
-    (λ e. absurd (differ _ _ refl e), (λ e. refl, (λ e. absurd (differ _ _ refl e), (λ e. absurd (differ _ _ refl e), (λ e. absurd (differ _ _ refl e), tt))))) fault names in
-    subst (λ (s : Shape). IsEntered s rows) (found.1 found.2) found.3
+run_alone : IsAlone (codes "run") (with_blocks (codes "run"))
+unfolding shape_at with_blocks
+run_alone = (λ e. refl, (λ e. absurd (differ _ _ refl e), (λ e. absurd (differ _ _ refl e), (λ e. absurd (differ _ _ refl e), (λ e. absurd (differ _ _ refl e), (λ e. absurd (differ _ _ refl e), tt))))))
 
-entered_load : (words : List Text) (rows : List Row) → fault_of vacation words ≡ [] → Names words (codes "load") rows → IsEntered (shape_at 3) rows
-unfolding shape_at
-entered_load words rows fault names =
-    let found = subcommand_entered (λ s. s.name ≡ codes "load" → s ≡ shape_at 3) vacation words (codes "load") rows
-    (λ e. absurd (differ _ _ refl e), (λ e. absurd (differ _ _ refl e), (λ e. absurd (differ _ _ refl e), (λ e. refl, (λ e. absurd (differ _ _ refl e), tt))))) fault names in
-    subst (λ (s : Shape). IsEntered s rows) (found.1 found.2) found.3
+dump_alone : IsAlone (codes "dump") (with_blocks (codes "dump"))
+unfolding shape_at with_blocks
+dump_alone = (λ e. absurd (differ _ _ refl e), (λ e. refl, (λ e. absurd (differ _ _ refl e), (λ e. absurd (differ _ _ refl e), (λ e. absurd (differ _ _ refl e), (λ e. absurd (differ _ _ refl e), tt))))))
+
+load_alone : IsAlone (codes "load") (with_settings (codes "load"))
+unfolding shape_at with_settings
+load_alone = (λ e. absurd (differ _ _ refl e), (λ e. absurd (differ _ _ refl e), (λ e. absurd (differ _ _ refl e), (λ e. refl, (λ e. absurd (differ _ _ refl e), (λ e. absurd (differ _ _ refl e), tt))))))
+
+tasks_alone : IsAlone (codes "tasks") (with_settings (codes "tasks"))
+unfolding shape_at with_settings
+tasks_alone = (λ e. absurd (differ _ _ refl e), (λ e. absurd (differ _ _ refl e), (λ e. absurd (differ _ _ refl e), (λ e. absurd (differ _ _ refl e), (λ e. refl, (λ e. absurd (differ _ _ refl e), tt))))))
 
 -- what a subcommand's options give
 pub run_blocks : (words : List Text) (rows : List Row) → fault_of vacation words ≡ [] → Names words (codes "run") rows → GivesIn rows (codes "blocks") 1 MOST_BLOCKS
-unfolding shape_at
-run_blocks words rows fault names =
-    let e = entered_run words rows fault names in
-    number_given rows (filled blocks_option) 1 MOST_BLOCKS refl
-    (subst (IsGiven (filled blocks_option)) e.rows_are (level_gives (shape_at 0) e.words (filled blocks_option) run_fits e.passes refl (omega arith)))
+run_blocks words rows fault names = blocks_given _ rows (enters _ _ words rows run_alone fault names)
 
 pub dump_blocks : (words : List Text) (rows : List Row) → fault_of vacation words ≡ [] → Names words (codes "dump") rows → GivesIn rows (codes "blocks") 1 MOST_BLOCKS
-unfolding shape_at
-dump_blocks words rows fault names =
-    let e = entered_dump words rows fault names in
-    number_given rows (filled blocks_option) 1 MOST_BLOCKS refl
-    (subst (IsGiven (filled blocks_option)) e.rows_are (level_gives (shape_at 1) e.words (filled blocks_option) dump_fits e.passes refl (omega arith)))
+dump_blocks words rows fault names = blocks_given _ rows (enters _ _ words rows dump_alone fault names)
 
-pub settings_named : (words : List Text) (rows : List Row) → fault_of vacation words ≡ [] → Names words (codes "load") rows → HasSettings rows
-settings_named words rows fault names = load_settings rows (entered_load words rows fault names)
+pub load_settings : (words : List Text) (rows : List Row) → fault_of vacation words ≡ [] → Names words (codes "load") rows → HasSettings rows
+load_settings words rows fault names = settings_given _ rows (enters _ _ words rows load_alone fault names)
 
--- ---- some subcommand is named
+pub tasks_settings : (words : List Text) (rows : List Row) → fault_of vacation words ≡ [] → Names words (codes "tasks") rows → HasSettings rows
+tasks_settings words rows fault names = settings_given _ rows (enters _ _ words rows tasks_alone fault names)
 
--- clap asks for a subcommand
 has_subcommand : (rows : List Row) (has : Bool) → check_fault (built vacation).top rows has ≡ [] → has ≡ true
 has_subcommand rows true e = refl
 has_subcommand rows false e = absurd (no_fault MissingSubcommand [] e)
@@ -248,11 +254,11 @@ some_entered None e = let bad : false ≡ true = e in cc
 some_entered (Some p) e = (p, refl)
 
 IsOneOf : Shape → Type 0
-IsOneOf s = (s ≡ shape_at 0) ⊎ ((s ≡ shape_at 1) ⊎ ((s ≡ shape_at 2) ⊎ ((s ≡ shape_at 3) ⊎ (s ≡ shape_at 4))))
+IsOneOf s = (s ≡ shape_at 0) ⊎ ((s ≡ shape_at 1) ⊎ ((s ≡ shape_at 2) ⊎ ((s ≡ shape_at 3) ⊎ ((s ≡ shape_at 4) ⊎ (s ≡ shape_at 5)))))
 
 each_one : Each IsOneOf (built vacation).subs
 unfolding shape_at IsOneOf
-each_one = (inl refl, (inr (inl refl), (inr (inr (inl refl)), (inr (inr (inr (inl refl))), (inr (inr (inr (inr refl))), tt)))))
+each_one = (inl refl, (inr (inl refl), (inr (inr (inl refl)), (inr (inr (inr (inl refl))), (inr (inr (inr (inr (inl refl)))), (inr (inr (inr (inr (inr refl)))), tt))))))
 
 named_so : (word : Text) (s : Shape) → s.aliases ≡ [] → answers_to word (label_of s) ≡ true → s.name ≡ word
 named_so word s none answers =
@@ -275,10 +281,10 @@ stopped_at a (Some p) name rows each other found = go (find (λ s. answers_to p.
         let word_is : s.name ≡ p.0 = named_so p.0 s (found_each (λ t. t.aliases ≡ []) _ a.subs s each is) (found_passes (λ t. answers_to p.0 (label_of t)) a.subs s is) in
         subst (λ (t : Text). bytes_eq t (codes "help") ≡ false) (sym word_is ∙ name_is) other
 
--- the words that clap takes name one of the four subcommands
+-- the words that clap takes name one of the five subcommands
 abbrev pub IsNamed : List Text → List Row → Type 0
 IsNamed words rows =
-    Names words (codes "run") rows ⊎ (Names words (codes "dump") rows ⊎ (Names words (codes "check") rows ⊎ Names words (codes "load") rows))
+    Names words (codes "run") rows ⊎ (Names words (codes "dump") rows ⊎ (Names words (codes "check") rows ⊎ (Names words (codes "load") rows ⊎ Names words (codes "tasks") rows)))
 
 pub one_is_named : (words : List Text) → fault_of vacation words ≡ [] → (rows : List Row) × IsNamed words rows
 unfolding shape_at IsOneOf
@@ -287,7 +293,7 @@ one_is_named words fault =
     let rows = finished (built vacation).top.rules (walk (built vacation).top.rules (names_of (built vacation)) nothing_held (argument_words vacation words)).held in
     let p = some_entered (subcommand_of vacation words) (has_subcommand rows _ top.checked) in
     let stopped = walk_on (built vacation).top (names_of (built vacation)) (walk_from nothing_held) (argument_words vacation words) refl top.walked tt in
-    let other = stopped_at (built vacation) _ p.0.0 p.0.1 (refl, (refl, (refl, (refl, (refl, tt))))) stopped p.1 in
+    let other = stopped_at (built vacation) _ p.0.0 p.0.1 (refl, (refl, (refl, (refl, (refl, (refl, tt)))))) stopped p.1 in
     let found = subcommand_entered IsOneOf vacation words p.0.0 p.0.1 each_one fault p.1 in
     (p.0.1, which found.0 found.1 (λ name is. p.1 ∙ ap (λ (n : Text). Some (n, p.0.1)) (sym found.2 ∙ is)) (subst (λ (n : Text). bytes_eq n (codes "help") ≡ false) (sym found.2) other))
   where
@@ -295,8 +301,9 @@ one_is_named words fault =
     which s (inl is) at other = inl (at (codes "run") (ap (λ (t : Shape). t.name) is))
     which s (inr (inl is)) at other = inr (inl (at (codes "dump") (ap (λ (t : Shape). t.name) is)))
     which s (inr (inr (inl is))) at other = inr (inr (inl (at (codes "check") (ap (λ (t : Shape). t.name) is))))
-    which s (inr (inr (inr (inl is)))) at other = inr (inr (inr (at (codes "load") (ap (λ (t : Shape). t.name) is))))
-    which s (inr (inr (inr (inr is)))) at other =
+    which s (inr (inr (inr (inl is)))) at other = inr (inr (inr (inl (at (codes "load") (ap (λ (t : Shape). t.name) is)))))
+    which s (inr (inr (inr (inr (inl is))))) at other = inr (inr (inr (inr (at (codes "tasks") (ap (λ (t : Shape). t.name) is)))))
+    which s (inr (inr (inr (inr (inr is))))) at other =
         absurd (let bad : true ≡ false = subst (λ (t : Shape). bytes_eq t.name (codes "help") ≡ false) is other in cc)
 
 -- ---- what the getters of clap read
@@ -340,11 +347,12 @@ is_none None e = refl
 is_none (Some x) e = absurd (let bad : false ≡ true = e in cc)
 
 -- where a look for each of the subcommands found none
-pub none_is_named : {X : Type 0} (words : List Text) (rows : List Row) (found : Option (Text × List Row)) (run dump check load : Option X) → found ≡ subcommand_of vacation words
+pub none_is_named : {X : Type 0} (words : List Text) (rows : List Row) (found : Option (Text × List Row)) (run dump check tasks load : Option X) → found ≡ subcommand_of vacation words
     → ((r : List Row) → found ≡ Some (codes "run", r) → IsSome run) → ((r : List Row) → found ≡ Some (codes "dump", r) → IsSome dump)
-    → ((r : List Row) → found ≡ Some (codes "check", r) → IsSome check) → ((r : List Row) → found ≡ Some (codes "load", r) → IsSome load)
-    → run ≡ None → dump ≡ None → false ≡ is_some check → load ≡ None → IsNamed words rows → ⊥
-none_is_named words rows found run dump check load is r d c l no_run no_dump no_check no_load (inl n) = not_some run no_run (r rows (is ∙ n))
-none_is_named words rows found run dump check load is r d c l no_run no_dump no_check no_load (inr (inl n)) = not_some dump no_dump (d rows (is ∙ n))
-none_is_named words rows found run dump check load is r d c l no_run no_dump no_check no_load (inr (inr (inl n))) = not_some check (is_none check no_check) (c rows (is ∙ n))
-none_is_named words rows found run dump check load is r d c l no_run no_dump no_check no_load (inr (inr (inr n))) = not_some load no_load (l rows (is ∙ n))
+    → ((r : List Row) → found ≡ Some (codes "check", r) → IsSome check) → ((r : List Row) → found ≡ Some (codes "tasks", r) → IsSome tasks) → ((r : List Row) → found ≡ Some (codes "load", r) → IsSome load)
+    → run ≡ None → dump ≡ None → false ≡ is_some check → tasks ≡ None → load ≡ None → IsNamed words rows → ⊥
+none_is_named words rows found run dump check tasks load is r d c t l no_run no_dump no_check no_tasks no_load (inl n) = not_some run no_run (r rows (is ∙ n))
+none_is_named words rows found run dump check tasks load is r d c t l no_run no_dump no_check no_tasks no_load (inr (inl n)) = not_some dump no_dump (d rows (is ∙ n))
+none_is_named words rows found run dump check tasks load is r d c t l no_run no_dump no_check no_tasks no_load (inr (inr (inl n))) = not_some check (is_none check no_check) (c rows (is ∙ n))
+none_is_named words rows found run dump check tasks load is r d c t l no_run no_dump no_check no_tasks no_load (inr (inr (inr (inl n)))) = not_some load no_load (l rows (is ∙ n))
+none_is_named words rows found run dump check tasks load is r d c t l no_run no_dump no_check no_tasks no_load (inr (inr (inr (inr n)))) = not_some tasks no_tasks (t rows (is ∙ n))

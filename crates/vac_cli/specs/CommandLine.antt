@@ -21,7 +21,7 @@ use Rattle.vac_model.specs.declared.limits.TheConstants.{MOST_TRIES}
 use Rattle.vac_manager.specs.Opening.{is_block_count}
 use Rattle.vac_script.specs.declared.system.TheConstants.{LAST_VERSION}
 use Rattle.vac_cli.specs.declared.asked.Asked.{Asked}
-use Rattle.vac_cli.specs.declared.asked.Asked.TheVariants.{Run, Dump, Check, Load}
+use Rattle.vac_cli.specs.declared.asked.Asked.TheVariants.{Run, Dump, Check, Load, Tasks}
 
 -- ---- what the program takes
 
@@ -109,9 +109,10 @@ script_commands = with_options (codes "run") (blocks_option ∷ [])
 abbrev pub judging_commands : List Shape
 judging_commands = with_options (codes "check") [] ∷ []
 
--- those that run loads
+-- those that run loads and write their tasks
 abbrev pub load_commands : List Shape
-load_commands = with_options (codes "load") load_options ∷ []
+load_commands = with_options (codes "load") load_options
+    ∷ with_options (codes "tasks") load_options ∷ []
 
 -- a command with subcommands more
 abbrev pub with_commands : App → List Shape → App
@@ -208,3 +209,5 @@ AsksFor words (Dump blocks) = (rows : List Row) × Names words (codes "dump") ro
 AsksFor words Check = (rows : List Row) × Names words (codes "check") rows
 AsksFor words (Load settings tells) = (rows : List Row) × Names words (codes "load") rows
     × AreGiven rows settings × Tells rows tells
+AsksFor words (Tasks settings) = (rows : List Row) × Names words (codes "tasks") rows
+    × AreGiven rows settings

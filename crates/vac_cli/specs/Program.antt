@@ -8,11 +8,12 @@ use Rattle.vac_draws.specs.declared.settings.Settings.{Settings}
 use Rattle.vac_draws.specs.Setting.{is_settings}
 use Rattle.vac_load.specs.declared.load.LoadFault.TheVariants.{Arguments}
 use Rattle.vac_cli.specs.declared.asked.Asked.{Asked}
-use Rattle.vac_cli.specs.declared.asked.Asked.TheVariants.{Run, Dump, Check, Load}
+use Rattle.vac_cli.specs.declared.asked.Asked.TheVariants.{Run, Dump, Check, Load, Tasks}
 use Rattle.vac_script.specs.declared.fault.RunFault.TheVariants.{Memory}
 use Rattle.vac_script.specs.Script.{AppendsPrefix, WroteAll, WrotePrefix}
 use Rattle.vac_script.specs.Dump.{Dumped, DumpStopped}
 use Rattle.vac_script.specs.Check.{Checked, CheckStopped}
+use Rattle.vac_worklist.specs.Worklist.{WroteTasks, WroteTasksPrefix}
 use Rattle.vac_cli.specs.Load.{WroteLoad, LoadStopped}
 use Rattle.vac_cli.specs.Ending.{NamedAfter, fault_line, load_fault_line}
 use Rattle.vac_cli.specs.CommandLine.{vacation, AsksFor}
@@ -25,6 +26,15 @@ Ends status done stopped = ((status ≡ 0) × done) ⊎ ((status ≡ 1) × stopp
 abbrev pub Loads : ℕ → Settings → Option (List ℕ) → Option (List ℕ) → Type 0
 Loads status s held holds =
     ((is_settings s ≡ true) × Ends status (WroteLoad s held holds) (LoadStopped s held holds))
+    ⊎ ((is_settings s ≡ false) × (status ≡ 2)
+    × AppendsPrefix held holds (load_fault_line Arguments))
+
+-- the tasks of a load are written where its settings fit each other; where they do not, the command
+-- line is refused
+abbrev pub Lists : ℕ → Settings → Option (List ℕ) → Option (List ℕ) → Type 0
+Lists status s held holds =
+    ((is_settings s ≡ true) × Ends status (WroteTasks s held holds)
+    (NamedAfter (WroteTasksPrefix s held) holds))
     ⊎ ((is_settings s ≡ false) × (status ≡ 2)
     × AppendsPrefix held holds (load_fault_line Arguments))
 
@@ -42,6 +52,8 @@ Does Check status unread left held holds =
     (Checked false unread left held holds ⊎ NamedAfter (CheckStopped unread left held) holds)
 Does (Load settings tells) status unread left held holds =
     (left ≡ unread) × Loads status settings held holds
+Does (Tasks settings) status unread left held holds =
+    (left ≡ unread) × Lists status settings held holds
 
 -- what it shows of an error of this kind: the fault where memory was refused, help on the output,
 -- and nothing on the output where the words are refused

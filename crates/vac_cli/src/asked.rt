@@ -25,6 +25,8 @@ pub(crate) enum Asked {
     Check,
     /// To run a load, and whether to tell how far it is.
     Load(Settings, bool),
+    /// To write the tasks of a load.
+    Tasks(Settings),
 }
 
 /// What clap finds in a command line.
@@ -120,6 +122,9 @@ pub(crate) fn read_asked(alloc: Global, words: &[String]) -> Result<Asked, Error
     }
     if named(&matches, "check").is_some() {
         return Ok(Asked::Check);
+    }
+    if let Some(tasks) = named(&matches, "tasks") {
+        return Ok(Asked::Tasks(settings_of(tasks)));
     }
     match named(&matches, "load") {
         Some(load) => Ok(Asked::Load(settings_of(load), tells_of(load))),

@@ -4,11 +4,11 @@ ghost use Rattle.std.specs.Prelude.{◌≡◌, ◌≤◌, ℕ, true, List, map, 
 ghost use Rattle.std.specs.Io.KnownBytes.{Appends};
 ghost use Rattle.clap.specs.Words.{kind_of};
 ghost use Rattle.vac_manager.specs.Opening.{is_block_count};
-ghost use Rattle.vac_cli.specs.Program.{Does, Shows, Serves};
+ghost use Rattle.vac_cli.specs.Program.{Does, Lists, Shows, Serves};
 
 use crate::asked::{Asked, read_asked};
 use crate::load::load;
-use crate::status::{DONE, FAULT, REFUSED, end_by};
+use crate::status::{DONE, FAULT, REFUSED, end_by, end_load_by};
 use clap::Error;
 use clap::error::ErrorKind;
 use std::alloc::Global;
@@ -16,7 +16,9 @@ use std::io::{Read, Write};
 use std::sync::Wait;
 use std::thread::Threads;
 use std::time::Clock;
+use vac_load::{LoadFault, Settings};
 use vac_script::{RunFault, check_words, dump_script, run_script, write_and_flush};
+use vac_worklist::{TasksFault, write_tasks};
 
 /// Runs the program on a command line, of which the first word is the program's name, and answers
 /// its status: 0 where it did its work or showed its help, 1 after a fault and where `check` found
@@ -41,6 +43,7 @@ pub fn run_words<
         Ok(Asked::Dump(blocks)) => dump(alloc, blocks, input, output),
         Ok(Asked::Check) => check(alloc, input, output),
         Ok(Asked::Load(settings, tells)) => load(rt, &settings, tells, output, errors),
+        Ok(Asked::Tasks(settings)) => list_tasks(alloc, &settings, output),
         Err(error) => show(alloc, &error, output, errors),
     }
 }
@@ -90,6 +93,19 @@ fn check<R: Read, W: Write>(alloc: Global, input: &mut R, output: &mut W) -> u8
         Ok(true) => DONE,
         Ok(false) => FAULT,
         Err(fault) => end_by(fault, output),
+    }
+}
+
+/// Writes the tasks of a load, and answers the status.
+#[tactic(auto, using(crate::proofs::Ending::nothing_then))]
+fn list_tasks<W: Write>(alloc: Global, settings: &Settings, output: &mut W) -> u8
+    ensures { Lists result settings.now (W.contents output.old) (W.contents output.new) }
+{
+    match write_tasks(alloc, settings, output) {
+        Ok(()) => DONE,
+        Err(TasksFault::Arguments) => end_load_by(LoadFault::Arguments, output),
+        Err(TasksFault::Memory) => end_by(RunFault::Memory, output),
+        Err(TasksFault::Write) => end_by(RunFault::Write, output),
     }
 }
 

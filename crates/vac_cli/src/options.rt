@@ -278,7 +278,7 @@ fn add_script_commands<'a>(
     add_command(add_command(top, run), dump)
 }
 
-/// Adds the subcommands that run loads, unless memory was refused before.
+/// Adds the subcommands that run loads and write their tasks, unless memory was refused before.
 fn add_load_commands<'a>(
     alloc: Global,
     top: Result<Command<'a>, AllocError>,
@@ -291,7 +291,12 @@ fn add_load_commands<'a>(
         "load",
         "Lets clients call the system with tasks drawn at random, and reports what they left",
     );
-    add_command(top, load)
+    let tasks = load_command(
+        alloc,
+        "tasks",
+        "Writes the tasks of a load, a line each, and runs nothing",
+    );
+    add_command(add_command(top, load), tasks)
 }
 
 /// Adds the subcommands that judge what others did, unless memory was refused before.
