@@ -7,15 +7,19 @@ use Rattle.bank.specs.declared.entry.Entry.TheVariants.{Transfer, Sum}
 use Rattle.bank.specs.Accounts.{moving, after, Finds}
 use Rattle.bank.specs.Law.{IsBank, IsLawful}
 
-pub sum_set : (xs : List ℕ) (i y : ℕ) → i < length xs → sum (slice_set xs i y) + slice_index xs i ≡ sum xs + y
+pub sum_set : (xs : List ℕ) (i y : ℕ) → i < length xs →
+    sum (slice_set xs i y) + slice_index xs i ≡ sum xs + y
 sum_set xs i y less = sum_by-set (λ x. x) xs i y 0 less
 
-pub sum_taken : (xs : List ℕ) (from amount : ℕ) → from < length xs → amount ≤ slice_index xs from → sum (slice_set xs from (slice_index xs from - amount)) + amount ≡ sum xs
+pub sum_taken : (xs : List ℕ) (from amount : ℕ) → from < length xs →
+    amount ≤ slice_index xs from →
+    sum (slice_set xs from (slice_index xs from - amount)) + amount ≡ sum xs
 sum_taken xs from amount less enough =
     let s = sum_set xs from (slice_index xs from - amount) less in
     omega (arith, s, enough)
 
-sum_moving : (xs : List ℕ) (from to amount : ℕ) → from < length xs → to < length xs → amount ≤ slice_index xs from → sum (moving xs from to amount) ≡ sum xs
+sum_moving : (xs : List ℕ) (from to amount : ℕ) → from < length xs → to < length xs →
+    amount ≤ slice_index xs from → sum (moving xs from to amount) ≡ sum xs
 sum_moving xs from to amount f t enough =
     let taken = slice_set xs from (slice_index xs from - amount) in
     let long = length-set xs from (slice_index xs from - amount) in
@@ -31,7 +35,8 @@ same_sum (Sum total) xs h = refl
 pub same_length : (e : Entry) (xs : List ℕ) → length (after e xs) ≡ length xs
 same_length (Transfer from to amount true) xs =
     let taken = slice_set xs from (slice_index xs from - amount) in
-    length-set taken to (slice_index taken to + amount) ∙ length-set xs from (slice_index xs from - amount)
+    length-set taken to (slice_index taken to + amount)
+        ∙ length-set xs from (slice_index xs from - amount)
 same_length (Transfer from to amount false) xs = refl
 same_length (Sum total) xs = refl
 

@@ -4,6 +4,7 @@ use crate::small_load::{SETTINGS, THREE_TRIPS, all_answered};
 use std::test::Fail;
 use stm_attempt::NoGate;
 use vac_load::{FixedDraws, LoadFault, LoadReport, MOST_ROUNDS, Settings, run_load, run_load_with};
+use vac_manager::Fault;
 
 #[test]
 fn trips_of_one_client(rt: HostRuntime) -> Result<(), Fail> {
@@ -31,6 +32,21 @@ fn one_client_asks_a_thousand_times(rt: HostRuntime) {
     };
     assert_eq!(rt; loaded.tally, all_answered(1_000));
     assert_eq!(rt; loaded.report.used, loaded.report.bookings);
+}
+
+#[test]
+fn an_opening_finds_its_clock_spent(rt: HostRuntime) -> Result<(), Fail> {
+    let settings = Settings {
+        last: 5,
+        ..SETTINGS
+    };
+    let clients = vec![in rt.alloc(); (FixedDraws(0), NoGate)]?;
+    let loaded = run_load_with(&rt, &settings, FixedDraws(0), clients);
+    let Err(LoadFault::Opening(Fault::Spent { version })) = loaded else {
+        panic!(rt; "the opening did not find its clock spent")
+    };
+    assert_eq!(rt; version.get(), 5);
+    Ok(())
 }
 
 #[test]

@@ -139,18 +139,19 @@ abbrev pub is_load : Settings → ℕ → Bool
 is_load s clients = is_settings s && nat_eq clients s.clients
 
 -- why a load that could be run stopped
-abbrev pub IsStopOfLoad : LoadFault → Type 0
-IsStopOfLoad load.Arguments = ⊥
-IsStopOfLoad load.Memory = Unit {0}
-IsStopOfLoad load.Spawn = Unit {0}
-IsStopOfLoad (load.Opening fault) = IsOpeningFault fault
+abbrev pub IsStopOfLoad : ℕ → LoadFault → Type 0
+IsStopOfLoad last load.Arguments = ⊥
+IsStopOfLoad last load.Memory = Unit {0}
+IsStopOfLoad last load.Spawn = Unit {0}
+IsStopOfLoad last (load.Opening fault) = IsOpeningFault last fault
 
--- why a load was not run to its end: the opening never stops for its arguments
-abbrev pub IsLoadFault : LoadFault → Type 0
-IsLoadFault load.Arguments = Unit {0}
-IsLoadFault load.Memory = Unit {0}
-IsLoadFault load.Spawn = Unit {0}
-IsLoadFault (load.Opening fault) = IsOpeningFault fault
+-- why a load was not run to its end: the opening never stops for its arguments, and finds a spent
+-- clock at the settings' last version alone
+abbrev pub IsLoadFault : ℕ → LoadFault → Type 0
+IsLoadFault last load.Arguments = Unit {0}
+IsLoadFault last load.Memory = Unit {0}
+IsLoadFault last load.Spawn = Unit {0}
+IsLoadFault last (load.Opening fault) = IsOpeningFault last fault
 
 -- what a load did: there is a history, legal from the empty state on, whose last state has the
 -- report. First come the commands of the opening, and then the tasks that were answered, and no

@@ -1,5 +1,5 @@
 -- What the opening of a load does.
-use Rattle.std.specs.Prelude.{ℕ, List, map}
+use Rattle.std.specs.Prelude.{◌≡◌, ℕ, List, map}
 use Rattle.stm_core.specs.Client.{Client}
 use Rattle.vac_model.specs.declared.commands.Command.{Command}
 use Rattle.vac_model.specs.declared.tasks.Task.{Task}
@@ -20,9 +20,9 @@ pub record Ran {D : Type 0} (leads : D → ℕ → D → Type 0) (renewal : ℕ)
   pub drawn : Drawn leads reader state commands last
   pub answered : Answered renewal (as_tasks commands) v v'
 
--- why an opening may stop: want of memory, or a spent clock
-abbrev pub IsOpeningFault : Fault → Type 0
-IsOpeningFault fault.Arguments = ⊥
-IsOpeningFault fault.Memory = Unit {0}
-IsOpeningFault (fault.Busy conflict) = ⊥
-IsOpeningFault (fault.Spent version) = Unit {0}
+-- why an opening may stop: want of memory, or a clock that is spent at this last version
+abbrev pub IsOpeningFault : ℕ → Fault → Type 0
+IsOpeningFault last fault.Arguments = ⊥
+IsOpeningFault last fault.Memory = Unit {0}
+IsOpeningFault last (fault.Busy conflict) = ⊥
+IsOpeningFault last (fault.Spent version) = version ≡ last

@@ -39,7 +39,8 @@ pub enum LoadFault {
     /// A thread could not be started. Those that were started were joined first.
     #[error("a thread could not be started")]
     Spawn,
-    /// A command of the opening was refused.
+    /// A command of the opening was refused: for want of memory, or since the clock was at the
+    /// settings' last version.
     #[error("the opening stopped: {0}")]
     Opening(Fault),
 }
@@ -56,7 +57,7 @@ fn run_in_range<R: Threads + Wait, D: Draws + Send + Drop, G: Gate + Send + Drop
     requires number { vec_len clients ≡ settings.now.clients }
     ensures loaded { IfOk result (λ r. Loaded D.leads settings.now (λ p. p.0)
         opening clients.items r.tally r.report) }
-    ensures refused { IfErr result (λ fault. IsStopOfLoad fault) }
+    ensures refused { IfErr result (λ fault. IsStopOfLoad settings.now.last fault) }
 {
     let Ok((manager, mut client)) = Manager::new(alloc, settings.blocks, settings.last) else {
         return Err(LoadFault::Memory);
@@ -93,7 +94,7 @@ pub fn run_load_with<
         ↔ (is_load settings.now (vec_len clients) ≡ false) }
     ensures loaded { IfOk result (λ r. Loaded D.leads settings.now (λ p. p.0)
         opening clients.items r.tally r.report) }
-    ensures refused { IfErr result (λ fault. IsLoadFault fault) }
+    ensures refused { IfErr result (λ fault. IsLoadFault settings.now.last fault) }
 {
     if !(settings.is_in_range() && clients.len() == settings.clients as usize) {
         return Err(LoadFault::Arguments);
@@ -123,7 +124,7 @@ pub fn run_load<R: Threads + Wait + AllocGlobal>(
     ensures arguments { IsErrOf result LoadFault.Arguments
         ↔ (is_settings settings.now ≡ false) }
     ensures loaded { IfOk result (λ r. LoadedBySeed settings.now r.tally r.report) }
-    ensures refused { IfErr result (λ fault. IsLoadFault fault) }
+    ensures refused { IfErr result (λ fault. IsLoadFault settings.now.last fault) }
 {
     if !settings.is_in_range() {
         return Err(LoadFault::Arguments);

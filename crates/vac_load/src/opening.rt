@@ -25,7 +25,7 @@ fn ask_for(manager: &Manager, client: &mut Client, command: Command) -> Result<(
     ensures grants { HasAllGrants client.new.value }
     ensures answered { IfOk result (λ _. Answered manager.now.renewal (Task.One command ∷ [])
         client.old.value client.new.value) }
-    ensures refused { IfErr result (λ fault. IsOpeningFault fault) }
+    ensures refused { IfErr result (λ fault. IsOpeningFault manager.now.last fault) }
 {
     match manager.call(client, &Task::One(command), TRIES) {
         Ok(_) => Ok(()),
@@ -48,7 +48,7 @@ fn add_item<D: Draws>(
     ensures grants { HasAllGrants client.new.value }
     ensures ran { IfOk result (λ _. Ran D.leads manager.now.renewal (stock id kind)
         client.old.value client.new.value draws.old draws.new) }
-    ensures refused { IfErr result (λ fault. IsOpeningFault fault) }
+    ensures refused { IfErr result (λ fault. IsOpeningFault manager.now.last fault) }
 {
     ask_for(manager, client, draw_stock(draws, id, kind))
 }
@@ -67,7 +67,7 @@ fn add_items<D: Draws>(
     ensures grants { HasAllGrants client.new.value }
     ensures ran { IfOk result (λ _. Ran D.leads manager.now.renewal (stocks id)
         client.old.value client.new.value draws.old draws.new) }
-    ensures refused { IfErr result (λ fault. IsOpeningFault fault) }
+    ensures refused { IfErr result (λ fault. IsOpeningFault manager.now.last fault) }
 {
     add_item(manager, client, draws, id, Kind::Car)?;
     add_item(manager, client, draws, id, Kind::Flight)?;
@@ -88,7 +88,7 @@ fn add_all<D: Draws>(
     ensures grants { HasAllGrants client.new.value }
     ensures ran { IfOk result (λ _. Ran D.leads manager.now.renewal (for_each items stocks)
         client.old.value client.new.value draws.old draws.new) }
-    ensures refused { IfErr result (λ fault. IsOpeningFault fault) }
+    ensures refused { IfErr result (λ fault. IsOpeningFault manager.now.last fault) }
 {
     'items: for place in 0..items {
         add_items(manager, client, draws, place + 1)?;
@@ -112,7 +112,7 @@ pub fn open<D: Draws>(
     ensures grants { HasAllGrants client.new.value }
     ensures ran { IfOk result (λ _. Ran D.leads manager.now.renewal (opening settings.now)
         client.old.value client.new.value draws.old draws.new) }
-    ensures refused { IfErr result (λ fault. IsOpeningFault fault) }
+    ensures refused { IfErr result (λ fault. IsOpeningFault manager.now.last fault) }
 {
     add_all(manager, client, draws, settings.items)?;
     'customers: for place in 0..settings.items {
