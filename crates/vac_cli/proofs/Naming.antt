@@ -138,7 +138,7 @@ with_blocks : Text → Shape
 with_blocks name = record (shape_at 0) { name = name }
 
 with_settings : Text → Shape
-with_settings name = record (shape_at 3) { name = name }
+with_settings name = record (shape_at 4) { name = name }
 
 blocks_fit : (name : Text) → AllFit (with_blocks name).rules
 unfolding shape_at with_blocks
@@ -218,19 +218,23 @@ enters name target words rows alone fault names =
 
 run_alone : IsAlone (codes "run") (with_blocks (codes "run"))
 unfolding shape_at with_blocks
-run_alone = (λ e. refl, (λ e. absurd (differ _ _ refl e), (λ e. absurd (differ _ _ refl e), (λ e. absurd (differ _ _ refl e), (λ e. absurd (differ _ _ refl e), (λ e. absurd (differ _ _ refl e), tt))))))
+run_alone = (λ e. refl, (λ e. absurd (differ _ _ refl e), (λ e. absurd (differ _ _ refl e), (λ e. absurd (differ _ _ refl e), (λ e. absurd (differ _ _ refl e), (λ e. absurd (differ _ _ refl e), (λ e. absurd (differ _ _ refl e), tt)))))))
 
 dump_alone : IsAlone (codes "dump") (with_blocks (codes "dump"))
 unfolding shape_at with_blocks
-dump_alone = (λ e. absurd (differ _ _ refl e), (λ e. refl, (λ e. absurd (differ _ _ refl e), (λ e. absurd (differ _ _ refl e), (λ e. absurd (differ _ _ refl e), (λ e. absurd (differ _ _ refl e), tt))))))
+dump_alone = (λ e. absurd (differ _ _ refl e), (λ e. refl, (λ e. absurd (differ _ _ refl e), (λ e. absurd (differ _ _ refl e), (λ e. absurd (differ _ _ refl e), (λ e. absurd (differ _ _ refl e), (λ e. absurd (differ _ _ refl e), tt)))))))
+
+judge_alone : IsAlone (codes "judge") (with_blocks (codes "judge"))
+unfolding shape_at with_blocks
+judge_alone = (λ e. absurd (differ _ _ refl e), (λ e. absurd (differ _ _ refl e), (λ e. absurd (differ _ _ refl e), (λ e. refl, (λ e. absurd (differ _ _ refl e), (λ e. absurd (differ _ _ refl e), (λ e. absurd (differ _ _ refl e), tt)))))))
 
 load_alone : IsAlone (codes "load") (with_settings (codes "load"))
 unfolding shape_at with_settings
-load_alone = (λ e. absurd (differ _ _ refl e), (λ e. absurd (differ _ _ refl e), (λ e. absurd (differ _ _ refl e), (λ e. refl, (λ e. absurd (differ _ _ refl e), (λ e. absurd (differ _ _ refl e), tt))))))
+load_alone = (λ e. absurd (differ _ _ refl e), (λ e. absurd (differ _ _ refl e), (λ e. absurd (differ _ _ refl e), (λ e. absurd (differ _ _ refl e), (λ e. refl, (λ e. absurd (differ _ _ refl e), (λ e. absurd (differ _ _ refl e), tt)))))))
 
 tasks_alone : IsAlone (codes "tasks") (with_settings (codes "tasks"))
 unfolding shape_at with_settings
-tasks_alone = (λ e. absurd (differ _ _ refl e), (λ e. absurd (differ _ _ refl e), (λ e. absurd (differ _ _ refl e), (λ e. absurd (differ _ _ refl e), (λ e. refl, (λ e. absurd (differ _ _ refl e), tt))))))
+tasks_alone = (λ e. absurd (differ _ _ refl e), (λ e. absurd (differ _ _ refl e), (λ e. absurd (differ _ _ refl e), (λ e. absurd (differ _ _ refl e), (λ e. absurd (differ _ _ refl e), (λ e. refl, (λ e. absurd (differ _ _ refl e), tt)))))))
 
 -- what a subcommand's options give
 pub run_blocks : (words : List Text) (rows : List Row) → fault_of vacation words ≡ [] → Names words (codes "run") rows → GivesIn rows (codes "blocks") 1 MOST_BLOCKS
@@ -238,6 +242,9 @@ run_blocks words rows fault names = blocks_given _ rows (enters _ _ words rows r
 
 pub dump_blocks : (words : List Text) (rows : List Row) → fault_of vacation words ≡ [] → Names words (codes "dump") rows → GivesIn rows (codes "blocks") 1 MOST_BLOCKS
 dump_blocks words rows fault names = blocks_given _ rows (enters _ _ words rows dump_alone fault names)
+
+pub judge_blocks : (words : List Text) (rows : List Row) → fault_of vacation words ≡ [] → Names words (codes "judge") rows → GivesIn rows (codes "blocks") 1 MOST_BLOCKS
+judge_blocks words rows fault names = blocks_given _ rows (enters _ _ words rows judge_alone fault names)
 
 pub load_settings : (words : List Text) (rows : List Row) → fault_of vacation words ≡ [] → Names words (codes "load") rows → HasSettings rows
 load_settings words rows fault names = settings_given _ rows (enters _ _ words rows load_alone fault names)
@@ -254,11 +261,24 @@ some_entered None e = let bad : false ≡ true = e in cc
 some_entered (Some p) e = (p, refl)
 
 IsOneOf : Shape → Type 0
-IsOneOf s = (s ≡ shape_at 0) ⊎ ((s ≡ shape_at 1) ⊎ ((s ≡ shape_at 2) ⊎ ((s ≡ shape_at 3) ⊎ ((s ≡ shape_at 4) ⊎ (s ≡ shape_at 5)))))
+IsOneOf s =
+    (s ≡ shape_at 0) ⊎ ((s ≡ shape_at 1) ⊎ ((s ≡ shape_at 2) ⊎ ((s ≡ shape_at 3) ⊎ ((s ≡ shape_at 4) ⊎ ((s ≡ shape_at 5) ⊎ (s ≡ shape_at 6))))))
 
 each_one : Each IsOneOf (built vacation).subs
 unfolding shape_at IsOneOf
-each_one = (inl refl, (inr (inl refl), (inr (inr (inl refl)), (inr (inr (inr (inl refl))), (inr (inr (inr (inr (inl refl)))), (inr (inr (inr (inr (inr refl)))), tt))))))
+each_one = (
+  inl refl,
+  (
+    inr (inl refl),
+    (
+      inr (inr (inl refl)),
+      (
+        inr (inr (inr (inl refl))),
+        (inr (inr (inr (inr (inl refl)))), (inr (inr (inr (inr (inr (inl refl))))), (inr (inr (inr (inr (inr (inr refl))))), tt))),
+      ),
+    ),
+  ),
+)
 
 named_so : (word : Text) (s : Shape) → s.aliases ≡ [] → answers_to word (label_of s) ≡ true → s.name ≡ word
 named_so word s none answers =
@@ -281,10 +301,10 @@ stopped_at a (Some p) name rows each other found = go (find (λ s. answers_to p.
         let word_is : s.name ≡ p.0 = named_so p.0 s (found_each (λ t. t.aliases ≡ []) _ a.subs s each is) (found_passes (λ t. answers_to p.0 (label_of t)) a.subs s is) in
         subst (λ (t : Text). bytes_eq t (codes "help") ≡ false) (sym word_is ∙ name_is) other
 
--- the words that clap takes name one of the five subcommands
+-- the words that clap takes name one of the six subcommands
 abbrev pub IsNamed : List Text → List Row → Type 0
 IsNamed words rows =
-    Names words (codes "run") rows ⊎ (Names words (codes "dump") rows ⊎ (Names words (codes "check") rows ⊎ (Names words (codes "load") rows ⊎ Names words (codes "tasks") rows)))
+    Names words (codes "run") rows ⊎ (Names words (codes "dump") rows ⊎ (Names words (codes "check") rows ⊎ (Names words (codes "judge") rows ⊎ (Names words (codes "load") rows ⊎ Names words (codes "tasks") rows))))
 
 pub one_is_named : (words : List Text) → fault_of vacation words ≡ [] → (rows : List Row) × IsNamed words rows
 unfolding shape_at IsOneOf
@@ -293,7 +313,7 @@ one_is_named words fault =
     let rows = finished (built vacation).top.rules (walk (built vacation).top.rules (names_of (built vacation)) nothing_held (argument_words vacation words)).held in
     let p = some_entered (subcommand_of vacation words) (has_subcommand rows _ top.checked) in
     let stopped = walk_on (built vacation).top (names_of (built vacation)) (walk_from nothing_held) (argument_words vacation words) refl top.walked tt in
-    let other = stopped_at (built vacation) _ p.0.0 p.0.1 (refl, (refl, (refl, (refl, (refl, (refl, tt)))))) stopped p.1 in
+    let other = stopped_at (built vacation) _ p.0.0 p.0.1 (refl, (refl, (refl, (refl, (refl, (refl, (refl, tt))))))) stopped p.1 in
     let found = subcommand_entered IsOneOf vacation words p.0.0 p.0.1 each_one fault p.1 in
     (p.0.1, which found.0 found.1 (λ name is. p.1 ∙ ap (λ (n : Text). Some (n, p.0.1)) (sym found.2 ∙ is)) (subst (λ (n : Text). bytes_eq n (codes "help") ≡ false) (sym found.2) other))
   where
@@ -301,9 +321,10 @@ one_is_named words fault =
     which s (inl is) at other = inl (at (codes "run") (ap (λ (t : Shape). t.name) is))
     which s (inr (inl is)) at other = inr (inl (at (codes "dump") (ap (λ (t : Shape). t.name) is)))
     which s (inr (inr (inl is))) at other = inr (inr (inl (at (codes "check") (ap (λ (t : Shape). t.name) is))))
-    which s (inr (inr (inr (inl is)))) at other = inr (inr (inr (inl (at (codes "load") (ap (λ (t : Shape). t.name) is)))))
-    which s (inr (inr (inr (inr (inl is))))) at other = inr (inr (inr (inr (at (codes "tasks") (ap (λ (t : Shape). t.name) is)))))
-    which s (inr (inr (inr (inr (inr is))))) at other =
+    which s (inr (inr (inr (inl is)))) at other = inr (inr (inr (inl (at (codes "judge") (ap (λ (t : Shape). t.name) is)))))
+    which s (inr (inr (inr (inr (inl is))))) at other = inr (inr (inr (inr (inl (at (codes "load") (ap (λ (t : Shape). t.name) is))))))
+    which s (inr (inr (inr (inr (inr (inl is)))))) at other = inr (inr (inr (inr (inr ((at (codes "tasks") (ap (λ (t : Shape). t.name) is)))))))
+    which s (inr (inr (inr (inr (inr (inr is)))))) at other =
         absurd (let bad : true ≡ false = subst (λ (t : Shape). bytes_eq t.name (codes "help") ≡ false) is other in cc)
 
 -- ---- what the getters of clap read
@@ -347,12 +368,14 @@ is_none None e = refl
 is_none (Some x) e = absurd (let bad : false ≡ true = e in cc)
 
 -- where a look for each of the subcommands found none
-pub none_is_named : {X : Type 0} (words : List Text) (rows : List Row) (found : Option (Text × List Row)) (run dump check tasks load : Option X) → found ≡ subcommand_of vacation words
+pub none_is_named : {X : Type 0} (words : List Text) (rows : List Row) (found : Option (Text × List Row)) (run dump check judge tasks load : Option X) → found ≡ subcommand_of vacation words
     → ((r : List Row) → found ≡ Some (codes "run", r) → IsSome run) → ((r : List Row) → found ≡ Some (codes "dump", r) → IsSome dump)
-    → ((r : List Row) → found ≡ Some (codes "check", r) → IsSome check) → ((r : List Row) → found ≡ Some (codes "tasks", r) → IsSome tasks) → ((r : List Row) → found ≡ Some (codes "load", r) → IsSome load)
-    → run ≡ None → dump ≡ None → false ≡ is_some check → tasks ≡ None → load ≡ None → IsNamed words rows → ⊥
-none_is_named words rows found run dump check tasks load is r d c t l no_run no_dump no_check no_tasks no_load (inl n) = not_some run no_run (r rows (is ∙ n))
-none_is_named words rows found run dump check tasks load is r d c t l no_run no_dump no_check no_tasks no_load (inr (inl n)) = not_some dump no_dump (d rows (is ∙ n))
-none_is_named words rows found run dump check tasks load is r d c t l no_run no_dump no_check no_tasks no_load (inr (inr (inl n))) = not_some check (is_none check no_check) (c rows (is ∙ n))
-none_is_named words rows found run dump check tasks load is r d c t l no_run no_dump no_check no_tasks no_load (inr (inr (inr (inl n)))) = not_some load no_load (l rows (is ∙ n))
-none_is_named words rows found run dump check tasks load is r d c t l no_run no_dump no_check no_tasks no_load (inr (inr (inr (inr n)))) = not_some tasks no_tasks (t rows (is ∙ n))
+    → ((r : List Row) → found ≡ Some (codes "check", r) → IsSome check) → ((r : List Row) → found ≡ Some (codes "judge", r) → IsSome judge)
+    → ((r : List Row) → found ≡ Some (codes "tasks", r) → IsSome tasks) → ((r : List Row) → found ≡ Some (codes "load", r) → IsSome load)
+    → run ≡ None → dump ≡ None → false ≡ is_some check → judge ≡ None → tasks ≡ None → load ≡ None → IsNamed words rows → ⊥
+none_is_named words rows found run dump check judge tasks load is r d c j t l no_run no_dump no_check no_judge no_tasks no_load (inl n) = not_some run no_run (r rows (is ∙ n))
+none_is_named words rows found run dump check judge tasks load is r d c j t l no_run no_dump no_check no_judge no_tasks no_load (inr (inl n)) = not_some dump no_dump (d rows (is ∙ n))
+none_is_named words rows found run dump check judge tasks load is r d c j t l no_run no_dump no_check no_judge no_tasks no_load (inr (inr (inl n))) = not_some check (is_none check no_check) (c rows (is ∙ n))
+none_is_named words rows found run dump check judge tasks load is r d c j t l no_run no_dump no_check no_judge no_tasks no_load (inr (inr (inr (inl n)))) = not_some judge no_judge (j rows (is ∙ n))
+none_is_named words rows found run dump check judge tasks load is r d c j t l no_run no_dump no_check no_judge no_tasks no_load (inr (inr (inr (inr (inl n))))) = not_some load no_load (l rows (is ∙ n))
+none_is_named words rows found run dump check judge tasks load is r d c j t l no_run no_dump no_check no_judge no_tasks no_load (inr (inr (inr (inr (inr n))))) = not_some tasks no_tasks (t rows (is ∙ n))

@@ -21,7 +21,7 @@ use Rattle.vac_model.specs.declared.limits.TheConstants.{MOST_TRIES}
 use Rattle.vac_manager.specs.Opening.{is_block_count}
 use Rattle.vac_script.specs.declared.system.TheConstants.{LAST_VERSION}
 use Rattle.vac_cli.specs.declared.asked.Asked.{Asked}
-use Rattle.vac_cli.specs.declared.asked.Asked.TheVariants.{Run, Dump, Check, Load, Tasks}
+use Rattle.vac_cli.specs.declared.asked.Asked.TheVariants.{Run, Dump, Check, Judge, Load, Tasks}
 
 -- ---- what the program takes
 
@@ -107,7 +107,8 @@ script_commands = with_options (codes "run") (blocks_option ∷ [])
 
 -- those that judge what others did
 abbrev pub judging_commands : List Shape
-judging_commands = with_options (codes "check") [] ∷ []
+judging_commands = with_options (codes "check") []
+    ∷ with_options (codes "judge") (blocks_option ∷ []) ∷ []
 
 -- those that run loads and write their tasks
 abbrev pub load_commands : List Shape
@@ -207,6 +208,8 @@ AsksFor words (Run blocks) = (rows : List Row) × Names words (codes "run") rows
 AsksFor words (Dump blocks) = (rows : List Row) × Names words (codes "dump") rows
     × Gives rows (codes "blocks") blocks × (is_block_count blocks ≡ true)
 AsksFor words Check = (rows : List Row) × Names words (codes "check") rows
+AsksFor words (Judge blocks) = (rows : List Row) × Names words (codes "judge") rows
+    × Gives rows (codes "blocks") blocks × (is_block_count blocks ≡ true)
 AsksFor words (Load settings tells) = (rows : List Row) × Names words (codes "load") rows
     × AreGiven rows settings × Tells rows tells
 AsksFor words (Tasks settings) = (rows : List Row) × Names words (codes "tasks") rows

@@ -4,6 +4,8 @@ use Rattle.vac_lines.specs.Script.{as_line}
 use Rattle.vac_script.specs.Script.{AppendsPrefix}
 use Rattle.vac_script.specs.declared.fault.RunFault.{RunFault}
 use Rattle.vac_script.specs.declared.fault.RunFault.TheVariants as run
+use Rattle.vac_judge.specs.declared.fault.JudgeFault.{JudgeFault}
+use Rattle.vac_judge.specs.declared.fault.JudgeFault.TheVariants as judge
 use Rattle.vac_load.specs.declared.load.LoadFault.{LoadFault}
 use Rattle.vac_load.specs.declared.load.LoadFault.TheVariants as load
 
@@ -16,7 +18,14 @@ fault_line run.Spent = as_line (codes "fault spent")
 fault_line run.Busy = as_line (codes "fault busy")
 fault_line run.Bound = as_line (codes "fault bound")
 
--- the same for a load
+-- a fault of a judge is the one of the same name
+abbrev pub as_run_fault : JudgeFault → RunFault
+as_run_fault judge.Read = run.Read
+as_run_fault judge.Write = run.Write
+as_run_fault judge.Memory = run.Memory
+as_run_fault judge.Bound = run.Bound
+
+-- the last line of a load after a fault
 abbrev pub load_fault_line : LoadFault → List ℕ
 load_fault_line load.Arguments = as_line (codes "fault arguments")
 load_fault_line load.Memory = as_line (codes "fault memory")

@@ -8,11 +8,12 @@ use Rattle.vac_draws.specs.declared.settings.Settings.{Settings}
 use Rattle.vac_draws.specs.Setting.{is_settings}
 use Rattle.vac_load.specs.declared.load.LoadFault.TheVariants.{Arguments}
 use Rattle.vac_cli.specs.declared.asked.Asked.{Asked}
-use Rattle.vac_cli.specs.declared.asked.Asked.TheVariants.{Run, Dump, Check, Load, Tasks}
+use Rattle.vac_cli.specs.declared.asked.Asked.TheVariants.{Run, Dump, Check, Judge, Load, Tasks}
 use Rattle.vac_script.specs.declared.fault.RunFault.TheVariants.{Memory}
 use Rattle.vac_script.specs.Script.{AppendsPrefix, WroteAll, WrotePrefix}
 use Rattle.vac_script.specs.Dump.{Dumped, DumpStopped}
 use Rattle.vac_script.specs.Check.{Checked, CheckStopped}
+use Rattle.vac_judge.specs.Reading.{HasJudged, HasStopped}
 use Rattle.vac_worklist.specs.Worklist.{WroteTasks, WroteTasksPrefix}
 use Rattle.vac_cli.specs.Load.{WroteLoad, LoadStopped}
 use Rattle.vac_cli.specs.Ending.{NamedAfter, fault_line, load_fault_line}
@@ -50,6 +51,10 @@ Does (Dump blocks) status unread left held holds =
 Does Check status unread left held holds =
     Ends status (Checked true unread left held holds)
     (Checked false unread left held holds ⊎ NamedAfter (CheckStopped unread left held) holds)
+Does (Judge blocks) status unread left held holds =
+    Ends status (HasJudged blocks true unread left held holds)
+    (HasJudged blocks false unread left held holds
+    ⊎ NamedAfter (HasStopped blocks unread left held) holds)
 Does (Load settings tells) status unread left held holds =
     (left ≡ unread) × Loads status settings held holds
 Does (Tasks settings) status unread left held holds =

@@ -23,6 +23,8 @@ pub(crate) enum Asked {
     Dump(u32),
     /// To audit the words of a memory.
     Check,
+    /// To judge a history over a system of so many blocks.
+    Judge(u32),
     /// To run a load, and whether to tell how far it is.
     Load(Settings, bool),
     /// To write the tasks of a load.
@@ -122,6 +124,9 @@ pub(crate) fn read_asked(alloc: Global, words: &[String]) -> Result<Asked, Error
     }
     if named(&matches, "check").is_some() {
         return Ok(Asked::Check);
+    }
+    if let Some(judge) = named(&matches, "judge") {
+        return Ok(Asked::Judge(blocks_of(judge)));
     }
     if let Some(tasks) = named(&matches, "tasks") {
         return Ok(Asked::Tasks(settings_of(tasks)));

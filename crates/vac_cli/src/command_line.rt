@@ -4,6 +4,7 @@ ghost use Rattle.std.specs.Prelude.{◌≡◌, ◌≤◌, ℕ, true, List, map, 
 ghost use Rattle.std.specs.Io.KnownBytes.{Appends};
 ghost use Rattle.clap.specs.Words.{kind_of};
 ghost use Rattle.vac_manager.specs.Opening.{is_block_count};
+ghost use Rattle.vac_cli.specs.Ending.{as_run_fault};
 ghost use Rattle.vac_cli.specs.Program.{Does, Lists, Shows, Serves};
 
 use crate::asked::{Asked, read_asked};
@@ -16,13 +17,14 @@ use std::io::{Read, Write};
 use std::sync::Wait;
 use std::thread::Threads;
 use std::time::Clock;
+use vac_judge::{JudgeFault, judge_history};
 use vac_load::{LoadFault, Settings};
 use vac_script::{RunFault, check_words, dump_script, run_script, write_and_flush};
 use vac_worklist::{TasksFault, write_tasks};
 
 /// Runs the program on a command line, of which the first word is the program's name, and answers
-/// its status: 0 where it did its work or showed its help, 1 after a fault and where `check` found
-/// no balanced state, 2 where the command line was refused.
+/// its status: 0 where it did its work or showed its help, 1 after a fault, where `check` found no
+/// balanced state and where `judge` found no legal history, 2 where the command line was refused.
 ///
 /// Help goes to `output`, the text of a refused command line to `errors`. A fault is the last line
 /// of `output`, unless `output` is what failed. A load that is to tell how far it is tells that on
@@ -42,6 +44,7 @@ pub fn run_words<
         Ok(Asked::Run(blocks)) => run(alloc, blocks, input, output),
         Ok(Asked::Dump(blocks)) => dump(alloc, blocks, input, output),
         Ok(Asked::Check) => check(alloc, input, output),
+        Ok(Asked::Judge(blocks)) => judge(alloc, blocks, input, output),
         Ok(Asked::Load(settings, tells)) => load(rt, &settings, tells, output, errors),
         Ok(Asked::Tasks(settings)) => list_tasks(alloc, &settings, output),
         Err(error) => show(alloc, &error, output, errors),
@@ -93,6 +96,31 @@ fn check<R: Read, W: Write>(alloc: Global, input: &mut R, output: &mut W) -> u8
         Ok(true) => DONE,
         Ok(false) => FAULT,
         Err(fault) => end_by(fault, output),
+    }
+}
+
+/// Judges a history, and answers the status: 0 where it is legal.
+fn judge<R: Read, W: Write>(alloc: Global, blocks: u32, input: &mut R, output: &mut W) -> u8
+    requires { is_block_count blocks ≡ true }
+    ensures { Does (Asked.Judge blocks) result (R.remaining input.old) (R.remaining input.new)
+        (W.contents output.old) (W.contents output.new) }
+{
+    match judge_history(alloc, blocks, input, output) {
+        Ok(true) => DONE,
+        Ok(false) => FAULT,
+        Err(fault) => end_by(as_run_fault(fault), output),
+    }
+}
+
+/// The fault of the same name.
+fn as_run_fault(fault: JudgeFault) -> RunFault
+    ensures { result ≡ as_run_fault fault }
+{
+    match fault {
+        JudgeFault::Read => RunFault::Read,
+        JudgeFault::Write => RunFault::Write,
+        JudgeFault::Memory => RunFault::Memory,
+        JudgeFault::Bound => RunFault::Bound,
     }
 }
 

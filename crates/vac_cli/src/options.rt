@@ -312,7 +312,12 @@ fn add_judging_commands<'a>(
         "check",
         "Audits the words of a memory on standard input, as dump writes them",
     );
-    add_command(top, Ok(check))
+    let judge = script_command(
+        alloc,
+        "judge",
+        "Judges the history on standard input: whether its calls, in their order, are right",
+    );
+    add_command(add_command(top, Ok(check)), judge)
 }
 
 /// The program without its subcommands.
