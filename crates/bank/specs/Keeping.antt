@@ -36,7 +36,7 @@ pub same_length : (e : Entry) (xs : List ℕ) → length (after e xs) ≡ length
 same_length (Transfer from to amount true) xs =
     let taken = slice_set xs from (slice_index xs from - amount) in
     length-set taken to (slice_index taken to + amount)
-        ∙ length-set xs from (slice_index xs from - amount)
+    ∙ length-set xs from (slice_index xs from - amount)
 same_length (Transfer from to amount false) xs = refl
 same_length (Sum total) xs = refl
 
