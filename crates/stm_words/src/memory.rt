@@ -15,7 +15,7 @@ pub struct Addr(pub u32);
 /// `origin` is what no read and no write changes, refused ones among them: of a running
 /// transaction, its region and its client as the attempt began. `stopped_for` a reason is what
 /// holds of it when it has refused a read for that reason: of a running transaction, that it keeps
-/// the conflict that it answered.
+/// the conflict that it met.
 pub trait TxRead {
     /// Why the transaction cannot go on.
     type Stop;
