@@ -42,10 +42,8 @@ fn an_opening_finds_its_clock_spent(rt: HostRuntime) -> Result<(), Fail> {
     };
     let clients = vec![in rt.alloc(); (FixedDraws(0), NoGate)]?;
     let loaded = run_load_with(&rt, &settings, FixedDraws(0), clients);
-    let Err(LoadFault::Opening(Fault::Spent { version })) = loaded else {
-        panic!(rt; "the opening did not find its clock spent")
-    };
-    assert_eq!(rt; version.get(), 5);
+    let spent = matches!(loaded, Err(LoadFault::Opening(Fault::Spent { .. })));
+    assert!(rt; spent);
     Ok(())
 }
 
