@@ -6,3 +6,5 @@ pub mod Keeping
 pub mod Lines
 pub mod Cutting
 pub mod Texts
+pub mod CallText
+pub mod Histories

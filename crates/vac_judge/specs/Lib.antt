@@ -7,3 +7,4 @@ pub mod Holds
 pub mod Follows
 pub mod Judging
 pub mod Reading
+pub mod CallText

@@ -1,6 +1,9 @@
 //! Laws on verdicts. Each is the contract of a function that does nothing.
 
 ghost use Rattle.vac_judge.specs.Laws.{LegalIsLinearization, LegalSummary};
+ghost use Rattle.vac_judge.specs.CallText.{CallTextsAreRead, HistoriesAreRead};
+
+use vac_lines::task_texts_are_read;
 
 /// A history is legal exactly where each of its lines is a call and the order in which the calls
 /// are given is a linearization: run one after the other they give their replies, each client's
@@ -15,3 +18,21 @@ pub fn a_verdict_finds_the_linearizations()
 pub fn a_legal_history_has_this_summary()
     ensures { LegalSummary }
 {}
+
+/// The line `CLIENT BEGIN END LINE -> REPLY` of a call that was answered, with its task's line in
+/// its plain form and the text of its reply, is no longer than a line of a history may be, and is
+/// read as that call.
+pub fn call_texts_are_read()
+    ensures { CallTextsAreRead }
+{
+    task_texts_are_read();
+}
+
+/// The history of calls that were answered, one such line for each, has these calls and no other,
+/// and is legal exactly where their order is a linearization.
+pub fn histories_are_read()
+    ensures { HistoriesAreRead }
+{
+    a_verdict_finds_the_linearizations();
+    call_texts_are_read();
+}

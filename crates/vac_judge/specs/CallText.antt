@@ -1,0 +1,77 @@
+-- The line that a writer of histories writes of a call, in its plain form.
+use Rattle.std.specs.Prelude.{◌≡◌, ◌↔◌, ◌≤◌, ◌<◌, ◌^◌, ⊤, ℕ, true, IfSome, Ok, All, List, ◌∷◌, [], ◌++◌, length, map, flat_map, codes, decimal, Option, Some, None}
+use Rattle.vac_model.specs.declared.limits.TheConstants.{MOST_PARTS}
+use Rattle.vac_model.specs.declared.replies.Reply.{Reply}
+use Rattle.vac_model.specs.declared.replies.Reply.TheVariants as reply
+use Rattle.vac_model.specs.declared.replies.Report.{Report}
+use Rattle.vac_model.specs.declared.replies.Pick.{Pick}
+use Rattle.vac_model.specs.Ranges.{is_task}
+use Rattle.vac_lines.specs.declared.line.TheConstants.{LINE_BYTES}
+use Rattle.vac_lines.specs.Lines.{lines_of}
+use Rattle.vac_lines.specs.Script.{as_line}
+use Rattle.vac_lines.specs.TaskText.{task_text}
+use Rattle.vac_lines.specs.Text.{reply_text}
+use Rattle.vac_judge.specs.declared.call.TheConstants.{CALL_BYTES, MOST_CLIENT}
+use Rattle.vac_judge.specs.Call.{Call, line_call}
+use Rattle.vac_judge.specs.Verdict.{verdict_on, is_legal}
+use Rattle.vac_judge.specs.Laws.{Lists, IsLinearization}
+
+-- CLIENT BEGIN END LINE -> REPLY, LINE being that of the task in its plain form
+abbrev pub call_text : Call → List ℕ
+call_text call =
+    decimal call.client ++ codes " " ++ decimal call.begin ++ codes " " ++ decimal call.end
+    ++ codes " " ++ task_text call.task ++ codes " -> " ++ call.reply
+
+-- each of these numbers has 64 bits
+abbrev pub AreWords : List ℕ → Type 0
+AreWords numbers = All (λ n. n < 2 ^ 64) numbers
+
+-- the id of what a trip picked has 32 bits
+abbrev pub IsPick : Option Pick → Type 0
+IsPick pick = IfSome pick (λ pick. pick.id < 2 ^ 32)
+
+-- the numbers of a reply are those of its type
+abbrev pub IsReply : Reply → Type 0
+IsReply reply.Done = ⊤
+IsReply (reply.Number n) = IfSome n (λ n. n < 2 ^ 64)
+IsReply (reply.Report r) = AreWords (r.cars ∷ r.flights ∷ r.rooms ∷ r.customers ∷ r.bookings
+    ∷ r.used ∷ r.free ∷ r.total ∷ r.billed ∷ [])
+IsReply (reply.No why) = ⊤
+IsReply (reply.Trip t) = All IsPick t.picks
+IsReply (reply.Update u) = length u.refused ≤ MOST_PARTS
+
+-- a call that this reply answers: its numbers are those of their types, its task can be asked for
+-- and has a line that is no longer than a line may be
+pub record IsAnswered (call : Call) (answer : Reply) : Type 0 where
+  pub client : call.client ≤ MOST_CLIENT
+  pub begin : call.begin < 2 ^ 64
+  pub end : call.end < 2 ^ 64
+  pub task : is_task call.task ≡ true
+  pub line : length (task_text call.task) ≤ LINE_BYTES
+  pub numbers : IsReply answer
+  pub reply : call.reply ≡ reply_text answer
+
+-- its line is no longer than a line of a history may be, and is read as that call
+pub record IsReadBack (call : Call) : Type 0 where
+  pub fits : length (call_text call) ≤ CALL_BYTES
+  pub read : line_call (call_text call) ≡ Ok call
+
+abbrev pub CallTextsAreRead : Type 0
+CallTextsAreRead = (call : Call) (answer : Reply) → IsAnswered call answer → IsReadBack call
+
+-- each of these calls is answered by some reply
+abbrev pub AreAnswered : List Call → Type 0
+AreAnswered calls = All (λ call. (answer : Reply) × IsAnswered call answer) calls
+
+-- the history that is written of calls, one a line
+abbrev pub history_text : List Call → List ℕ
+history_text calls = flat_map (λ call. as_line (call_text call)) calls
+
+-- its lines are those calls, and it is legal exactly where their order is a linearization
+pub record IsTheirHistory (calls : List Call) : Type 0 where
+  pub listed : Lists (history_text calls) calls
+  pub judged : (n : ℕ) → (is_legal (verdict_on n (history_text calls)) ≡ true)
+      ↔ IsLinearization n calls
+
+abbrev pub HistoriesAreRead : Type 0
+HistoriesAreRead = (calls : List Call) → AreAnswered calls → IsTheirHistory calls
