@@ -1,7 +1,6 @@
 -- The line that is written of a call is read as that call.
-use Rattle.std.proofs.Common.{◌≡◌, ◌≤◌, ◌<◌, ◌+◌, ◌*◌, ◌-◌, ◌/◌, ◌%◌, ◌^◌, ◌&&◌, ◌||◌, Bool, true, false, cond, Option, Some, None, Result, Ok, Err, ℕ, suc, zero, List, [], ◌∷◌, ◌++◌, length, take, decimal, codes, refl, sym, ap, subst, ◌∙◌, arith, append_assoc, append-nil, length-append, length-take, slice_index, nat_le, nat_lt, ◌==◌, All}
+use Rattle.std.proofs.Common.{◌≡◌, ◌≤◌, ◌<◌, ◌+◌, ◌*◌, ◌-◌, ◌/◌, ◌%◌, ◌^◌, ◌&&◌, ◌||◌, Bool, true, false, cond, Option, Some, None, Ok, ℕ, List, [], ◌∷◌, ◌++◌, length, take, decimal, codes, refl, sym, ap, subst, ◌∙◌, arith, append_assoc, append-nil, length-append, length-take, slice_index, ◌==◌, All}
 use Rattle.std.specs.List.{list_all, list_any, flat_map, zip}
-use Rattle.std.specs.Option.{ok_or}
 use Rattle.std.specs.Char.{is_ascii_digit}
 use Rattle.std.proofs.lemmas.Bool.{le-leb, le-ltb}
 use Rattle.std.proofs.lemmas.Bool.Decides.{nat_tests}
@@ -26,20 +25,17 @@ use Rattle.vac_model.specs.declared.replies.Pick.{Pick}
 use Rattle.vac_model.specs.Amounts.{is_id, is_amount, is_optional_amount, is_unit_count, is_list_length, has_deletable_units}
 use Rattle.vac_model.specs.Ranges.{is_change, is_command, is_task}
 use Rattle.vac_lines.specs.Lines.{words_of}
-use Rattle.vac_lines.specs.Words.{decimal_value, memory_word_of, number_between}
-use Rattle.vac_lines.specs.LineTable.{is_bad_byte, line_task}
-use Rattle.vac_lines.specs.Text.{why_name, done_text, number_text, field_text, entries_text, booked_text, sums_text, report_text, joined_text, pick_text, change_text, picks_text, trip_text, update_text, reply_text}
-use Rattle.vac_lines.specs.TaskText.{TaskTextsAreRead, kind_word, item_words, price_word, units_words, command_words, further_words, changes_words, task_words, task_text, spaced, words_text}
+use Rattle.vac_lines.specs.Words.{decimal_value}
+use Rattle.vac_lines.specs.LineTable.{is_bad_byte}
+use Rattle.vac_lines.specs.Text.{why_name, done_text, field_text, entries_text, booked_text, sums_text, report_text, joined_text, pick_text, change_text, picks_text, trip_text, reply_text}
+use Rattle.vac_lines.specs.TaskText.{TaskTextsAreRead, kind_word, price_word, units_words, command_words, further_words, changes_words, task_words, task_text, spaced, words_text}
 use Rattle.vac_lines.proofs.Decimals.{all_digits, number_in_word}
-use Rattle.vac_lines.proofs.Spacing.{Each, each_both, IsPlain, words_cut, words_clean}
+use Rattle.vac_lines.proofs.Spacing.{Each, each_both, words_cut, words_clean}
 use Rattle.vac_lines.proofs.TaskReading.{both, small_id, small_amount, small_units, ask_words, has_id, is_good_change, words_plain, task_some}
-use Rattle.vac_judge.specs.declared.fault.CallFault.{CallFault}
-use Rattle.vac_judge.specs.declared.fault.CallFault.TheVariants.{BadCall, Line}
-use Rattle.vac_lines.specs.declared.fault.LineFault.TheVariants.{LongLine, BadByte, BadNumber}
-use Rattle.vac_judge.specs.Call.{Call, Parts, ◌>>=◌, is_arrow, parts_of, call_parts, parts_call, at_client, at_time, as_call_fault, line_call}
+use Rattle.vac_judge.specs.Call.{Call, Parts, is_arrow, parts_of, call_parts, parts_call, at_client, at_time, line_call}
 use Rattle.vac_judge.specs.Parts.{IsCutAtArrow}
-use Rattle.vac_judge.specs.CallText.{call_text, IsPick, IsReply, IsAnswered, IsReadBack, CallTextsAreRead}
-use Rattle.vac_judge.proofs.Arrows.{words_between, word_first, cut_gives, all_parts}
+use Rattle.vac_judge.specs.CallText.{call_text, IsPick, IsReply, IsAnswered, CallTextsAreRead}
+use Rattle.vac_judge.proofs.Arrows.{words_between, cut_gives, all_parts}
 
 -- numbers
 

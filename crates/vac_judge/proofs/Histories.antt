@@ -1,17 +1,14 @@
 -- The history that is written of calls has these calls.
-use Rattle.std.proofs.Common.{◌≡◌, ◌≢◌, ◌||◌, ℕ, Bool, true, false, Result, Ok, List, [], ◌∷◌, ◌++◌, map, refl, sym, ap, subst, ◌∙◌, All, append_assoc}
-use Rattle.std.specs.Prelude.{◌↔◌}
-use Rattle.std.specs.List.{list_any, flat_map}
+use Rattle.std.proofs.Common.{◌≡◌, ◌≢◌, ◌||◌, ℕ, Bool, true, false, Result, Ok, List, [], ◌∷◌, map, refl, sym, ap, subst, ◌∙◌, append_assoc}
+use Rattle.std.specs.List.{list_any}
 use Rattle.std.proofs.lemmas.List.Elements.{All-head, All-tail, All-nil, All-cons}
 use Rattle.vac_model.specs.declared.replies.Reply.{Reply}
 use Rattle.vac_lines.specs.Lines.{lines_of, HasNo}
 use Rattle.vac_lines.specs.LineTable.{is_bad_byte}
-use Rattle.vac_lines.specs.Script.{as_line}
 use Rattle.vac_judge.specs.declared.fault.CallFault.{CallFault}
 use Rattle.vac_judge.specs.Call.{Call, line_call}
-use Rattle.vac_judge.specs.Verdict.{verdict_on, is_legal}
-use Rattle.vac_judge.specs.Laws.{Lists, IsLinearization, IsLegalHistory, LegalIsLinearization}
-use Rattle.vac_judge.specs.CallText.{call_text, history_text, IsAnswered, IsReadBack, AreAnswered, IsTheirHistory, HistoriesAreRead, CallTextsAreRead}
+use Rattle.vac_judge.specs.Laws.{Lists, IsLinearization, LegalIsLinearization}
+use Rattle.vac_judge.specs.CallText.{call_text, history_text, IsAnswered, AreAnswered, HistoriesAreRead, CallTextsAreRead}
 use Rattle.vac_judge.proofs.Cutting.{lines_cut}
 use Rattle.vac_judge.proofs.CallText.{call_clean}
 
