@@ -2,12 +2,12 @@
 use Rattle.std.proofs.Common.{◌≡◌, ◌≢◌, inl, inr, ℕ, ◌<◌, [], ◌∷◌, Option, Some, subst, arith}
 use Rattle.std.proofs.lemmas.Bool.Decides.{nat_tests}
 use Rattle.stm_words.specs.Seen.{same_or}
-use Rattle.stm_words.specs.View.{View, Kept}
+use Rattle.stm_words.specs.View.{View}
 use Rattle.tx_alloc.specs.declared.pool.Block.{Block}
-use Rattle.tx_alloc.specs.Rows.{Rows, times, put_row, cut_row}
+use Rattle.tx_alloc.specs.Rows.{Rows, times}
 use Rattle.tx_alloc.specs.Steps.{mem}
 use Rattle.tx_list.specs.Bookings.{first_block, block_behind}
-use Rattle.tx_list.specs.Lists.{HasList, HasBooking, First, Next, Inserted, Removed}
+use Rattle.tx_list.specs.Lists.{HasList, HasBooking, First, Next}
 
 -- the first block of a list and the block behind one are blocks of it
 first_has : (rs : Rows) (b : ℕ) → b ≡ first_block rs → b ≢ 0 → 0 < times b rs

@@ -103,3 +103,17 @@ linked_at m n p lo a ((k, b) ∷ rs) (r, h) i =
 
 pub list_at : (m : ℕ → ℕ) (n p a : ℕ) (rs : Rows) → IsList m n p rs → 0 < times a rs → block_at rs (place_code m a) ≡ a
 list_at m n p a rs h i = linked_at m n p 0 a rs h.linked i
+
+-- the words have one list
+linked_one : (m : ℕ → ℕ) (n p lo lo' : ℕ) (rs rs' : Rows) → Linked m n p lo rs → Linked m n p lo' rs' → rs ≡ rs'
+linked_one m n p lo lo' [] [] h g = refl
+linked_one m n p lo lo' [] (r ∷ rs) h g = absurd (omega (arith, h, g.0.at, g.0.block.1.1))
+linked_one m n p lo lo' (r ∷ rs) [] h g = absurd (omega (arith, g, h.0.at, h.0.block.1.1))
+linked_one m n p lo lo' (r ∷ rs) (r' ∷ rs') h g =
+    let block : r.1 ≡ r'.1 = sym h.0.at ∙ g.0.at in
+    let key : r.0 ≡ r'.0 = sym h.0.key ∙ (ap (place_code m) block ∙ g.0.key) in
+    let rest : rs ≡ rs' = linked_one m n (m (r.1 + 3)) (r.0 + 1) (r'.0 + 1) rs rs' h.1 (subst (λ (a : ℕ). Linked m n (m (a + 3)) (r'.0 + 1) rs') (sym block) g.1) in
+    λ i. (key i, block i) ∷ rest i
+
+pub list_one : (m : ℕ → ℕ) (n p : ℕ) (rs rs' : Rows) → IsList m n p rs → IsList m n p rs' → rs ≡ rs'
+list_one m n p rs rs' h g = linked_one m n p 0 0 rs rs' h.linked g.linked

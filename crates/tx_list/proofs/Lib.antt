@@ -2,7 +2,8 @@ pub mod Frame
 pub mod Open
 mod Trail
 mod Links
-mod Reading
+pub mod Spots
+pub mod Reading
 mod Order
 mod Seeking
 mod Changing

@@ -8,8 +8,8 @@ use Rattle.tx_alloc.specs.Pointer.{pointer, IsWithin}
 use Rattle.tx_alloc.specs.Pool.{IsBlock}
 use Rattle.tx_alloc.specs.Rows.{Rows, block_at}
 use Rattle.tx_alloc.specs.Steps.{mem}
-use Rattle.tx_list.specs.Bookings.{link_of}
-use Rattle.tx_list.specs.Lists.{IsListAt}
+use Rattle.tx_list.specs.Bookings.{IsKey, code_of, link_of}
+use Rattle.tx_list.specs.Lists.{IsListAt, IsFresh, Inserted, Removed}
 use Rattle.tx_list.specs.declared.key.Key.{Key}
 use Rattle.tx_list.specs.declared.place.TheConstants.{KIND, ID}
 use Rattle.tx_list.specs.declared.search.Spot.{Spot}
@@ -50,3 +50,25 @@ pub record Sought (s s' : View) (head key : ℕ) (spot : Spot) : Type 0 where
   pub word : (image : List ℕ) → Sees s' image → mem s image spot.link.0 ≡ spot.word
   pub entry : (image : List ℕ) (rs : Rows) → Sees s' image →
       IsListAt (mem s image) (length image) head rs → pointer spot.entry ≡ block_at rs key
+
+-- in the list at head, the key stands at this spot, or would stand there
+pub record IsSpot (s : View) (head key : ℕ) (spot : Spot) : Type 0 where
+  pub room : spot.link.0 < s.size
+  pub within : IsWithin s spot.entry
+  pub link : (image : List ℕ) (rs : Rows) → Sees s image →
+      IsListAt (mem s image) (length image) head rs → spot.link.0 ≡ link_of head rs key
+  pub word : (image : List ℕ) → Sees s image → mem s image spot.link.0 ≡ spot.word
+  pub entry : (image : List ℕ) (rs : Rows) → Sees s image →
+      IsListAt (mem s image) (length image) head rs → pointer spot.entry ≡ block_at rs key
+
+-- the block b came into each list in which this was the spot of its key
+pub record Hung (s s' : View) (spot : Spot) (b : ℕ) : Type 0 where
+  pub kept : Kept s s'
+  pub inserted : (head : ℕ) (key : Key) → IsKey key → IsSpot s head (code_of key) spot →
+      IsFresh s head key b → Inserted s s' head (code_of key) b
+
+-- the booking at a spot left each list in which this was the spot of a key, if it had one
+pub record Unhung (s s' : View) (spot : Spot) (removed : Option Block) : Type 0 where
+  pub kept : Kept s s'
+  pub within : IsWithin s' removed
+  pub gone : (head key : ℕ) → IsSpot s head key spot → Removed s s' head key removed

@@ -1,14 +1,17 @@
 //! Hanging bookings into a list, and taking them out.
 
-ghost use Rattle.std.specs.Prelude.{◌≡◌, IfOk};
+ghost use Rattle.std.specs.Prelude.{◌≡◌, ◌+◌, ◌<◌, ◌≤◌, ◌^◌, IfOk};
+ghost use Rattle.tx_alloc.specs.Pointer.{IsWithin};
 ghost use Rattle.tx_list.specs.Bookings.{IsKey, code_of};
 ghost use Rattle.tx_list.specs.Lists.{HasList, IsFresh, Inserted, Removed};
+ghost use Rattle.tx_list.specs.Search.{Hung, Unhung};
 
 use crate::key::Key;
 use crate::place::NEXT;
-use crate::search::seek;
+use crate::search::{Spot, seek};
 use stm_words::{Addr, TxMem, load, store};
 use tx_alloc::Block;
+use tx_alloc::place::BLOCK_WORDS;
 
 /// Hangs a block into the list at `head`. Its words have the key already, and no booking of the
 /// list has it.
@@ -20,8 +23,22 @@ pub fn insert<M: TxMem>(memory: &mut M, head: Addr, key: Key, block: Block) -> R
     ensures answer { IfOk result (λ _.
         Inserted (M.view memory.old) (M.view memory.new) head.0 (code_of key) block.0.0) }
 {
-    let Block(addr) = block;
     let spot = seek(memory, head, key)?;
+    insert_at(memory, spot, block)?;
+    Ok(())
+}
+
+/// Hangs a block in at a spot. It comes into each list in which the block's key has this spot; so
+/// a list that was walked by `seek`, and not changed since, is not walked again.
+pub fn insert_at<M: TxMem>(memory: &mut M, spot: Spot, block: Block) -> Result<(), M::Stop>
+    requires small { (M.view memory.old).size ≤ 2 ^ 32 }
+    requires block { block.0.0 + BLOCK_WORDS ≤ (M.view memory.old).size }
+    requires link { spot.link.0 < (M.view memory.old).size }
+    ensures origin { M.origin memory.new ≡ M.origin memory.old }
+    ensures answer { IfOk result (λ _.
+        Hung (M.view memory.old) (M.view memory.new) spot block.0.0) }
+{
+    let Block(addr) = block;
     store(memory, Addr(addr.0 + NEXT), spot.word)?;
     store(memory, spot.link, addr.0 as u64)?;
     Ok(())
@@ -37,6 +54,20 @@ pub fn remove<M: TxMem>(memory: &mut M, head: Addr, key: Key) -> Result<Option<B
         Removed (M.view memory.old) (M.view memory.new) head.0 (code_of key) removed) }
 {
     let spot = seek(memory, head, key)?;
+    let removed = remove_at(memory, spot)?;
+    Ok(removed)
+}
+
+/// Takes the booking at a spot out of the lists in which it stands there, and hands its block back.
+/// Where the spot has no booking nothing is written.
+pub fn remove_at<M: TxMem>(memory: &mut M, spot: Spot) -> Result<Option<Block>, M::Stop>
+    requires small { (M.view memory.old).size ≤ 2 ^ 32 }
+    requires link { spot.link.0 < (M.view memory.old).size }
+    requires entry { IsWithin (M.view memory.old) spot.entry }
+    ensures origin { M.origin memory.new ≡ M.origin memory.old }
+    ensures answer { IfOk result (λ removed.
+        Unhung (M.view memory.old) (M.view memory.new) spot removed) }
+{
     match spot.entry {
         None => Ok(None),
         Some(block) => {

@@ -10,6 +10,6 @@ mod key;
 pub mod place;
 mod search;
 
-pub use change::{insert, remove};
+pub use change::{insert, insert_at, remove, remove_at};
 pub use key::Key;
-pub use search::{find, first, next};
+pub use search::{Spot, find, first, next, seek};

@@ -11,9 +11,10 @@ use std::cmp::Ordering;
 use stm_words::{Addr, TxRead, load};
 use tx_alloc::Block;
 
-/// Where a key stands in a list, or would stand.
-#[derive(Clone, Copy)]
-pub(crate) struct Spot {
+/// Where a key stands in a list, or would stand. It stays good until a word of the list that leads
+/// on is written.
+#[derive(Clone, Copy, Debug, PartialEq, Eq)]
+pub struct Spot {
     /// The word that leads there.
     pub link: Addr,
     /// What that word holds: the pointer to the first booking that is not before the key.
@@ -75,7 +76,7 @@ fn follow<M: TxRead>(memory: &mut M, link: Addr) -> Result<Option<Block>, M::Sto
 }
 
 /// Where a key stands in the list at `head`, or would stand.
-pub(crate) fn seek<M: TxRead>(memory: &mut M, head: Addr, key: Key) -> Result<Spot, M::Stop>
+pub fn seek<M: TxRead>(memory: &mut M, head: Addr, key: Key) -> Result<Spot, M::Stop>
     requires list { HasList (M.view memory.old) head.0 }
     requires key { IsKey key }
     ensures origin { M.origin memory.new ≡ M.origin memory.old }

@@ -17,10 +17,14 @@ use Rattle.vac_model.specs.Step.{done, refused, step, taken, new_booking}
 use Rattle.vac_model.proofs.States.{item_of-with_bookings}
 use Rattle.tx_alloc.specs.Pool.{IsTaking, NoneFree, Taken}
 use Rattle.tx_alloc.specs.Rows.{Rows, block_at}
+use Rattle.tx_list.specs.declared.search.Spot.{Spot}
 use Rattle.tx_list.specs.Lists.{IsListAt, HasList}
+use Rattle.tx_list.specs.Search.{IsSpot}
+use Rattle.tx_list.proofs.Frame.{list_block}
+use Rattle.tx_list.proofs.Spots.{spot_stays}
 use Rattle.vac_records.specs.Items.{mem, item_in, IsNode, IsItemNow, CanMake, ItemChanged}
 use Rattle.vac_records.specs.Bookings.{kind_of, place_in, place_key, booking_in}
-use Rattle.vac_records.specs.Customers.{head_of, IsLoose, CanBook, IsBooked, Booked}
+use Rattle.vac_records.specs.Customers.{head_of, IsLoose, CanBook, IsBooked, BookedAt, Booked}
 use Rattle.vac_records.specs.Heap.{used_in, count_in}
 use Rattle.vac_records.specs.Represents.{Represents, IsState}
 use Rattle.vac_records.specs.Holds.{HoldsState}
@@ -35,7 +39,7 @@ use Rattle.vac_records.proofs.Single.{none_left, some_left}
 use Rattle.vac_commands.specs.Entries.{HasItemAt, HasCustomerAt}
 use Rattle.vac_commands.specs.BookingSteps.{booking_block, LacksBooking, IsOffered, RanInPlace}
 use Rattle.vac_commands.proofs.Serving.{Lands, in_place, reads_in_place}
-use Rattle.vac_commands.proofs.Owners.{Here, here, owned, at_owner, at_item, its_item, not_booked}
+use Rattle.vac_commands.proofs.Owners.{Here, here, owned, at_owner, at_item, its_item, not_booked, list_held}
 use Rattle.vac_commands.proofs.InHand.{loose, outside, same_rows}
 use Rattle.vac_commands.proofs.Cancelling.{item_stays, item_words}
 use Rattle.vac_commands.proofs.Extending.{counts_fit}
@@ -182,15 +186,27 @@ module _ (s : View) (customer owner : ℕ) (kind : Kind) (id item num price : �
       no_place (mem s image) (length image) state h customer owner kind id item (here s customer owner kind id item c f small image state i0 h) (g.none image state i0 h)
       num (o.free.enough image i0) (z.none image p.free (used_in p) (count_in p) i (pool_there (mem s image) (length image) [] state h.represents)))
 
-  module _ (s1 : View) (b start : ℕ) (t : Taken s s1 start b) where
+  module _ (s1 : View) (b start : ℕ) (spot : Spot) (t : Taken s s1 start b) where
     its_taking : (image : List ℕ) (state : State) → Sees s1 image → (h : IsState (mem s image) (length image) state) →
         IsTaking (mem s image) (mem s1 image) (length image) h.represents.parts.free (used_in h.represents.parts) (count_in h.represents.parts) start b
     its_taking image state i h = let p = h.represents.parts in t.taking image p.free (used_in p) (count_in p) i (pool_there (mem s image) (length image) [] state h.represents)
 
+    -- the words of the customer's list are as before, and so its spots
+    still_spot : (p : IsSpot s (head_of owner) (place_key (kind, id)) spot) → IsSpot s1 (head_of owner) (place_key (kind, id)) spot
+    still_spot p = spot_stays s s1 (head_of owner) (place_key (kind, id)) spot (list_held s customer owner held c) t.kept (λ image rows i at.
+        let r = held.under image (t.kept.seen image i) in
+        let g = its_taking image r.0 i r.1 in
+        record {
+          start = g.write.others (head_of owner) (omega (arith, c.inside.0, g.is_list));
+          blocks = λ a o k less.
+              let ba = list_block (mem s image) (length image) (mem s image (head_of owner)) a rows at.list o in
+              g.write.others (a + k) (omega (arith, ba.1.1, g.is_list));
+        }) p
+
     pub block_node : IsNode s1 b
     block_node = record { inside = t.room; small = omega (arith, held.small, t.kept.size) }
 
-    pub has_list : HasList s1 (head_of owner)
+    has_list : HasList s1 (head_of owner)
     has_list = record {
       small = omega (arith, held.small, t.kept.size);
       room = omega (arith, c.inside.1, t.kept.size);
@@ -204,7 +220,7 @@ module _ (s : View) (customer owner : ℕ) (kind : Kind) (id item num price : �
           };
     }
 
-    pub can_book : CanBook s1 owner (kind, id) b
+    can_book : CanBook s1 owner (kind, id) b
     can_book = record {
       under = λ image rows i l.
           let i0 = t.kept.seen image i in
@@ -212,6 +228,12 @@ module _ (s : View) (customer owner : ℕ) (kind : Kind) (id item num price : �
           let e = here s customer owner kind id item c f small image r.0 i0 r.1 in
           can_hang (mem s image) (length image) r.0 r.1 customer owner kind id item e (g.none image r.0 i0 r.1) (mem s1 image) b start (its_taking image r.0 i r.1) rows l;
     }
+
+    pub spot_room : IsSpot s (head_of owner) (place_key (kind, id)) spot → spot.link.0 < s1.size
+    spot_room p = (still_spot p).room
+
+    pub its_booked : (s2 : View) → IsSpot s (head_of owner) (place_key (kind, id)) spot → BookedAt s1 s2 spot (kind, id) num price b → Booked s1 s2 owner (kind, id) num price b
+    its_booked s2 p w = w.booked owner has_list (still_spot p) can_book
 
     module _ (s2 : View) (w : Booked s1 s2 owner (kind, id) num price b) where
       its_booking : (image : List ℕ) (state : State) → Sees s2 image → (i1 : Sees s1 image) (i0 : Sees s image) → (h : IsState (mem s image) (length image) state) →

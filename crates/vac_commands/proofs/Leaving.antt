@@ -1,5 +1,5 @@
 -- Bookings of a customer who goes are given back, always the first one.
-use Rattle.std.proofs.Common.{◌≡◌, ◌≢◌, ℕ, ◌+◌, ◌-◌, ◌<◌, ◌≤◌, ◌^◌, List, [], ◌∷◌, length, Some, None, true, nat_le, nat_lt, refl, sym, ap, ◌∙◌, subst, arith}
+use Rattle.std.proofs.Common.{◌≡◌, ◌≢◌, ℕ, ◌+◌, ◌-◌, ◌<◌, ◌≤◌, ◌^◌, List, [], ◌∷◌, length, Some, None, true, nat_le, nat_lt, refl, sym, ap, ◌∙◌, subst, arith, add-zero}
 use Rattle.std.specs.Prelude.{IsSome}
 use Rattle.std.proofs.lemmas.Bool.Decides.{nat_tests}
 use Rattle.std.proofs.lemmas.Grind.{not_there}
@@ -20,14 +20,19 @@ use Rattle.vac_model.proofs.Views.{not_some}
 use Rattle.tx_alloc.specs.declared.pool.Block.{Block}
 use Rattle.tx_alloc.specs.Rows.{Rows, times}
 use Rattle.tx_alloc.proofs.Times.{times_first}
-use Rattle.tx_list.specs.Bookings.{IsList, first_block}
+use Rattle.tx_list.specs.Bookings.{IsList, place_code, first_block}
 use Rattle.tx_list.specs.Lists.{IsListAt, HasList, First, HasBooking}
+use Rattle.tx_list.specs.Search.{IsSpot}
 use Rattle.tx_list.proofs.Frame.{list_booked}
+use Rattle.tx_list.proofs.Reading.{linked_first}
+use Rattle.tx_list.proofs.Spots.{first_spot}
 use Rattle.vac_records.specs.Items.{mem, item_in}
-use Rattle.vac_records.specs.Bookings.{place_in, booking_in}
+use Rattle.vac_records.specs.Bookings.{place_in, place_key, booking_in}
+use Rattle.vac_records.specs.Customers.{head_of}
 use Rattle.vac_records.specs.Represents.{IsState, bookings_in}
 use Rattle.vac_records.specs.Holds.{HoldsState, OnlyRead}
 use Rattle.vac_records.specs.Steps.{kept_none, kept_both}
+use Rattle.vac_records.proofs.Booked.{kind_back}
 use Rattle.vac_records.proofs.Bridges.{list_there}
 use Rattle.vac_records.proofs.Counting.{some_lt}
 use Rattle.vac_commands.specs.Entries.{LacksItem, HasItemAt, HasCustomerAt, CustomersStay}
@@ -47,8 +52,8 @@ id_small s s1 s2 b k v has l1 l2 ws = some_lt v (2 ^ 32) ws (λ w.
     let at : mem s w.0 (b + 1) ≡ v = rw l1.writes at (l2.answer w.0 w.1.sees) in
     omega (arith, is.id, at))
 
-pub in_a_list : (s : View) (id b : ℕ) → HoldsState s → StartsAt s id b → HasBooking s b
-in_a_list s id b held first = record {
+pub in_a_list : (s : View) (id c b : ℕ) → HoldsState s → StartsAt s id c b → HasBooking s b
+in_a_list s id c b held first = record {
   small = held.small;
   under = λ image i. (let t = held.under image i in (first.under image t.0 i t.1).listed);
 }
@@ -61,10 +66,10 @@ record IsFirst (state : State) (id : ℕ) (place : Place) : Type 0 where
   rest : List (Place × Booking)
   entries_are : entries bookings ≡ (place, booking) ∷ rest
 
-first_is : (s s1 : View) (id b : ℕ) (place : Place) → StartsAt s id b → PlaceRead s s1 b place →
+first_is : (s s1 : View) (id c b : ℕ) (place : Place) → StartsAt s id c b → PlaceRead s s1 b place →
     (image : List ℕ) (state : State) → Sees s1 image → IsState (mem s image) (length image) state →
     IsFirst state id place
-first_is s s1 id b place first read image state i h =
+first_is s s1 id c b place first read image state i h =
     let f = first.under image state (read.kept.seen image i) h in
     record {
       bookings = f.bookings;
@@ -87,7 +92,7 @@ reads_of s s1 s2 b place read r = record {
   writes = r.writes ∙ read.writes;
 }
 
-module _ (s s1 s2 : View) (id b : ℕ) (place : Place) (held : HoldsState s) (first : StartsAt s id b)
+module _ (s s1 s2 : View) (id c b : ℕ) (place : Place) (held : HoldsState s) (first : StartsAt s id c b)
     (read : PlaceRead s s1 b place) (r : OnlyRead s1 s2) where
   pub item_not_missing : LacksItem s2 place.0 place.1 → ∥ ((image : List ℕ) × Stands s2 image) ∥₁ → ⊥
   item_not_missing lacks ws = not_there ws (λ w.
@@ -95,7 +100,7 @@ module _ (s s1 s2 : View) (id b : ℕ) (place : Place) (held : HoldsState s) (fi
       let i2 = w.1.sees in
       let i1 = r.kept.seen image i2 in
       let t = held.under image (read.kept.seen image i1) in
-      let f = first_is s s1 id b place first read image t.0 i1 t.1 in
+      let f = first_is s s1 id c b place first read image t.0 i1 t.1 in
       let h2 = state_on s s2 image t.0 (r.writes ∙ read.writes) t.1 in
       not_some (item_of t.0 place.0 place.1) (item_none s2 place.0 place.1 lacks image t.0 i2 h2)
       (item_there t.0 id place t.1.small.balanced f))
@@ -114,6 +119,21 @@ module _ (s s1 s2 : View) (id b : ℕ) (place : Place) (held : HoldsState s) (fi
       let is : is_id place.1 ≡ true = id_between place.1 low high in
       rw (range, is) refl
 
+  -- the word that leads to the customer's bookings is the spot of the first one
+  pub its_spot : HasCustomerAt s id c → IsSpot s2 (head_of c) (place_key place) (record { link = record { 0 = head_of c }; word = b; entry = Some (record { 0 = record { 0 = b } }) })
+  its_spot customer =
+      let e : s2.writes ≡ s.writes = r.writes ∙ read.writes in
+      let size : s2.size ≡ s.size = r.kept.size ∙ read.kept.size in
+      let back : (image : List ℕ) → Sees s2 image → Sees s image = λ image i. read.kept.seen image (r.kept.seen image i) in
+      let booking = in_a_list s id c b held first in
+      let code : (image : List ℕ) → Sees s2 image → place_code (mem s image) b ≡ place_key place = λ image i.
+      let t = booking.under image (back image i) in
+      let k = list_booked (mem s image) (length image) t.start b t.entries t.list t.has in
+      let zero : mem s image (b + 0) ≡ mem s image b = rw add-zero refl in
+      omega (arith, zero, kind_back (mem s image b) (omega (arith, k.kind, zero)), ap place_key (read.is image (r.kept.seen image i))) in
+      first_spot s2 (head_of c) b (place_key place) (omega (arith, customer.inside.1, size)) first.inside.0 (omega (arith, first.inside.1, size))
+      (λ image i. rw e (first.leads image (back image i))) (λ image i. rw e (code image i))
+
   module _ (s3 : View) (item : ℕ) (reply : Reply) (at : HasItemAt s2 place.0 place.1 item)
       (ran : Ran s2 s3 (command.Cancel id place.0 place.1) reply) where
     left : (image : List ℕ) (state : State) (bookings : Bookings) → Sees s3 image →
@@ -124,7 +144,7 @@ module _ (s s1 s2 : View) (id b : ℕ) (place : Place) (held : HoldsState s) (fi
         let i1 = r.kept.seen image i2 in
         let h2 = state_on s s2 image state (r.writes ∙ read.writes) h in
         let out = ran.outcome image state i3 h2 in
-        let f = first_is s s1 id b place first read image state i1 h in
+        let f = first_is s s1 id c b place first read image state i1 h in
         let found = first_found f.bookings place f.booking f.rest f.entries_are in
         let x = item_in (mem s2 image) item in
         let is_there = item_is s2 place.0 place.1 item at image state i2 h2 in
@@ -191,10 +211,15 @@ no_rows : (m : ℕ → ℕ) (n p : ℕ) (rows : Rows) → IsList m n p rows → 
 no_rows m n p [] h e = refl
 no_rows m n p (r ∷ rs) h e = absurd (omega (arith, e, h.linked.0.block.1.1))
 
-pub starts_at : (s s1 : View) (id c head : ℕ) (block : Block) → head ≡ c + 4 → HasCustomerAt s id c →
-    First s s1 head (Some block) → StartsAt s1 id block.0.0
-starts_at s s1 id c head block e at f = record {
-  room = (let w = f.within in w.1);
+pub starts_at : (s s1 : View) (id c head : ℕ) (block : Block) → head ≡ c + 4 → HoldsState s → HasCustomerAt s id c →
+    First s s1 head (Some block) → StartsAt s1 id c block.0.0
+starts_at s s1 id c head block e held at f = record {
+  inside = f.within;
+  leads = λ image i.
+      let l = list_held s id c head e held at in
+      let t = l.under image (f.kept.seen image i) in
+      let first = linked_first (mem s image) (length image) (mem s image head) 0 t.entries t.is.list.linked in
+      rw f.writes (ap (mem s image) (sym e) ∙ (first ∙ sym (f.is image t.entries i t.is)));
   under = λ image state i h1.
       let m = mem s image in
       let n = length image in

@@ -6,7 +6,9 @@ use Rattle.vac_model.specs.declared.items.Kind.{Kind}
 use Rattle.vac_model.specs.State.{State, Place, item_of}
 use Rattle.tx_alloc.specs.declared.pool.Block.{Block}
 use Rattle.tx_alloc.specs.Pool.{IsBlock}
+use Rattle.tx_list.specs.declared.search.Spot.{Spot}
 use Rattle.tx_list.specs.Lists.{IsListAt, HasList, Found}
+use Rattle.tx_list.specs.Search.{Sought}
 use Rattle.vac_records.specs.Items.{mem, item_in}
 use Rattle.vac_records.specs.Bookings.{place_key, booking_in}
 use Rattle.vac_records.specs.Customers.{head_of}
@@ -21,6 +23,7 @@ use Rattle.vac_records.proofs.Booked.{booking_found, booking_missing}
 use Rattle.vac_records.proofs.Bridges.{list_there}
 use Rattle.vac_commands.specs.Entries.{item_block, customer_block, HasItemAt, HasCustomerAt}
 use Rattle.vac_commands.specs.BookingSteps.{booking_block, LacksBooking, HasBookingAt}
+use Rattle.vac_commands.proofs.Held.{read_both}
 
 -- the blocks of the customer and of the item
 pub record Here {m : ℕ → ℕ} {n : ℕ} {s : State} (h : IsState m n s) (customer owner : ℕ) (kind : Kind) (id item : ℕ) : Type 0 where
@@ -93,6 +96,13 @@ booking_same s s' image state owner place b w f = subst (λ (ws : Words). (h : I
 -- a look for a booking
 pub found_only : (s s' : View) (head key : ℕ) (o : Option Block) → Found s s' head key o → OnlyRead s s'
 found_only s s' head key o f = record { kept = f.kept; writes = f.writes }
+
+pub sought_only : (s s' : View) (head key : ℕ) (spot : Spot) → Sought s s' head key spot → OnlyRead s s'
+sought_only s s' head key spot f = record { kept = f.kept; writes = f.writes }
+
+-- a customer, an item, and where the booking stands
+pub found_after : (s s1 s2 s3 : View) (head key : ℕ) (spot : Spot) → OnlyRead s s1 → OnlyRead s1 s2 → Sought s2 s3 head key spot → OnlyRead s s3
+found_after s s1 s2 s3 head key spot r q f = read_both s s2 s3 (read_both s s1 s2 r q) (sought_only s2 s3 head key spot f)
 
 pub found_none : (s s' : View) (customer owner : ℕ) (place : Place) → HasCustomerAt s customer owner → Found s s' (head_of owner) (place_key place) None → LacksBooking s' owner place
 found_none s s' customer owner place c f = record {

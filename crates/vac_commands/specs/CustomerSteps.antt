@@ -6,8 +6,10 @@ use Rattle.vac_model.specs.declared.items.Booking.{Booking}
 use Rattle.vac_model.specs.State.{State, Bookings, Place, bookings_of}
 use Rattle.vac_model.specs.Step.{drop_customer}
 use Rattle.tx_list.specs.Lists.{SomeBooking}
+use Rattle.tx_tree.specs.Table.{IsInside}
 use Rattle.vac_records.specs.Items.{mem}
 use Rattle.vac_records.specs.Bookings.{place_in, booking_in}
+use Rattle.vac_records.specs.Customers.{head_of}
 use Rattle.vac_records.specs.Represents.{IsState}
 
 -- under each image the customer is there and has no bookings
@@ -23,9 +25,10 @@ pub record HasFirst (m : ℕ → ℕ) (n : ℕ) (s : State) (id b : ℕ) : Type 
   pub entries_are : entries bookings ≡ (place_in m b, booking_in m b) ∷ rest
   pub listed : SomeBooking m n b
 
--- under each image the customer's first booking is in block b
-pub record StartsAt (s : View) (id b : ℕ) : Type 0 where
-  pub room : b + 8 ≤ s.size
+-- under each image the first booking of the customer in block c is in block b, and c leads there
+pub record StartsAt (s : View) (id c b : ℕ) : Type 0 where
+  pub inside : IsInside s.size b
+  pub leads : (image : List ℕ) → Sees s image → mem s image (head_of c) ≡ b
   pub under : (image : List ℕ) (state : State) → Sees s image →
       IsState (mem s image) (length image) state →
       HasFirst (mem s image) (length image) state id b

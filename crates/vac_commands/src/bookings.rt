@@ -2,6 +2,9 @@
 
 ghost use Rattle.std.specs.Prelude.{◌≡◌, ◌<◌, IfOk, IsTrue};
 ghost use Rattle.vac_model.specs.Ranges.{is_command};
+ghost use Rattle.tx_list.specs.Search.{IsSpot};
+ghost use Rattle.vac_records.specs.Bookings.{place_key};
+ghost use Rattle.vac_records.specs.Customers.{head_of};
 ghost use Rattle.vac_records.specs.Holds.{HoldsState};
 ghost use Rattle.vac_commands.specs.Entries.{HasItemAt, HasCustomerAt, ItemsStay, CustomersStay};
 ghost use Rattle.vac_commands.specs.Ran.{Ran};
@@ -10,10 +13,11 @@ ghost use Rattle.vac_commands.specs.BookingSteps.{LacksBooking, HasBookingAt, Is
 use crate::find::{find_customer, find_item};
 use stm_words::TxMem;
 use tx_alloc::{Block, give, take};
+use tx_list::Spot;
 use vac_model::limits::MOST_UNITS;
 use vac_model::{Command, Kind, Reply, Why};
 use vac_records::{
-    book, book_more, booking_of, cancel as give_units_back, free_at, make, price_at, unbook,
+    book_at, book_more, cancel as give_units_back, free_at, make, price_at, spot_of, unbook_at,
     units_at,
 };
 
@@ -69,11 +73,14 @@ pub fn reserve_at<M: TxMem>(
         return Ok(Reply::No(Why::SoldOut));
     }
     let price = price_at(memory, item.0)?;
-    match booking_of(memory, owner.0, kind, id)? {
+    let spot = spot_of(memory, owner.0, kind, id)?;
+    match spot.entry {
         Some(booking) => {
             extend_booking(memory, customer, owner, kind, id, item, num, price, booking)
         }
-        None => add_booking(memory, customer, owner, kind, id, item, num, price, start),
+        None => add_booking(
+            memory, customer, owner, kind, id, item, num, price, spot, start,
+        ),
     }
 }
 
@@ -108,7 +115,8 @@ fn extend_booking<M: TxMem>(
     Ok(Reply::Done)
 }
 
-/// Books units of an item that has so many, at its price, for a customer who has no booking of it.
+/// Books units of an item that has so many, at its price, for a customer who has no booking of it,
+/// at the booking's spot in the customer's list.
 fn add_booking<M: TxMem>(
     memory: &mut M,
     customer: u32,
@@ -118,6 +126,7 @@ fn add_booking<M: TxMem>(
     item: Block,
     num: u32,
     price: u64,
+    spot: Spot,
     start: u32,
 ) -> Result<Reply, M::Stop>
     requires start { start < 8 }
@@ -126,6 +135,7 @@ fn add_booking<M: TxMem>(
     requires item { HasItemAt (M.view memory.old) kind id item.0.0 }
     requires offered { IsOffered (M.view memory.old) item.0.0 num price }
     requires missing { LacksBooking (M.view memory.old) owner.0.0 (kind, id) }
+    requires spot { IsSpot (M.view memory.old) (head_of owner.0.0) (place_key (kind, id)) spot }
     requires range { IsTrue (is_command (Command.Reserve customer kind id num)) }
     ensures origin { M.origin memory.new ≡ M.origin memory.old }
     ensures answer { IfOk result (λ reply. RanInPlace (M.view memory.old) (M.view memory.new)
@@ -134,7 +144,7 @@ fn add_booking<M: TxMem>(
     let Some(block) = take(memory, start)? else {
         return Ok(Reply::No(Why::Full));
     };
-    book(memory, owner.0, block, kind, id, num, price)?;
+    book_at(memory, spot, block, kind, id, num, price)?;
     make(memory, item.0, num)?;
     Ok(Reply::Done)
 }
@@ -161,10 +171,12 @@ pub fn cancel<M: TxMem>(
     let Some(item) = find_item(memory, kind, id)? else {
         return Ok(Reply::No(Why::NoItem));
     };
-    cancel_at(memory, customer, owner, kind, id, item, start)
+    let spot = spot_of(memory, owner.0, kind, id)?;
+    cancel_at(memory, customer, owner, kind, id, item, spot, start)
 }
 
-/// The same at the blocks of the customer and of the item.
+/// The same at the blocks of the customer and of the item, and at the booking's spot in the
+/// customer's list.
 pub(crate) fn cancel_at<M: TxMem>(
     memory: &mut M,
     customer: u32,
@@ -172,12 +184,14 @@ pub(crate) fn cancel_at<M: TxMem>(
     kind: Kind,
     id: u32,
     item: Block,
+    spot: Spot,
     start: u32,
 ) -> Result<Reply, M::Stop>
     requires start { start < 8 }
     requires state { HoldsState (M.view memory.old) }
     requires customer { HasCustomerAt (M.view memory.old) customer owner.0.0 }
     requires item { HasItemAt (M.view memory.old) kind id item.0.0 }
+    requires spot { IsSpot (M.view memory.old) (head_of owner.0.0) (place_key (kind, id)) spot }
     requires range { IsTrue (is_command (Command.Cancel customer kind id)) }
     ensures origin { M.origin memory.new ≡ M.origin memory.old }
     ensures answer { IfOk result (λ reply. Ran (M.view memory.old) (M.view memory.new)
@@ -185,7 +199,7 @@ pub(crate) fn cancel_at<M: TxMem>(
     ensures items { IfOk result (λ _. ItemsStay (M.view memory.old) (M.view memory.new)) }
     ensures customers { IfOk result (λ _. CustomersStay (M.view memory.old) (M.view memory.new)) }
 {
-    let Some((booking, units)) = unbook(memory, owner.0, kind, id)? else {
+    let Some((booking, units)) = unbook_at(memory, spot)? else {
         return Ok(Reply::No(Why::NotBooked));
     };
     give_units_back(memory, item.0, units)?;

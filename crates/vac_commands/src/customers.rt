@@ -14,6 +14,7 @@ use crate::find::{CUSTOMERS, find_customer, find_item};
 use stm_words::{Addr, TxMem, TxRead, load};
 use tx_alloc::place::MOST_BLOCKS;
 use tx_alloc::{Block, give, take};
+use tx_list::Spot;
 use vac_model::{Command, Kind, Reply, Why};
 use vac_records::{init_customer, place};
 
@@ -154,7 +155,8 @@ fn give_bookings_back<M: TxMem>(
     Ok(())
 }
 
-/// Cancels the customer's first booking, by its block.
+/// Cancels the customer's first booking, by its block. The list is not walked: its head leads to
+/// it.
 fn cancel_first<M: TxMem>(
     memory: &mut M,
     id: u32,
@@ -165,7 +167,7 @@ fn cancel_first<M: TxMem>(
     requires start { start < 8 }
     requires state { HoldsState (M.view memory.old) }
     requires customer { HasCustomerAt (M.view memory.old) id customer.0.0 }
-    requires first { StartsAt (M.view memory.old) id booking.0.0 }
+    requires first { StartsAt (M.view memory.old) id customer.0.0 booking.0.0 }
     requires range { IsTrue (is_command (Command.DropCustomer id)) }
     ensures origin { M.origin memory.new ≡ M.origin memory.old }
     ensures answer { IfOk result (λ _. OneGivenBack (M.view memory.old) (M.view memory.new) id) }
@@ -175,7 +177,12 @@ fn cancel_first<M: TxMem>(
     match find_item(memory, kind, item_id)? {
         None => unreachable!(),
         Some(item) => {
-            cancel_at(memory, id, customer, kind, item_id, item, start)?;
+            let spot = Spot {
+                link: Addr(customer.0.0 + place::BOOKINGS),
+                word: booking.0.0 as u64,
+                entry: Some(booking),
+            };
+            cancel_at(memory, id, customer, kind, item_id, item, spot, start)?;
             Ok(())
         }
     }

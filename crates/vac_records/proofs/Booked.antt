@@ -36,7 +36,7 @@ use Rattle.vac_records.proofs.Frames.{Entry, items_frame, bookings_frame, bookin
 use Rattle.vac_records.proofs.Shifts.{in_table, in_list, table_not_out, list_not_out, tables_apart, list_not_table, table_once, out_first, shifts_customers}
 use Rattle.vac_records.proofs.Customers.{shelf, shelf_matches, entries_at}
 
-kind_back : (x : ℕ) → x < 3 → kind_number (kind_of x) ≡ x
+pub kind_back : (x : ℕ) → x < 3 → kind_number (kind_of x) ≡ x
 kind_back zero l = refl
 kind_back (suc zero) l = refl
 kind_back (suc (suc n)) l = omega arith

@@ -4,24 +4,11 @@ use Rattle.tx_alloc.specs.Pool.{IsBlock}
 use Rattle.tx_alloc.specs.Rows.{Rows, times}
 use Rattle.tx_list.specs.Bookings.{Linked, IsList, IsBooked, place_code}
 use Rattle.tx_list.proofs.Frame.{SameBooking, linked_frame}
+pub use Rattle.tx_list.proofs.Frame.{list_one}
 use Rattle.vac_records.proofs.Keyed.{HasRow}
 
 pub list_kept : (m m' : ℕ → ℕ) (n p : ℕ) (rs : Rows) → IsList m n p rs → ((a : ℕ) → 0 < times a rs → SameBooking m m' a) → IsList m' n p rs
 list_kept m m' n p rs h same = record { linked = linked_frame m m' n p 0 rs same h.linked }
-
--- the words have one list
-linked_one : (m : ℕ → ℕ) (n p lo lo' : ℕ) (rs rs' : Rows) → Linked m n p lo rs → Linked m n p lo' rs' → rs ≡ rs'
-linked_one m n p lo lo' [] [] h g = refl
-linked_one m n p lo lo' [] (r ∷ rs) h g = absurd (omega (arith, h, g.0.at, g.0.block.1.1))
-linked_one m n p lo lo' (r ∷ rs) [] h g = absurd (omega (arith, g, h.0.at, h.0.block.1.1))
-linked_one m n p lo lo' (r ∷ rs) (r' ∷ rs') h g =
-    let block : r.1 ≡ r'.1 = sym h.0.at ∙ g.0.at in
-    let key : r.0 ≡ r'.0 = sym h.0.key ∙ (ap (place_code m) block ∙ g.0.key) in
-    let rest : rs ≡ rs' = linked_one m n (m (r.1 + 3)) (r.0 + 1) (r'.0 + 1) rs rs' h.1 (subst (λ (a : ℕ). Linked m n (m (a + 3)) (r'.0 + 1) rs') (sym block) g.1) in
-    λ i. (key i, block i) ∷ rest i
-
-pub list_one : (m : ℕ → ℕ) (n p : ℕ) (rs rs' : Rows) → IsList m n p rs → IsList m n p rs' → rs ≡ rs'
-list_one m n p rs rs' h g = linked_one m n p 0 0 rs rs' h.linked g.linked
 
 -- kind and id of a row
 pub record IsListed (m : ℕ → ℕ) (n k a : ℕ) : Type 0 where

@@ -10,7 +10,9 @@ use Rattle.tx_alloc.specs.declared.pool.Block.{Block}
 use Rattle.tx_alloc.specs.Pointer.{pointer, IsWithin}
 use Rattle.tx_alloc.specs.Pool.{IsBlock}
 use Rattle.tx_alloc.specs.Rows.{Rows, times, put_row, cut_row, block_at, Relinks}
-use Rattle.tx_list.specs.Lists.{IsListAt, IsOutside}
+use Rattle.tx_list.specs.Lists.{IsListAt, IsOutside, HasList}
+use Rattle.tx_list.specs.Search.{IsSpot}
+use Rattle.tx_list.specs.declared.search.Spot.{Spot}
 use Rattle.vac_records.specs.Items.{mem, RoomAt}
 use Rattle.vac_records.specs.Bookings.{booking_in, place_key}
 
@@ -96,6 +98,14 @@ pub record Booked (s s' : View) (customer : ℕ) (place : Place) (num price b : 
       IsListAt (mem s image) (length image) (head_of customer) rows →
       IsBooked (mem s image) (mem s' image) (length image) customer rows place num price b
 
+-- the block was made a booking of this place, and hung into each customer's list that lacked one
+-- and in which this was its spot
+pub record BookedAt (s s' : View) (spot : Spot) (place : Place) (num price b : ℕ) : Type 0 where
+  pub kept : Kept s s'
+  pub booked : (customer : ℕ) → HasList s (head_of customer) →
+      IsSpot s (head_of customer) (place_key place) spot → CanBook s customer place b →
+      Booked s s' customer place num price b
+
 -- a booking that left its list: its block and its units
 abbrev pub UnitsOf : (ℕ → ℕ) → Option (Block × ℕ) → Type 0
 UnitsOf m None = Unit {0}
@@ -123,6 +133,12 @@ pub record Unbooked (s s' : View) (customer : ℕ) (place : Place)
   pub relinks : (image : List ℕ) (rows : Rows) → Sees s' image →
       IsListAt (mem s image) (length image) (head_of customer) rows →
       Relinks (mem s image) (mem s' image) 3 (head_of customer) rows
+
+-- the booking at a spot left each customer's list in which this was the spot of a place
+pub record UnbookedAt (s s' : View) (spot : Spot) (taken : Option (Block × ℕ)) : Type 0 where
+  pub kept : Kept s s'
+  pub unbooked : (customer : ℕ) (place : Place) → HasList s (head_of customer) →
+      IsSpot s (head_of customer) (place_key place) spot → Unbooked s s' customer place taken
 
 -- the sums of the bookings in these rows, added up
 abbrev pub sum_in : (ℕ → ℕ) → Rows → ℕ

@@ -1,10 +1,12 @@
 //! Customers, their bookings and their bills.
 
-ghost use Rattle.std.specs.Prelude.{◌≡◌, ◌+◌, ◌*◌, ◌<◌, ◌^◌, IfOk, IfErr};
+ghost use Rattle.std.specs.Prelude.{◌≡◌, ◌+◌, ◌*◌, ◌<◌, ◌≤◌, ◌^◌, IfOk, IfErr};
+ghost use Rattle.tx_alloc.specs.Pointer.{IsWithin};
 ghost use Rattle.tx_list.specs.Lists.{HasList, Found};
+ghost use Rattle.tx_list.specs.Search.{Sought};
 ghost use Rattle.vac_records.specs.Bookings.{place_key};
 ghost use Rattle.vac_records.specs.Items.{IsNode};
-ghost use Rattle.vac_records.specs.Customers.{head_of, CustomerMade, CanBook, Booked, Unbooked, CanBill, Billed};
+ghost use Rattle.vac_records.specs.Customers.{head_of, CustomerMade, CanBook, BookedAt, Booked, UnbookedAt, Unbooked, CanBill, Billed};
 
 use crate::booking::{FIRST_SPARE, init_booking, key_of, sum_at, units_at};
 use crate::place;
@@ -12,6 +14,7 @@ use crate::word::word_of;
 use stm_words::{Addr, TxMem, TxRead, store};
 use tx_alloc::Block;
 use tx_alloc::place::MOST_BLOCKS;
+use tx_list::{Spot, insert_at, remove_at, seek};
 use vac_model::Kind;
 
 /// Makes the block a customer with this key and without bookings. The words that link the block
@@ -47,6 +50,23 @@ pub fn booking_of<M: TxRead>(
     Ok(found)
 }
 
+/// Where the booking of an item stands in the customer's list, or would stand.
+pub fn spot_of<M: TxRead>(
+    memory: &mut M,
+    customer: Addr,
+    kind: Kind,
+    id: u32,
+) -> Result<Spot, M::Stop>
+    requires customer { IsNode (M.view memory.old) customer.0 }
+    requires list { HasList (M.view memory.old) (head_of customer.0) }
+    ensures origin { M.origin memory.new ≡ M.origin memory.old }
+    ensures answer { IfOk result (λ spot. Sought (M.view memory.old) (M.view memory.new)
+        (head_of customer.0) (place_key (kind, id)) spot) }
+{
+    let spot = seek(memory, word_of(customer, place::BOOKINGS), key_of(kind, id))?;
+    Ok(spot)
+}
+
 /// Books units of an item for a customer who has no booking of it, each at this price. The block is
 /// in no structure, and becomes the booking.
 pub fn book<M: TxMem>(
@@ -67,13 +87,30 @@ pub fn book<M: TxMem>(
     ensures answer { IfOk result (λ _. Booked (M.view memory.old) (M.view memory.new) customer.0
         (kind, id) num price block.0.0) }
 {
+    let spot = spot_of(memory, customer, kind, id)?;
+    book_at(memory, spot, block, kind, id, num, price)?;
+    Ok(())
+}
+
+/// The same at the spot of the booking in the customer's list, which is not walked again.
+pub fn book_at<M: TxMem>(
+    memory: &mut M,
+    spot: Spot,
+    block: Block,
+    kind: Kind,
+    id: u32,
+    num: u32,
+    price: u64,
+) -> Result<(), M::Stop>
+    requires block { IsNode (M.view memory.old) block.0.0 }
+    requires link { spot.link.0 < (M.view memory.old).size }
+    requires sum { num * price < 2 ^ 64 }
+    ensures origin { M.origin memory.new ≡ M.origin memory.old }
+    ensures answer { IfOk result (λ _. BookedAt (M.view memory.old) (M.view memory.new) spot
+        (kind, id) num price block.0.0) }
+{
     init_booking(memory, block.0, kind, id, num, price)?;
-    tx_list::insert(
-        memory,
-        word_of(customer, place::BOOKINGS),
-        key_of(kind, id),
-        block,
-    )?;
+    insert_at(memory, spot, block)?;
     Ok(())
 }
 
@@ -91,8 +128,21 @@ pub fn unbook<M: TxMem>(
     ensures answer { IfOk result (λ taken. Unbooked (M.view memory.old) (M.view memory.new)
         customer.0 (kind, id) taken) }
 {
-    let head = word_of(customer, place::BOOKINGS);
-    match tx_list::remove(memory, head, key_of(kind, id))? {
+    let spot = spot_of(memory, customer, kind, id)?;
+    let taken = unbook_at(memory, spot)?;
+    Ok(taken)
+}
+
+/// The same at the spot of the booking in the customer's list, which is not walked again.
+pub fn unbook_at<M: TxMem>(memory: &mut M, spot: Spot) -> Result<Option<(Block, u64)>, M::Stop>
+    requires small { (M.view memory.old).size ≤ 2 ^ 32 }
+    requires link { spot.link.0 < (M.view memory.old).size }
+    requires entry { IsWithin (M.view memory.old) spot.entry }
+    ensures origin { M.origin memory.new ≡ M.origin memory.old }
+    ensures answer { IfOk result (λ taken.
+        UnbookedAt (M.view memory.old) (M.view memory.new) spot taken) }
+{
+    match remove_at(memory, spot)? {
         None => Ok(None),
         Some(block) => {
             let units = units_at(memory, block.0)?;

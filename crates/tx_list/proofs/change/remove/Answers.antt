@@ -1,9 +1,9 @@
-use Rattle.tx_list.proofs.Changing.{removed_none, removed}
+use Rattle.std.proofs.Common.{arith}
+use Rattle.tx_list.proofs.Changing.{unhung_after}
 use Rattle.tx_list.proofs.change.remove.Goals as goal
 
-pub returns-in-None-clause-answer : goal.returns-in-None-clause-answer
-returns-in-None-clause-answer g c = removed_none _ _ _ _ _ c.in_ok-spot.ensures.answer c.in-None.is
+pub remove_at-requires-clause-small : goal.remove_at-requires-clause-small
+remove_at-requires-clause-small g c = omega (arith, c.requires.list.small, c.in_ok-spot.ensures.answer.kept.size)
 
-pub returns-in_ok-store-in-Some-clause-answer : goal.returns-in_ok-store-in-Some-clause-answer
-returns-in_ok-store-in-Some-clause-answer g c =
-    removed _ _ _ _ _ _ _ _ _ c.in_ok-spot.ensures.answer c.in-Some.is c.in_ok-next-in-Some.ensures.answer c.in_ok-store-in-Some.ensures.answer
+pub returns-clause-answer : goal.returns-clause-answer
+returns-clause-answer g c = unhung_after _ _ _ _ _ _ _ c.in_ok-spot.ensures.answer c.in_ok-removed.ensures.answer

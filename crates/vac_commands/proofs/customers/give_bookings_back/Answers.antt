@@ -31,7 +31,7 @@ cancel_first-requires-clause-customer g c =
 
 pub cancel_first-requires-clause-first : goal.cancel_first-requires-clause-first
 cancel_first-requires-clause-first g c =
-    starts_at _ _ _ _ _ _ refl c.loop.invariant.customer (rw c.in-Some.is at c.in_ok-booking.ensures.answer)
+    starts_at _ _ _ _ _ _ refl c.loop.invariant.state c.loop.invariant.customer (rw c.in-Some.is at c.in_ok-booking.ensures.answer)
 
 pub loop-preserved : goal.loop-preserved
 loop-preserved g c =
