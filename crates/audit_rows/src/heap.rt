@@ -7,7 +7,8 @@ use std::marker::Model;
 use stm_words::{Flat, TxMem};
 use tx_alloc::fresh_words;
 use tx_alloc::place::MOST_BLOCKS;
-use vac_model::{Command, Kind, Reply, Task};
+use vac_check::{AuditFault, audit_words};
+use vac_model::{Command, Kind, Reply, Report, Task};
 use vac_tasks::{only_reads, read_task, run_task};
 
 /// Plain memory that holds a state.
@@ -52,6 +53,15 @@ impl Heap {
     pub(crate) fn look(&mut self, task: &Task) -> Option<Reply> {
         let Ok(reply) = look(&mut self.memory, task);
         reply
+    }
+
+    /// The heap as it is, and what the audit says of its words.
+    pub(crate) fn audited(self, alloc: Global) -> (Heap, Result<Report, AuditFault>) {
+        let Heap { memory } = self;
+        let words = memory.words();
+        let found = audit_words(alloc, words.as_slice());
+        let memory = Flat::new(words);
+        (Heap { memory }, found)
     }
 
     /// The reply to a command.

@@ -3,6 +3,8 @@
 #![tactic(auto)]
 
 #[cfg(test)]
+mod growing;
+#[cfg(test)]
 mod heap;
 #[cfg(test)]
 mod reports;

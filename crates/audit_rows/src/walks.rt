@@ -38,7 +38,7 @@ fn flaw(flaw: Flaw) -> Result<Report, AuditFault> {
 }
 
 /// The report of cars alone, all of whose units are free.
-fn cars(cars: u64, units: u64) -> Report {
+pub(crate) fn cars(cars: u64, units: u64) -> Report {
     Report {
         cars,
         flights: 0,
