@@ -6,6 +6,7 @@
 //! other in that order.
 #![tactic(auto)]
 
+mod answers;
 mod arrow;
 mod call;
 mod ends;
@@ -17,6 +18,7 @@ mod reading;
 mod verdict;
 mod writing;
 
+pub use answers::numbers_of_a_reply;
 pub use call::{CALL_BYTES, CallLine, read_call};
 pub use fault::{CallFault, JudgeFault};
 pub use judge::Judge;
