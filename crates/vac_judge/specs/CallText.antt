@@ -4,7 +4,6 @@ use Rattle.vac_model.specs.declared.limits.TheConstants.{MOST_PARTS}
 use Rattle.vac_model.specs.declared.tasks.Task.{Task}
 use Rattle.vac_model.specs.declared.replies.Reply.{Reply}
 use Rattle.vac_model.specs.declared.replies.Reply.TheVariants as reply
-use Rattle.vac_model.specs.declared.replies.Report.{Report}
 use Rattle.vac_model.specs.declared.replies.Pick.{Pick}
 use Rattle.vac_model.specs.Ranges.{is_task}
 use Rattle.vac_lines.specs.declared.line.TheConstants.{LINE_BYTES}
