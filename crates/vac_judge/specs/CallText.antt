@@ -1,9 +1,9 @@
 -- The line that a writer of histories writes of a call, in its plain form.
 use Rattle.std.specs.Prelude.{◌≡◌, ◌↔◌, ◌≤◌, ◌<◌, ◌^◌, ⊤, ℕ, true, IfSome, Ok, All, List, ◌∷◌, [], ◌++◌, length, flat_map, codes, decimal, Option}
 use Rattle.vac_model.specs.declared.limits.TheConstants.{MOST_PARTS}
+use Rattle.vac_model.specs.declared.tasks.Task.{Task}
 use Rattle.vac_model.specs.declared.replies.Reply.{Reply}
 use Rattle.vac_model.specs.declared.replies.Reply.TheVariants as reply
-use Rattle.vac_model.specs.declared.replies.Report.{Report}
 use Rattle.vac_model.specs.declared.replies.Pick.{Pick}
 use Rattle.vac_model.specs.Ranges.{is_task}
 use Rattle.vac_lines.specs.declared.line.TheConstants.{LINE_BYTES}
@@ -49,6 +49,16 @@ pub record IsAnswered (call : Call) (answer : Reply) : Type 0 where
   pub line : length (task_text call.task) ≤ LINE_BYTES
   pub numbers : IsReply answer
   pub reply : call.reply ≡ reply_text answer
+
+-- the call that this reply answers
+abbrev pub answered : ℕ → ℕ → ℕ → Task → Reply → Call
+answered client begin end task answer = record {
+  client = client;
+  begin = begin;
+  end = end;
+  task = task;
+  reply = reply_text answer;
+}
 
 -- its line is no longer than a line of a history may be, and is read as that call
 pub record IsReadBack (call : Call) : Type 0 where

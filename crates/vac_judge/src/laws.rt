@@ -1,9 +1,14 @@
 //! Laws on verdicts. Each is the contract of a function that does nothing.
 
 ghost use Rattle.vac_judge.specs.Laws.{LegalIsLinearization, LegalSummary};
-ghost use Rattle.vac_judge.specs.CallText.{CallTextsAreRead, HistoriesAreRead};
+ghost use Rattle.std.specs.Prelude.{◌≡◌, ◌≤◌, length, true};
+ghost use Rattle.vac_model.specs.Ranges.{is_task};
+ghost use Rattle.vac_lines.specs.TaskText.{task_text};
+ghost use Rattle.vac_judge.specs.CallText.{CallTextsAreRead, HistoriesAreRead, answered, IsReadBack};
 
-use vac_lines::task_texts_are_read;
+use crate::answers::numbers_of_a_reply;
+use vac_lines::{LINE_BYTES, task_texts_are_read};
+use vac_model::{Reply, Task};
 
 /// A history is legal exactly where each of its lines is a call and the order in which the calls
 /// are given is a linearization: run one after the other they give their replies, each client's
@@ -26,6 +31,16 @@ pub fn call_texts_are_read()
     ensures { CallTextsAreRead }
 {
     task_texts_are_read();
+}
+
+/// So is the line of this call, whatever the reply is: its numbers are those of its type.
+pub fn an_answered_call_is_read(client: u32, begin: u64, end: u64, task: &Task, reply: &Reply)
+    requires in_range { is_task task.now ≡ true }
+    requires fits { length (task_text task.now) ≤ LINE_BYTES }
+    ensures { IsReadBack (answered client begin end task.now reply.now) }
+{
+    numbers_of_a_reply(reply);
+    call_texts_are_read();
 }
 
 /// The history of calls that were answered, one such line for each, has these calls and no other,

@@ -6,6 +6,7 @@
 //! other in that order.
 #![tactic(auto)]
 
+mod answers;
 mod arrow;
 mod call;
 mod ends;
@@ -17,12 +18,13 @@ mod reading;
 mod verdict;
 mod writing;
 
+pub use answers::numbers_of_a_reply;
 pub use call::{CALL_BYTES, CallLine, read_call};
 pub use fault::{CallFault, JudgeFault};
 pub use judge::Judge;
 pub use laws::{
-    a_legal_history_has_this_summary, a_verdict_finds_the_linearizations, call_texts_are_read,
-    histories_are_read,
+    a_legal_history_has_this_summary, a_verdict_finds_the_linearizations, an_answered_call_is_read,
+    call_texts_are_read, histories_are_read,
 };
 pub use reading::judge_history;
 pub use verdict::{Summary, Verdict, Wrong, print_verdict};
