@@ -1,11 +1,12 @@
 //! Attempts of one or two clients in turn: what they read, answer and leave.
 ghost use Rattle.std.specs.Prelude.{◌≡◌, ◌<◌};
+ghost use Rattle.stm_core.specs.Core.{IsFreeHanded};
 
 use crate::attempts::{read_one, version, write_one};
 use std::test::Fail;
 use stm_attempt::{Attempt, Conflict, Logs, NoGate, ReadAttempt, Refusal, Stop};
-use stm_region::Region;
-use stm_words::{Addr, FreeLaw, TxMem, TxRead};
+use stm_region::{Client, Region};
+use stm_words::{Addr, FreeLaw, TxMem, TxRead, Version};
 
 /// The sum of two words.
 fn sum_of<M: TxRead>(memory: &mut M, first: Addr, second: Addr) -> Result<u64, M::Stop>
@@ -60,6 +61,23 @@ fn a_reader_finishes_at_its_read_version(rt: HostRuntime) -> Result<(), Fail> {
     assert_eq!(rt; committed?, version(1)?);
     assert_eq!(rt; value, Ok(5));
     assert_eq!(rt; finished, version(1)?);
+    Ok(())
+}
+
+#[test]
+fn a_reader_of_zeros_finishes_at_version_0(rt: HostRuntime) -> Result<(), Fail> {
+    let (value, finished) = {
+        let (region, mut client) = Region::<FreeLaw>::new(rt.alloc(), &[0; 32], 100, 32)?;
+        let mut reader = ReadAttempt::begin(&region, &mut client);
+        let value = reader.read(Addr(9));
+        if value.is_err() {
+            reader.drop_it();
+            panic!(rt; "it was refused")
+        }
+        (value, reader.finish(&7u64))
+    };
+    assert_eq!(rt; value, Ok(0));
+    assert_eq!(rt; finished, version(0)?);
     Ok(())
 }
 
@@ -170,6 +188,63 @@ fn two_words_of_one_stripe(rt: HostRuntime) -> Result<(), Fail> {
     assert_eq!(rt; met, Some(newer));
     assert_eq!(rt; read?, 1);
     assert_eq!(rt; second?, version(2)?);
+    Ok(())
+}
+
+/// One attempt that adds a number to each of 32 words, and is tried once.
+fn add_to_all(
+    region: &Region<FreeLaw>,
+    client: &mut Client<FreeLaw>,
+    logs: &mut Logs,
+    number: u64,
+) -> Result<Version, Stop>
+    requires own { client.old.table ≡ region.now.table }
+    requires free { IsFreeHanded client.old.value }
+    requires size { region.now.size ≡ 32 }
+    ensures own { client.new.table ≡ client.old.table }
+    ensures free { IsFreeHanded client.new.value }
+{
+    let mut attempt = Attempt::begin(region, client, logs);
+    let mut refused = false;
+    for i in 0..32u32 {
+        let value = attempt.read(Addr(i)).unwrap_or(0);
+        if attempt.write(Addr(i), value.wrapping_add(number)).is_err() {
+            refused = true;
+        }
+    }
+    if refused {
+        attempt.drop_it();
+        return Err(Stop::Memory);
+    }
+    attempt.commit(&1u64, &mut NoGate)
+}
+
+#[test]
+fn thirty_two_words_share_four_stripes(rt: HostRuntime) -> Result<(), Fail> {
+    let alloc = rt.alloc();
+    let mut image = [0u64; 32];
+    image[31] = 7;
+    let (first, second, third, words, last) = {
+        let (region, mut a) = Region::<FreeLaw>::new(alloc, &image, 100, 4)?;
+        let mut b = region.split(&mut a)?;
+        let mut logs = Logs::new(alloc);
+        let first = add_to_all(&region, &mut a, &mut logs, 1);
+        let second = add_to_all(&region, &mut b, &mut logs, 10);
+        let third = write_one(&region, &mut a, &mut logs, Addr(4), 5);
+        region.gather(&mut a, b);
+        let Ok((words, last)) = region.close(alloc, a) else {
+            panic!(rt; "it stayed open")
+        };
+        (first, second, third, words, last)
+    };
+    assert_eq!(rt; first?, version(1)?);
+    assert_eq!(rt; second?, version(2)?);
+    assert_eq!(rt; third?, version(3)?);
+    let mut expected = [11u64; 32];
+    expected[4] = 5;
+    expected[31] = 18;
+    assert_eq!(rt; words.as_slice(), expected.as_slice());
+    assert_eq!(rt; last, version(3)?);
     Ok(())
 }
 
