@@ -16,9 +16,6 @@ use Rattle.vac_lines.specs.Lines.{lines_of, without_empty_end}
 use Rattle.vac_lines.specs.LineTable.{line_task}
 use Rattle.vac_script.specs.Script.{answers, pending, leaves, HasNoEnd, HasBegun}
 use Rattle.vac_lines.specs.Script.{answer, script}
-use Rattle.std.specs.Prelude.{Contains}
-use Rattle.std.proofs.lemmas.List.Elements.{Contains-append_left, Contains-append_right}
-use Rattle.vac_script.specs.System.{IsAsked}
 
 -- the test for a line end
 abbrev is_end : ℕ → Bool
@@ -228,29 +225,3 @@ lines_kept f z same line text h =
           ∙ ap (λ t. map f (without_empty_end t)) (sym whole)
       | inr short ↦ ap (λ l. map f (lines_of (l ++ text))) (take_all 1025 line short)
     ]
-
--- a line that has its end is asked
-pub asked_cut : (start line behind rest text : List ℕ) → HasNoEnd start → HasNoEnd line → rest ≡ line ++ 10 ∷ behind → IsAsked (line_task (start ++ line)) start (rest ++ text)
-asked_cut start line behind rest text h g e =
-    let cut = tasks_cut start line (behind ++ text) (All-append (λ x. x ≢ 10) start line h g) in
-    let all : tasks start (rest ++ text) ≡ line_task (start ++ line) ∷ tasks [] (behind ++ text) = ap (λ r. tasks start (r ++ text)) e ∙ ap (tasks start) (append_assoc line (10 ∷ behind) text) ∙ cut in
-    subst (λ ls. Contains ls (line_task (start ++ line))) (sym all) (Contains-append_left (line_task (start ++ line) ∷ []) (tasks [] (behind ++ text)) (line_task (start ++ line)) (0, omega arith, refl))
-
--- what is asked behind a line is asked
-pub asked_behind : (asked : Result Task LineFault) (start line behind rest after text : List ℕ) → HasNoEnd start → HasNoEnd line → rest ≡ line ++ 10 ∷ behind → after ≡ []
-    → IsAsked asked after (behind ++ text) → IsAsked asked start (rest ++ text)
-asked_behind asked start line behind rest after text h g e z a =
-    let cut = tasks_cut start line (behind ++ text) (All-append (λ x. x ≢ 10) start line h g) in
-    let all : tasks start (rest ++ text) ≡ line_task (start ++ line) ∷ tasks [] (behind ++ text) = ap (λ r. tasks start (r ++ text)) e ∙ ap (tasks start) (append_assoc line (10 ∷ behind) text) ∙ cut in
-    subst (λ ls. Contains ls asked) (sym all) (Contains-append_right (line_task (start ++ line) ∷ []) (tasks [] (behind ++ text)) asked (subst (λ l. IsAsked asked l (behind ++ text)) z a))
-
--- what is asked of a line that is kept is asked
-pub asked_kept : (asked : Result Task LineFault) (start rest after text : List ℕ) → HasNoEnd start → HasNoEnd rest → after ≡ take 1025 (start ++ rest)
-    → IsAsked asked after text → IsAsked asked start (rest ++ text)
-asked_kept asked start rest after text h g k a =
-    subst (λ ls. Contains ls asked) (ap (λ l. tasks l text) k ∙ tasks_kept (start ++ rest) text (All-append (λ x. x ≢ 10) start rest h g) ∙ sym (tasks_moved start rest text)) a
-
--- the last line is asked
-pub asked_last : (start : List ℕ) → HasNoEnd start → 0 < length start → IsAsked (line_task (start ++ [])) start []
-asked_last start h n =
-    subst (λ ls. Contains ls (line_task (start ++ []))) (ap (λ l. line_task l ∷ []) (append-nil start) ∙ sym (tasks_last start h n)) (0, omega arith, refl)

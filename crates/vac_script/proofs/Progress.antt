@@ -6,7 +6,7 @@ use Rattle.vac_model.specs.State.{State, empty_state}
 use Rattle.vac_lines.specs.Text.{Extends}
 use Rattle.vac_lines.specs.Script.{script_state}
 use Rattle.vac_script.specs.Script.{script_out, pending, leaves, LeavesSame, WrotePrefix}
-use Rattle.vac_script.specs.System.{SystemShown, StandsAt, RanAll, LeavesLines, IsAsked, SpentIn, SpentBy}
+use Rattle.vac_script.specs.System.{SystemShown, StandsAt, RanAll}
 use Rattle.vac_lines.proofs.Extends.{extends_more}
 
 -- some bytes were read and some text was written; whatever follows, the rest of the output is what is pending
@@ -17,7 +17,6 @@ pub record Progress (n : ℕ) (unread left held holds : Option (List ℕ)) (s : 
   pub written : Appends held holds text
   pub same : (x : List ℕ) → script_out n (bytes ++ x) ≡ text ++ pending s line x
   pub same_state : (x : List ℕ) → script_state n (bytes ++ x) ≡ leaves s line x
-  pub lines : LeavesLines [] bytes line
 
 -- what a call wrote of the output of a chunk
 abbrev pub Ran : Option (List ℕ) → Option (List ℕ) → State → List ℕ → List ℕ → State → List ℕ → Type 0
@@ -68,20 +67,18 @@ started n unread held = record {
   written = Appends-nil held;
   same = λ x. refl;
   same_state = λ x. refl;
-  lines = λ asked x a. a;
 }
 
 -- a chunk was run
 pub chunk_run : (n : ℕ) (unread left now held holds grown : Option (List ℕ)) (s t : State) (line after chunk : List ℕ) → Progress n unread left held holds s line
-    → Consumes left now chunk → Ran holds grown s line chunk t after → LeavesSame s line chunk t after → LeavesLines line chunk after → Progress n unread now held grown t after
-chunk_run n unread left now held holds grown s t line after chunk p c r l k = record {
+    → Consumes left now chunk → Ran holds grown s line chunk t after → LeavesSame s line chunk t after → Progress n unread now held grown t after
+chunk_run n unread left now held holds grown s t line after chunk p c r l = record {
   bytes = p.bytes ++ chunk;
   consumed = Consumes-trans unread left now p.bytes chunk p.consumed c;
   text = p.text ++ r.0;
   written = Appends-trans held holds grown p.text r.0 p.written r.1;
   same = λ x. ap (script_out n) (append_assoc p.bytes chunk x) ∙ p.same (chunk ++ x) ∙ ap (λ t. p.text ++ t) (r.2 x) ∙ sym (append_assoc p.text r.0 (pending t after x));
   same_state = λ x. ap (script_state n) (append_assoc p.bytes chunk x) ∙ p.same_state (chunk ++ x) ∙ l x;
-  lines = λ asked x a. subst (λ text. IsAsked asked [] text) (sym (append_assoc p.bytes chunk x)) (p.lines asked (chunk ++ x) (k asked x a));
 }
 
 -- a chunk was run in part
@@ -103,7 +100,6 @@ read_kept n unread left now held holds s line p k = record {
   written = p.written;
   same = p.same;
   same_state = p.same_state;
-  lines = p.lines;
 }
 
 -- the run ends here
@@ -141,12 +137,3 @@ end_stopped n unread left now held holds grown s line text p c e w f =
 pub started_at : (n : ℕ) (unread held : Option (List ℕ)) (s : State) (line : List ℕ) → s ≡ empty_state n → line ≡ [] → Progress n unread unread held held s line
 started_at n unread held s line e f =
     subst (λ t. Progress n unread unread held held t line) (sym e) (subst (Progress n unread unread held held (empty_state n)) (sym f) (started n unread held))
-
--- a line of what was read found the clock spent
-pub spent_by : (n : ℕ) (unread left now held holds : Option (List ℕ)) (s : State) (line chunk : List ℕ) → Progress n unread left held holds s line
-    → Consumes left now chunk → SpentIn line chunk → SpentBy unread now
-spent_by n unread left now held holds s line chunk p c f = record {
-  bytes = p.bytes ++ chunk;
-  consumed = Consumes-trans unread left now p.bytes chunk p.consumed c;
-  spent = record { line = f.line; asked = p.lines f.line chunk f.asked; system = f.system; found = f.found };
-}

@@ -1,5 +1,5 @@
 -- A script over a manager: how far it has come, whatever the state at which its manager stands.
-use Rattle.std.proofs.Common.{◌≡◌, ◌<◌, ℕ, List, [], ◌∷◌, ◌++◌, length, Result, Ok, Err, OnOk, OnErr, IfErr, Option, take, refl, append-nil, sym, ap, ◌∙◌, subst}
+use Rattle.std.proofs.Common.{◌≡◌, ◌<◌, ◌≤◌, ◌+◌, ℕ, List, [], ◌∷◌, ◌++◌, length, length-append, length-take, ◌*◌, Result, Ok, Err, OnOk, OnErr, Option, take, refl, sym, ap, ◌∙◌, subst, arith}
 use Rattle.std.specs.Io.KnownBytes.{Appends, Consumes, IsAtEnd, Keeps}
 use Rattle.vac_model.specs.State.{State, empty_state}
 use Rattle.vac_model.specs.declared.tasks.Task.{Task}
@@ -7,19 +7,17 @@ use Rattle.vac_lines.specs.declared.fault.LineFault.{LineFault}
 use Rattle.vac_lines.specs.Script.{answer}
 use Rattle.vac_lines.specs.Text.{Extends}
 use Rattle.vac_lines.specs.LineTable.{line_task}
-use Rattle.vac_script.specs.declared.fault.RunFault.{RunFault}
-use Rattle.vac_script.specs.declared.fault.RunFault.TheVariants.{Spent}
 use Rattle.vac_script.specs.Script.{HasNoEnd, pending, leaves, WroteAll, WrotePrefix}
-use Rattle.vac_script.specs.System.{SystemShown, StandsAt, Answered, AnsweredInPart, Ran, RanInPart, Wrote, WroteInPart, WroteEnd, WroteEndInPart, RanAll, FoundSpent, IsAsked, SpentIn, SpentBy}
-use Rattle.vac_script.proofs.Cutting.{asked_cut, asked_behind, asked_kept, asked_last, line_run, line_stopped, line_kept, line_leaves, kept_leaves, last_leaves, last_answer}
-use Rattle.vac_script.proofs.Progress.{spent_by, Progress, started_at, chunk_run, chunk_stopped, read_kept, run_ended, end_run, end_stopped}
+use Rattle.vac_script.specs.System.{SystemShown, StandsAt, Answered, AnsweredInPart, Ran, RanInPart, Wrote, WroteInPart, WroteEnd, WroteEndInPart, RanAll, TicksBy}
+use Rattle.vac_script.proofs.Cutting.{line_run, line_stopped, line_kept, line_leaves, kept_leaves, last_leaves, last_answer}
+use Rattle.vac_script.proofs.Progress.{Progress, started_at, chunk_run, chunk_stopped, read_kept, run_ended, end_run, end_stopped}
 
 -- of a chunk this rest is still to be run
 pub record RanTo (y y' : SystemShown) (line line' out out' chunk rest : List ℕ) : Type 0 where
   pub on : (s : State) → StandsAt y s → (t : State) × StandsAt y' t
       × ((x : List ℕ) → out ++ pending s line (chunk ++ x) ≡ out' ++ pending t line' (rest ++ x))
       × ((x : List ℕ) → leaves s line (chunk ++ x) ≡ leaves t line' (rest ++ x))
-  pub lines : (asked : Result Task LineFault) (x : List ℕ) → IsAsked asked line' (rest ++ x) → IsAsked asked line (chunk ++ x)
+  pub ticks : y'.client.value.floor + length rest ≤ y.client.value.floor + length chunk
 
 -- a script runs, at some state
 pub record Running (n : ℕ) (unread left held holds : Option (List ℕ)) (y : SystemShown) (line : List ℕ) : Type 0 where
@@ -46,7 +44,7 @@ ran_line y y1 y2 first start after out0 out new chunk rest line behind h f g e a
         λ x. q.2 x ∙ line_run q.0 ((answer q.0 (line_task (start ++ line))).0) out new start line behind rest after x f g e (a.text q.0 q.1) refl z,
         λ x. q.3 x ∙ line_leaves q.0 ((answer q.0 (line_task (start ++ line))).0) start line behind rest after x f g e refl z,
       );
-  lines = λ asked x b. h.lines asked x (asked_behind asked start line behind rest after x f g e z b);
+  ticks = omega (arith, h.ticks, a.ticks, ap length e ∙ length-append line (10 ∷ behind));
 }
 
 -- a line was run in part
@@ -56,29 +54,6 @@ halted y y1 first start out0 out new chunk rest line behind h f g e a = record {
   on = λ s st x.
       let q = h.on s st in subst (Extends new) (sym (q.2 x)) (line_stopped q.0 out new start line behind rest x f g e (a.text q.0 q.1));
 }
-
--- a line found the clock spent
-pub spent_line : (y y1 z : SystemShown) (first start out0 out chunk rest line behind : List ℕ) → RanTo y y1 first start out0 out chunk rest → HasNoEnd start → HasNoEnd line → rest ≡ line ++ 10 ∷ behind
-    → FoundSpent z (line_task (start ++ line)) → SpentIn first chunk
-spent_line y y1 z first start out0 out chunk rest line behind h f g e s = record {
-  line = line_task (start ++ line);
-  asked = subst (λ t. IsAsked (line_task (start ++ line)) first t) (append-nil chunk) (h.lines (line_task (start ++ line)) [] (asked_cut start line behind rest [] f g e));
-  system = z;
-  found = s;
-}
-
--- the same, where the line is known by an equation
-pub found_from : (z : SystemShown) (line line0 : Result Task LineFault) → line0 ≡ line → FoundSpent z line0 → FoundSpent z line
-found_from z line line0 e s = subst (FoundSpent z) e s
-
--- the last line found the clock spent
-pub spent_last : (z : SystemShown) (start : List ℕ) → HasNoEnd start → 0 < length start → FoundSpent z (line_task (start ++ [])) → SpentIn start []
-spent_last z start f n s = record { line = line_task (start ++ []); asked = asked_last start f n; system = z; found = s }
-
-pub last_spent : {T : Type 0} (r : Result T RunFault) (z : SystemShown) (start : List ℕ) → HasNoEnd start → 0 < length start
-    → IfErr r (λ fault. fault ≡ Spent → FoundSpent z (line_task (start ++ []))) → IfErr r (λ fault. fault ≡ Spent → SpentIn start [])
-last_spent (Ok t) z start f n s = tt
-last_spent (Err fault) z start f n s = λ e. spent_last z start f n (s e)
 
 -- the rest of the chunk is kept
 pub ran_kept : (y y1 y2 : SystemShown) (first start after out0 out new chunk rest : List ℕ) → RanTo y y1 first start out0 out chunk rest → HasNoEnd start → HasNoEnd rest
@@ -91,7 +66,7 @@ ran_kept y y1 y2 first start after out0 out new chunk rest h f g e same k = reco
         λ x. q.2 x ∙ line_kept q.0 q.0 out new start rest after x f g e refl k,
         λ x. q.3 x ∙ kept_leaves q.0 start rest after x f g k,
       );
-  lines = λ asked x b. h.lines asked x (asked_kept asked start rest after x f g k b);
+  ticks = omega (arith, h.ticks, ap (λ y. y.client.value.floor) same);
 }
 
 -- the last line was run, or its run stopped
@@ -122,7 +97,7 @@ wrote (Ok t) y y' y2 line after after2 out new chunk held holds empty e f w h = 
     λ x. sym (ap (λ o. o ++ pending s line (chunk ++ x)) empty) ∙ (q.2 x ∙ ap (λ l. new ++ pending q.0 l x) (sym f)),
     λ x. q.3 x ∙ ap (λ l. leaves q.0 l x) (sym f),
   ));
-  lines = λ asked x a. h.lines asked x (subst (λ l. IsAsked asked l x) f a);
+  ticks = subst (λ z. TicksBy y z (length chunk)) (sym e) h.ticks;
 }
 wrote (Err g) y y' y2 line after after2 out new chunk held holds empty e f w h = tt
 
@@ -134,7 +109,7 @@ pub running_on : (n : ℕ) (unread left now held holds grown : Option (List ℕ)
     → Consumes left now chunk → Wrote y y' line after chunk holds grown → Running n unread now held grown y' after
 running_on n unread left now held holds grown y y' line after chunk p c w =
     let q = w.on p.state p.stands in
-    record { state = q.0; stands = q.1; progress = chunk_run n unread left now held holds grown p.state q.0 line after chunk p.progress c (w.text, w.written, q.2) q.3 w.lines }
+    record { state = q.0; stands = q.1; progress = chunk_run n unread left now held holds grown p.state q.0 line after chunk p.progress c (w.text, w.written, q.2) q.3 }
 
 pub running_halted : (n : ℕ) (unread left now held holds grown : Option (List ℕ)) (y : SystemShown) (line chunk : List ℕ) → Running n unread left held holds y line
     → Consumes left now chunk → WroteInPart y line chunk holds grown → WrotePrefix n unread now held grown
@@ -162,7 +137,6 @@ end_halted n unread left now held holds grown y line p c e w =
 pub wrote_all : (n : ℕ) (y : SystemShown) (unread left held holds : Option (List ℕ)) → RanAll n y unread left held holds → WroteAll n unread left held holds
 wrote_all n y unread left held holds r = record { bytes = r.bytes; consumed = r.consumed; ended = r.ended; written = r.written }
 
--- a line of what was read found the clock spent
-pub running_spent : (n : ℕ) (unread left now held holds : Option (List ℕ)) (y : SystemShown) (line chunk : List ℕ) → Running n unread left held holds y line
-    → Consumes left now chunk → SpentIn line chunk → SpentBy unread now
-running_spent n unread left now held holds y line chunk p c f = spent_by n unread left now held holds p.state line chunk p.progress c f
+-- a chunk that was read takes the clock on by at most its bytes
+pub clock_on : (before now count reads : ℕ) (buffer : List ℕ) → now ≤ before + length (take count buffer) → before ≤ 65536 * reads → length buffer ≡ 65536 → now ≤ 65536 * (reads + 1)
+clock_on before now count reads buffer t c r = omega (arith, t, c, r, length-take count buffer)

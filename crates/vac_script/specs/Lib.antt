@@ -3,4 +3,3 @@ pub mod System
 pub mod Dump
 pub mod Check
 pub mod Reading
-pub mod Stopping

@@ -6,7 +6,6 @@ ghost use Rattle.vac_manager.specs.Opening.{is_block_count};
 ghost use Rattle.vac_lines.specs.Memory.{dump_text};
 ghost use Rattle.vac_script.specs.declared.fault.RunFault.TheVariants.{Busy, Spent};
 ghost use Rattle.vac_script.specs.Script.{AppendsPrefix};
-ghost use Rattle.vac_script.specs.System.{SpentBy};
 ghost use Rattle.vac_script.specs.Dump.{Dumped, DumpStopped};
 
 use crate::fault::RunFault;
@@ -35,8 +34,7 @@ pub fn dump_script<R: Read, W: Write>(
         (R.remaining input.old) (R.remaining input.new)
         (W.contents output.old) (W.contents output.new)) }
     ensures not_busy { IfErr result (λ fault. fault ≢ Busy) }
-    ensures spent { IfErr result (λ fault. fault ≡ Spent
-        → SpentBy (R.remaining input.old) (R.remaining input.new)) }
+    ensures not_spent { IfErr result (λ fault. fault ≢ Spent) }
 {
     let mut replies = io::sink();
     let system = run_input(alloc, blocks, input, &mut replies)?;

@@ -17,7 +17,8 @@ pub enum RunFault {
     /// There was no memory.
     #[error("out of memory")]
     Memory = 3,
-    /// The clock is at its last version, so that nothing more can be written.
+    /// The clock is at its last version, so that nothing more can be written. No script answers
+    /// this: it has fewer lines than the clock has versions.
     #[error("the clock is at its last version")]
     Spent = 4,
     /// A call met a conflict. No script answers this: its one client is alone.

@@ -11,7 +11,7 @@ ghost use Rattle.vac_lines.specs.LineTable.{line_task};
 ghost use Rattle.vac_script.specs.declared.fault.RunFault.TheVariants.{Busy, Memory, Spent, Write};
 ghost use Rattle.vac_script.specs.System.{StandsAt, Answered, AnsweredInPart, Ran, RanInPart};
 ghost use Rattle.vac_script.specs.System.{Wrote, WroteInPart, WroteEnd, WroteEndInPart, RanAll};
-ghost use Rattle.vac_script.specs.System.{FoundSpent, SpentIn, SpentBy};
+ghost use Rattle.vac_script.specs.System.{Lasts};
 ghost use Rattle.vac_script.specs.Script.{pending, leaves, HasBegun, AppendsPrefix};
 ghost use Rattle.vac_script.specs.Script.{WroteAll, WrotePrefix};
 
@@ -49,10 +49,10 @@ fn run_read(
     out: &mut Vec<u8>,
 ) -> Result<(), RunFault>
     requires in_range { IfOk read (λ task. is_task task ≡ true) }
+    requires lasts { Lasts system.old 1 }
     ensures ok { OnOk result (Answered system.old system.new out.old.items out.new.items read) }
     ensures err { OnErr result (AnsweredInPart system.old out.old.items out.new.items read) }
-    ensures not_busy { IfErr result (λ fault. fault ≢ Busy) }
-    ensures spent { IfErr result (λ fault. fault ≡ Spent → FoundSpent system.new read) }
+    ensures memory { IfErr result (λ fault. fault ≡ Memory) }
 {
     match read {
         Ok(task) => {
@@ -72,13 +72,12 @@ fn run_line(
     line: &[u8],
     out: &mut Vec<u8>,
 ) -> Result<(), RunFault>
+    requires lasts { Lasts system.old 1 }
     ensures ok { OnOk result
         (Answered system.old system.new out.old.items out.new.items (line_task line.now)) }
     ensures err { OnErr result
         (AnsweredInPart system.old out.old.items out.new.items (line_task line.now)) }
-    ensures not_busy { IfErr result (λ fault. fault ≢ Busy) }
-    ensures spent { IfErr result
-        (λ fault. fault ≡ Spent → FoundSpent system.new (line_task line.now)) }
+    ensures memory { IfErr result (λ fault. fault ≡ Memory) }
 {
     let read = read_line(alloc, line);
     if matches!(read, Err(LineFault::Memory)) {
@@ -104,6 +103,7 @@ impl Script {
     fn new(alloc: Global, blocks: u32) -> Result<Script, RunFault>
         requires { is_block_count blocks ≡ true }
         ensures state { IfOk result (λ script. StandsAt script.system (empty_state blocks)) }
+        ensures clock { IfOk result (λ script. script.system.client.value.floor ≡ 0) }
         ensures line { IfOk result (λ script. script.line.items ≡ []) }
         ensures out { IfOk result (λ script. script.out.items ≡ []) }
         ensures memory { IfErr result (λ fault. fault ≡ Memory) }
@@ -126,15 +126,14 @@ impl Script {
 
     /// Runs the line that has begun, of which this is the rest.
     fn end_line(&mut self, alloc: Global, rest: &[u8]) -> Result<(), RunFault>
-        requires { length self.old.line.items ≤ LINE_BYTES + 1 }
+        requires short { length self.old.line.items ≤ LINE_BYTES + 1 }
+        requires lasts { Lasts self.old.system 1 }
         ensures ok { OnOk result (Answered self.old.system self.new.system
             self.old.out.items self.new.out.items (line_task (self.old.line.items ++ rest.now))) }
         ensures line { OnOk result (self.new.line.items ≡ []) }
         ensures err { OnErr result (AnsweredInPart self.old.system
             self.old.out.items self.new.out.items (line_task (self.old.line.items ++ rest.now))) }
-        ensures not_busy { IfErr result (λ fault. fault ≢ Busy) }
-        ensures spent { IfErr result (λ fault. fault ≡ Spent
-            → FoundSpent self.new.system (line_task (self.old.line.items ++ rest.now))) }
+        ensures memory { IfErr result (λ fault. fault ≡ Memory) }
     {
         if self.line.is_empty() {
             return run_line(alloc, &mut self.system, rest, &mut self.out);
@@ -147,16 +146,15 @@ impl Script {
 
     /// Runs the lines that end in a chunk of the input, and keeps what follows them.
     fn feed(&mut self, alloc: Global, chunk: &[u8]) -> Result<(), RunFault>
-        requires { HasBegun self.old.line.items }
+        requires begun { HasBegun self.old.line.items }
+        requires lasts { Lasts self.old.system (length chunk.now) }
         ensures begun { OnOk result (HasBegun self.new.line.items) }
         ensures ok { OnOk result (Ran self.old.system self.new.system
             self.old.line.items self.new.line.items
             self.old.out.items self.new.out.items chunk.now) }
         ensures err { OnErr result (RanInPart self.old.system
             self.old.line.items self.old.out.items self.new.out.items chunk.now) }
-        ensures not_busy { IfErr result (λ fault. fault ≢ Busy) }
-        ensures spent { IfErr result
-            (λ fault. fault ≡ Spent → SpentIn self.old.line.items chunk.now) }
+        ensures memory { IfErr result (λ fault. fault ≡ Memory) }
     {
         let mut rest = chunk;
         while let Some((line, behind)) = cut_at(b'\n', rest) {
@@ -169,7 +167,8 @@ impl Script {
 
     /// Runs the last line, where it has begun and has no end.
     fn finish(&mut self, alloc: Global) -> Result<(), RunFault>
-        requires { HasBegun self.old.line.items }
+        requires begun { HasBegun self.old.line.items }
+        requires lasts { Lasts self.old.system 1 }
         ensures ok { OnOk result ((s : State) → StandsAt self.old.system s
             → self.new.out.items ≡ self.old.out.items ++ pending s self.old.line.items []) }
         ensures state { OnOk result ((s : State) → StandsAt self.old.system s
@@ -177,8 +176,7 @@ impl Script {
         ensures err { OnErr result ((s : State) → StandsAt self.old.system s
             → Extends self.new.out.items
             (self.old.out.items ++ pending s self.old.line.items [])) }
-        ensures not_busy { IfErr result (λ fault. fault ≢ Busy) }
-        ensures spent { IfErr result (λ fault. fault ≡ Spent → SpentIn self.old.line.items []) }
+        ensures memory { IfErr result (λ fault. fault ≡ Memory) }
     {
         if self.line.is_empty() {
             return Ok(());
@@ -211,6 +209,7 @@ impl Script {
     ) -> Result<(), RunFault>
         requires begun { HasBegun self.old.line.items }
         requires empty { self.old.out.items ≡ [] }
+        requires lasts { Lasts self.old.system (length chunk.now) }
         ensures begun { OnOk result (HasBegun self.new.line.items) }
         ensures empty { OnOk result (self.new.out.items ≡ []) }
         ensures ok { OnOk result (Wrote self.old.system self.new.system
@@ -219,8 +218,7 @@ impl Script {
         ensures err { OnErr result (WroteInPart self.old.system
             self.old.line.items chunk.now (W.contents output.old) (W.contents output.new)) }
         ensures not_busy { IfErr result (λ fault. fault ≢ Busy) }
-        ensures spent { IfErr result
-            (λ fault. fault ≡ Spent → SpentIn self.old.line.items chunk.now) }
+        ensures not_spent { IfErr result (λ fault. fault ≢ Spent) }
     {
         let fed = self.feed(alloc, chunk);
         self.write_out(output)?;
@@ -231,12 +229,13 @@ impl Script {
     fn run_end<W: Write>(&mut self, alloc: Global, output: &mut W) -> Result<(), RunFault>
         requires begun { HasBegun self.old.line.items }
         requires empty { self.old.out.items ≡ [] }
+        requires lasts { Lasts self.old.system 1 }
         ensures ok { OnOk result (WroteEnd self.old.system self.new.system self.old.line.items
             (W.contents output.old) (W.contents output.new)) }
         ensures err { OnErr result (WroteEndInPart self.old.system self.old.line.items
             (W.contents output.old) (W.contents output.new)) }
         ensures not_busy { IfErr result (λ fault. fault ≢ Busy) }
-        ensures spent { IfErr result (λ fault. fault ≡ Spent → SpentIn self.old.line.items []) }
+        ensures not_spent { IfErr result (λ fault. fault ≢ Spent) }
     {
         let finished = self.finish(alloc);
         self.write_out(output)?;
@@ -260,8 +259,7 @@ pub(crate) fn run_input<R: Read, W: Write>(
     ensures err { OnErr result (WrotePrefix blocks (R.remaining input.old) (R.remaining input.new)
         (W.contents output.old) (W.contents output.new)) }
     ensures not_busy { IfErr result (λ fault. fault ≢ Busy) }
-    ensures spent { IfErr result (λ fault. fault ≡ Spent
-        → SpentBy (R.remaining input.old) (R.remaining input.new)) }
+    ensures not_spent { IfErr result (λ fault. fault ≢ Spent) }
 {
     let mut script = Script::new(alloc, blocks)?;
     let mut buffer = vec![in alloc; 0; CHUNK_BYTES]?;
@@ -300,8 +298,7 @@ pub fn run_script<R: Read, W: Write>(
     ensures err { OnErr result (WrotePrefix blocks (R.remaining input.old) (R.remaining input.new)
         (W.contents output.old) (W.contents output.new)) }
     ensures not_busy { IfErr result (λ fault. fault ≢ Busy) }
-    ensures spent { IfErr result (λ fault. fault ≡ Spent
-        → SpentBy (R.remaining input.old) (R.remaining input.new)) }
+    ensures not_spent { IfErr result (λ fault. fault ≢ Spent) }
 {
     run_input(alloc, blocks, input, output)?;
     Ok(())

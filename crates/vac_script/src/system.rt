@@ -1,14 +1,13 @@
 //! A manager and the one client that calls it.
 
-ghost use Rattle.std.specs.Prelude.{◌≡◌, ◌≢◌, true, IfOk, IfErr};
+ghost use Rattle.std.specs.Prelude.{◌≡◌, true, IfOk, IfErr};
 ghost use Rattle.vac_model.specs.State.{State, empty_state};
 ghost use Rattle.vac_model.specs.Run.{run};
 ghost use Rattle.vac_model.specs.Ranges.{is_task};
 ghost use Rattle.vac_manager.specs.Law.{Shows};
 ghost use Rattle.vac_manager.specs.Opening.{is_block_count};
-ghost use Rattle.vac_script.specs.declared.fault.RunFault.TheVariants.{Busy, Memory, Spent};
-ghost use Rattle.vac_script.specs.Stopping.{IsCause, StopsFor};
-ghost use Rattle.vac_script.specs.System.{StandsAt, FoundSpent};
+ghost use Rattle.vac_script.specs.declared.fault.RunFault.TheVariants.{Memory};
+ghost use Rattle.vac_script.specs.System.{StandsAt, Lasts, TicksBy};
 
 use crate::fault::RunFault;
 use std::alloc::Global;
@@ -38,24 +37,12 @@ impl Model for System {
     ghost invariant = { λ y. IsAlone (record { manager = y.manager; client = y.client }) };
 }
 
-/// Why a script stops where a call of its manager was not made. Its one client is alone, asks in
-/// range and meets no conflict.
-fn stop_for(fault: Fault) -> RunFault
-    requires { IsCause fault }
-    ensures { StopsFor fault result }
-{
-    match fault {
-        Fault::Memory => RunFault::Memory,
-        Fault::Spent { .. } => RunFault::Spent,
-        Fault::Arguments | Fault::Busy(_) => unreachable!(),
-    }
-}
-
 impl System {
     /// A system without entries.
     pub(crate) fn new(alloc: Global, blocks: u32) -> Result<System, RunFault>
         requires { is_block_count blocks ≡ true }
         ensures state { IfOk result (λ system. StandsAt system (empty_state blocks)) }
+        ensures clock { IfOk result (λ system. system.client.value.floor ≡ 0) }
         ensures memory { IfErr result (λ fault. fault ≡ Memory) }
     {
         let Ok((manager, client)) = Manager::new(alloc, blocks, LAST_VERSION) else {
@@ -65,20 +52,22 @@ impl System {
     }
 
     /// Runs a task as a transaction and answers its reply. A client that is alone meets no
-    /// conflict.
-    #[tactic(auto, using(crate::proofs::Causes::cause, crate::proofs::Causes::found_spent))]
+    /// conflict, and while the clock has a version left it does not end.
+    #[tactic(auto, using(crate::proofs::Causes::only_memory))]
     pub(crate) fn apply(&mut self, task: &Task) -> Result<Reply, RunFault>
         requires in_range { is_task task.now ≡ true }
+        requires lasts { Lasts self.old 1 }
         ensures reply { IfOk result (λ reply. (s : State) → StandsAt self.old s
             → reply ≡ (run s task.now).1) }
         ensures state { IfOk result (λ _. (s : State) → StandsAt self.old s
             → StandsAt self.new (run s task.now).0) }
-        ensures not_busy { IfErr result (λ fault. fault ≢ Busy) }
-        ensures spent { IfErr result (λ fault. fault ≡ Spent → FoundSpent self.new (Ok task.now)) }
+        ensures ticks { IfOk result (λ _. TicksBy self.old self.new 1) }
+        ensures memory { IfErr result (λ fault. fault ≡ Memory) }
     {
         match self.manager.call(&mut self.client, task, 1) {
             Ok(reply) => Ok(reply),
-            Err(fault) => Err(stop_for(fault)),
+            Err(Fault::Memory) => Err(RunFault::Memory),
+            Err(_) => unreachable!(),
         }
     }
 

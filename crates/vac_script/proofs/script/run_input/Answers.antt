@@ -1,8 +1,7 @@
-use Rattle.std.proofs.Common.{◌≡◌, ◌<◌, [], length, rules, arith, refl}
-use Rattle.std.proofs.lemmas.Result.{err_from_is_err_and}
+use Rattle.std.proofs.Common.{◌≡◌, ◌<◌, length, rules, arith, refl}
 use Rattle.vac_script.proofs.Cutting.{nothing_begun}
 use Rattle.vac_lines.proofs.Extends.{on_err}
-use Rattle.vac_script.proofs.Running.{running_first, running_on, running_halted, running_kept, running_ended, end_ran, end_halted, running_spent}
+use Rattle.vac_script.proofs.Running.{running_first, running_on, running_halted, running_kept, running_ended, end_ran, end_halted, clock_on}
 use Rattle.vac_script.proofs.Progress.{started, run_ended}
 use Rattle.vac_script.proofs.script.run_input.Goals as goal
 use Rattle.vac_script.proofs.script.run_input.Goals.{in-Ok+in_ok-run_chunk-in-Ok, in-Err+else-ne}
@@ -17,6 +16,7 @@ reads-init g c =
       progress = running_first c.args.blocks _ _ _ _ new.state new.line;
       begun = nothing_begun _ new.line;
       empty = new.out;
+      clock = omega (arith, new.clock);
       room = omega (arith, c.as_mut_slice-chunk.ensures.len, c.in_ok-buffer.ensures.len);
     }
 
@@ -47,7 +47,7 @@ returns-clause-err g c = running_ended _ _ _ _ _ _ _ c.reads.invariant.progress
 
 pub reads-preserved : goal.reads-preserved
 reads-preserved g c =
-    let room : 0 < length c.read.new.buf = omega (arith, c.reads.invariant.room) in
+    let room : length c.read.new.buf ≡ 65536 = omega (arith, c.reads.invariant.room) in
     elim c.match-read.branch [
       | in-Ok+in_ok-run_chunk-in-Ok w ↦
           let ran = w.in_ok-run_chunk-in-Ok.ensures in
@@ -55,6 +55,7 @@ reads-preserved g c =
             progress = running_on _ _ _ _ _ _ _ _ _ _ _ _ c.reads.invariant.progress w.in-Ok.ensures.bytes.0 ran.ok;
             begun = ran.begun;
             empty = ran.empty;
+            clock = clock_on _ _ _ _ _ ran.ok.ticks c.reads.invariant.clock room;
             room = room;
           })
       | in-Err+else-ne w ↦
@@ -62,21 +63,10 @@ reads-preserved g c =
             progress = running_kept _ _ _ _ _ _ _ _ c.reads.invariant.progress w.in-Err.ensures.bytes;
             begun = c.reads.invariant.begun;
             empty = c.reads.invariant.empty;
+            clock = omega (arith, c.reads.invariant.clock);
             room = room;
           })
     ]
 
 pub returns-in_err-buffer-clause-err : goal.returns-in_err-buffer-clause-err
 returns-in_err-buffer-clause-err g c = on_err c.from_residual-in_err-buffer.result (run_ended _ _ _ _ _ _ _ (started c.args.blocks _ _))
-
-pub returns-in_err-run_end-in-Ok-eq0-clause-spent : goal.returns-in_err-run_end-in-Ok-eq0-clause-spent
-returns-in_err-run_end-in-Ok-eq0-clause-spent g c =
-    let zero : c.in-Ok-eq0.field-0 ≡ 0 = search rules in
-    let got = rw zero at c.in-Ok-eq0.ensures.bytes in
-    let p = err_from_is_err_and c.from_residual-in_err-run_end-in-Ok-eq0.result c.from_residual-in_err-run_end-in-Ok-eq0.ensures.1 in
-    rw (p.1, p.2) (λ e. running_spent _ _ _ _ _ _ _ _ [] c.reads.invariant.progress got.0 (c.in_err-run_end-in-Ok-eq0.ensures.spent e))
-
-pub returns-in_err-run_chunk-in-Ok-clause-spent : goal.returns-in_err-run_chunk-in-Ok-clause-spent
-returns-in_err-run_chunk-in-Ok-clause-spent g c =
-    let p = err_from_is_err_and c.from_residual-in_err-run_chunk-in-Ok.result c.from_residual-in_err-run_chunk-in-Ok.ensures.1 in
-    rw (p.1, p.2) (λ e. running_spent _ _ _ _ _ _ _ _ _ c.reads.invariant.progress c.in-Ok.ensures.bytes.0 (c.in_err-run_chunk-in-Ok.ensures.spent e))

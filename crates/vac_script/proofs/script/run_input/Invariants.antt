@@ -1,4 +1,4 @@
-use Rattle.std.proofs.Common.{◌≡◌, ◌<◌, [], length}
+use Rattle.std.proofs.Common.{◌≡◌, ◌≤◌, ◌*◌, [], length}
 use Rattle.vac_script.specs.Script.{HasBegun}
 use Rattle.vac_script.proofs.Running.{Running}
 use Rattle.vac_script.proofs.script.run_input.Given as goal
@@ -9,5 +9,6 @@ invariant-reads g l = record {
   progress : Running l.blocks (g.R.Read.remaining l.fn.input) (g.R.Read.remaining l.input) (g.W.Write.contents l.fn.output) (g.W.Write.contents l.output) l.script.system l.script.line.items;
   begun : HasBegun l.script.line.items;
   empty : l.script.out.items ≡ [];
-  room : 0 < length l.chunk;
+  clock : l.script.system.client.value.floor ≤ 65536 * l.counter;
+  room : length l.chunk ≡ 65536;
 }

@@ -1,8 +1,7 @@
 use Rattle.std.proofs.Common.{◌++◌, ap, ◌∙◌}
-use Rattle.std.proofs.lemmas.Result.{err_from_is_err_and}
 use Rattle.vac_lines.specs.LineTable.{line_task}
 use Rattle.vac_script.proofs.Cutting.{line_task_prefix}
-use Rattle.vac_script.proofs.Running.{answered_from, in_part_from, found_from}
+use Rattle.vac_script.proofs.Running.{answered_from, in_part_from}
 use Rattle.vac_lines.proofs.Extends.{on_err}
 use Rattle.vac_script.proofs.script.Script.end_line.Goals as goal
 
@@ -19,9 +18,3 @@ returns-in_err-run_line-clause-err c =
     let system = ap (λ s. s.system) c.in_ok-keep.ensures.others in
     let line = ap line_task (c.as_slice.ensures.value ∙ c.in_ok-keep.ensures.line) ∙ line_task_prefix (c.args.self.now.line.items ++ c.args.rest.now) in
     on_err c.from_residual-in_err-run_line.result (in_part_from _ _ _ _ _ _ _ system out line c.in_err-run_line.ensures.err)
-
-pub returns-in_err-run_line-clause-spent : goal.returns-in_err-run_line-clause-spent
-returns-in_err-run_line-clause-spent c =
-    let line = ap line_task (c.as_slice.ensures.value ∙ c.in_ok-keep.ensures.line) ∙ line_task_prefix (c.args.self.now.line.items ++ c.args.rest.now) in
-    let p = err_from_is_err_and c.from_residual-in_err-run_line.result c.from_residual-in_err-run_line.ensures.1 in
-    rw (p.1, p.2) (λ e. found_from _ _ _ line (c.in_err-run_line.ensures.spent e))

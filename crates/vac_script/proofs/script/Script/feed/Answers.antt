@@ -1,8 +1,7 @@
 use Rattle.std.proofs.Common.{ap, subst, sym}
-use Rattle.std.proofs.lemmas.Result.{err_from_is_err_and}
 use Rattle.vac_script.specs.Script.{HasBegun}
 use Rattle.vac_script.proofs.Cutting.{has_begun, nothing_begun}
-use Rattle.vac_script.proofs.Running.{ran_line, ran_kept, halted, spent_line}
+use Rattle.vac_script.proofs.Running.{ran_line, ran_kept, halted}
 use Rattle.vac_lines.proofs.Extends.{on_err}
 use Rattle.vac_script.proofs.script.Script.feed.Goals as goal
 
@@ -37,11 +36,3 @@ returns-clause-ok c =
     let kept = c.in_ok-keep.ensures in
     ran_kept c.args.self.now.system at.self.system after.system c.args.self.now.line.items at.self.line.items after.line.items c.args.self.now.out.items at.self.out.items after.out.items c.args.chunk.now
     at.rest.now at.invariant.all at.invariant.begun.0 c.in_default.ensures (ap (λ s. s.out.items) kept.others) (ap (λ s. s.system) kept.others) kept.line
-
-pub returns-in_err-end_line-clause-spent : goal.returns-in_err-end_line-clause-spent
-returns-in_err-end_line-clause-spent c =
-    let at = c.loop-line in
-    let p = err_from_is_err_and c.from_residual.result c.from_residual.ensures.1 in
-    rw (p.1, p.2)
-    (λ e. spent_line c.args.self.now.system at.self.system c.end_line.new.self.system c.args.self.now.line.items at.self.line.items c.args.self.now.out.items at.self.out.items c.args.chunk.now
-    at.rest.now c.in-Some.line.now c.in-Some.behind.now at.invariant.all at.invariant.begun.0 c.in-Some.ensures.0 c.in-Some.ensures.1 (c.in_err-end_line.ensures.spent e))
