@@ -8,7 +8,7 @@ ghost use Rattle.booking_desk.specs.Desks.{AreWithin, AreNumbered};
 ghost use Rattle.booking_desk.specs.Rounds.{AreSplit, AreGathered, AreOld, RoundRan};
 ghost use Rattle.booking_desk.specs.declared.settings.TheConstants.{MOST_ROUNDS};
 
-use crate::asking::End;
+use crate::asking::{End, Served};
 use crate::desk::Desks;
 use crate::run::DeskFault;
 use crate::settings::DeskSettings;
@@ -85,6 +85,17 @@ fn gather(manager: &Manager, clients: Four<Client>) -> Client
     client
 }
 
+/// Whether a desk ended its round for want of memory.
+fn was_memory_refused(served: &Four<Served>) -> bool {
+    let ends = [
+        served.first.end,
+        served.second.end,
+        served.third.end,
+        served.fourth.end,
+    ];
+    ends.contains(&End::Memory)
+}
+
 /// One round of all desks, each by a client and in a thread of its own.
 fn run_round<R: Threads + Sync>(
     rt: &R,
@@ -128,13 +139,7 @@ fn run_round<R: Threads + Sync>(
         },
     };
     let served = serve_all(rt, alloc, manager, settings, turns);
-    let ends = [
-        served.first.end,
-        served.second.end,
-        served.third.end,
-        served.fourth.end,
-    ];
-    if ends.contains(&End::Memory) {
+    if was_memory_refused(&served) {
         return Err(DeskFault::Memory);
     }
     let desks = Desks {

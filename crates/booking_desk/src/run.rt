@@ -15,7 +15,7 @@ use std::alloc::Global;
 use std::thread::Threads;
 use stm_region::RegionFault;
 use thiserror::Error;
-use vac_manager::{Client, Manager};
+use vac_manager::{Client, Fault, Manager};
 use vac_model::Report;
 
 /// What the desks leave: how far each of them is, after how many rounds, and the report of the
@@ -59,7 +59,8 @@ fn add_stock(
     };
     match manager.call(client, &task, 1) {
         Ok(_) => Ok(()),
-        Err(_) => Err(DeskFault::Memory),
+        Err(Fault::Memory) => Err(DeskFault::Memory),
+        Err(_) => unreachable!(),
     }
 }
 

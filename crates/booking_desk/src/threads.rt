@@ -19,7 +19,7 @@ pub(crate) struct Turn {
     pub(crate) desk: Desk,
 }
 
-/// One of each desk, or two of two.
+/// One for each desk.
 #[derive(Drop)]
 pub(crate) struct Four<T> {
     pub(crate) first: T,
