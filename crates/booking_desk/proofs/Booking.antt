@@ -1,13 +1,10 @@
 -- Trips that were booked, one behind the other.
 use Rattle.std.proofs.Common.{◌≡◌, ◌∙◌, ℕ, zero, suc, ◌+◌, ◌<◌, ◌≤◌, ◌⊎◌, inl, inr, List, [], ◌∷◌, ◌++◌, length, length-append, refl, sym, ap, subst, arith}
-use mathlib.Core.Option.{some, some-injective, some-ne-none}
+use mathlib.Core.Option.{some-injective, some-ne-none}
 use Rattle.stm_words.specs.Image.{In}
 use Rattle.stm_core.specs.Client.{Record}
 use Rattle.stm_core.specs.History.{Sub, done, keep, skip}
-use Rattle.vac_model.specs.declared.replies.Reply.{Reply}
-use Rattle.vac_model.specs.Code.{code}
 use Rattle.booking_desk.specs.declared.desk.Desk.{Desk}
-use Rattle.booking_desk.specs.Trips.{trip_of}
 use Rattle.booking_desk.specs.Desks.{asked, Ascend, AreTrips, Booked, HasBooked}
 
 pub ascend_more : (low : ℕ) (ns : List ℕ) (n high : ℕ) → Ascend low ns n → n < high → Ascend low (ns ++ (n ∷ [])) high

@@ -1,5 +1,5 @@
 -- Clients that are split off for a round, and gathered after it.
-use Rattle.std.proofs.Common.{◌≡◌, ◌∙◌, ℕ, ◌+◌, ◌-◌, ◌<◌, ◌≤◌, min, List, refl, sym, ap, arith}
+use Rattle.std.proofs.Common.{◌≡◌, ◌∙◌, ◌+◌, ◌-◌, ◌<◌, min, List, ap, arith}
 use Rattle.stm_core.specs.Client.{Record, merged}
 use Rattle.stm_core.specs.History.{Sub}
 use Rattle.stm_core.proofs.Merging.{sub_trans}

@@ -1,9 +1,9 @@
 -- Rounds of all desks, one after the other.
-use Rattle.std.proofs.Common.{◌≡◌, ◌∙◌, ℕ, zero, suc, ◌+◌, ◌<◌, ◌≤◌, Bool, true, false, cond, List, [], ◌∷◌, ◌++◌, length, length-append, append_assoc, refl, sym, ap, subst, arith}
+use Rattle.std.proofs.Common.{◌≡◌, ◌∙◌, ℕ, zero, suc, ◌+◌, ◌<◌, Bool, true, false, cond, List, [], ◌∷◌, ◌++◌, length, length-append, refl, sym, ap, subst, arith}
 use Rattle.stm_words.specs.Image.{In}
 use Rattle.stm_core.specs.Client.{Record, before, rank, inserted, merged}
-use Rattle.stm_core.specs.History.{Sub, done, keep, skip}
-use Rattle.stm_core.proofs.Merging.{sub_same, sub_trans, sub_left}
+use Rattle.stm_core.specs.History.{Sub, done}
+use Rattle.stm_core.proofs.Merging.{sub_trans, sub_left}
 use Rattle.stm_region.specs.Shown.{RegionShown}
 use Rattle.vac_manager.specs.Called.{CallerShown}
 use Rattle.vac_manager.specs.Renewed.{ClosesSomewhere}
@@ -11,8 +11,8 @@ use Rattle.vac_manager.proofs.Adding.{not_earlier}
 use Rattle.booking_desk.specs.declared.desk.Desk.{Desk}
 use Rattle.booking_desk.specs.declared.desk.Desks.{Desks}
 use Rattle.booking_desk.specs.declared.settings.DeskSettings.{DeskSettings}
-use Rattle.booking_desk.specs.Desks.{AreNumbered, AreWithin, AreTrips, Booked, HasBooked, Serves, new_desk, new_desks}
-use Rattle.booking_desk.specs.Rounds.{AreOld, AreSplit, AreGathered, WentOn, booked_by, RoundRan}
+use Rattle.booking_desk.specs.Desks.{AreNumbered, AreWithin, Booked, HasBooked, Serves, new_desk, new_desks}
+use Rattle.booking_desk.specs.Rounds.{AreOld, AreSplit, AreGathered, WentOn, RoundRan}
 use Rattle.booking_desk.specs.Run.{IsStocked, Went}
 use Rattle.booking_desk.proofs.Booking.{booked_none, booked_both, sub_both, sub_beyond, length_trips}
 

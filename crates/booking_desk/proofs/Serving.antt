@@ -1,8 +1,7 @@
 -- A desk goes on with its trips.
-use Rattle.std.proofs.Common.{◌≡◌, ◌∙◌, ℕ, ◌+◌, ◌*◌, ◌<◌, ◌≤◌, inl, inr, List, [], ◌∷◌, ◌++◌, length, length-append, append-nil, append_assoc, refl, sym, ap, subst, arith}
+use Rattle.std.proofs.Common.{◌≡◌, ◌∙◌, ℕ, ◌+◌, ◌*◌, ◌<◌, ◌≤◌, inl, inr, List, [], ◌∷◌, ◌++◌, length-append, append-nil, append_assoc, refl, sym, ap, subst, arith}
 use Rattle.std.specs.Prelude.{Result, Ok, Err}
-use Rattle.stm_words.specs.Image.{In}
-use Rattle.stm_core.specs.Client.{Client, Record}
+use Rattle.stm_core.specs.Client.{Record}
 use Rattle.stm_region.specs.Shown.{RegionShown}
 use Rattle.vac_model.specs.declared.replies.Reply.{Reply}
 use Rattle.vac_model.specs.Code.{code}
@@ -14,7 +13,7 @@ use Rattle.vac_manager.specs.Called.{CallerShown, Adds, Attempts}
 use Rattle.booking_desk.specs.declared.desk.Desk.{Desk}
 use Rattle.booking_desk.specs.declared.settings.DeskSettings.{DeskSettings}
 use Rattle.booking_desk.specs.Trips.{trip_of}
-use Rattle.booking_desk.specs.Desks.{asked, AreTrips, Booked, HasBooked, Serves}
+use Rattle.booking_desk.specs.Desks.{asked, AreTrips, Serves}
 use Rattle.booking_desk.proofs.Booking.{ascend_more, ascend_on, are_both, in_none, in_both, in_one, booked_none, same_desk}
 
 pub serves_none : (region : RegionShown) (s : DeskSettings) (d : Desk) (c : CallerShown) → asked d ≤ s.trips → Serves region s d d c c

@@ -1,4 +1,4 @@
-use Rattle.booking_desk.proofs.Gathering.{Took, all_gathered}
+use Rattle.booking_desk.proofs.Gathering.{all_gathered}
 use Rattle.booking_desk.proofs.rounds.gather.Goals as goal
 
 pub returns-clause-gathered : goal.returns-clause-gathered
