@@ -1,0 +1,84 @@
+-- Trips that were booked, one behind the other.
+use Rattle.std.proofs.Common.{◌≡◌, ◌∙◌, ℕ, zero, suc, ◌+◌, ◌<◌, ◌≤◌, ◌⊎◌, inl, inr, List, [], ◌∷◌, ◌++◌, length, length-append, refl, sym, ap, subst, arith}
+use mathlib.Core.Option.{some-injective, some-ne-none}
+use Rattle.stm_words.specs.Image.{In}
+use Rattle.stm_core.specs.Client.{Record}
+use Rattle.stm_core.specs.History.{Sub, done, keep, skip}
+use Rattle.booking_desk.specs.declared.desk.Desk.{Desk}
+use Rattle.booking_desk.specs.Desks.{asked, Ascend, AreTrips, Booked, HasBooked}
+
+pub ascend_more : (low : ℕ) (ns : List ℕ) (n high : ℕ) → Ascend low ns n → n < high → Ascend low (ns ++ (n ∷ [])) high
+ascend_more low [] n high h l = let m : n + 1 ≤ high = omega (arith, l) in (h, m)
+ascend_more low (m ∷ ns) n high h l = (h.0, ascend_more (m + 1) ns n high h.1 l)
+
+pub ascend_on : (low : ℕ) (ns : List ℕ) (n high : ℕ) → Ascend low ns n → n ≤ high → Ascend low ns high
+ascend_on low [] n high h l = let m : low ≤ high = omega (arith, h, l) in m
+ascend_on low (m ∷ ns) n high h l = (h.0, ascend_on (m + 1) ns n high h.1 l)
+
+ascend_from : (low mid : ℕ) (ns : List ℕ) (high : ℕ) → low ≤ mid → Ascend mid ns high → Ascend low ns high
+ascend_from low mid [] high l h = let m : low ≤ high = omega (arith, h, l) in m
+ascend_from low mid (n ∷ ns) high l h = let m : low ≤ n = omega (arith, l, h.0) in (m, h.1)
+
+pub ascend_both : (low : ℕ) (ns : List ℕ) (mid : ℕ) (ms : List ℕ) (high : ℕ) → Ascend low ns mid → Ascend mid ms high → Ascend low (ns ++ ms) high
+ascend_both low [] mid ms high h k = ascend_from low mid ms high h k
+ascend_both low (n ∷ ns) mid ms high h k = (h.0, ascend_both (n + 1) ns mid ms high h.1 k)
+
+pub are_both : (desk : ℕ) (ns ms : List ℕ) (rs qs : List Record) → AreTrips desk ns rs → AreTrips desk ms qs → AreTrips desk (ns ++ ms) (rs ++ qs)
+are_both desk [] ms [] qs h k = k
+are_both desk [] ms (r ∷ rs) qs h k = absurd h
+are_both desk (n ∷ ns) ms [] qs h k = absurd h
+are_both desk (n ∷ ns) ms (r ∷ rs) qs h k = (h.0, are_both desk ns ms rs qs h.1 k)
+
+pub in_none : (r : Record) → In r [] → ⊥
+in_none r i = some-ne-none r (sym i.1)
+
+pub in_both : (rs qs : List Record) (r : Record) → In r (rs ++ qs) → In r rs ⊎ In r qs
+in_both [] qs r i = inr i
+in_both (x ∷ rs) qs r (zero, e) = inl (zero, e)
+in_both (x ∷ rs) qs r (suc j, e) = elim (in_both rs qs r (j, e)) [ inl k ↦ inl (suc k.0, k.1) | inr k ↦ inr k ]
+
+pub in_one : (x r : Record) → In r (x ∷ []) → x ≡ r
+in_one x r (zero, e) = some-injective x r e
+in_one x r (suc j, e) = absurd (some-ne-none r (sym e))
+
+-- the same trips of another state of the desk
+pub same_desk : (a b : ℕ) (ns : List ℕ) (rs : List Record) → a ≡ b → AreTrips a ns rs → AreTrips b ns rs
+same_desk a b ns rs e h = subst (λ (k : ℕ). AreTrips k ns rs) e h
+
+-- nothing booked
+pub booked_none : (d : Desk) → HasBooked d d (record { trips = []; records = [] })
+booked_none d =
+    let l : asked d ≤ asked d = omega arith in
+    record { same = refl; ascend = l; booked = omega arith; given_up = omega arith; are_of = tt }
+
+-- in some rounds, and then in others
+pub booked_both : (d e f : Desk) (x y : Booked) → HasBooked d e x → HasBooked e f y → HasBooked d f (record { trips = x.trips ++ y.trips; records = x.records ++ y.records })
+booked_both d e f x y h k = record {
+  same = k.same ∙ h.same;
+  ascend = ascend_both (asked d) x.trips (asked e) y.trips (asked f) h.ascend k.ascend;
+  booked = omega (arith, length-append x.trips y.trips, h.booked, k.booked);
+  given_up = omega (arith, h.given_up, k.given_up);
+  are_of = are_both d.number x.trips y.trips x.records y.records h.are_of (same_desk e.number d.number y.trips y.records h.same k.are_of);
+}
+
+sub_after : {A : Type 0} (us bs xs : List A) → Sub xs bs → Sub xs (us ++ bs)
+sub_after [] bs xs p = p
+sub_after (u ∷ us) bs xs p = skip u (sub_after us bs xs p)
+
+pub sub_both : {A : Type 0} {xs us : List A} (ys vs : List A) → Sub xs us → Sub ys vs → Sub (xs ++ ys) (us ++ vs)
+sub_both ys vs (done {ys = us}) q = sub_after us vs ys q
+sub_both ys vs (keep x p) q = keep x (sub_both ys vs p q)
+sub_both ys vs (skip y p) q = skip y (sub_both ys vs p q)
+
+-- what holds of none of the first stands behind them
+pub sub_beyond : (l m x : List Record) → ((r : Record) → In r m → In r l → ⊥) → Sub m (l ++ x) → Sub m x
+sub_beyond [] m x f p = p
+sub_beyond (y ∷ l) m x f (done {ys = ys}) = done
+sub_beyond (y ∷ l) m x f (keep z p) = absurd (f z (zero, refl) (zero, refl))
+sub_beyond (y ∷ l) m x f (skip z p) = sub_beyond l m x (λ r i j. f r i (suc j.0, j.1)) p
+
+pub length_trips : (desk : ℕ) (ns : List ℕ) (rs : List Record) → AreTrips desk ns rs → length rs ≡ length ns
+length_trips desk [] [] h = refl
+length_trips desk [] (r ∷ rs) h = absurd h
+length_trips desk (n ∷ ns) [] h = absurd h
+length_trips desk (n ∷ ns) (r ∷ rs) h = ap suc (length_trips desk ns rs h.1)

@@ -1,0 +1,6 @@
+mod Words
+mod Booking
+mod Serving
+mod Gathering
+mod Rounding
+mod Running

@@ -1,0 +1,44 @@
+-- Plain memory of words that represent a state, and its report.
+use Rattle.std.proofs.Common.{◌≡◌, inl, inr, ℕ, List, Option, Some, None, length, slice_index, unwrap_or, refl, sym, ap, ◌∙◌, subst, arith}
+use Rattle.std.specs.FinMap.{get-empty}
+use Rattle.std.specs.Ordering.{nat_cmp}
+use Rattle.std.proofs.lemmas.List.{get_or_past}
+use Rattle.std.proofs.lemmas.Bool.{cases_lt}
+use Rattle.stm_words.specs.View.{memory, Sees}
+use Rattle.stm_words.specs.Plain.{numbered, flat_view}
+use Rattle.stm_words.specs.PlainSeen.{get_at, get_behind}
+use Rattle.vac_model.specs.declared.replies.Report.{Report}
+use Rattle.vac_model.specs.State.{State, report}
+use Rattle.vac_records.specs.Items.{mem}
+use Rattle.vac_records.specs.Holds.{HoldsState}
+use Rattle.vac_audit.specs.Reported.{Reported}
+use Rattle.vac_manager.specs.Law.{Shows, IsFitting, words_of}
+
+none_some : (o : Option ℕ) (v : ℕ) → o ≡ None → o ≡ Some v → ⊥
+none_some o v e f = cc
+
+flat_at : (xs image : List ℕ) (a : ℕ) → length image ≡ length xs → memory image (numbered 0 xs) a ≡ slice_index xs a
+flat_at xs image a e = elim (cases_lt a (length xs)) [
+  | inl inside ↦ ap (λ (o : Option ℕ). unwrap_or o (slice_index image a)) (get_at xs a inside)
+  | inr behind ↦ ap (λ (o : Option ℕ). unwrap_or o (slice_index image a)) (get_behind xs 0 a (omega arith)) ∙ (get_or_past image a 0 (omega arith) ∙ sym (get_or_past xs a 0 behind))
+]
+
+flat_mem : (xs image : List ℕ) → length image ≡ length xs → mem (flat_view xs) image ≡ words_of xs
+flat_mem xs image e = λ i a. flat_at xs image a e i
+
+-- words that represent a state, as plain memory
+pub fitting_holds : (words xs : List ℕ) → xs ≡ words → IsFitting words → HoldsState (flat_view xs)
+fitting_holds words xs same fitting =
+    let f : IsFitting xs = subst (λ (l : List ℕ). IsFitting l) (sym same) fitting in
+    record {
+      inside = omega (arith, f.shown.represents.size);
+      small = omega (arith, f.shown.represents.size, f.shown.small.small);
+      under = λ image i. (f.state, rw (flat_mem xs image i.fits, i.fits) f.shown);
+    }
+
+-- the report over them is that of their state
+pub reports : (words xs xs' : List ℕ) (r : Report) → xs ≡ words → Reported (flat_view xs) (flat_view xs') r → (s : State) → Shows words s → report s ≡ r
+reports words xs xs' r same h s shown =
+    let long : length xs ≡ length xs' = sym h.reads.kept.size in
+    let i : Sees (flat_view xs') xs = record { fits = long; agrees = λ a v e. absurd (none_some _ v (get-empty nat_cmp a) e) } in
+    h.is xs s i (rw (flat_mem xs xs refl, same) shown)

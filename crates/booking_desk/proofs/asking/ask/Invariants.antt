@@ -1,0 +1,16 @@
+use Rattle.std.proofs.Common.{◌≡◌, ◌≤◌, ◌+◌, ◌*◌}
+use Rattle.booking_desk.proofs.asking.ask.Given as goal
+
+abbrev pub invariant-asks : goal.invariant-asks
+invariant-asks l = record {
+  session : l.session ≡ record l.fn.session { client = record l.fn.session.client { value = l.session.client.value } };
+  some : 1 ≤ l.left;
+  grants : l.session.client.value.grants ≡ l.fn.session.client.value.grants;
+  floor : l.fn.session.client.value.floor ≤ l.session.client.value.floor;
+  records : l.session.client.value.records ≡ l.fn.session.client.value.records;
+  began : l.fn.session.client.value.attempt.number ≤ l.session.client.value.attempt.number;
+  attempts : l.session.client.value.attempt.number + l.left * 16 ≡ l.fn.session.client.value.attempt.number + l.asks * 16;
+}
+
+abbrev pub decreases-asks : goal.decreases-asks
+decreases-asks l = l.left

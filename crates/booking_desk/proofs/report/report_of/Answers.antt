@@ -1,0 +1,8 @@
+use Rattle.booking_desk.proofs.Words.{fitting_holds, reports}
+use Rattle.booking_desk.proofs.report.report_of.Goals as goal
+
+pub report-requires : goal.report-requires
+report-requires c = fitting_holds _ _ c.new-flat.ensures c.requires
+
+pub returns : goal.returns
+returns c = reports _ _ _ _ c.new-flat.ensures c.in-Ok.ensures.answer

@@ -1,0 +1,17 @@
+//! A program over the manager: four desks book trips, each in a thread of its own, and do what is
+//! right at each fault of a call.
+#![tactic(auto)]
+
+mod asking;
+mod desk;
+mod report;
+mod rounds;
+mod run;
+mod settings;
+mod threads;
+mod trips;
+
+pub use desk::{Desk, Desks};
+pub use run::{DeskFault, DeskReport, run_desks};
+pub use settings::{DeskSettings, MOST_ASKS, MOST_ROUNDS, MOST_TRIPS};
+pub use trips::{DESKS, ITEMS, PRICE};

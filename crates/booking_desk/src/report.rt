@@ -1,0 +1,18 @@
+//! The report of the words that a manager left.
+
+ghost use Rattle.std.specs.Prelude.{◌≡◌};
+ghost use Rattle.vac_model.specs.State.{State, report};
+ghost use Rattle.vac_manager.specs.Law.{Shows, IsFitting};
+
+use stm_words::Flat;
+use vac_model::Report;
+
+/// The report of the state that the words represent.
+pub(crate) fn report_of(words: Vec<u64>) -> Report
+    requires { IsFitting words.items }
+    ensures { (s : State) → Shows words.items s → report s ≡ result }
+{
+    let mut flat = Flat::new(words);
+    let Ok(report) = vac_audit::report(&mut flat);
+    report
+}

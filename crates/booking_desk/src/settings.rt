@@ -1,0 +1,50 @@
+//! The settings of the desks.
+
+ghost use Rattle.std.specs.Prelude.{◌≡◌};
+ghost use Rattle.booking_desk.specs.Setting.{is_settings};
+
+use stm_words::VERSION_LIMIT;
+use vac_model::limits::{MOST_AMOUNT, MOST_BLOCKS};
+
+/// The most trips of a desk.
+pub const MOST_TRIPS: u32 = 1_000_000;
+
+/// The most calls by which a desk asks for one trip.
+pub const MOST_ASKS: u32 = 1_000_000;
+
+/// The most rounds. Each begins with a renewal, and a manager has 65,535 of them.
+pub const MOST_ROUNDS: u32 = 65_535;
+
+/// The settings of the desks.
+#[derive(Clone, Copy, Debug, PartialEq, Eq)]
+pub struct DeskSettings {
+    /// For how many entries there is room, 1 to 262,144.
+    pub blocks: u32,
+    /// The version that the clock of each round ends at, 1 to 2^62 - 1.
+    pub last: u64,
+    /// How many units of each item there are, 0 to 1,000,000.
+    pub units: u32,
+    /// How many trips each desk has to book, 0 to 1,000,000.
+    pub trips: u32,
+    /// By how many calls a desk asks for a trip before it gives it up, 1 to 1,000,000.
+    pub asks: u32,
+    /// How many rounds there are at most, 0 to 65,535.
+    pub rounds: u32,
+}
+
+impl DeskSettings {
+    /// Whether all numbers are in their ranges.
+    pub fn is_in_range(&self) -> bool
+        ensures { result ≡ is_settings self.now }
+    {
+        1 <= self.blocks
+            && self.blocks <= MOST_BLOCKS
+            && 1 <= self.last
+            && self.last < VERSION_LIMIT
+            && self.units <= MOST_AMOUNT
+            && self.trips <= MOST_TRIPS
+            && 1 <= self.asks
+            && self.asks <= MOST_ASKS
+            && self.rounds <= MOST_ROUNDS
+    }
+}
