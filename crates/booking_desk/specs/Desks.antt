@@ -4,6 +4,7 @@ use Rattle.std.specs.Prelude.{List, [], ◌∷◌, ◌++◌, length}
 use Rattle.stm_words.specs.Image.{In}
 use Rattle.stm_core.specs.Client.{Client, Record}
 use Rattle.stm_region.specs.Shown.{RegionShown}
+use Rattle.vac_model.specs.declared.tasks.Task.{Task}
 use Rattle.vac_model.specs.declared.replies.Reply.{Reply}
 use Rattle.vac_model.specs.Code.{code}
 use Rattle.vac_manager.specs.Called.{CallerShown, IsSpent}
@@ -80,7 +81,7 @@ pub record HasBooked (d d' : Desk) (x : Booked) : Type 0 where
 -- refused
 abbrev pub IsEnd : RegionShown → ℕ → End → Desk → Client → Type 0
 IsEnd region trips end.Done d v = asked d ≡ trips
-IsEnd region trips end.Spent d v = IsSpent region region.last v
+IsEnd region trips end.Spent d v = v.attempt.next_from ≡ region.last
 IsEnd region trips end.Memory d v = Unit {0}
 
 -- a desk went on with its trips, by this client of the manager: the records of what it booked, of
@@ -105,12 +106,12 @@ pub record HasServed (region : RegionShown) (s : DeskSettings) (d d' : Desk)
 
 -- why a trip was not booked: never for its numbers; all attempts of all calls met a conflict; or
 -- the clock was found at its last version
-abbrev pub IsRefusal : RegionShown → ℕ → Fault → Client → Client → Type 0
-IsRefusal region asks fault.Arguments v v' = ⊥
-IsRefusal region asks fault.Memory v v' = Unit {0}
-IsRefusal region asks (fault.Busy conflict) v v' =
+abbrev pub IsRefusal : RegionShown → Task → ℕ → Fault → Client → Client → Type 0
+IsRefusal region t asks fault.Arguments v v' = ⊥
+IsRefusal region t asks fault.Memory v v' = Unit {0}
+IsRefusal region t asks (fault.Busy conflict) v v' =
     v'.attempt.number ≡ v.attempt.number + asks * TRIES
-IsRefusal region asks (fault.Spent version) v v' = IsSpent region version v'
+IsRefusal region t asks (fault.Spent version) v v' = IsSpent region t version v'
 
 -- the client is of this manager, and the desk may go on: it is one of the four, and has asked for
 -- no more trips than there are

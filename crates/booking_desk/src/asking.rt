@@ -49,7 +49,7 @@ fn ask(session: &mut Session<'_>, task: &Task, asks: u32) -> Result<Reply, Fault
         ≤ session.new.client.value.attempt.number }
     ensures records { Records session.old.manager task.now result
         session.old.client.value session.new.client.value }
-    ensures refused { IfErr result (λ fault. IsRefusal session.old.manager asks fault
+    ensures refused { IfErr result (λ fault. IsRefusal session.old.manager task.now asks fault
         session.old.client.value session.new.client.value) }
 {
     let backoff = Backoff::new();
