@@ -17,6 +17,8 @@ use Rattle.vac_model.specs.declared.tasks.Task.{Task}
 use Rattle.vac_model.specs.declared.replies.Reply.{Reply}
 use Rattle.vac_model.specs.Code.{code}
 use Rattle.vac_manager.specs.Called.{IsUnplaced, Adds, Tried}
+use Rattle.vac_manager.specs.declared.placed.Place.{Place}
+use Rattle.vac_manager.specs.Placed.{AddsAt, place_of}
 
 record_tag : (region : RegionShown) (tag : List ℕ) (v : Client) (pairs : List (ℕ × ℕ)) (version : ℕ) → (commit_record region tag v pairs version).tag ≡ tag
 record_tag region tag v [] version = refl
@@ -90,13 +92,34 @@ record_unplaced : (region : RegionShown) (tag : List ℕ) (v : Client) (pairs : 
 record_unplaced region tag v [] version p = p
 record_unplaced region tag v (w ∷ ws) version p = refl
 
--- what a client is after an attempt that was decided
-pub record Decided (region : RegionShown) (t : Task) (r : Reply) (v v' : Client) : Type 0 where
+-- whether a commit wrote
+pub wrote_in : List (ℕ × ℕ) → Bool
+wrote_in [] = false
+wrote_in (p ∷ ps) = true
+
+-- a place by its parts
+pub place_at : ℕ → ℕ → Bool → Place
+place_at renewal version wrote = record { renewal = renewal; version = version; wrote = wrote }
+
+-- the place of a commit's record
+record_place : (region : RegionShown) (tag : List ℕ) (v : Client) (pairs : List (ℕ × ℕ)) (version : ℕ) → IsCommitVersion v pairs version →
+    place_of (commit_record region tag v pairs version) ≡ place_at region.renewal version (wrote_in pairs)
+record_place region tag v [] version h = ap (λ (n : ℕ). place_at region.renewal n false) (sym h)
+record_place region tag v (p ∷ ps) version h = refl
+
+-- a commit wrote where its version is above the read version
+pub wrote_is : (v : Client) (pairs : List (ℕ × ℕ)) (version rv : ℕ) → rv ≡ v.attempt.rv → IsCommitVersion v pairs version → ltb rv version ≡ wrote_in pairs
+wrote_is v [] version rv e h = let same : rv ≡ version = e ∙ sym h in grind (arith, nat_tests)
+wrote_is v (p ∷ ps) version rv e h = let low : rv < version = omega (arith, e, h) in grind (arith, nat_tests)
+
+-- what a client is after an attempt that was decided, and the place of its record
+pub record Decided (region : RegionShown) (t : Task) (r : Reply) (place : Place) (v v' : Client) : Type 0 where
   pub tried : Tried {E = Stop} region t v v' (Ok r)
+  pub placed : AddsAt region.renewal (code t r) place v v'
   pub unplaced : IsUnplaced v'
 
 pub committed : (region region' : RegionShown) (t : Task) (r : Reply) (pairs : List (ℕ × ℕ)) (rv version : ℕ) (c c0 : ClientShown) (v1 v2 v' : Client) → region'.renewal ≡ region.renewal → AreEarlier region.renewal rv c.value.records → IsUnplaced c.value →
-    c0 ≡ acted region begin rv c → still v1 ≡ still c0.value → c.value.floor ≤ rv → HasCommitted region' (code t r) pairs v1 v2 version → v' ≡ v2 → Decided region t r c.value v'
+    c0 ≡ acted region begin rv c → still v1 ≡ still c0.value → c.value.floor ≤ rv → HasCommitted region' (code t r) pairs v1 v2 version → v' ≡ v2 → Decided region t r (place_at region.renewal version (wrote_in pairs)) c.value v'
 committed region region' t r pairs rv version c c0 v1 v2 v' renewed earlier unplaced begun same low done end =
     let attempt0 : c0.value.attempt.number ≡ c.value.attempt.number + 1 = ap (λ (x : ClientShown). x.value.attempt.number) begun in
     let grants0 : c0.value.grants ≡ c.value.grants = ap (λ (x : ClientShown). x.value.grants) begun in
@@ -142,11 +165,16 @@ committed region region' t r pairs rv version c c0 v1 v2 v' renewed earlier unpl
         | inr e ↦ subst (λ (y : Record). y.point ≡ 0) e (record_unplaced region' (code t r) v1 pairs version place1)
       ];
     } in
-    subst (λ (x : Client). Decided region t r c.value x) (sym end) (record { tried = tried; unplaced = every })
+    let place : Place = place_at region.renewal version (wrote_in pairs) in
+    let placed : AddsAt region.renewal (code t r) place c.value v2 = record {
+      adds = adds;
+      place_is = ap (λ (n : ℕ). place_at n version (wrote_in pairs)) (sym renewed) ∙ sym (record_place region' (code t r) v1 pairs version done.versioned);
+    } in
+    subst (λ (x : Client). Decided region t r place c.value x) (sym end) (record { tried = tried; placed = placed; unplaced = every })
 
 -- the same of a task that only read
 pub finished : (region region' : RegionShown) (t : Task) (r : Reply) (rv n : ℕ) (c c0 : ClientShown) (c1 c2 : ClientShown) (v' : Client) → region'.renewal ≡ region.renewal → AreEarlier region.renewal rv c.value.records → IsUnplaced c.value →
-    c0 ≡ acted region begin rv c → still c1.value ≡ still c0.value → c.value.floor ≤ rv → c2 ≡ acted region' (finish (code t r)) n c1 → c2.value.attempt.held ≡ [] → v' ≡ c2.value → Decided region t r c.value v'
+    c0 ≡ acted region begin rv c → still c1.value ≡ still c0.value → c.value.floor ≤ rv → c2 ≡ acted region' (finish (code t r)) n c1 → c2.value.attempt.held ≡ [] → v' ≡ c2.value → Decided region t r (place_at region.renewal c1.value.attempt.rv false) c.value v'
 finished region region' t r rv n c c0 c1 c2 v' renewed earlier unplaced begun same low ended free end =
     let floor1 : c1.value.floor ≡ c1.value.attempt.rv = ap (λ (x : Client). x.floor) same ∙ (ap (λ (x : ClientShown). x.value.floor) begun ∙ (sym (ap (λ (x : ClientShown). x.value.attempt.rv) begun) ∙ sym (ap (λ (x : Client). x.attempt.rv) same))) in
     let done : HasCommitted region' (code t r) [] c1.value c2.value c1.value.attempt.rv = record {
@@ -174,3 +202,7 @@ unplaced_stopped region region' rv log s c c0 v v2 v' unplaced begun same stoppe
 
 pub unplaced_joined : (v w v' : Client) → IsUnplaced v → IsUnplaced w → ((r : Record) → In r v'.records → In r v.records ⊎ In r w.records) → IsUnplaced v'
 unplaced_joined v w v' unplaced unplaced' only = record { each = λ x i. elim (only x i) [ inl j ↦ unplaced.each x j | inr j ↦ unplaced'.each x j ] }
+
+-- whether it wrote is known by other words
+pub placed_as : (renewal version : ℕ) (wrote wrote' : Bool) (tag : List ℕ) (v v' : Client) → AddsAt renewal tag (place_at renewal version wrote) v v' → wrote' ≡ wrote → AddsAt renewal tag (place_at renewal version wrote') v v'
+placed_as renewal version wrote wrote' tag v v' h e = record { adds = h.adds; place_is = ap (λ (b : Bool). place_at renewal version b) e ∙ h.place_is }

@@ -1,6 +1,6 @@
 use Rattle.std.proofs.Common.{rules}
 use Rattle.vac_manager.proofs.Histories.{continues, whole_of}
-use Rattle.vac_manager.proofs.manager.Manager.call_gated.Goals as goal
+use Rattle.vac_manager.proofs.manager.Manager.call_traced.Goals as goal
 
 pub returns-clause-whole : goal.returns-clause-whole
 returns-clause-whole g c =
