@@ -194,12 +194,12 @@ impl<'a, L: Law, R: Allocator, A: Allocator + Copy> TxRead for Attempt<'a, L, R,
 }
 
 impl<'a, L: Law, R: Allocator, A: Allocator + Copy> TxMem for Attempt<'a, L, R, A> {
-    ghost use Rattle.std.specs.Prelude.{◌≡◌, ◌≢◌, Some, None, Ok, Err, IsOk, MatchResult};
+    ghost use Rattle.std.specs.Prelude.{◌≡◌, ◌≢◌, Some, None, Ok, Err, IsOk, MatchResult, IfErr, true};
     ghost use Rattle.std.specs.FinMap.{insert};
     ghost use Rattle.stm_words.specs.View.{SameFrame};
-    ghost use Rattle.stm_attempt.specs.Attempt.{view, origin, log_of, written_at, IsAsBefore, Writes};
+    ghost use Rattle.stm_attempt.specs.Attempt.{view, origin, client_of, log_of, written_at, IsAsBefore, Writes};
     ghost use Rattle.stm_attempt.specs.declared.conflict.Conflict.{Conflict};
-    ghost use Rattle.stm_attempt.specs.declared.conflict.Refusal.TheVariants.{Stopped};
+    ghost use Rattle.stm_attempt.specs.declared.conflict.Refusal.TheVariants.{Memory, Stopped};
 
     /// Puts the value into the write log.
     #[inline]
@@ -214,6 +214,8 @@ impl<'a, L: Law, R: Allocator, A: Allocator + Copy> TxMem for Attempt<'a, L, R, 
         ensures client { IsAsBefore self.old self.new }
         ensures again { (conflict : Conflict) → self.old.stopped ≡ Some conflict →
             (result ≡ Err Stopped) × (log_of self.new ≡ log_of self.old) }
+        ensures lone { (client_of self.old).attempt.lone ≡ true
+            → IfErr result (λ stop. stop ≡ Memory) }
         ensures log { self.old.stopped ≡ None → Writes self.old self.new addr.0 value result }
         ensures there { self.old.stopped ≡ None → written_at self.old addr.0 ≢ None → IsOk result }
     {
