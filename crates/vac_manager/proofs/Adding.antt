@@ -1,5 +1,5 @@
 -- A commit adds the record of the task and its reply.
-use Rattle.std.proofs.Common.{◌≡◌, ◌⊎◌, inl, inr, ℕ, zero, suc, ◌+◌, ◌*◌, ◌<◌, ◌≤◌, Bool, true, false, cond, eqb, ltb, ◌||◌, ◌&&◌, List, [], ◌∷◌, ◌++◌, Ok, refl, sym, ap, subst, ◌∙◌, arith}
+use Rattle.std.proofs.Common.{◌≡◌, ◌⊎◌, inl, inr, ℕ, zero, suc, ◌+◌, ◌*◌, ◌<◌, ◌≤◌, Bool, true, false, cond, eqb, ltb, ◌||◌, ◌&&◌, List, [], ◌∷◌, ◌++◌, Option, Some, None, Result, Ok, Err, refl, sym, ap, subst, ◌∙◌, arith}
 use Rattle.std.proofs.lemmas.Bool.Decides.{nat_tests}
 use mathlib.Core.Option.{some, some-injective, some-ne-none}
 use Rattle.stm_words.specs.Image.{In}
@@ -18,7 +18,7 @@ use Rattle.vac_model.specs.declared.replies.Reply.{Reply}
 use Rattle.vac_model.specs.Code.{code}
 use Rattle.vac_manager.specs.Called.{IsUnplaced, Adds, Tried}
 use Rattle.vac_manager.specs.declared.placed.Place.{Place}
-use Rattle.vac_manager.specs.Placed.{AddsAt, place_of}
+use Rattle.vac_manager.specs.Placed.{AddsAt, WasPlaced, place_of}
 
 record_tag : (region : RegionShown) (tag : List ℕ) (v : Client) (pairs : List (ℕ × ℕ)) (version : ℕ) → (commit_record region tag v pairs version).tag ≡ tag
 record_tag region tag v [] version = refl
@@ -93,12 +93,12 @@ record_unplaced region tag v [] version p = p
 record_unplaced region tag v (w ∷ ws) version p = refl
 
 -- whether a commit wrote
-pub wrote_in : List (ℕ × ℕ) → Bool
+abbrev pub wrote_in : List (ℕ × ℕ) → Bool
 wrote_in [] = false
 wrote_in (p ∷ ps) = true
 
 -- a place by its parts
-pub place_at : ℕ → ℕ → Bool → Place
+abbrev pub place_at : ℕ → ℕ → Bool → Place
 place_at renewal version wrote = record { renewal = renewal; version = version; wrote = wrote }
 
 -- the place of a commit's record
@@ -108,9 +108,9 @@ record_place region tag v [] version h = ap (λ (n : ℕ). place_at region.renew
 record_place region tag v (p ∷ ps) version h = refl
 
 -- a commit wrote where its version is above the read version
-pub wrote_is : (v : Client) (pairs : List (ℕ × ℕ)) (version rv : ℕ) → rv ≡ v.attempt.rv → IsCommitVersion v pairs version → ltb rv version ≡ wrote_in pairs
-wrote_is v [] version rv e h = let same : rv ≡ version = e ∙ sym h in grind (arith, nat_tests)
-wrote_is v (p ∷ ps) version rv e h = let low : rv < version = omega (arith, e, h) in grind (arith, nat_tests)
+pub wrote_is : (v : Client) (pairs : List (ℕ × ℕ)) (version found rv : ℕ) → found ≡ version → rv ≡ v.attempt.rv → IsCommitVersion v pairs version → ltb rv found ≡ wrote_in pairs
+wrote_is v [] version found rv f e h = let same : rv ≡ found = e ∙ (sym h ∙ sym f) in grind (arith, nat_tests)
+wrote_is v (p ∷ ps) version found rv f e h = let low : rv < found = omega (arith, e, f, h) in grind (arith, nat_tests)
 
 -- what a client is after an attempt that was decided, and the place of its record
 pub record Decided (region : RegionShown) (t : Task) (r : Reply) (place : Place) (v v' : Client) : Type 0 where
@@ -203,6 +203,30 @@ unplaced_stopped region region' rv log s c c0 v v2 v' unplaced begun same stoppe
 pub unplaced_joined : (v w v' : Client) → IsUnplaced v → IsUnplaced w → ((r : Record) → In r v'.records → In r v.records ⊎ In r w.records) → IsUnplaced v'
 unplaced_joined v w v' unplaced unplaced' only = record { each = λ x i. elim (only x i) [ inl j ↦ unplaced.each x j | inr j ↦ unplaced'.each x j ] }
 
--- whether it wrote is known by other words
-pub placed_as : (renewal version : ℕ) (wrote wrote' : Bool) (tag : List ℕ) (v v' : Client) → AddsAt renewal tag (place_at renewal version wrote) v v' → wrote' ≡ wrote → AddsAt renewal tag (place_at renewal version wrote') v v'
-placed_as renewal version wrote wrote' tag v v' h e = record { adds = h.adds; place_is = ap (λ (b : Bool). place_at renewal version b) e ∙ h.place_is }
+-- the parts of a place are known by other words
+pub placed_as : (n renewal renewal' version version' : ℕ) (wrote wrote' : Bool) (tag : List ℕ) (v v' : Client) → AddsAt n tag (place_at renewal version wrote) v v' → renewal' ≡ renewal → version' ≡ version → wrote' ≡ wrote → AddsAt n tag (place_at renewal' version' wrote') v v'
+placed_as n renewal renewal' version version' wrote wrote' tag v v' h e f k = record {
+  adds = h.adds;
+  place_is = ap (λ (r : ℕ). place_at r version' wrote') e ∙ (ap (λ (x : ℕ). place_at renewal x wrote') f ∙ (ap (λ (b : Bool). place_at renewal version b) k ∙ h.place_is));
+}
+
+-- an answer that adds its record to what an earlier value had adds it to what that value had
+pub placed_since : (region : RegionShown) (t : Task) (v w w' : Client) (end : Result Reply Stop) (place : Option Place) → w.records ≡ v.records → v.floor ≤ w.floor → WasPlaced region t end place w w' → WasPlaced region t end place v w'
+placed_since region t v w w' (Ok reply) (Some place) same low h =
+    let a = h.adds in
+    let l = a.later in
+    let b = a.behind in
+    let adds : Adds region.renewal (code t reply) v w' = record {
+      added = a.added;
+      tag_is = a.tag_is;
+      attempt_is = a.attempt_is;
+      renewal_is = a.renewal_is;
+      unplaced = a.unplaced;
+      later = omega (arith, low, l);
+      behind = omega (arith, low, b);
+      known = a.known;
+      records = a.records ∙ ap (λ (rs : List Record). rs ++ (a.added ∷ [])) same;
+    } in
+    record { adds = adds; place_is = h.place_is }
+placed_since region t v w w' (Ok reply) None same low h = absurd h
+placed_since region t v w w' (Err stop) place same low h = h ∙ same

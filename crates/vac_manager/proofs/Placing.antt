@@ -1,5 +1,5 @@
 -- Places of records, and what attempts took.
-use Rattle.std.proofs.Common.{◌≡◌, ℕ, zero, suc, ◌+◌, ◌≤◌, Bool, true, false, List, [], ◌∷◌, length, Ok, Err, refl, sym, ap, subst, ◌∙◌, arith}
+use Rattle.std.proofs.Common.{◌≡◌, ℕ, zero, suc, ◌+◌, ◌≤◌, Bool, true, false, List, [], ◌∷◌, length, Result, Ok, Err, IfErr, refl, sym, ap, subst, ◌∙◌, arith}
 use Rattle.stm_core.specs.Client.{Client, Record}
 use Rattle.stm_region.specs.Shown.{RegionShown}
 use Rattle.stm_attempt.specs.declared.conflict.Conflict.{Conflict}
@@ -7,9 +7,9 @@ use Rattle.stm_attempt.specs.declared.conflict.Conflict.TheVariants.{Held, Newer
 use Rattle.stm_attempt.specs.declared.conflict.Stop.{Stop}
 use Rattle.stm_attempt.specs.declared.conflict.Stop.TheVariants as stop
 use Rattle.vac_model.specs.declared.replies.Reply.{Reply}
-use Rattle.std.specs.Prelude.{Result}
+use Rattle.vac_model.specs.declared.tasks.Task.{Task}
 use Rattle.vac_manager.specs.declared.placed.Effort.{Effort}
-use Rattle.vac_manager.specs.Called.{WasShown}
+use Rattle.vac_manager.specs.Called.{Tried, IsStop, WasShown}
 use Rattle.vac_manager.specs.Placed.{conflicted, conflicts_of, effort_of, ended, left_by, HasShown, HaveShown, Tallies}
 
 -- all attempts so far met conflicts
@@ -93,3 +93,21 @@ tallied region v w w' e (Err (stop.Conflict c)) h next shown =
     let m = met_more region v w w' e c h next s.0 s.1 s.2 in
     record { conflicts = m.conflicts; shown = m.shown; effort = m.effort; begun = m.begun }
 tallied region v w w' e (Err (stop.Spent version)) h next shown = tallied_one region v w w' e (Err (stop.Spent version)) h next (λ x. refl) refl
+
+-- an attempt that met a conflict, after others that did
+pub met_next : (region : RegionShown) (t : Task) (v w w' : Client) (e e' : Effort) (end : Result Reply Stop) (c : Conflict) → end ≡ Err (stop.Conflict c) → Met region v w e → w.records ≡ v.records → w.grants ≡ v.grants → Tried region t w w' end →
+    IfErr end (λ s. IsStop region t s w') → e' ≡ ended end e → Met region v w' e'
+met_next region t v w w' e e' end c is m records grants tried stopped counted =
+    let one : Tried region t w w' (Err (stop.Conflict c)) = subst (λ (x : Result Reply Stop). Tried region t w w' x) is tried in
+    let shown : WasShown region c w' = subst (λ (x : Result Reply Stop). IfErr x (λ s. IsStop region t s w')) is stopped in
+    subst (λ (x : Effort). Met region v w' x) (sym (counted ∙ ap (λ (x : Result Reply Stop). ended x e) is))
+    (met_more region v w w' e c m one.attempt (one.records ∙ records) (one.grants ∙ grants) shown)
+
+-- the last attempt, after others that met conflicts
+pub tallied_last : (region : RegionShown) (t : Task) (v w w' : Client) (e e' : Effort) (end : Result Reply Stop) → Met region v w e → w.records ≡ v.records → w.grants ≡ v.grants → Tried region t w w' end → IfErr end (λ s. IsStop region t s w') → e' ≡ ended end e →
+    Tallies region v w' end e'
+tallied_last region t v w w' e e' end m records grants tried stopped counted =
+    subst (λ (x : Effort). Tallies region v w' end x) (sym counted) (tallied region v w w' e end m tried.attempt (λ c is.
+    let one : Tried region t w w' (Err (stop.Conflict c)) = subst (λ (x : Result Reply Stop). Tried region t w w' x) is tried in
+    let shown : WasShown region c w' = subst (λ (x : Result Reply Stop). IfErr x (λ s. IsStop region t s w')) is stopped in
+    (one.records ∙ records, one.grants ∙ grants, shown)))

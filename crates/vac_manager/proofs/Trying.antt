@@ -40,16 +40,19 @@ shown_by_read region region' conflict v v' same h e =
 stop_is : (region : RegionShown) (log : LogValue) (t : Task) (r : Reply) (s : Stop) (v v' : Client) → only_reads t ≡ false → IsLawful (code t r) v.attempt.reads (log_pairs log) → HasStopped region log s v v' → IsStop region t s v'
 stop_is region log t r stop.Memory v v' writes l h = writes
 stop_is region log t r (stop.Conflict conflict) v v' writes l h = inr (log, h.shown)
-stop_is region log t r (stop.Spent version) v v' writes l h = (writes, record {
-  version_is = h.shown.0;
-  from = h.shown.1;
-  written = record {
-    reply = r;
-    writes = log_pairs log;
-    some = h.written;
-    lawful = subst (λ (rs : List (ℕ × ℕ)). IsLawful (code t r) rs (log_pairs log)) (sym h.same.reads) l;
-  };
-})
+stop_is region log t r (stop.Spent version) v v' writes l h = (
+  writes,
+  record {
+    version_is = h.shown.0;
+    from = h.shown.1;
+    written = record {
+      reply = r;
+      writes = log_pairs log;
+      some = h.written;
+      lawful = subst (λ (rs : List (ℕ × ℕ)). IsLawful (code t r) rs (log_pairs log)) (sym h.same.reads) l;
+    };
+  },
+)
 
 pub commit_stop : (region region' : RegionShown) (log : LogValue) (t : Task) (reply : Reply) (s : Stop) (v w w' : Client) → region' ≡ region → only_reads t ≡ false → IsLawful (code t reply) v.attempt.reads (log_pairs log) → HasStopped region' log s v w → w' ≡ w → IsStop region t s w'
 commit_stop region region' log t reply s v w w' same writes l h e =

@@ -52,7 +52,9 @@ impl<'a> Session<'a> {
 
     /// Runs a task as `Manager::call` does.
     pub fn call(&mut self, task: &Task, tries: u32) -> Result<Reply, Fault>
-        ensures manager { self.new.manager ≡ self.old.manager }
+        ensures session { self.new ≡ record self.old {
+          client = record self.old.client { value = self.new.client.value };
+        } }
         ensures called { HasCalled self.old.manager task.now tries result
             self.old.client self.new.client }
     {
@@ -66,7 +68,9 @@ impl<'a> Session<'a> {
         tries: u32,
         gate: &mut G,
     ) -> Result<Reply, Fault>
-        ensures manager { self.new.manager ≡ self.old.manager }
+        ensures session { self.new ≡ record self.old {
+          client = record self.old.client { value = self.new.client.value };
+        } }
         ensures called { HasCalled self.old.manager task.now tries result
             self.old.client self.new.client }
     {
@@ -80,7 +84,9 @@ impl<'a> Session<'a> {
         tries: u32,
         gate: &mut G,
     ) -> (Result<Placed, Fault>, Effort)
-        ensures manager { self.new.manager ≡ self.old.manager }
+        ensures session { self.new ≡ record self.old {
+          client = record self.old.client { value = self.new.client.value };
+        } }
         ensures called { HasCalled self.old.manager task.now tries (replied result.0)
             self.old.client self.new.client }
         ensures placed { IsPlaced self.old.manager task.now result.0
@@ -88,7 +94,8 @@ impl<'a> Session<'a> {
         ensures took { Took self.old.manager self.old.client.value self.new.client.value
             result.0 result.1 }
     {
-        self.manager.call_placed(&mut self.client, task, tries, gate)
+        self.manager
+            .call_placed(&mut self.client, task, tries, gate)
     }
 
     /// Splits off a session of a new client of the same manager, which costs a grant: 63 times in

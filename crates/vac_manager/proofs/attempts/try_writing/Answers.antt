@@ -69,5 +69,5 @@ returns-in-Err-clause-near g c = λ all.
 
 pub returns-in-Ok-commit-clause-placed : goal.returns-in-Ok-commit-clause-placed
 returns-in-Ok-commit-clause-placed g c =
-    placed_as _ _ _ _ _ _ _ (committed c.args.region.now c.run_task-answer.new.memory.region.now _ _ _ _ _ _ _ c.run_task-answer.new.memory.client.now.value _ _ (ap (λ (o : Origin). o.region.renewal) c.run_task-answer.ensures.origin ∙ ap (λ (r : RegionShown). r.renewal) c.begin-attempt.ensures.region) c.begin-attempt.ensures.earlier c.requires.unplaced c.begin-attempt.ensures.value
-    (ap (λ (o : Origin). o.client.value) c.run_task-answer.ensures.origin) c.begin-attempt.ensures.version c.in-Ok-commit.ensures.ok (search rules)).placed (wrote_is _ _ _ _ (search rules) c.in-Ok-commit.ensures.ok.versioned)
+    placed_as _ _ _ _ _ _ _ _ _ _ (committed c.args.region.now c.run_task-answer.new.memory.region.now _ _ _ _ _ _ _ c.run_task-answer.new.memory.client.now.value _ _ (ap (λ (o : Origin). o.region.renewal) c.run_task-answer.ensures.origin ∙ ap (λ (r : RegionShown). r.renewal) c.begin-attempt.ensures.region) c.begin-attempt.ensures.earlier c.requires.unplaced c.begin-attempt.ensures.value
+    (ap (λ (o : Origin). o.client.value) c.run_task-answer.ensures.origin) c.begin-attempt.ensures.version c.in-Ok-commit.ensures.ok (search rules)).placed (search rules) (search rules) (wrote_is c.run_task-answer.new.memory.client.now.value _ _ _ _ (search rules) (search rules) c.in-Ok-commit.ensures.ok.versioned)
