@@ -151,6 +151,14 @@ impl<L: Law, A: Allocator> Region<L, A> {
         self.last
     }
 
+    /// How often its clock was renewed.
+    #[inline]
+    pub fn renewal(&self) -> u32
+        ensures { result ≡ self.now.renewal }
+    {
+        self.renewal
+    }
+
     /// The number of the lock of an address.
     #[inline]
     pub fn lock_of(&self, addr: Addr) -> u32

@@ -1,5 +1,5 @@
 -- A commit adds the record of the task and its reply.
-use Rattle.std.proofs.Common.{◌≡◌, ◌⊎◌, inl, inr, ℕ, zero, suc, ◌+◌, ◌*◌, ◌<◌, ◌≤◌, Bool, true, false, cond, eqb, ltb, ◌||◌, ◌&&◌, List, [], ◌∷◌, ◌++◌, Ok, refl, sym, ap, subst, ◌∙◌, arith}
+use Rattle.std.proofs.Common.{◌≡◌, ◌⊎◌, inl, inr, ℕ, zero, suc, ◌+◌, ◌*◌, ◌<◌, ◌≤◌, Bool, true, false, cond, eqb, ltb, ◌||◌, ◌&&◌, List, [], ◌∷◌, ◌++◌, Option, Some, None, Result, Ok, Err, refl, sym, ap, subst, ◌∙◌, arith}
 use Rattle.std.proofs.lemmas.Bool.Decides.{nat_tests}
 use mathlib.Core.Option.{some, some-injective, some-ne-none}
 use Rattle.stm_words.specs.Image.{In}
@@ -17,6 +17,8 @@ use Rattle.vac_model.specs.declared.tasks.Task.{Task}
 use Rattle.vac_model.specs.declared.replies.Reply.{Reply}
 use Rattle.vac_model.specs.Code.{code}
 use Rattle.vac_manager.specs.Called.{IsUnplaced, Adds, Tried}
+use Rattle.vac_manager.specs.declared.placed.Place.{Place}
+use Rattle.vac_manager.specs.Placed.{AddsAt, WasPlaced, place_of}
 
 record_tag : (region : RegionShown) (tag : List ℕ) (v : Client) (pairs : List (ℕ × ℕ)) (version : ℕ) → (commit_record region tag v pairs version).tag ≡ tag
 record_tag region tag v [] version = refl
@@ -90,13 +92,34 @@ record_unplaced : (region : RegionShown) (tag : List ℕ) (v : Client) (pairs : 
 record_unplaced region tag v [] version p = p
 record_unplaced region tag v (w ∷ ws) version p = refl
 
--- what a client is after an attempt that was decided
-pub record Decided (region : RegionShown) (t : Task) (r : Reply) (v v' : Client) : Type 0 where
+-- whether a commit wrote
+abbrev pub wrote_in : List (ℕ × ℕ) → Bool
+wrote_in [] = false
+wrote_in (p ∷ ps) = true
+
+-- a place by its parts
+abbrev pub place_at : ℕ → ℕ → Bool → Place
+place_at renewal version wrote = record { renewal = renewal; version = version; wrote = wrote }
+
+-- the place of a commit's record
+record_place : (region : RegionShown) (tag : List ℕ) (v : Client) (pairs : List (ℕ × ℕ)) (version : ℕ) → IsCommitVersion v pairs version →
+    place_of (commit_record region tag v pairs version) ≡ place_at region.renewal version (wrote_in pairs)
+record_place region tag v [] version h = ap (λ (n : ℕ). place_at region.renewal n false) (sym h)
+record_place region tag v (p ∷ ps) version h = refl
+
+-- a commit wrote where its version is above the read version
+pub wrote_is : (v : Client) (pairs : List (ℕ × ℕ)) (version found rv : ℕ) → found ≡ version → rv ≡ v.attempt.rv → IsCommitVersion v pairs version → ltb rv found ≡ wrote_in pairs
+wrote_is v [] version found rv f e h = let same : rv ≡ found = e ∙ (sym h ∙ sym f) in grind (arith, nat_tests)
+wrote_is v (p ∷ ps) version found rv f e h = let low : rv < found = omega (arith, e, f, h) in grind (arith, nat_tests)
+
+-- what a client is after an attempt that was decided, and the place of its record
+pub record Decided (region : RegionShown) (t : Task) (r : Reply) (place : Place) (v v' : Client) : Type 0 where
   pub tried : Tried {E = Stop} region t v v' (Ok r)
+  pub placed : AddsAt region.renewal (code t r) place v v'
   pub unplaced : IsUnplaced v'
 
 pub committed : (region region' : RegionShown) (t : Task) (r : Reply) (pairs : List (ℕ × ℕ)) (rv version : ℕ) (c c0 : ClientShown) (v1 v2 v' : Client) → region'.renewal ≡ region.renewal → AreEarlier region.renewal rv c.value.records → IsUnplaced c.value →
-    c0 ≡ acted region begin rv c → still v1 ≡ still c0.value → c.value.floor ≤ rv → HasCommitted region' (code t r) pairs v1 v2 version → v' ≡ v2 → Decided region t r c.value v'
+    c0 ≡ acted region begin rv c → still v1 ≡ still c0.value → c.value.floor ≤ rv → HasCommitted region' (code t r) pairs v1 v2 version → v' ≡ v2 → Decided region t r (place_at region.renewal version (wrote_in pairs)) c.value v'
 committed region region' t r pairs rv version c c0 v1 v2 v' renewed earlier unplaced begun same low done end =
     let attempt0 : c0.value.attempt.number ≡ c.value.attempt.number + 1 = ap (λ (x : ClientShown). x.value.attempt.number) begun in
     let grants0 : c0.value.grants ≡ c.value.grants = ap (λ (x : ClientShown). x.value.grants) begun in
@@ -142,11 +165,16 @@ committed region region' t r pairs rv version c c0 v1 v2 v' renewed earlier unpl
         | inr e ↦ subst (λ (y : Record). y.point ≡ 0) e (record_unplaced region' (code t r) v1 pairs version place1)
       ];
     } in
-    subst (λ (x : Client). Decided region t r c.value x) (sym end) (record { tried = tried; unplaced = every })
+    let place : Place = place_at region.renewal version (wrote_in pairs) in
+    let placed : AddsAt region.renewal (code t r) place c.value v2 = record {
+      adds = adds;
+      place_is = ap (λ (n : ℕ). place_at n version (wrote_in pairs)) (sym renewed) ∙ sym (record_place region' (code t r) v1 pairs version done.versioned);
+    } in
+    subst (λ (x : Client). Decided region t r place c.value x) (sym end) (record { tried = tried; placed = placed; unplaced = every })
 
 -- the same of a task that only read
 pub finished : (region region' : RegionShown) (t : Task) (r : Reply) (rv n : ℕ) (c c0 : ClientShown) (c1 c2 : ClientShown) (v' : Client) → region'.renewal ≡ region.renewal → AreEarlier region.renewal rv c.value.records → IsUnplaced c.value →
-    c0 ≡ acted region begin rv c → still c1.value ≡ still c0.value → c.value.floor ≤ rv → c2 ≡ acted region' (finish (code t r)) n c1 → c2.value.attempt.held ≡ [] → v' ≡ c2.value → Decided region t r c.value v'
+    c0 ≡ acted region begin rv c → still c1.value ≡ still c0.value → c.value.floor ≤ rv → c2 ≡ acted region' (finish (code t r)) n c1 → c2.value.attempt.held ≡ [] → v' ≡ c2.value → Decided region t r (place_at region.renewal c1.value.attempt.rv false) c.value v'
 finished region region' t r rv n c c0 c1 c2 v' renewed earlier unplaced begun same low ended free end =
     let floor1 : c1.value.floor ≡ c1.value.attempt.rv = ap (λ (x : Client). x.floor) same ∙ (ap (λ (x : ClientShown). x.value.floor) begun ∙ (sym (ap (λ (x : ClientShown). x.value.attempt.rv) begun) ∙ sym (ap (λ (x : Client). x.attempt.rv) same))) in
     let done : HasCommitted region' (code t r) [] c1.value c2.value c1.value.attempt.rv = record {
@@ -174,3 +202,31 @@ unplaced_stopped region region' rv log s c c0 v v2 v' unplaced begun same stoppe
 
 pub unplaced_joined : (v w v' : Client) → IsUnplaced v → IsUnplaced w → ((r : Record) → In r v'.records → In r v.records ⊎ In r w.records) → IsUnplaced v'
 unplaced_joined v w v' unplaced unplaced' only = record { each = λ x i. elim (only x i) [ inl j ↦ unplaced.each x j | inr j ↦ unplaced'.each x j ] }
+
+-- the parts of a place are known by other words
+pub placed_as : (n renewal renewal' version version' : ℕ) (wrote wrote' : Bool) (tag : List ℕ) (v v' : Client) → AddsAt n tag (place_at renewal version wrote) v v' → renewal' ≡ renewal → version' ≡ version → wrote' ≡ wrote → AddsAt n tag (place_at renewal' version' wrote') v v'
+placed_as n renewal renewal' version version' wrote wrote' tag v v' h e f k = record {
+  adds = h.adds;
+  place_is = ap (λ (r : ℕ). place_at r version' wrote') e ∙ (ap (λ (x : ℕ). place_at renewal x wrote') f ∙ (ap (λ (b : Bool). place_at renewal version b) k ∙ h.place_is));
+}
+
+-- an answer that adds its record to what an earlier value had adds it to what that value had
+pub placed_since : (region : RegionShown) (t : Task) (v w w' : Client) (end : Result Reply Stop) (place : Option Place) → w.records ≡ v.records → v.floor ≤ w.floor → WasPlaced region t end place w w' → WasPlaced region t end place v w'
+placed_since region t v w w' (Ok reply) (Some place) same low h =
+    let a = h.adds in
+    let l = a.later in
+    let b = a.behind in
+    let adds : Adds region.renewal (code t reply) v w' = record {
+      added = a.added;
+      tag_is = a.tag_is;
+      attempt_is = a.attempt_is;
+      renewal_is = a.renewal_is;
+      unplaced = a.unplaced;
+      later = omega (arith, low, l);
+      behind = omega (arith, low, b);
+      known = a.known;
+      records = a.records ∙ ap (λ (rs : List Record). rs ++ (a.added ∷ [])) same;
+    } in
+    record { adds = adds; place_is = h.place_is }
+placed_since region t v w w' (Ok reply) None same low h = absurd h
+placed_since region t v w w' (Err stop) place same low h = h ∙ same

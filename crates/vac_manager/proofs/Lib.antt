@@ -3,4 +3,5 @@ pub mod Lawful
 pub mod Trying
 pub mod Openings
 pub mod Adding
+pub mod Placing
 pub mod Histories

@@ -1,7 +1,7 @@
 -- Attempts, one after the other, and why they stopped.
 use Rattle.std.proofs.Common.{◌≡◌, inl, inr, ℕ, ◌+◌, ◌≤◌, true, false, eqb, List, Ok, Err, ap, ◌∙◌, arith, refl, subst, sym}
 use Rattle.stm_core.specs.Client.{Client}
-use Rattle.stm_logs.specs.Log.{LogValue}
+use Rattle.stm_logs.specs.Log.{LogValue, log_pairs}
 use Rattle.stm_core.specs.Event.{begin, finish}
 use Rattle.stm_core.specs.declared.limits.TheConstants.{MOST_GRANTS}
 use Rattle.stm_region.specs.Shown.{RegionShown, ClientShown, acted, stripe_of}
@@ -15,6 +15,8 @@ use Rattle.stm_attempt.specs.declared.conflict.Stop.TheVariants as stop
 use Rattle.vac_model.specs.declared.tasks.Task.{Task}
 use Rattle.vac_model.specs.declared.replies.Reply.{Reply}
 use Rattle.vac_tasks.specs.Reading.{only_reads}
+use Rattle.vac_model.specs.Code.{code}
+use Rattle.vac_manager.specs.Law.{IsLawful}
 use Rattle.vac_manager.specs.Called.{Tried, WasShown, IsStop, IsNear, HasAllGrants}
 
 -- of so many tries this many are left, and all others met a conflict
@@ -35,14 +37,26 @@ shown_by_read region region' conflict v v' same h e =
     (subst (λ (c : Client). ∥ ((address : ℕ) × IsReadConflict (stripe_of region'.stripes) address conflict c) ∥₁) (sym e) h))
 
 -- why a commit stopped
-stop_is : (region : RegionShown) (log : LogValue) (t : Task) (s : Stop) (v v' : Client) → only_reads t ≡ false → HasStopped region log s v v' → IsStop region t s v'
-stop_is region log t stop.Memory v v' writes h = writes
-stop_is region log t (stop.Conflict conflict) v v' writes h = inr (log, h.shown)
-stop_is region log t (stop.Spent version) v v' writes h = (writes, record { version_is = h.shown.0; from = h.shown.1 })
+stop_is : (region : RegionShown) (log : LogValue) (t : Task) (r : Reply) (s : Stop) (v v' : Client) → only_reads t ≡ false → IsLawful (code t r) v.attempt.reads (log_pairs log) → HasStopped region log s v v' → IsStop region t s v'
+stop_is region log t r stop.Memory v v' writes l h = writes
+stop_is region log t r (stop.Conflict conflict) v v' writes l h = inr (log, h.shown)
+stop_is region log t r (stop.Spent version) v v' writes l h = (
+  writes,
+  record {
+    version_is = h.shown.0;
+    from = h.shown.1;
+    written = record {
+      reply = r;
+      writes = log_pairs log;
+      some = h.written;
+      lawful = subst (λ (rs : List (ℕ × ℕ)). IsLawful (code t r) rs (log_pairs log)) (sym h.same.reads) l;
+    };
+  },
+)
 
-pub commit_stop : (region region' : RegionShown) (log : LogValue) (t : Task) (s : Stop) (v w w' : Client) → region' ≡ region → only_reads t ≡ false → HasStopped region' log s v w → w' ≡ w → IsStop region t s w'
-commit_stop region region' log t s v w w' same writes h e =
-    subst (λ (x : Client). IsStop region t s x) (sym e) (subst (λ (r : RegionShown). IsStop r t s w) same (stop_is region' log t s v w writes h))
+pub commit_stop : (region region' : RegionShown) (log : LogValue) (t : Task) (reply : Reply) (s : Stop) (v w w' : Client) → region' ≡ region → only_reads t ≡ false → IsLawful (code t reply) v.attempt.reads (log_pairs log) → HasStopped region' log s v w → w' ≡ w → IsStop region t s w'
+commit_stop region region' log t reply s v w w' same writes l h e =
+    subst (λ (x : Client). IsStop region t s x) (sym e) (subst (λ (r : RegionShown). IsStop r t s w) same (stop_is region' log t reply s v w writes l h))
 
 -- what an attempt of a client that is alone began with
 module _ (region : RegionShown) (rv : ℕ) (c c0 : ClientShown) (v : Client) (begun : c0 ≡ acted region begin rv c) (same : still v ≡ still c0.value) (alone : c.value.grants ≡ 63 → rv ≡ c.value.floor) (all : HasAllGrants c.value) where

@@ -1,10 +1,11 @@
 -- What a call of a manager does to its client's value, and why it may not be made.
 use Rattle.std.specs.Prelude.{◌≡◌, ℕ, ◌+◌, ◌*◌, ◌%◌, ◌<◌, ◌≤◌, ◌⊎◌, Bool, false, ◌&&◌, nat_le}
-use Rattle.std.specs.Prelude.{List, [], ◌∷◌, ◌++◌, Result, Ok, Err}
+use Rattle.std.specs.Prelude.{List, [], ◌∷◌, ◌++◌, Result, Ok, Err, ◌≢◌, ◌↔◌, IfOk, IfErr, IsErrOf}
 use Rattle.atomic_table.specs.Seated.{TableId}
 use Rattle.stm_words.specs.Image.{In}
 use Rattle.stm_core.specs.declared.limits.TheConstants.{MOST_WORDS, MOST_GRANTS}
 use Rattle.stm_core.specs.Client.{Client, Record, rank}
+use Rattle.stm_core.specs.Core.{IsFreeHanded}
 use Rattle.stm_logs.specs.Log.{LogValue}
 use Rattle.stm_core.specs.Event.{giving, fresh}
 use Rattle.stm_region.specs.Shown.{RegionShown, stripe_of}
@@ -24,8 +25,8 @@ use Rattle.vac_manager.specs.declared.fault.Fault.{Fault}
 use Rattle.vac_manager.specs.declared.fault.Fault.TheVariants as fault
 use Rattle.vac_tasks.specs.Reading.{only_reads}
 use Rattle.vac_model.specs.declared.limits.TheConstants.{MOST_TRIES}
-use Rattle.vac_manager.specs.Law.{Shows}
-use Rattle.vac_manager.specs.Legal.{capacity_of, IsHistory}
+use Rattle.vac_manager.specs.Law.{Shows, IsLawful}
+use Rattle.vac_manager.specs.Legal.{capacity_of, IsHistory, WasLegal}
 
 -- a client of a manager: of which region it is, its value, and the free lists that its new entries
 -- and the next client split off begin with
@@ -108,17 +109,26 @@ WasShown region conflict v =
     ∥ ((address : ℕ) × IsReadConflict (stripe_of region.stripes) address conflict v) ∥₁
     ⊎ ((log : LogValue) × IsCommitConflict (stripe_of region.stripes) log conflict v)
 
--- the clock was found at the last version
-pub record IsSpent (region : RegionShown) (version : ℕ) (v : Client) : Type 0 where
+-- the client's attempt of the task was to write something: the record of the task and some reply,
+-- with what the attempt has read and these writes, would have been lawful
+pub record WouldWrite (t : Task) (v : Client) : Type 0 where
+  pub reply : Reply
+  pub writes : List (ℕ × ℕ)
+  pub some : writes ≢ []
+  pub lawful : IsLawful (code t reply) v.attempt.reads writes
+
+-- the clock was found at the last version, and there was something to write
+pub record IsSpent (region : RegionShown) (t : Task) (version : ℕ) (v : Client) : Type 0 where
   pub version_is : version ≡ region.last
   pub from : v.attempt.next_from ≡ region.last
+  pub written : WouldWrite t v
 
 -- why an attempt of a task stopped: for a conflict that was shown, or, where the task may write,
 -- for want of memory or a spent clock
 abbrev pub IsStop : RegionShown → Task → Stop → Client → Type 0
 IsStop region t stop.Memory v = only_reads t ≡ false
 IsStop region t (stop.Conflict conflict) v = WasShown region conflict v
-IsStop region t (stop.Spent version) v = (only_reads t ≡ false) × IsSpent region version v
+IsStop region t (stop.Spent version) v = (only_reads t ≡ false) × IsSpent region t version v
 
 -- it was no conflict
 abbrev pub IsNoConflict : Stop → Type 0
@@ -174,7 +184,7 @@ IsFault region t tries fault.Arguments v v' = (is_call t tries ≡ false) × (v'
 IsFault region t tries fault.Memory v v' = only_reads t ≡ false
 IsFault region t tries (fault.Busy conflict) v v' = WasShown region conflict v'
 IsFault region t tries (fault.Spent version) v v' =
-    (only_reads t ≡ false) × IsSpent region version v'
+    (only_reads t ≡ false) × IsSpent region t version v'
 
 -- it is not that the client met a conflict
 abbrev pub IsNotBusy : Fault → Type 0
@@ -182,6 +192,26 @@ IsNotBusy fault.Arguments = Unit {0}
 IsNotBusy fault.Memory = Unit {0}
 IsNotBusy (fault.Busy conflict) = ⊥
 IsNotBusy (fault.Spent version) = Unit {0}
+
+-- what a call of a task does: what its client is after it, what was recorded, how many attempts it
+-- took, why it was not made, and, of a client that is alone, which history there is
+pub record HasCalled (region : RegionShown) (t : Task) (tries : ℕ) (result : Result Reply Fault)
+    (c c' : CallerShown) : Type 0 where
+  pub client : c' ≡ record c { value = c'.value }
+  pub grants : c'.value.grants ≡ c.value.grants
+  pub floor : c.value.floor ≤ c'.value.floor
+  pub free_handed : IsFreeHanded c'.value
+  pub arguments : IsErrOf result fault.Arguments ↔ (is_call t tries ≡ false)
+  pub records : Records region t result c.value c'.value
+  pub attempts : Attempts tries c.value.attempt.number c'.value.attempt.number result
+  pub once : HasAllGrants c.value
+      → Attempts 1 c.value.attempt.number c'.value.attempt.number result
+  pub next : HasAllGrants c.value → IsNext region.last c.value.floor c'.value.floor result
+  pub legal : IfOk result (λ _. WasLegal region c'.value)
+  pub whole : HasAllGrants c.value → IfOk result (λ _. IsWhole region c'.value)
+  pub history : HasAllGrants c.value → Continues region t result c.value c'.value
+  pub fault : IfErr result (λ why. IsFault region t tries why c.value c'.value)
+  pub alone : HasAllGrants c.value → IfErr result (λ why. IsNotBusy why)
 
 -- a client was split off, which cost a grant: its new entries begin with the next free list
 pub record Splits (before after other : CallerShown) : Type 0 where

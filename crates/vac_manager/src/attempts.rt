@@ -2,13 +2,16 @@
 
 ghost use Rattle.std.specs.Prelude.{◌≡◌, ◌<◌, ◌≤◌, IfOk, IfErr, IsOk, IsTrue, false};
 ghost use Rattle.stm_core.specs.Core.{IsFreeHanded};
+ghost use Rattle.vac_model.specs.declared.limits.TheConstants.{MOST_TRIES};
 ghost use Rattle.vac_model.specs.Ranges.{is_task};
 ghost use Rattle.vac_tasks.specs.Reading as reading;
 ghost use Rattle.vac_manager.specs.Legal.{WasLegal};
 ghost use Rattle.vac_manager.specs.Called.{HasAllGrants, IsOpened, IsUnplaced, Tried, Repeated};
 ghost use Rattle.vac_manager.specs.Called.{WasShown, IsStop, IsNoConflict, IsNear, IsCount};
+ghost use Rattle.vac_manager.specs.Placed.{WasPlaced, Tallies, nothing_done};
 
 use crate::law::ManagerLaw;
+use crate::placed::{Place, Traced};
 use crate::told::Told;
 use crossbeam_utils::Backoff;
 use stm_attempt::{Attempt, Conflict, Gate, Logs, Point, ReadAttempt, Stop};
@@ -22,6 +25,7 @@ fn try_reading<G: Gate>(
     client: &mut Client<ManagerLaw>,
     task: &Task,
     gate: &mut G,
+    place: &mut Option<Place>,
 ) -> Result<Reply, Conflict>
     requires own { client.old.table ≡ region.now.table }
     requires free_handed { IsFreeHanded client.old.value }
@@ -33,6 +37,8 @@ fn try_reading<G: Gate>(
     ensures free_handed { IsFreeHanded client.new.value }
     ensures unplaced { IsUnplaced client.new.value }
     ensures tried { Tried region.now task.now client.old.value client.new.value result }
+    ensures placed { WasPlaced region.now task.now result place.new
+        client.old.value client.new.value }
     ensures legal { IfOk result (λ _. WasLegal region.now client.new.value) }
     ensures stopped { IfErr result (λ conflict. WasShown region.now conflict client.new.value) }
     ensures lone { HasAllGrants client.old.value → IsOk result }
@@ -53,7 +59,12 @@ fn try_reading<G: Gate>(
         task,
         reply: &reply,
     };
-    attempt.finish(&told);
+    let version = attempt.finish(&told);
+    *place = Some(Place {
+        renewal: region.renewal(),
+        version,
+        wrote: false,
+    });
     Ok(reply)
 }
 
@@ -65,6 +76,7 @@ fn try_writing<G: Gate>(
     task: &Task,
     start: u32,
     gate: &mut G,
+    place: &mut Option<Place>,
 ) -> Result<Reply, Stop>
     requires own { client.old.table ≡ region.now.table }
     requires free_handed { IsFreeHanded client.old.value }
@@ -77,6 +89,8 @@ fn try_writing<G: Gate>(
     ensures free_handed { IsFreeHanded client.new.value }
     ensures unplaced { IsUnplaced client.new.value }
     ensures tried { Tried region.now task.now client.old.value client.new.value result }
+    ensures placed { WasPlaced region.now task.now result place.new
+        client.old.value client.new.value }
     ensures legal { IfOk result (λ _. WasLegal region.now client.new.value) }
     ensures stopped { IfErr result (λ stop. IsStop region.now task.now stop client.new.value) }
     ensures lone { HasAllGrants client.old.value → IfErr result (λ stop. IsNoConflict stop) }
@@ -98,8 +112,16 @@ fn try_writing<G: Gate>(
         task,
         reply: &reply,
     };
+    let read_version = attempt.read_version();
     match attempt.commit(&told, gate) {
-        Ok(_) => Ok(reply),
+        Ok(version) => {
+            *place = Some(Place {
+                renewal: region.renewal(),
+                version,
+                wrote: version.get() > read_version.get(),
+            });
+            Ok(reply)
+        }
         Err(stop) => Err(stop),
     }
 }
@@ -112,6 +134,7 @@ fn try_once<G: Gate>(
     task: &Task,
     start: u32,
     gate: &mut G,
+    place: &mut Option<Place>,
 ) -> Result<Reply, Stop>
     requires own { client.old.table ≡ region.now.table }
     requires free_handed { IsFreeHanded client.old.value }
@@ -123,6 +146,8 @@ fn try_once<G: Gate>(
     ensures free_handed { IsFreeHanded client.new.value }
     ensures unplaced { IsUnplaced client.new.value }
     ensures tried { Tried region.now task.now client.old.value client.new.value result }
+    ensures placed { WasPlaced region.now task.now result place.new
+        client.old.value client.new.value }
     ensures legal { IfOk result (λ _. WasLegal region.now client.new.value) }
     ensures stopped { IfErr result (λ stop. IsStop region.now task.now stop client.new.value) }
     ensures lone { HasAllGrants client.old.value → IfErr result (λ stop. IsNoConflict stop) }
@@ -131,12 +156,12 @@ fn try_once<G: Gate>(
         client.old.value.floor client.new.value.floor result }
 {
     if only_reads(task) {
-        match try_reading(region, client, task, gate) {
+        match try_reading(region, client, task, gate, place) {
             Ok(reply) => Ok(reply),
             Err(conflict) => Err(Stop::Conflict(conflict)),
         }
     } else {
-        try_writing(region, client, logs, task, start, gate)
+        try_writing(region, client, logs, task, start, gate, place)
     }
 }
 
@@ -150,6 +175,7 @@ pub(crate) fn run_in_attempts<G: Gate>(
     start: u32,
     tries: u32,
     gate: &mut G,
+    traced: &mut Traced,
 ) -> Result<Reply, Stop>
     requires own { client.old.table ≡ region.now.table }
     requires free_handed { IsFreeHanded client.old.value }
@@ -157,12 +183,18 @@ pub(crate) fn run_in_attempts<G: Gate>(
     requires unplaced { IsUnplaced client.old.value }
     requires range { IsTrue (is_task task.now) }
     requires start { start < 8 }
-    requires tries { 1 ≤ tries }
+    requires some { 1 ≤ tries }
+    requires few { tries ≤ MOST_TRIES }
+    requires none { traced.old.effort ≡ nothing_done }
     ensures own { client.new.table ≡ client.old.table }
     ensures free_handed { IsFreeHanded client.new.value }
     ensures unplaced { IsUnplaced client.new.value }
     ensures once { HasAllGrants client.old.value → IsCount 1
         client.old.value.attempt.number client.new.value.attempt.number result }
+    ensures placed { WasPlaced region.now task.now result traced.new.place
+        client.old.value client.new.value }
+    ensures took { Tallies region.now client.old.value client.new.value
+        result traced.new.effort }
     ensures repeated { Repeated region.now task.now tries
         client.old.value client.new.value result }
     ensures legal { IfOk result (λ _. WasLegal region.now client.new.value) }
@@ -176,7 +208,9 @@ pub(crate) fn run_in_attempts<G: Gate>(
     let mut left = tries;
     'tries: loop {
         left -= 1;
-        match try_once(region, client, logs, task, start, gate) {
+        let answer = try_once(region, client, logs, task, start, gate, &mut traced.place);
+        traced.effort.count(&answer);
+        match answer {
             Err(Stop::Conflict(_)) if left > 0 => backoff.snooze(),
             answer => return answer,
         }

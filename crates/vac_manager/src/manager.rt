@@ -1,20 +1,19 @@
 //! The manager over a region, which many clients call at once.
 
 ghost use Rattle.std.specs.Prelude.{◌≡◌, ◌↔◌, ◌≤◌, ◌+◌, ◌*◌, ◌⊎◌, min, false, IfOk, IfErr, IsErrOf};
-ghost use Rattle.stm_core.specs.Core.{IsFreeHanded};
 ghost use Rattle.stm_core.specs.declared.limits.TheConstants.{MOST_STRIPES};
 ghost use Rattle.stm_core.specs.History.{Sub};
 ghost use Rattle.stm_region.specs.Shown.{joined};
 ghost use Rattle.stm_region.specs.Refused.{ClosesNot};
-ghost use Rattle.vac_manager.specs.Legal.{WasLegal};
-ghost use Rattle.vac_manager.specs.Called.{is_call, HasAllGrants, Records, Continues, IsWhole, Attempts};
-ghost use Rattle.vac_manager.specs.Called.{IsFault, IsNotBusy, IsNext, Splits, SplitsNot, OnlyOf};
+ghost use Rattle.vac_manager.specs.Called.{HasAllGrants, HasCalled, Splits, SplitsNot, OnlyOf};
+ghost use Rattle.vac_manager.specs.Placed.{IsPlaced, Took, WasPlaced, nothing_done, replied};
 ghost use Rattle.vac_manager.specs.Opening.{is_opening, Opens, Closes};
 
 use crate::attempts::run_in_attempts;
 use crate::client::Client;
 use crate::fault::Fault;
 use crate::law::ManagerLaw;
+use crate::placed::{Effort, Placed, Traced};
 use std::alloc::Global;
 use std::marker::Model;
 use stm_attempt::{Gate, Logs, NoGate};
@@ -105,27 +104,7 @@ impl Manager {
     /// all grants is alone, and meets no conflict: it makes one attempt.
     pub fn call(&self, client: &mut Client, task: &Task, tries: u32) -> Result<Reply, Fault>
         requires own { client.old.table ≡ self.now.table }
-        ensures client { client.new ≡ record client.old { value = client.new.value } }
-        ensures grants { client.new.value.grants ≡ client.old.value.grants }
-        ensures floor { client.old.value.floor ≤ client.new.value.floor }
-        ensures free_handed { IsFreeHanded client.new.value }
-        ensures arguments { IsErrOf result Fault.Arguments ↔ (is_call task.now tries ≡ false) }
-        ensures records { Records self.now task.now result
-            client.old.value client.new.value }
-        ensures attempts { Attempts tries
-            client.old.value.attempt.number client.new.value.attempt.number result }
-        ensures once { HasAllGrants client.old.value → Attempts 1
-            client.old.value.attempt.number client.new.value.attempt.number result }
-        ensures next { HasAllGrants client.old.value
-            → IsNext self.now.last client.old.value.floor client.new.value.floor result }
-        ensures legal { IfOk result (λ _. WasLegal self.now client.new.value) }
-        ensures whole { HasAllGrants client.old.value
-            → IfOk result (λ _. IsWhole self.now client.new.value) }
-        ensures history { HasAllGrants client.old.value
-            → Continues self.now task.now result client.old.value client.new.value }
-        ensures fault { IfErr result
-            (λ fault. IsFault self.now task.now tries fault client.old.value client.new.value) }
-        ensures alone { HasAllGrants client.old.value → IfErr result (λ fault. IsNotBusy fault) }
+        ensures called { HasCalled self.now task.now tries result client.old client.new }
     {
         self.call_gated(client, task, tries, &mut NoGate)
     }
@@ -140,27 +119,53 @@ impl Manager {
         gate: &mut G,
     ) -> Result<Reply, Fault>
         requires own { client.old.table ≡ self.now.table }
-        ensures client { client.new ≡ record client.old { value = client.new.value } }
-        ensures grants { client.new.value.grants ≡ client.old.value.grants }
-        ensures floor { client.old.value.floor ≤ client.new.value.floor }
-        ensures free_handed { IsFreeHanded client.new.value }
-        ensures arguments { IsErrOf result Fault.Arguments ↔ (is_call task.now tries ≡ false) }
-        ensures records { Records self.now task.now result
+        ensures called { HasCalled self.now task.now tries result client.old client.new }
+    {
+        let mut traced = Traced::new();
+        self.call_traced(client, task, tries, gate, &mut traced)
+    }
+
+    /// The same, and tells where the record of the call stands and what the call took.
+    pub fn call_placed<G: Gate>(
+        &self,
+        client: &mut Client,
+        task: &Task,
+        tries: u32,
+        gate: &mut G,
+    ) -> (Result<Placed, Fault>, Effort)
+        requires own { client.old.table ≡ self.now.table }
+        ensures called { HasCalled self.now task.now tries (replied result.0)
+            client.old client.new }
+        ensures placed { IsPlaced self.now task.now result.0
             client.old.value client.new.value }
-        ensures attempts { Attempts tries
-            client.old.value.attempt.number client.new.value.attempt.number result }
-        ensures once { HasAllGrants client.old.value → Attempts 1
-            client.old.value.attempt.number client.new.value.attempt.number result }
-        ensures next { HasAllGrants client.old.value
-            → IsNext self.now.last client.old.value.floor client.new.value.floor result }
-        ensures legal { IfOk result (λ _. WasLegal self.now client.new.value) }
-        ensures whole { HasAllGrants client.old.value
-            → IfOk result (λ _. IsWhole self.now client.new.value) }
-        ensures history { HasAllGrants client.old.value
-            → Continues self.now task.now result client.old.value client.new.value }
-        ensures fault { IfErr result
-            (λ fault. IsFault self.now task.now tries fault client.old.value client.new.value) }
-        ensures alone { HasAllGrants client.old.value → IfErr result (λ fault. IsNotBusy fault) }
+        ensures took { Took self.now client.old.value client.new.value result.0 result.1 }
+    {
+        let mut traced = Traced::new();
+        let answer = self.call_traced(client, task, tries, gate, &mut traced);
+        let end = match (answer, traced.place) {
+            (Ok(reply), Some(place)) => Ok(Placed { reply, place }),
+            (Ok(_), None) => unreachable!(),
+            (Err(fault), _) => Err(fault),
+        };
+        (end, traced.effort)
+    }
+
+    /// The same, which leaves the place of the record and what the call took.
+    fn call_traced<G: Gate>(
+        &self,
+        client: &mut Client,
+        task: &Task,
+        tries: u32,
+        gate: &mut G,
+        traced: &mut Traced,
+    ) -> Result<Reply, Fault>
+        requires own { client.old.table ≡ self.now.table }
+        requires none { traced.old.effort ≡ nothing_done }
+        ensures called { HasCalled self.now task.now tries result client.old client.new }
+        ensures placed { WasPlaced self.now task.now result traced.new.place
+            client.old.value client.new.value }
+        ensures took { Took self.now client.old.value client.new.value
+            result traced.new.effort }
     {
         let start = client.start;
         let tries_fit = 1 <= tries && tries <= MOST_TRIES;
@@ -175,6 +180,7 @@ impl Manager {
             start,
             tries,
             gate,
+            traced,
         );
         match answer {
             Ok(reply) => Ok(reply),

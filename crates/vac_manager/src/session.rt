@@ -1,16 +1,15 @@
 //! A client together with the manager that it calls.
 
-ghost use Rattle.std.specs.Prelude.{◌≡◌, ◌↔◌, ◌≤◌, false, IfOk, IfErr, IsErrOf};
-ghost use Rattle.stm_core.specs.Core.{IsFreeHanded};
+ghost use Rattle.std.specs.Prelude.{◌≡◌, IfOk, IfErr};
 ghost use Rattle.stm_core.specs.History.{Sub};
 ghost use Rattle.stm_region.specs.Shown.{joined};
-ghost use Rattle.vac_manager.specs.Legal.{WasLegal};
-ghost use Rattle.vac_manager.specs.Called.{is_call, HasAllGrants, Records, Continues, IsWhole, Attempts};
-ghost use Rattle.vac_manager.specs.Called.{IsFault, IsNotBusy, IsNext, Splits, SplitsNot, OnlyOf};
+ghost use Rattle.vac_manager.specs.Called.{HasCalled, Splits, SplitsNot, OnlyOf};
+ghost use Rattle.vac_manager.specs.Placed.{IsPlaced, Took, replied};
 
 use crate::client::Client;
 use crate::fault::Fault;
 use crate::manager::Manager;
+use crate::placed::{Effort, Placed};
 use std::marker::Model;
 use stm_attempt::{Gate, NoGate};
 use stm_region::RegionFault;
@@ -56,28 +55,8 @@ impl<'a> Session<'a> {
         ensures session { self.new ≡ record self.old {
           client = record self.old.client { value = self.new.client.value };
         } }
-        ensures grants { self.new.client.value.grants ≡ self.old.client.value.grants }
-        ensures floor { self.old.client.value.floor ≤ self.new.client.value.floor }
-        ensures free_handed { IsFreeHanded self.new.client.value }
-        ensures arguments { IsErrOf result Fault.Arguments ↔ (is_call task.now tries ≡ false) }
-        ensures records { Records self.old.manager task.now result
-            self.old.client.value self.new.client.value }
-        ensures attempts { Attempts tries
-            self.old.client.value.attempt.number self.new.client.value.attempt.number result }
-        ensures once { HasAllGrants self.old.client.value → Attempts 1
-            self.old.client.value.attempt.number self.new.client.value.attempt.number result }
-        ensures next { HasAllGrants self.old.client.value → IsNext self.old.manager.last
-            self.old.client.value.floor self.new.client.value.floor result }
-        ensures legal { IfOk result (λ _. WasLegal self.old.manager self.new.client.value) }
-        ensures whole { HasAllGrants self.old.client.value
-            → IfOk result (λ _. IsWhole self.old.manager self.new.client.value) }
-        ensures history { HasAllGrants self.old.client.value
-            → Continues self.old.manager task.now result
-            self.old.client.value self.new.client.value }
-        ensures fault { IfErr result (λ fault. IsFault self.old.manager task.now tries fault
-            self.old.client.value self.new.client.value) }
-        ensures alone { HasAllGrants self.old.client.value
-            → IfErr result (λ fault. IsNotBusy fault) }
+        ensures called { HasCalled self.old.manager task.now tries result
+            self.old.client self.new.client }
     {
         self.call_gated(task, tries, &mut NoGate)
     }
@@ -92,30 +71,31 @@ impl<'a> Session<'a> {
         ensures session { self.new ≡ record self.old {
           client = record self.old.client { value = self.new.client.value };
         } }
-        ensures grants { self.new.client.value.grants ≡ self.old.client.value.grants }
-        ensures floor { self.old.client.value.floor ≤ self.new.client.value.floor }
-        ensures free_handed { IsFreeHanded self.new.client.value }
-        ensures arguments { IsErrOf result Fault.Arguments ↔ (is_call task.now tries ≡ false) }
-        ensures records { Records self.old.manager task.now result
-            self.old.client.value self.new.client.value }
-        ensures attempts { Attempts tries
-            self.old.client.value.attempt.number self.new.client.value.attempt.number result }
-        ensures once { HasAllGrants self.old.client.value → Attempts 1
-            self.old.client.value.attempt.number self.new.client.value.attempt.number result }
-        ensures next { HasAllGrants self.old.client.value → IsNext self.old.manager.last
-            self.old.client.value.floor self.new.client.value.floor result }
-        ensures legal { IfOk result (λ _. WasLegal self.old.manager self.new.client.value) }
-        ensures whole { HasAllGrants self.old.client.value
-            → IfOk result (λ _. IsWhole self.old.manager self.new.client.value) }
-        ensures history { HasAllGrants self.old.client.value
-            → Continues self.old.manager task.now result
-            self.old.client.value self.new.client.value }
-        ensures fault { IfErr result (λ fault. IsFault self.old.manager task.now tries fault
-            self.old.client.value self.new.client.value) }
-        ensures alone { HasAllGrants self.old.client.value
-            → IfErr result (λ fault. IsNotBusy fault) }
+        ensures called { HasCalled self.old.manager task.now tries result
+            self.old.client self.new.client }
     {
         self.manager.call_gated(&mut self.client, task, tries, gate)
+    }
+
+    /// Runs a task as `Manager::call_placed` does.
+    pub fn call_placed<G: Gate>(
+        &mut self,
+        task: &Task,
+        tries: u32,
+        gate: &mut G,
+    ) -> (Result<Placed, Fault>, Effort)
+        ensures session { self.new ≡ record self.old {
+          client = record self.old.client { value = self.new.client.value };
+        } }
+        ensures called { HasCalled self.old.manager task.now tries (replied result.0)
+            self.old.client self.new.client }
+        ensures placed { IsPlaced self.old.manager task.now result.0
+            self.old.client.value self.new.client.value }
+        ensures took { Took self.old.manager self.old.client.value self.new.client.value
+            result.0 result.1 }
+    {
+        self.manager
+            .call_placed(&mut self.client, task, tries, gate)
     }
 
     /// Splits off a session of a new client of the same manager, which costs a grant: 63 times in

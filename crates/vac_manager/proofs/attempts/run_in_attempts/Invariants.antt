@@ -2,6 +2,7 @@ use Rattle.std.proofs.Common.{◌≡◌, ◌≤◌}
 use Rattle.stm_core.specs.Core.{IsFreeHanded}
 use Rattle.vac_manager.specs.Called.{IsUnplaced, HasAllGrants}
 use Rattle.vac_manager.proofs.Trying.{Trying}
+use Rattle.vac_manager.proofs.Placing.{Met}
 use Rattle.vac_manager.proofs.attempts.run_in_attempts.Given as goal
 
 abbrev pub invariant-tries : goal.invariant-tries
@@ -13,6 +14,8 @@ invariant-tries g l = record {
   few : l.left ≤ l.tries;
   alone : HasAllGrants l.initial.client.value → (l.left ≡ l.tries) × (l.client.value ≡ l.initial.client.value);
   trying : Trying l.initial.client.value l.client.value l.left l.tries;
+  tries : l.tries ≤ 1048576;
+  met : Met l.region l.initial.client.value l.client.value l.traced.effort;
 }
 
 abbrev pub decreases-tries : goal.decreases-tries

@@ -1,7 +1,7 @@
 use Rattle.std.proofs.Common.{rules, ap, ◌∙◌}
 use Rattle.stm_region.specs.Shown.{RegionShown}
 use Rattle.stm_attempt.specs.Meaning.{Origin}
-use Rattle.vac_manager.proofs.Adding.{committed, unplaced_begun, unplaced_stopped}
+use Rattle.vac_manager.proofs.Adding.{committed, placed_as, wrote_is, unplaced_begun, unplaced_stopped}
 use Rattle.vac_manager.proofs.Lawful.{holds_begun, lawful}
 use Rattle.vac_manager.proofs.Legality.{committed_legal}
 use Rattle.vac_manager.proofs.Trying.{shown_by_read, commit_stop, near_begun, near_committed, near_stopped}
@@ -27,7 +27,9 @@ returns-in-Ok-commit-clause-legal g c =
 
 pub returns-in-Err-clause-stopped : goal.returns-in-Err-clause-stopped
 returns-in-Err-clause-stopped g c =
-    commit_stop _ _ _ _ _ _ _ _ (ap (λ (o : Origin). o.region) c.run_task-answer.ensures.origin ∙ c.begin-attempt.ensures.region) c.requires.writes (c.in-Err.ensures.refused (search rules)) (search rules)
+    commit_stop _ _ _ _ c.in-Ok.reply _ _ _ _ (ap (λ (o : Origin). o.region) c.run_task-answer.ensures.origin ∙ c.begin-attempt.ensures.region) c.requires.writes
+    (lawful _ _ _ _ _ _ _ _ _ _ _ _ _ _ c.begin-attempt.ensures.empty.2 c.begin-attempt.ensures.empty.1 c.requires.range c.run_task-answer.ensures.origin c.in-Ok.ensures.answer)
+    (c.in-Err.ensures.refused (search rules)) (search rules)
 
 pub returns-in-Ok-commit-clause-tried : goal.returns-in-Ok-commit-clause-tried
 returns-in-Ok-commit-clause-tried g c =
@@ -64,3 +66,8 @@ pub returns-in-Err-clause-near : goal.returns-in-Err-clause-near
 returns-in-Err-clause-near g c = λ all.
     near_stopped c.args.region.now _ c.args.client.now c.begin-attempt.result.client.now c.run_task-answer.new.memory.client.now.value c.begin-attempt.ensures.value (ap (λ (o : Origin). o.client.value) c.run_task-answer.ensures.origin) c.begin-attempt.ensures.alone all c.run_task-answer.new.memory.region.now _ _ _ _
     (ap (λ (o : Origin). o.region) c.run_task-answer.ensures.origin ∙ c.begin-attempt.ensures.region) c.in-Err.ensures.next c.in-Err.ensures.lone (c.in-Err.ensures.refused (search rules))
+
+pub returns-in-Ok-commit-clause-placed : goal.returns-in-Ok-commit-clause-placed
+returns-in-Ok-commit-clause-placed g c =
+    placed_as _ _ _ _ _ _ _ _ _ _ (committed c.args.region.now c.run_task-answer.new.memory.region.now _ _ _ _ _ _ _ c.run_task-answer.new.memory.client.now.value _ _ (ap (λ (o : Origin). o.region.renewal) c.run_task-answer.ensures.origin ∙ ap (λ (r : RegionShown). r.renewal) c.begin-attempt.ensures.region) c.begin-attempt.ensures.earlier c.requires.unplaced c.begin-attempt.ensures.value
+    (ap (λ (o : Origin). o.client.value) c.run_task-answer.ensures.origin) c.begin-attempt.ensures.version c.in-Ok-commit.ensures.ok (search rules)).placed (search rules) (search rules) (wrote_is c.run_task-answer.new.memory.client.now.value _ _ _ _ (search rules) (search rules) c.in-Ok-commit.ensures.ok.versioned)

@@ -1,0 +1,133 @@
+-- Where the record of a call stands, and what the call took.
+use Rattle.std.specs.Prelude.{◌≡◌, ℕ, ◌+◌, List, [], ◌∷◌, length, Option, Some, None, Result, Ok, Err}
+use Rattle.stm_core.specs.Client.{Client, Record}
+use Rattle.stm_region.specs.Shown.{RegionShown}
+use Rattle.stm_attempt.specs.declared.conflict.Conflict.{Conflict}
+use Rattle.stm_attempt.specs.declared.conflict.Conflict.TheVariants.{Held, Newer, Moved, LostLock, LostTick}
+use Rattle.stm_attempt.specs.declared.conflict.Stop.{Stop}
+use Rattle.stm_attempt.specs.declared.conflict.Stop.TheVariants as stop
+use Rattle.vac_model.specs.declared.tasks.Task.{Task}
+use Rattle.vac_model.specs.declared.replies.Reply.{Reply}
+use Rattle.vac_model.specs.Code.{code}
+use Rattle.vac_manager.specs.declared.fault.Fault.{Fault}
+use Rattle.vac_manager.specs.declared.fault.Fault.TheVariants as fault
+use Rattle.vac_manager.specs.declared.placed.Place.{Place}
+use Rattle.vac_manager.specs.declared.placed.Placed.{Placed}
+use Rattle.vac_manager.specs.declared.placed.Effort.{Effort}
+use Rattle.vac_manager.specs.Called.{Adds, WasShown}
+
+-- where a record stands
+abbrev pub place_of : Record → Place
+place_of r = record { renewal = r.renewal; version = r.version; wrote = r.writer }
+
+-- exactly one record was added, with this tag, and this is its place
+pub record AddsAt (renewal : ℕ) (tag : List ℕ) (place : Place) (v v' : Client) : Type 0 where
+  pub adds : Adds renewal tag v v'
+  pub place_is : place ≡ place_of adds.added
+
+-- the replies without their places
+abbrev pub replied : {E : Type 0} → Result Placed E → Result Reply E
+replied (Ok placed) = Ok placed.reply
+replied (Err e) = Err e
+
+-- at an answer the record of the task and its reply was added, at the place that is answered
+abbrev pub IsPlaced : {E : Type 0} → RegionShown → Task → Result Placed E → Client → Client → Type 0
+IsPlaced region t (Ok placed) v v' =
+    AddsAt region.renewal (code t placed.reply) placed.place v v'
+IsPlaced region t (Err e) v v' = v'.records ≡ v.records
+
+-- the same, where the place stands beside the reply
+abbrev pub WasPlaced : {E : Type 0} → RegionShown → Task → Result Reply E → Option Place
+    → Client → Client → Type 0
+WasPlaced region t (Ok reply) (Some place) v v' = AddsAt region.renewal (code t reply) place v v'
+WasPlaced region t (Ok reply) None v v' = ⊥
+WasPlaced region t (Err e) place v v' = v'.records ≡ v.records
+
+-- no attempt
+abbrev pub nothing_done : Effort
+nothing_done = record {
+  attempts = 0;
+  held = 0;
+  newer = 0;
+  moved = 0;
+  lost_lock = 0;
+  lost_tick = 0;
+}
+
+-- how many attempts ended in a conflict
+abbrev pub conflicts_of : Effort → ℕ
+conflicts_of e = e.held + e.newer + e.moved + e.lost_lock + e.lost_tick
+
+-- one attempt more
+abbrev pub one_more : Effort → Effort
+one_more e = record e { attempts = e.attempts + 1 }
+
+-- one attempt more, which ended in this conflict
+abbrev pub conflicted : Conflict → Effort → Effort
+conflicted (Held lock word) e = record (one_more e) { held = e.held + 1 }
+conflicted (Newer lock version rv) e = record (one_more e) { newer = e.newer + 1 }
+conflicted (Moved lock first second) e = record (one_more e) { moved = e.moved + 1 }
+conflicted (LostLock lock found) e = record (one_more e) { lost_lock = e.lost_lock + 1 }
+conflicted (LostTick found) e = record (one_more e) { lost_tick = e.lost_tick + 1 }
+
+-- one attempt more, which ended so
+abbrev pub ended : {R : Type 0} → Result R Stop → Effort → Effort
+ended (Ok reply) e = one_more e
+ended (Err stop.Memory) e = one_more e
+ended (Err (stop.Conflict conflict)) e = conflicted conflict e
+ended (Err (stop.Spent version)) e = one_more e
+
+-- attempts that ended in these conflicts, the newest first
+abbrev pub effort_of : List Conflict → Effort
+effort_of [] = nothing_done
+effort_of (conflict ∷ earlier) = conflicted conflict (effort_of earlier)
+
+-- an attempt of this client, so many behind its present one, ended with this conflict shown, and
+-- changed neither its records nor its grants
+pub record HasShown (region : RegionShown) (v : Client) (behind : ℕ) (conflict : Conflict) :
+    Type 0 where
+  pub client : Client
+  pub number : client.attempt.number ≡ v.attempt.number + behind
+  pub records : client.records ≡ v.records
+  pub grants : client.grants ≡ v.grants
+  pub shown : WasShown region conflict client
+
+-- the client's next attempts, one after the other, ended with these conflicts shown, each its own,
+-- the newest first
+abbrev pub HaveShown : RegionShown → Client → List Conflict → Type 0
+HaveShown region v [] = Unit {0}
+HaveShown region v (conflict ∷ earlier) =
+    HasShown region v (length (conflict ∷ earlier)) conflict × HaveShown region v earlier
+
+-- one attempt more, but where that one met a conflict too
+abbrev pub left_by : {R : Type 0} → Result R Stop → Effort → Effort
+left_by (Ok reply) e = one_more e
+left_by (Err stop.Memory) e = one_more e
+left_by (Err (stop.Conflict conflict)) e = e
+left_by (Err (stop.Spent version)) e = one_more e
+
+-- attempts, the last of which ended so: each is counted, and all but the last one, and that one too
+-- where it met a conflict, are counted by the conflict that they ended with
+pub record Tallies {R : Type 0} (region : RegionShown) (v v' : Client) (result : Result R Stop)
+    (e : Effort) : Type 0 where
+  pub conflicts : List Conflict
+  pub shown : HaveShown region v conflicts
+  pub effort : e ≡ left_by result (effort_of conflicts)
+  pub begun : v.attempt.number + e.attempts ≡ v'.attempt.number
+
+-- the same of a call, which may make no attempt
+abbrev pub closed_by : {R : Type 0} → Result R Fault → Effort → Effort
+closed_by (Ok reply) e = one_more e
+closed_by (Err fault.Arguments) e = e
+closed_by (Err fault.Memory) e = one_more e
+closed_by (Err (fault.Busy conflict)) e = e
+closed_by (Err (fault.Spent version)) e = one_more e
+
+-- this is what a call took: each attempt that was begun is counted; all but the last one, and that
+-- one too where the call answers Busy, are counted by the conflict that they ended with
+pub record Took {R : Type 0} (region : RegionShown) (v v' : Client) (result : Result R Fault)
+    (e : Effort) : Type 0 where
+  pub conflicts : List Conflict
+  pub shown : HaveShown region v conflicts
+  pub effort : e ≡ closed_by result (effort_of conflicts)
+  pub begun : v.attempt.number + e.attempts ≡ v'.attempt.number
