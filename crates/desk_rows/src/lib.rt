@@ -1,0 +1,5 @@
+//! Tests of the desks: four threads that share one manager.
+#![tactic(auto)]
+
+#[cfg(test)]
+mod desks;
