@@ -1,9 +1,10 @@
 //! Random tasks over a region, beside the plain manager.
 ghost use Rattle.std.specs.Prelude.{◌≡◌};
 
-use crate::caller::{Caller, LAST};
+use crate::caller::Caller;
 use crate::draws::{BLOCKS, TASKS, draw_task};
 use crate::opened::Opened;
+use crate::scripts::LAST;
 use rand_core::Rng;
 use rand_pcg::Pcg32;
 use std::alloc::Global;
