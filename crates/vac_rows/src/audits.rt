@@ -1,8 +1,9 @@
 //! Clients in threads, and one that audits meanwhile.
 ghost use Rattle.std.specs.Prelude.{◌≡◌, ◌*◌};
 
-use crate::caller::{Caller, LAST};
+use crate::caller::Caller;
 use crate::draws::{BLOCKS, draw_task};
+use crate::scripts::LAST;
 use rand_pcg::Pcg32;
 use std::alloc::Global;
 use std::process::Abort;

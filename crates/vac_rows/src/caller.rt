@@ -1,18 +1,14 @@
 //! A client and the manager over a region that it calls, as one value.
 ghost use Rattle.std.specs.Prelude.{◌≡◌, IfOk};
 
+use crate::calls::Answer;
 use crate::scripts::{Line, task_of};
 use std::alloc::Global;
 use std::process::Abort;
 use stm_attempt::Gate;
 use stm_region::RegionFault;
-use vac_manager::{Client, Fault, Manager};
-use vac_model::{Reply, Task};
-
-pub(crate) type Answer = Result<Reply, Fault>;
-
-/// The greatest last version.
-pub(crate) const LAST: u64 = (1 << 62) - 1;
+use vac_manager::{Client, Manager};
+use vac_model::Task;
 
 /// A client of a manager over a region, which calls that manager.
 #[derive(Drop)]

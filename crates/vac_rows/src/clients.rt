@@ -1,10 +1,10 @@
 //! Clients of a manager over a region that come and go.
 ghost use Rattle.std.specs.Prelude.{◌≡◌, ◌*◌, All};
 
-use crate::caller::{Caller, LAST};
+use crate::caller::Caller;
 use crate::scripts::{
-    Line, add, add_command, audit, cancel, delete, delete_command, drop_customer, new_customer,
-    number, pick, report, reserve, trip, update,
+    LAST, Line, add, add_command, audit, cancel, delete, delete_command, drop_customer,
+    new_customer, number, pick, report, reserve, trip, update,
 };
 use std::alloc::Global;
 use std::process::Abort;

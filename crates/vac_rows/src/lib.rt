@@ -9,6 +9,8 @@ mod audits;
 #[cfg(test)]
 mod caller;
 #[cfg(test)]
+mod calls;
+#[cfg(test)]
 mod clients;
 #[cfg(test)]
 mod draws;
@@ -23,6 +25,8 @@ mod openings;
 mod outcome;
 #[cfg(test)]
 mod plain;
+#[cfg(test)]
+mod points;
 #[cfg(test)]
 mod random;
 #[cfg(test)]

@@ -2,9 +2,9 @@
 //! its gate is told, while the other one calls.
 ghost use Rattle.std.specs.Prelude.{◌≡◌};
 
-use crate::caller::{Caller, LAST};
+use crate::caller::Caller;
 use crate::outcome::Outcome;
-use crate::scripts::add_command;
+use crate::scripts::{LAST, add_command};
 use std::process::Abort;
 use stm_attempt::{Gate, Point};
 use vac_manager::{Client, Manager};

@@ -1,9 +1,9 @@
 //! Numbers out of their range, over a region.
 
-use crate::caller::{Answer, Caller, LAST};
-use crate::scripts::{Line, delete, free, new_customer};
+use crate::calls::{Answer, expect};
+use crate::scripts::{LAST, Line, delete, free, new_customer};
 use std::alloc::Global;
-use vac_manager::{Fault, Manager};
+use vac_manager::{Fault, Manager, Session};
 use vac_model::Kind::{Car, Flight};
 use vac_model::Reply::Number;
 
@@ -13,20 +13,23 @@ const REFUSED: Answer = Err(Fault::Arguments);
 fn calls_out_of_range(rt: HostRuntime) {
     let alloc = rt.alloc();
     let (manager, client) = Manager::new(alloc, 8, LAST).expect(&rt, "the numbers are in range");
-    let mut caller = Caller {
-        manager: &manager,
-        client,
-    };
+    let mut session = Session::of(&manager, client);
     let asked = [(free(Car, 7), REFUSED)];
-    caller.expect(&rt, alloc, 0, &asked);
-    caller.expect(&rt, alloc, 1_048_577, &asked);
+    expect(&rt, alloc, &mut session, 0, &asked);
+    expect(&rt, alloc, &mut session, 1_048_577, &asked);
     let script = [
         (Line::Trip(3, &[]), REFUSED),
         (delete(Flight, 1, 1), REFUSED),
         (new_customer(0), REFUSED),
     ];
-    caller.expect(&rt, alloc, 1, &script);
-    caller.expect(&rt, alloc, 1_048_576, &[(free(Car, 7), Ok(Number(None)))]);
+    expect(&rt, alloc, &mut session, 1, &script);
+    expect(
+        &rt,
+        alloc,
+        &mut session,
+        1_048_576,
+        &[(free(Car, 7), Ok(Number(None)))],
+    );
 }
 
 /// Why a manager does not open.

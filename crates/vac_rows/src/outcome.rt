@@ -1,6 +1,6 @@
 //! What a call was answered, as far as a worked row says it.
 
-use crate::caller::Answer;
+use crate::calls::Answer;
 use stm_attempt::Conflict;
 use vac_manager::Fault;
 use vac_model::Reply;

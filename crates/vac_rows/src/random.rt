@@ -1,14 +1,14 @@
 //! Random tasks over a region, beside the plain manager.
 ghost use Rattle.std.specs.Prelude.{◌≡◌};
 
-use crate::caller::{Caller, LAST};
 use crate::draws::{BLOCKS, TASKS, draw_task};
 use crate::opened::Opened;
+use crate::scripts::LAST;
 use rand_core::Rng;
 use rand_pcg::Pcg32;
 use std::alloc::Global;
 use std::process::Abort;
-use vac_manager::Manager;
+use vac_manager::{Manager, Session};
 use vac_model::Sequential;
 
 /// What draws the tasks, and the plain manager that runs them.
@@ -27,12 +27,20 @@ impl Plain {
     }
 
     /// Draws a task, and compares the client's reply with that of the plain manager.
-    fn compare(&mut self, rt: &impl Abort, alloc: Global, caller: &mut Caller<'_>)
-        ensures { caller.new.client.table ≡ caller.old.client.table }
+    fn compare(&mut self, rt: &impl Abort, alloc: Global, session: &mut Session<'_>)
+        ensures { session.new.manager ≡ session.old.manager }
     {
         let task = draw_task(alloc, &mut self.draws).expect(rt, "there is memory");
         let wanted = self.manager.run(&task).expect(rt, "the task is in range");
-        assert_eq!(rt; caller.call(&task, 1), Ok(wanted));
+        assert_eq!(rt; session.call(&task, 1), Ok(wanted));
+    }
+}
+
+/// Random tasks of one client, which is alone: it is answered by the one try of each call.
+fn alone(rt: &impl Abort, alloc: Global, session: &mut Session<'_>) {
+    let mut plain = Plain::new(rt, alloc, 7);
+    for _ in 0..TASKS {
+        plain.compare(rt, alloc, session);
     }
 }
 
@@ -40,27 +48,29 @@ impl Plain {
 fn random_tasks_of_one_client(rt: HostRuntime) {
     let alloc = rt.alloc();
     let Opened { manager, client } = Opened::new(alloc, BLOCKS, LAST).expect(&rt, "it opens");
-    let mut caller = Caller {
-        manager: &manager,
-        client,
-    };
-    let mut plain = Plain::new(&rt, alloc, 7);
-    for _ in 0..TASKS {
-        plain.compare(&rt, alloc, &mut caller);
-    }
+    alone(&rt, alloc, &mut Session::of(&manager, client));
+}
+
+/// Each lock word stands for fifty-two words.
+#[test]
+fn random_tasks_of_one_client_with_four_lock_words(rt: HostRuntime) {
+    let alloc = rt.alloc();
+    let opened = Manager::with_stripes(alloc, BLOCKS, LAST, 4);
+    let (manager, client) = opened.expect(&rt, "it opens");
+    alone(&rt, alloc, &mut Session::of(&manager, client));
 }
 
 /// Random tasks of three clients in turns.
 fn in_turns(
     rt: &impl Abort,
     alloc: Global,
-    a: &mut Caller<'_>,
-    b: &mut Caller<'_>,
-    c: &mut Caller<'_>,
+    a: &mut Session<'_>,
+    b: &mut Session<'_>,
+    c: &mut Session<'_>,
 )
-    ensures a { a.new.client.table ≡ a.old.client.table }
-    ensures b { b.new.client.table ≡ b.old.client.table }
-    ensures c { c.new.client.table ≡ c.old.client.table }
+    ensures a { a.new.manager ≡ a.old.manager }
+    ensures b { b.new.manager ≡ b.old.manager }
+    ensures c { c.new.manager ≡ c.old.manager }
 {
     let mut plain = Plain::new(rt, alloc, 11);
     let mut turns = Pcg32::new(11, 2);
@@ -78,15 +88,12 @@ fn random_tasks_of_three_clients_in_turns(rt: HostRuntime) {
     let alloc = rt.alloc();
     let opened = Manager::with_stripes(alloc, BLOCKS, LAST, 16);
     let (manager, client) = opened.expect(&rt, "it opens");
-    let mut a = Caller {
-        manager: &manager,
-        client,
-    };
+    let mut a = Session::of(&manager, client);
     let mut b = a.split().expect(&rt, "there are grants");
     let mut c = a.split().expect(&rt, "there are grants");
     in_turns(&rt, alloc, &mut a, &mut b, &mut c);
     b.gather(c);
     a.gather(b);
-    let client = a.client;
+    let client = a.into_client();
     assert!(rt; manager.close(client).is_ok());
 }

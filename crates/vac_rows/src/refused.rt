@@ -1,18 +1,21 @@
 //! Memory that is refused to a call: the state is as before, and the call that is made again
 //! answers as it should. The script `tests/refused_calls` runs this test with each allocation
 //! refused in turn, and reads the lines that it prints; run otherwise, it is refused none.
+//! Another client is out while the calls are made, and each has two tries: one that is refused
+//! memory makes none of the second.
 ghost use Rattle.std.specs.Prelude.{◌≡◌, ◌*◌, IfOk};
 
-use crate::caller::{Answer, Caller, LAST};
+use crate::calls::Answer;
+use crate::points::Points;
 use crate::scripts::{
-    Line, add, add_command, audit, cancel, free, new_customer, number, pick, report, reserve,
+    LAST, Line, add, add_command, audit, cancel, free, new_customer, number, pick, report, reserve,
     task_of, trip,
 };
 use std::alloc::Global;
 use std::process::Abort;
 use stm_region::RegionFault;
 use vac_check::{AuditFault, audit_words};
-use vac_manager::{Client, Fault, Manager, RenewFault};
+use vac_manager::{Client, Fault, Manager, RenewFault, Session};
 use vac_model::Kind::{Car, Room};
 use vac_model::Reply::Done;
 use vac_model::Why::Exists;
@@ -50,30 +53,32 @@ fn make(rt: &(impl Abort + Print), alloc: Global, line: &Line<'_>) -> Task {
 }
 
 /// The answer to a task. The report is as before where memory was refused to it.
-fn answer(rt: &(impl Abort + Print), caller: &mut Caller<'_>, task: &Task) -> Answer
-    ensures { caller.new.client.table ≡ caller.old.client.table }
+fn answer(rt: &(impl Abort + Print), session: &mut Session<'_>, task: &Task) -> Answer
+    ensures { session.new.manager ≡ session.old.manager }
 {
-    let before = caller.call(&AUDIT, 1);
-    let answer = caller.call(task, 1);
+    let before = session.call(&AUDIT, 1);
+    let mut told = Points::none();
+    let answer = session.call_gated(task, 2, &mut told);
     if answer != Err(Fault::Memory) {
         return answer;
     }
     note(rt, "call");
-    assert_eq!(rt; caller.call(&AUDIT, 1), before);
-    caller.call(task, 1)
+    assert_eq!(rt; told, Points::none());
+    assert_eq!(rt; session.call(&AUDIT, 1), before);
+    session.call(task, 1)
 }
 
 fn expect(
     rt: &(impl Abort + Print),
     alloc: Global,
-    caller: &mut Caller<'_>,
+    session: &mut Session<'_>,
     script: &[(Line<'_>, Reply)],
 )
-    ensures { caller.new.client.table ≡ caller.old.client.table }
+    ensures { session.new.manager ≡ session.old.manager }
 {
     for (at, (line, want)) in script.iter().enumerate() {
         let task = make(rt, alloc, line);
-        assert_eq!(rt; answer(rt, caller, &task), Ok(*want), "at line {at}");
+        assert_eq!(rt; answer(rt, session, &task), Ok(*want), "at line {at}");
     }
 }
 
@@ -94,17 +99,17 @@ const ALL_DONE: Reply = Reply::Update(UpdateReply {
 });
 
 /// Enters 32 rooms, from this one on.
-fn enter_rooms(rt: &(impl Abort + Print), alloc: Global, caller: &mut Caller<'_>, first: u32)
-    ensures { caller.new.client.table ≡ caller.old.client.table }
+fn enter_rooms(rt: &(impl Abort + Print), alloc: Global, session: &mut Session<'_>, first: u32)
+    ensures { session.new.manager ≡ session.old.manager }
 {
     let changes = thirty_two_rooms(first);
     let script = [(Line::Update(&changes), ALL_DONE)];
-    expect(rt, alloc, caller, &script);
+    expect(rt, alloc, session, &script);
 }
 
 /// A trip to the first 32 rooms.
-fn ask_for_rooms(rt: &(impl Abort + Print), alloc: Global, caller: &mut Caller<'_>)
-    ensures { caller.new.client.table ≡ caller.old.client.table }
+fn ask_for_rooms(rt: &(impl Abort + Print), alloc: Global, session: &mut Session<'_>)
+    ensures { session.new.manager ≡ session.old.manager }
 {
     let mut asks = [(Room, 1); 32];
     for (at, ask) in asks.iter_mut().enumerate() {
@@ -112,12 +117,12 @@ fn ask_for_rooms(rt: &(impl Abort + Print), alloc: Global, caller: &mut Caller<'
     }
     let picks = [None, None, pick(32, 32, None)];
     let script = [(Line::Trip(3, &asks), trip(Joined::Refused(Exists), picks))];
-    expect(rt, alloc, caller, &script);
+    expect(rt, alloc, session, &script);
 }
 
 /// Enters rooms and a car, and reserves some.
-fn fill(rt: &(impl Abort + Print), alloc: Global, caller: &mut Caller<'_>)
-    ensures { caller.new.client.table ≡ caller.old.client.table }
+fn fill(rt: &(impl Abort + Print), alloc: Global, session: &mut Session<'_>)
+    ensures { session.new.manager ≡ session.old.manager }
 {
     let script = [
         (add(Car, 1, 5, Some(10)), Done),
@@ -125,12 +130,12 @@ fn fill(rt: &(impl Abort + Print), alloc: Global, caller: &mut Caller<'_>)
         (reserve(3, Car, 1, 2), Done),
         (free(Car, 1), number(3)),
     ];
-    expect(rt, alloc, caller, &script);
-    enter_rooms(rt, alloc, caller, 0);
-    enter_rooms(rt, alloc, caller, 32);
-    enter_rooms(rt, alloc, caller, 64);
-    ask_for_rooms(rt, alloc, caller);
-    expect(rt, alloc, caller, &[(audit(), counts())]);
+    expect(rt, alloc, session, &script);
+    enter_rooms(rt, alloc, session, 0);
+    enter_rooms(rt, alloc, session, 32);
+    enter_rooms(rt, alloc, session, 64);
+    ask_for_rooms(rt, alloc, session);
+    expect(rt, alloc, session, &[(audit(), counts())]);
 }
 
 /// The report of what was entered.
@@ -139,8 +144,8 @@ fn counts() -> Reply {
 }
 
 /// Another client reserves and cancels, and enters a customer who leaves.
-fn come_and_go(rt: &(impl Abort + Print), alloc: Global, caller: &mut Caller<'_>)
-    ensures { caller.new.client.table ≡ caller.old.client.table }
+fn come_and_go(rt: &(impl Abort + Print), alloc: Global, session: &mut Session<'_>)
+    ensures { session.new.manager ≡ session.old.manager }
 {
     let script = [
         (new_customer(4), Done),
@@ -149,40 +154,17 @@ fn come_and_go(rt: &(impl Abort + Print), alloc: Global, caller: &mut Caller<'_>
         (Line::Leave(4), number(0)),
         (audit(), counts()),
     ];
-    expect(rt, alloc, caller, &script);
+    expect(rt, alloc, session, &script);
 }
 
-/// A first client fills the manager, and a second one comes and goes.
-fn two_clients(
-    rt: &(impl Abort + Print),
-    alloc: Global,
-    manager: &Manager,
-    client: Client,
-) -> Client
-    requires { client.table ≡ manager.now.table }
-    ensures { result.table ≡ manager.now.table }
+/// A first client fills the manager, while a second one is out, which comes and goes then.
+fn two_clients(rt: &(impl Abort + Print), alloc: Global, session: &mut Session<'_>)
+    ensures { session.new.manager ≡ session.old.manager }
 {
-    let mut a = Caller { manager, client };
-    fill(rt, alloc, &mut a);
-    let mut b = a.split().expect(rt, "there are grants");
-    come_and_go(rt, alloc, &mut b);
-    a.gather(b);
-    a.client
-}
-
-/// A new customer comes and goes after the renewal.
-fn after_renewal(
-    rt: &(impl Abort + Print),
-    alloc: Global,
-    manager: &Manager,
-    client: Client,
-) -> Client
-    requires { client.table ≡ manager.now.table }
-    ensures { result.table ≡ manager.now.table }
-{
-    let mut caller = Caller { manager, client };
-    come_and_go(rt, alloc, &mut caller);
-    caller.client
+    let mut other = session.split().expect(rt, "there are grants");
+    fill(rt, alloc, session);
+    come_and_go(rt, alloc, &mut other);
+    session.gather(other);
 }
 
 /// Nothing has changed.
@@ -190,9 +172,9 @@ fn unchanged(rt: &impl Abort, manager: &Manager, client: Client) -> Client
     requires { client.table ≡ manager.now.table }
     ensures { result.table ≡ manager.now.table }
 {
-    let mut caller = Caller { manager, client };
-    assert_eq!(rt; caller.call(&AUDIT, 1), Ok(counts()));
-    caller.client
+    let mut session = Session::of(manager, client);
+    assert_eq!(rt; session.call(&AUDIT, 1), Ok(counts()));
+    session.into_client()
 }
 
 /// Renews the manager. Where the memory of the new words is refused, it is closed, and these are
@@ -255,11 +237,15 @@ fn audited(rt: &(impl Abort + Print), alloc: Global, words: &[u64]) -> Result<Re
 fn refused_calls_are_made_again(rt: HostRuntime) {
     let alloc = rt.alloc();
     let (manager, client) = open(&rt, alloc);
-    let client = two_clients(&rt, alloc, &manager, client);
+    let mut session = Session::of(&manager, client);
+    two_clients(&rt, alloc, &mut session);
+    let client = session.into_client();
     let words = match renew(&rt, manager, client) {
         Err(words) => words,
         Ok((manager, client)) => {
-            let client = after_renewal(&rt, alloc, &manager, client);
+            let mut session = Session::of(&manager, client);
+            come_and_go(&rt, alloc, &mut session);
+            let client = session.into_client();
             close(&rt, manager, client)
         }
     };

@@ -31,7 +31,7 @@ pub(crate) fn task_of(alloc: Global, line: &Line<'_>) -> Result<Task, AllocError
 }
 
 /// The greatest last version.
-const LAST: u64 = (1 << 62) - 1;
+pub(crate) const LAST: u64 = (1 << 62) - 1;
 
 /// Plays a script on a new plain manager of so many blocks, and as transactions of one client over
 /// a region, and compares each reply.

@@ -1,42 +1,54 @@
 //! A clock that is at its last version, over a region.
 
-ghost use Rattle.std.specs.Prelude.{◌≡◌};
-
-use crate::caller::Caller;
+use crate::calls::expect;
 use crate::outcome::Outcome;
+use crate::points::{Points, call_with_points};
 use crate::scripts::{add, free, new_customer, number, reserve, reserve_command};
 use std::alloc::Global;
 use std::process::Abort;
-use vac_manager::{Client, Manager};
+use stm_attempt::Point;
+use vac_manager::{Manager, Session};
 use vac_model::Kind::Car;
 use vac_model::Reply::{Done, No};
 use vac_model::Task;
 use vac_model::Why::NoCustomer;
 
 /// Two calls take the two versions that there are; what only reads is answered all the same.
-fn spend(rt: &impl Abort, alloc: Global, manager: &Manager, client: Client)
-    requires { client.table ≡ manager.now.table }
-{
-    let mut caller = Caller { manager, client };
+fn spend(rt: &impl Abort, alloc: Global, session: &mut Session<'_>) {
     let script = [
         (add(Car, 1, 1, Some(10)), Ok(Done)),
         (new_customer(3), Ok(Done)),
     ];
-    caller.expect(rt, alloc, 1, &script);
+    expect(rt, alloc, session, 1, &script);
     let task = Task::One(reserve_command(3, Car, 1, 1));
-    assert_eq!(rt; Outcome::of(caller.call(&task, 1)), Outcome::Spent(2));
+    assert_eq!(rt; Outcome::of(session.call(&task, 1)), Outcome::Spent(2));
     let script = [
         (free(Car, 1), Ok(number(1))),
         (reserve(4, Car, 1, 1), Ok(No(NoCustomer))),
     ];
-    caller.expect(rt, alloc, 1, &script);
+    expect(rt, alloc, session, 1, &script);
+}
+
+/// The call ends at once where it finds the clock spent, though another client is out and tries are
+/// left: its one attempt is told to have its locks, and nothing more.
+#[test]
+fn a_spent_clock_ends_a_call_of_one_of_two_clients(rt: HostRuntime) {
+    let alloc = rt.alloc();
+    let (manager, client) = Manager::new(alloc, 8, 2).expect(&rt, "the numbers are in range");
+    let mut session = Session::of(&manager, client);
+    let mut other = session.split().expect(&rt, "there are grants");
+    spend(&rt, alloc, &mut other);
+    let line = reserve(3, Car, 1, 1);
+    let (answer, told) = call_with_points(&rt, alloc, &mut session, 3, &line);
+    assert_eq!(rt; Outcome::of(answer), Outcome::Spent(2));
+    assert_eq!(rt; told, Points::of(&[Point::ReadsDone, Point::Locked]));
 }
 
 #[test]
 fn a_clock_that_ends_at_two(rt: HostRuntime) {
     let alloc = rt.alloc();
     let (manager, client) = Manager::new(alloc, 8, 2).expect(&rt, "the numbers are in range");
-    spend(&rt, alloc, &manager, client);
+    spend(&rt, alloc, &mut Session::of(&manager, client));
 }
 
 #[test]
@@ -46,5 +58,5 @@ fn a_clock_that_ends_at_two_with_four_lock_words(rt: HostRuntime) {
         &rt,
         "the numbers are in range",
     );
-    spend(&rt, alloc, &manager, client);
+    spend(&rt, alloc, &mut Session::of(&manager, client));
 }

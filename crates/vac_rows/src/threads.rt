@@ -1,7 +1,8 @@
 //! Clients in threads.
 ghost use Rattle.std.specs.Prelude.{◌≡◌};
 
-use crate::caller::{Caller, LAST};
+use crate::caller::Caller;
+use crate::scripts::LAST;
 use std::process::Abort;
 use std::thread;
 use std::thread::Threads;

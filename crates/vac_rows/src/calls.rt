@@ -1,0 +1,26 @@
+//! The calls of a script by a session.
+ghost use Rattle.std.specs.Prelude.{◌≡◌};
+
+use crate::scripts::{Line, task_of};
+use std::alloc::Global;
+use std::process::Abort;
+use vac_manager::{Fault, Session};
+use vac_model::Reply;
+
+pub(crate) type Answer = Result<Reply, Fault>;
+
+/// Calls the task of each line, by so many tries, and compares the answers.
+pub(crate) fn expect(
+    rt: &impl Abort,
+    alloc: Global,
+    session: &mut Session<'_>,
+    tries: u32,
+    script: &[(Line<'_>, Answer)],
+)
+    ensures { session.new.manager ≡ session.old.manager }
+{
+    for (at, (line, want)) in script.iter().enumerate() {
+        let task = task_of(alloc, line).expect(rt, "there is memory");
+        assert_eq!(rt; session.call(&task, tries), *want, "at line {at}");
+    }
+}

@@ -1,0 +1,150 @@
+//! What the gate of a call is told of.
+ghost use Rattle.std.specs.Prelude.{◌≡◌};
+
+use crate::calls::Answer;
+use crate::scripts::{
+    LAST, Line, add, add_command, audit, bill, cancel, delete, delete_command, drop_customer, free,
+    new_customer, price, reserve, task_of,
+};
+use std::alloc::Global;
+use std::process::Abort;
+use stm_attempt::{Gate, Point};
+use vac_manager::{Manager, Session};
+use vac_model::Kind::{Car, Room};
+
+/// So many points are kept; those that come later are counted alone.
+const KEPT: usize = 12;
+
+/// The points that a gate was told of, in their order.
+#[derive(Clone, Copy, Debug, PartialEq, Eq)]
+pub(crate) struct Points {
+    kept: [Option<Point>; KEPT],
+    told: usize,
+}
+
+impl Gate for Points {
+    fn at(&mut self, point: Point) {
+        if self.told < KEPT {
+            self.kept[self.told] = Some(point);
+        }
+        self.told = self.told.saturating_add(1);
+    }
+}
+
+impl Points {
+    /// Of a gate that was told nothing.
+    pub(crate) fn none() -> Points {
+        Points {
+            kept: [None; KEPT],
+            told: 0,
+        }
+    }
+
+    /// Of a gate that was told these.
+    pub(crate) fn of(points: &[Point]) -> Points {
+        let mut kept = Points::none();
+        for point in points {
+            kept.at(*point);
+        }
+        kept
+    }
+}
+
+/// The answer to a call by so many tries, and what its gate was told of.
+pub(crate) fn call_with_points(
+    rt: &impl Abort,
+    alloc: Global,
+    session: &mut Session<'_>,
+    tries: u32,
+    line: &Line<'_>,
+) -> (Answer, Points)
+    ensures { session.new.manager ≡ session.old.manager }
+{
+    let task = task_of(alloc, line).expect(rt, "there is memory");
+    let mut points = Points::none();
+    let answer = session.call_gated(&task, tries, &mut points);
+    (answer, points)
+}
+
+/// A call that writes nothing tells that its reads are done.
+const READ: [Point; 1] = [Point::ReadsDone];
+
+/// One that writes tells each point of its commit.
+const WRITTEN: [Point; 5] = [
+    Point::ReadsDone,
+    Point::Locked,
+    Point::Ticked,
+    Point::Decided,
+    Point::Written,
+];
+
+/// Calls the task of each line by one try, and compares what the gate was told of. All of them are
+/// answered.
+fn expect_points(
+    rt: &impl Abort,
+    alloc: Global,
+    session: &mut Session<'_>,
+    script: &[(Line<'_>, &[Point])],
+) {
+    for (at, (line, points)) in script.iter().enumerate() {
+        let (answer, told) = call_with_points(rt, alloc, session, 1, line);
+        assert!(rt; answer.is_ok(), "at line {at}");
+        assert_eq!(rt; told, Points::of(points), "at line {at}");
+    }
+}
+
+#[test]
+fn questions_tell_that_their_reads_are_done(rt: HostRuntime) {
+    let alloc = rt.alloc();
+    let (manager, client) = Manager::new(alloc, 8, LAST).expect(&rt, "it opens");
+    let script: [(Line<'_>, &[Point]); 8] = [
+        (add(Car, 7, 2, Some(50)), &WRITTEN),
+        (new_customer(3), &WRITTEN),
+        (free(Car, 7), &READ),
+        (price(Car, 7), &READ),
+        (bill(3), &READ),
+        (audit(), &READ),
+        (free(Room, 7), &READ),
+        (bill(4), &READ),
+    ];
+    expect_points(&rt, alloc, &mut Session::of(&manager, client), &script);
+}
+
+#[test]
+fn other_calls_tell_each_point_where_they_write(rt: HostRuntime) {
+    let alloc = rt.alloc();
+    let (manager, client) = Manager::new(alloc, 8, LAST).expect(&rt, "it opens");
+    let changes = [add_command(Room, 9, 1, Some(5)), delete_command(Car, 1, 1)];
+    let refused = [delete_command(Car, 1, 1)];
+    let script: [(Line<'_>, &[Point]); 12] = [
+        (add(Car, 7, 2, Some(50)), &WRITTEN),
+        (add(Car, 7, 0, None), &READ),
+        (new_customer(3), &WRITTEN),
+        (new_customer(3), &READ),
+        (reserve(3, Car, 7, 1), &WRITTEN),
+        (reserve(3, Car, 7, 2), &READ),
+        (cancel(3, Car, 7), &WRITTEN),
+        (delete(Car, 7, 1), &WRITTEN),
+        (Line::Trip(4, &[(Car, 7)]), &WRITTEN),
+        (Line::Leave(5), &READ),
+        (Line::Update(&changes), &WRITTEN),
+        (Line::Update(&refused), &READ),
+    ];
+    expect_points(&rt, alloc, &mut Session::of(&manager, client), &script);
+}
+
+#[test]
+fn a_call_that_is_not_made_tells_nothing(rt: HostRuntime) {
+    let alloc = rt.alloc();
+    let (manager, client) = Manager::new(alloc, 8, LAST).expect(&rt, "it opens");
+    let mut session = Session::of(&manager, client);
+    for (tries, line) in [
+        (0, free(Car, 7)),
+        (0, new_customer(3)),
+        (1, drop_customer(0)),
+    ] {
+        let (answer, told) = call_with_points(&rt, alloc, &mut session, tries, &line);
+        assert!(rt; answer.is_err());
+        assert_eq!(rt; told, Points::none());
+    }
+}
