@@ -36,14 +36,13 @@ fn one_client_asks_a_thousand_times(rt: HostRuntime) {
 
 #[test]
 fn an_opening_finds_its_clock_spent(rt: HostRuntime) -> Result<(), Fail> {
-    let settings = Settings {
-        last: 5,
-        ..SETTINGS
-    };
-    let clients = vec![in rt.alloc(); (FixedDraws(0), NoGate)]?;
-    let loaded = run_load_with(&rt, &settings, FixedDraws(0), clients);
-    let spent = matches!(loaded, Err(LoadFault::Opening(Fault::Spent { .. })));
-    assert!(rt; spent);
+    for (last, stops) in [(5, true), (7, true), (8, false)] {
+        let settings = Settings { last, ..SETTINGS };
+        let clients = vec![in rt.alloc(); (FixedDraws(0), NoGate)]?;
+        let loaded = run_load_with(&rt, &settings, FixedDraws(0), clients);
+        let spent = matches!(loaded, Err(LoadFault::Opening(Fault::Spent { .. })));
+        assert_eq!(rt; spent, stops, "{last}");
+    }
     Ok(())
 }
 

@@ -1,5 +1,5 @@
 -- Tasks that were answered, and how they are counted.
-use Rattle.std.proofs.Common.{◌≡◌, refl, sym, ap, subst, IfOk, ◌∙◌, inl, inr, ◌⊎◌, arith, ℕ, zero, suc, ◌+◌, ◌*◌, ◌≤◌, List, [], ◌∷◌, ◌++◌, length, Result, Ok, Err, append_assoc, append-nil, length-append}
+use Rattle.std.proofs.Common.{◌≡◌, refl, sym, ap, subst, IfOk, IfErr, ◌∙◌, inl, inr, ◌⊎◌, arith, ℕ, zero, suc, ◌+◌, ◌*◌, ◌≤◌, List, [], ◌∷◌, ◌++◌, length, Result, Ok, Err, append_assoc, append-nil, length-append}
 use mathlib.Core.Option.{some-injective, some-ne-none}
 use Rattle.stm_words.specs.Image.{In}
 use Rattle.stm_core.specs.Client.{Client, Record, before}
@@ -9,7 +9,7 @@ use Rattle.stm_region.specs.Shown.{RegionShown}
 use Rattle.vac_model.specs.declared.tasks.Task.{Task}
 use Rattle.vac_model.specs.declared.replies.Reply.{Reply}
 use Rattle.vac_model.specs.Code.{code}
-use Rattle.vac_manager.specs.Called.{Adds, Records, Attempts}
+use Rattle.vac_manager.specs.Called.{Adds, Records, Attempts, HasAllGrants, IsNotBusy}
 use Rattle.vac_manager.specs.declared.fault.Fault.{Fault}
 use Rattle.vac_manager.specs.declared.fault.Fault.TheVariants as fault
 use Rattle.vac_draws.specs.declared.settings.Settings.{Settings}
@@ -82,12 +82,12 @@ answered_both n ts us v w u p q = record {
   grants = q.grants ∙ p.grants;
 }
 
-pub ran_one : (region : RegionShown) (t : Task) (tries : ℕ) (result : Result Reply Fault) (v v' : Client) → Records region t result v v' → Attempts tries v.attempt.number v'.attempt.number result → v.floor ≤ v'.floor → v'.grants ≡ v.grants → RanOne {E = Fault} region.renewal (Ok t) tries result v v'
-ran_one region t tries (Ok reply) v v' a n floor grants = (answered_one region.renewal t reply v v' a floor grants, omega (arith, n))
-ran_one region t tries (Err fault.Arguments) v v' a n floor grants = (answered_quiet region.renewal v v' a floor grants, omega (arith, n))
-ran_one region t tries (Err fault.Memory) v v' a n floor grants = (answered_quiet region.renewal v v' a floor grants, omega (arith, n))
-ran_one region t tries (Err (fault.Busy conflict)) v v' a n floor grants = (answered_quiet region.renewal v v' a floor grants, omega (arith, n))
-ran_one region t tries (Err (fault.Spent version)) v v' a n floor grants = (answered_quiet region.renewal v v' a floor grants, omega (arith, n))
+pub ran_one : (region : RegionShown) (t : Task) (tries : ℕ) (result : Result Reply Fault) (v v' : Client) → Records region t result v v' → Attempts tries v.attempt.number v'.attempt.number result → v.floor ≤ v'.floor → v'.grants ≡ v.grants → (HasAllGrants v → IfErr result (λ fault. IsNotBusy fault)) → RanOne {E = Fault} region.renewal (Ok t) tries result v v'
+ran_one region t tries (Ok reply) v v' a n floor grants alone = (answered_one region.renewal t reply v v' a floor grants, omega (arith, n), λ h. refl)
+ran_one region t tries (Err fault.Arguments) v v' a n floor grants alone = (answered_quiet region.renewal v v' a floor grants, omega (arith, n), λ h. refl)
+ran_one region t tries (Err fault.Memory) v v' a n floor grants alone = (answered_quiet region.renewal v v' a floor grants, omega (arith, n), λ h. refl)
+ran_one region t tries (Err (fault.Busy conflict)) v v' a n floor grants alone = (answered_quiet region.renewal v v' a floor grants, omega (arith, n), λ h. absurd (alone h))
+ran_one region t tries (Err (fault.Spent version)) v v' a n floor grants alone = (answered_quiet region.renewal v v' a floor grants, omega (arith, n), λ h. refl)
 
 sub_last : (us : List Task) (t : Task) → Sub (t ∷ []) (us ++ (t ∷ []))
 sub_last [] t = keep t done
@@ -120,18 +120,27 @@ attempts_counted tries (Err fault.Memory) t = omega arith
 attempts_counted tries (Err (fault.Busy conflict)) t = omega (arith, one_more t.busy tries)
 attempts_counted tries (Err (fault.Spent version)) t = omega arith
 
+busy_counted : (end : Result Reply Fault) (t : Tally) → (counted end t).busy ≡ t.busy + (counted end nothing).busy
+busy_counted (Ok reply) t = omega arith
+busy_counted (Err fault.Arguments) t = omega arith
+busy_counted (Err fault.Memory) t = omega arith
+busy_counted (Err (fault.Busy conflict)) t = omega arith
+busy_counted (Err (fault.Spent version)) t = omega arith
+
 -- what one task adds to a loop
 record Turn (n : ℕ) (t : Task) (end : Result Reply Fault) (tries : ℕ) (v v' : Client) : Type 0 where
   pub answered : Answered n (answered_by t end) v v'
   pub attempts : v.attempt.number + attempts_of tries end ≤ v'.attempt.number
+  pub alone : HasAllGrants v → (counted end nothing).busy ≡ 0
 
 -- what one task adds to a loop, also one that was not built
 turn_of : {E : Type 0} (n : ℕ) (built : Result Task E) (t : Task) (end : Result Reply Fault) (tries : ℕ) (v v' : Client) → IfOk built (λ b. b ≡ t) → RanOne n built tries end v v' → Turn n t end tries v v'
 turn_of n (Ok b) t end tries v v' same ran =
-    record { answered = subst (λ (x : Task). Answered n (answered_by x end) v v') same ran.0; attempts = ran.1 }
+    record { answered = subst (λ (x : Task). Answered n (answered_by x end) v v') same ran.0; attempts = ran.1; alone = ran.2 }
 turn_of n (Err e) t end tries v v' same ran = rw ran.0 (rw ran.1 (record {
   answered = answered_quiet n v v refl (omega arith) refl;
   attempts = omega arith;
+  alone = λ h. refl;
 }))
 
 among_more : (end : Result Reply Fault) (t : Task) (ts us : List Task) → Sub ts us → Sub (ts ++ answered_by t end) (us ++ (t ∷ []))
@@ -155,6 +164,7 @@ looped_none leads s renewal v a = record {
   answered = answered_quiet renewal v v refl (omega arith) refl;
   all = refl;
   attempts = omega arith;
+  alone = λ h. refl;
 }
 
 pub looped_more : {D E : Type 0} (leads : D → ℕ → D → Type 0) (s : Settings) (renewal n : ℕ) (v w u : Client) (a b c : D) (k : Tally) (built : Result Task E) (end : Result Reply Fault) →
@@ -170,4 +180,5 @@ looped_more leads s renewal n v w u a b c k built end l d ran =
       answered = answered_both renewal l.done (answered_by d.task end) v w u l.answered turn.answered;
       all = total_counted end k ∙ ap (λ (m : ℕ). m + 1) l.all;
       attempts = rw (attempts_counted s.tries end k) (omega (arith, l.attempts, turn.attempts));
+      alone = λ h. (let none = l.alone h in let one = turn.alone (l.answered.grants ∙ h) in omega (arith, busy_counted end k, none, one));
     }

@@ -16,7 +16,7 @@ use Rattle.vac_load.specs.Sums.{sum_of, plus, added_up}
 use Rattle.vac_load.specs.Load.{Paired, none, both, SubEach, AreKnown, Share, HasShare, RanAll, RanMore}
 use Rattle.vac_draws.proofs.Drawing.{drawn_both}
 use Rattle.vac_load.proofs.Answering.{are_of_both}
-use Rattle.vac_load.proofs.Pairs.{paired_through}
+use Rattle.vac_load.proofs.Pairs.{paired_through, paired_length}
 
 sub_after : {A : Type 0} (us bs xs : List A) → Sub xs bs → Sub xs (us ++ bs)
 sub_after [] bs xs p = p
@@ -104,6 +104,11 @@ module _ {D P : Type 0} (leads : D → ℕ → D → Type 0) (s : Settings) (dra
         among = zip_among h.shares k.shares h.rest k.rest goes h.among k.among;
         number = omega (arith, long, sums, h.number, k.number);
         tallies = ap (λ (x : Tally). plus x u) h.tallies ∙ (ap (λ (x : Tally). plus (added_up (λ (y : Share D). y.tally) h.shares) x) k.tallies ∙ sym (zip_tallies h.shares k.shares goes));
+        alone = λ one. (
+            let same : length between ≡ length pairs = paired_length _ h.shares between h.left_are ∙ paired_length _ pairs h.shares h.each in
+            let a = h.alone one in
+            let b = k.alone (same ∙ one) in
+            omega (arith, a, b));
       }
 
 -- one round more

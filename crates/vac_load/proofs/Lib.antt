@@ -1,5 +1,6 @@
 mod Order
 mod Answering
+mod Beginning
 mod Opened
 mod Pairs
 mod Words

@@ -1,5 +1,5 @@
 -- A load as a whole: the opening, the clients, and the report.
-use Rattle.std.proofs.Common.{◌≡◌, ◌∙◌, ℕ, ◌*◌, ◌-◌, ◌/◌, List, [], ◌∷◌, ◌++◌, length, map, ap, subst, arith}
+use Rattle.std.proofs.Common.{◌≡◌, ◌∙◌, ◌⊎◌, ℕ, ◌*◌, ◌-◌, ◌/◌, List, [], ◌∷◌, ◌++◌, length, length-append, append_assoc, map, refl, sym, inl, inr, ap, subst, arith}
 use Rattle.stm_words.specs.Image.{In}
 use Rattle.stm_core.specs.Client.{Client, Record}
 use Rattle.stm_region.specs.Shown.{RegionShown}
@@ -12,18 +12,22 @@ use Rattle.vac_manager.specs.Opening.{Opens, Closes}
 use Rattle.vac_draws.specs.declared.settings.Settings.{Settings}
 use Rattle.vac_load.specs.declared.tally.Tally.{Tally}
 use Rattle.vac_draws.specs.Tasks.{opening}
-use Rattle.vac_load.specs.Opening.{Ran}
+use Rattle.vac_manager.specs.declared.fault.Fault.{Fault}
+use Rattle.vac_manager.specs.declared.fault.Fault.TheVariants as fault
+use Rattle.vac_load.specs.Opening.{Ran, Stopped}
 use Rattle.vac_draws.specs.Draws.{Reader}
 use Rattle.vac_model.specs.declared.commands.Command.{Command}
-use Rattle.std.specs.Prelude.{Result, Ok, Err, IfOk}
+use Rattle.std.specs.Prelude.{Result, Ok, Err, IfOk, IfErr}
 use Rattle.rand_pcg.specs.Lcg.{Lcg}
 use Rattle.vac_load.specs.declared.load.LoadReport.{LoadReport}
 use Rattle.vac_load.specs.declared.load.LoadFault.{LoadFault}
+use Rattle.vac_load.specs.declared.load.LoadFault.TheVariants as load
 use Rattle.vac_draws.specs.Streams.{stream_of, streams_of, gives}
 use Rattle.vac_load.specs.Streams.{LoadedBySeed}
-use Rattle.vac_load.specs.Load.{Paired, none, both, AreKnown, HasShare, RanAll, Loaded}
+use Rattle.vac_load.specs.Load.{Paired, none, both, AreKnown, HasShare, RanAll, Loaded, WasOpened, WasStopped, IsTooShort, IsStopOfLoad, IsLoadFault}
 use Rattle.vac_load.proofs.Order.{added_known}
 use Rattle.vac_load.proofs.Joining.{ran_total}
+use Rattle.vac_load.proofs.Beginning.{long_opening}
 
 -- what an opening added is known to its client
 pub opened_known : {D : Type 0} (leads : D → ℕ → D → Type 0) (renewal : ℕ) (reader : Reader (List Command)) (v v' : Client) (state last : D) → v.records ≡ [] → Ran leads renewal reader v v' state last → AreKnown renewal v'.floor v'.records
@@ -65,6 +69,7 @@ loaded leads s draws_of state last pairs left stripes region region' opener read
       number = all.number;
       tallies = all.tallies;
       all = ran_total leads s draws_of (s.rounds * s.tasks) ready.records after.records pairs left t all ∙ (ap (λ (k : ℕ). k * (s.rounds * s.tasks)) n ∙ count);
+      alone = λ one. all.alone (n ∙ one);
     }
 
 -- what holds between images and elements holds between the list of images and the elements
@@ -96,6 +101,7 @@ loaded_by leads s draws_of state pairs states t r e h = record {
   number = h.number;
   tallies = h.tallies;
   all = h.all;
+  alone = h.alone;
 }
 
 -- the same of a load by the streams of a seed
@@ -106,3 +112,48 @@ by_seed draws_of s (Ok r) state pairs begins are h =
     subst (λ (d : Lcg). Loaded gives s (λ x. x) d (streams_of s.seed s.clients) r.tally r.report) begins
     (loaded_by gives s draws_of state pairs (streams_of s.seed s.clients) r.tally r.report are h)
 by_seed draws_of s (Err fault) state pairs begins are h = tt
+
+-- the manager of a load was made, and its opening was answered whole
+pub was_opened : {D : Type 0} (leads : D → ℕ → D → Type 0) (s : Settings) (state left : D) (stripes : ℕ) (region : RegionShown) (opener : CallerShown) (ready : Client) →
+    Opens s.blocks s.last stripes region opener → Ran leads region.renewal (opening s) opener.value ready state left → WasOpened leads s state left
+was_opened leads s state left stripes region opener ready opens ran = record { stripes = stripes; region = region; opener = opener; opens = opens; ready = ready; ran = ran }
+
+too_short : {D : Type 0} (leads : D → ℕ → D → Type 0) (s : Settings) (renewal : ℕ) (e : Fault) (v v' : Client) (state left : D) → v.floor ≡ 0 → Stopped leads renewal s.last (opening s) e v v' state left → IsTooShort s e
+too_short leads s renewal fault.Arguments v v' state left first p = p.why
+too_short leads s renewal fault.Memory v v' state left first p = tt
+too_short leads s renewal (fault.Busy conflict) v v' state left first p = p.why
+too_short leads s renewal (fault.Spent version) v v' state left first p =
+    let b = p.begun in
+    let long = long_opening s ((b.words ++ b.more) ++ []) ((p.asked ++ (p.refused ∷ [])) ++ b.rest) [] (b.reads []) in
+    let some = length-append (p.asked ++ (p.refused ∷ [])) b.rest in
+    let asked = length-append p.asked (p.refused ∷ []) in
+    let floor = p.why.1 in
+    (p.why.0, omega (arith, long, some, asked, floor, first, p.near))
+
+-- the manager of a load was made, and its opening stopped
+pub was_stopped : {D : Type 0} (leads : D → ℕ → D → Type 0) (s : Settings) (e : Fault) (state left : D) (stripes : ℕ) (region : RegionShown) (opener : CallerShown) (after : Client) →
+    Opens s.blocks s.last stripes region opener → Stopped leads region.renewal region.last (opening s) e opener.value after state left → WasStopped leads s e state left
+was_stopped leads s e state left stripes region opener after opens stopped =
+    let at : Stopped leads region.renewal s.last (opening s) e opener.value after state left = subst (λ (n : ℕ). Stopped leads region.renewal n (opening s) e opener.value after state left) opens.last_is stopped in
+    record {
+      stripes = stripes;
+      region = region;
+      opener = opener;
+      opens = opens;
+      after = after;
+      stopped = at;
+      short = too_short leads s region.renewal e opener.value after state left (ap (λ (c : CallerShown). c.value.floor) opens.client_is) at;
+    }
+
+-- a load that stopped is one that was not run to its end
+pub stops : {D : Type 0} (leads : D → ℕ → D → Type 0) (s : Settings) (state left : D) (result : Result LoadReport LoadFault) → IfErr result (λ e. IsStopOfLoad leads s state left e) → IfErr result (λ e. IsLoadFault leads s state e)
+stops leads s state left (Ok r) h = tt
+stops leads s state left (Err e) h = inr (left, h)
+
+pub stops_by_seed : (s : Settings) (state left : Lcg) (result : Result LoadReport LoadFault) → state ≡ stream_of s.seed 0 → IfErr result (λ e. IsStopOfLoad gives s state left e) → IfErr result (λ e. IsLoadFault gives s (stream_of s.seed 0) e)
+stops_by_seed s state left result begins h = stops gives s (stream_of s.seed 0) left result (subst (λ (d : Lcg). IfErr result (λ e. IsStopOfLoad gives s d left e)) begins h)
+
+-- where memory or a thread is wanting once the opening was answered
+pub stop_behind : {D : Type 0} (leads : D → ℕ → D → Type 0) (s : Settings) (state left : D) (e : LoadFault) → WasOpened leads s state left → (e ≡ load.Memory) ⊎ (e ≡ load.Spawn) → IsStopOfLoad leads s state left e
+stop_behind leads s state left e opened (inl memory) = subst (λ (f : LoadFault). IsStopOfLoad leads s state left f) (sym memory) (inr opened)
+stop_behind leads s state left e opened (inr spawn) = subst (λ (f : LoadFault). IsStopOfLoad leads s state left f) (sym spawn) opened

@@ -13,6 +13,12 @@ paired_more related (a ∷ xs) (b ∷ ys) x y (both q p) r = both q (paired_more
 paired_more related [] (b ∷ ys) x y p r = elim p [ ]
 paired_more related (a ∷ xs) [] x y p r = elim p [ ]
 
+pub paired_length : {A B : Type 0} (related : A → B → Type 0) (xs : List A) (ys : List B) → Paired related xs ys → length ys ≡ length xs
+paired_length related [] [] none = refl
+paired_length related (x ∷ xs) (y ∷ ys) (both r p) = ap suc (paired_length related xs ys p)
+paired_length related [] (y ∷ ys) p = elim p [ ]
+paired_length related (x ∷ xs) [] p = elim p [ ]
+
 -- relations in a row
 pub paired_through : {A B C : Type 0} (f : A → B → Type 0) (g : B → C → Type 0) (h : A → C → Type 0) → ((a : A) (b : B) (c : C) → f a b → g b c → h a c) →
     (xs : List A) (ys : List B) (zs : List C) → Paired f xs ys → Paired g ys zs → Paired h xs zs

@@ -4,6 +4,7 @@ use Rattle.atomic_table.specs.Seated.{TableId}
 use Rattle.stm_words.specs.Image.{In}
 use Rattle.stm_core.specs.Client.{Client, Record, merged}
 use Rattle.stm_core.specs.History.{Sub}
+use Rattle.stm_core.specs.declared.limits.TheConstants.{MOST_GRANTS}
 use Rattle.stm_core.specs.Invariant.{Sorted}
 use Rattle.stm_core.proofs.Merging.{sub_same, sub_trans, sub_left}
 use Rattle.stm_core.proofs.Whole.{merged_sorted, sorted_right}
@@ -17,7 +18,7 @@ use Rattle.vac_load.specs.Sums.{sum_of, plus, added_up}
 use Rattle.vac_load.specs.Load.{Paired, none, both, SubEach, all_merged, Gathered, HasWorked, IsHired, Hired, AreKnown, Share, HasShare, RanAll}
 use Rattle.vac_load.proofs.Order.{IsLater, added_later, known_first, merged_behind}
 use Rattle.vac_load.proofs.Gatherings.{length_merged}
-use Rattle.vac_load.proofs.Pairs.{paired_through, all_cons}
+use Rattle.vac_load.proofs.Pairs.{paired_through, paired_length, all_cons}
 
 -- a client that was split off
 pub split_hired : {D : Type 0} (c before after other : CallerShown) (state : D) → Splits before after other → before.table ≡ c.table → before.value.floor ≡ c.value.floor →
@@ -43,12 +44,6 @@ split_keeps before after other s = record {
   floor = ap (λ (x : CallerShown). x.value.floor) s.mine;
   grants = let q : after.value.grants ≡ before.value.grants - 1 = ap (λ (x : CallerShown). x.value.grants) s.mine in omega (arith, q, s.some);
 }
-
-pub paired_length : {A B : Type 0} (related : A → B → Type 0) (xs : List A) (ys : List B) → Paired related xs ys → length ys ≡ length xs
-paired_length related [] [] none = refl
-paired_length related (x ∷ xs) (y ∷ ys) (both r p) = ap suc (paired_length related xs ys p)
-paired_length related [] (y ∷ ys) p = elim p [ ]
-paired_length related (x ∷ xs) [] p = elim p [ ]
 
 -- what follows for each element of the second list
 pub paired_each : {A B : Type 0} (related : A → B → Type 0) (P : B → Type 0) → ((x : A) (y : B) → related x y → P y) → (xs : List A) (ys : List B) → Paired related xs ys → All P ys
@@ -123,6 +118,10 @@ within renewal floor l (x ∷ xs) s h =
       number = omega (arith, long, m.number);
     }
 
+no_sum : {X : Type 0} (f : X → ℕ) (xs : List X) → length xs ≡ 0 → sum_of f xs ≡ 0
+no_sum f [] e = refl
+no_sum f (x ∷ xs) e = absurd (omega (arith, e))
+
 module _ {D P W R : Type 0} (leads : D → ℕ → D → Type 0) (s : Settings) (renewal : ℕ) (draws_of : P → D) (client_of : W → CallerShown) (drawing : W → D) (after_of : R → CallerShown) (last_of : R → D) (tally_of : R → Tally) where
   -- the shares of the clients that began without records
   record Shared (floor : ℕ) (ps : List P) (rs : List R) : Type 0 where
@@ -161,8 +160,9 @@ module _ {D P W R : Type 0} (leads : D → ℕ → D → Type 0) (s : Settings) 
       Paired (λ w r. HasWorked leads s renewal (client_of w) (after_of r) (drawing w) (last_of r) (tally_of r)) others others' →
       Gathered (λ r. (after_of r).value.records) tally_of first' others' after.records t →
       Paired (λ r p. draws_of p ≡ last_of r) (first' ∷ others') left →
+      (client_of first).value.grants + length others ≡ MOST_GRANTS →
       RanAll leads s draws_of s.tasks opener.value.records pairs after.records left t
-  ran_all opener pairs left first others first' others' after t known h k ks g lefts =
+  ran_all opener pairs left first others first' others' after t known h k ks g lefts grants =
       let floor = opener.value.floor in
       let d = did leads s renewal floor opener.table opener.value.records (draws_of h.pair) (drawing first) (last_of first') (client_of first) (after_of first') (tally_of first') h.opening k in
       let more = shared opener.table floor h.rest others others' h.others_are ks in
@@ -180,6 +180,13 @@ module _ {D P W R : Type 0} (leads : D → ℕ → D → Type 0) (s : Settings) 
         among = (inside.first, inside.each);
         number = inside.number;
         tallies = g.tallies ∙ ap (λ (u : Tally). plus (tally_of first') u) more.tallies;
+        alone = λ one. (
+            let long : length pairs ≡ suc (length h.rest) = ap (λ (l : List P). length l) h.pairs_are in
+            let same = paired_length _ h.rest others h.others_are in
+            let none = k.looped.alone (omega (arith, one, long, same, grants)) in
+            let quiet : sum_of (λ r. (tally_of r).busy) others' ≡ 0 = no_sum (λ r. (tally_of r).busy) others' (omega (arith, one, long, same, paired_length _ others others' ks)) in
+            let busy : t.busy ≡ (tally_of first').busy + sum_of (λ r. (tally_of r).busy) others' = ap (λ (u : Tally). u.busy) g.tallies in
+            omega (arith, none, quiet, busy));
       }
 
 module _ {D W R : Type 0} (leads : D → ℕ → D → Type 0) (s : Settings) (renewal : ℕ) (client_of : W → CallerShown) (drawing : W → D) (after_of : R → CallerShown) (last_of : R → D) (tally_of : R → Tally) where

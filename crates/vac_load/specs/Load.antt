@@ -1,17 +1,21 @@
 -- What a load promises.
-use Rattle.std.specs.Prelude.{◌≡◌, ◌≤◌, ◌*◌, ◌++◌, ◌&&◌, nat_eq, Bool, ℕ, List, [], ◌∷◌, length}
+use Rattle.std.specs.Prelude.{◌≡◌, ◌≤◌, ◌<◌, ◌*◌, ◌⊎◌, ◌++◌, ◌&&◌, nat_eq, Bool, ℕ, List, [], ◌∷◌, length}
 use Rattle.atomic_table.specs.Seated.{TableId}
 use Rattle.stm_words.specs.Image.{In}
 use Rattle.vac_model.specs.declared.tasks.Task.{Task}
-use Rattle.stm_core.specs.Client.{Record, merged}
+use Rattle.stm_core.specs.Client.{Client, Record, merged}
 use Rattle.stm_core.specs.History.{Sub}
 use Rattle.stm_core.specs.Invariant.{Sorted}
+use Rattle.stm_region.specs.Shown.{RegionShown}
 use Rattle.vac_manager.specs.Called.{CallerShown}
+use Rattle.vac_manager.specs.Opening.{Opens}
+use Rattle.vac_manager.specs.declared.fault.Fault.{Fault}
+use Rattle.vac_manager.specs.declared.fault.Fault.TheVariants as fault
 use Rattle.vac_draws.specs.declared.settings.Settings.{Settings}
 use Rattle.vac_load.specs.declared.tally.Tally.{Tally}
 use Rattle.vac_load.specs.declared.workers.WorkOf.{WorkOf}
 use Rattle.vac_load.specs.Looping.{Looped, AreOf, total}
-use Rattle.vac_load.specs.Opening.{as_tasks, IsOpeningFault}
+use Rattle.vac_load.specs.Opening.{as_tasks, Ran, Stopped}
 use Rattle.vac_draws.specs.Setting.{is_settings}
 use Rattle.vac_load.specs.declared.load.LoadFault.{LoadFault}
 use Rattle.vac_load.specs.declared.load.LoadFault.TheVariants as load
@@ -113,7 +117,8 @@ pub record HasShare {D : Type 0} (leads : D → ℕ → D → Type 0) (s : Setti
 
 -- all clients ran n tasks each, in one round or in several, and were gathered: the records of
 -- their answered tasks, and no others, stand behind those from before, each client's in their
--- order. The draws of each client are left as its tasks left them
+-- order. The draws of each client are left as its tasks left them. One client alone meets no
+-- conflict
 pub record RanAll {D P : Type 0} (leads : D → ℕ → D → Type 0) (s : Settings) (draws_of : P → D)
     (n : ℕ) (before : List Record) (pairs : List P) (after : List Record) (left : List P)
     (t : Tally) : Type 0 where
@@ -125,6 +130,7 @@ pub record RanAll {D P : Type 0} (leads : D → ℕ → D → Type 0) (s : Setti
   pub among : SubEach (λ x. x.records) shares rest
   pub number : length rest ≡ sum_of (λ x. length x.records) shares
   pub tallies : t ≡ added_up (λ x. x.tally) shares
+  pub alone : length pairs ≡ 1 → t.busy ≡ 0
 
 -- one round more was run, from these records, draws and tally on
 pub record RanMore {D P : Type 0} (leads : D → ℕ → D → Type 0) (s : Settings) (draws_of : P → D)
@@ -138,26 +144,58 @@ pub record RanMore {D P : Type 0} (leads : D → ℕ → D → Type 0) (s : Sett
 abbrev pub is_load : Settings → ℕ → Bool
 is_load s clients = is_settings s && nat_eq clients s.clients
 
--- why a load that could be run stopped
-abbrev pub IsStopOfLoad : ℕ → LoadFault → Type 0
-IsStopOfLoad last load.Arguments = ⊥
-IsStopOfLoad last load.Memory = Unit {0}
-IsStopOfLoad last load.Spawn = Unit {0}
-IsStopOfLoad last (load.Opening fault) = IsOpeningFault last fault
+-- the manager of a load was made, and the opening was answered whole: from this state of its draws
+-- on all its commands were drawn, and each of them was asked for and answered
+pub record WasOpened {D : Type 0} (leads : D → ℕ → D → Type 0) (s : Settings) (state left : D)
+    : Type 0 where
+  pub stripes : ℕ
+  pub region : RegionShown
+  pub opener : CallerShown
+  pub opens : Opens s.blocks s.last stripes region opener
+  pub ready : Client
+  pub ran : Ran leads region.renewal (opening s) opener.value ready state left
 
--- why a load was not run to its end: the opening never stops for its arguments, and finds a spent
--- clock at the settings' last version alone
-abbrev pub IsLoadFault : ℕ → LoadFault → Type 0
-IsLoadFault last load.Arguments = Unit {0}
-IsLoadFault last load.Memory = Unit {0}
-IsLoadFault last load.Spawn = Unit {0}
-IsLoadFault last (load.Opening fault) = IsOpeningFault last fault
+-- where the clock is found at its end, that is the last version of the settings, and less than the
+-- number of the opening's commands
+abbrev pub IsTooShort : Settings → Fault → Type 0
+IsTooShort s fault.Arguments = ⊥
+IsTooShort s fault.Memory = Unit {0}
+IsTooShort s (fault.Busy conflict) = ⊥
+IsTooShort s (fault.Spent version) = (version ≡ s.last) × (s.last < 4 * s.items)
+
+-- the manager of a load was made, and the opening stopped: its commands were asked for up to one
+-- that was refused with this fault, and those before it were answered
+pub record WasStopped {D : Type 0} (leads : D → ℕ → D → Type 0) (s : Settings) (e : Fault)
+    (state left : D) : Type 0 where
+  pub stripes : ℕ
+  pub region : RegionShown
+  pub opener : CallerShown
+  pub opens : Opens s.blocks s.last stripes region opener
+  pub after : Client
+  pub stopped : Stopped leads region.renewal s.last (opening s) e opener.value after state left
+  pub short : IsTooShort s e
+
+-- why a load that could be run stopped, with the opening's draws before and after it. For want of
+-- memory: before the first word was drawn, or when the opening was answered whole. For want of a
+-- thread: when it was. For the opening: since one of its commands was refused so
+abbrev pub IsStopOfLoad : {D : Type 0} → (D → ℕ → D → Type 0) → Settings → D → D → LoadFault
+    → Type 0
+IsStopOfLoad leads s state left load.Arguments = ⊥
+IsStopOfLoad leads s state left load.Memory = (left ≡ state) ⊎ WasOpened leads s state left
+IsStopOfLoad leads s state left load.Spawn = WasOpened leads s state left
+IsStopOfLoad leads s state left (load.Opening e) = WasStopped leads s e state left
+
+-- why a load was not run to its end: for its arguments, or since it stopped when the opening's
+-- draws were in some state
+abbrev pub IsLoadFault : {D : Type 0} → (D → ℕ → D → Type 0) → Settings → D → LoadFault → Type 0
+IsLoadFault {D} leads s state e =
+    (e ≡ load.Arguments) ⊎ ((left : D) × IsStopOfLoad leads s state left e)
 
 -- what a load did: there is a history, legal from the empty state on, whose last state has the
 -- report. First come the commands of the opening, and then the tasks that were answered, and no
 -- others, one round behind the other. A client's tasks are drawn one behind the other over all
 -- rounds, and those of them that were answered stand in the history in their order. The tally
--- counts all tasks of all clients in all rounds
+-- counts all tasks of all clients in all rounds; no task of one client alone is busy
 pub record Loaded {D P : Type 0} (leads : D → ℕ → D → Type 0) (s : Settings) (draws_of : P → D)
     (state : D) (pairs : List P) (t : Tally) (r : Report) : Type 0 where
   pub history : List Record
@@ -178,3 +216,4 @@ pub record Loaded {D P : Type 0} (leads : D → ℕ → D → Type 0) (s : Setti
   pub number : length rest ≡ sum_of (λ x. length x.records) shares
   pub tallies : t ≡ added_up (λ x. x.tally) shares
   pub all : total t ≡ s.rounds * s.clients * s.tasks
+  pub alone : s.clients ≡ 1 → t.busy ≡ 0

@@ -8,6 +8,7 @@ use Rattle.stm_core.specs.Invariant.{Sorted}
 use Rattle.vac_model.specs.declared.tasks.Task.{Task}
 use Rattle.vac_model.specs.declared.replies.Reply.{Reply}
 use Rattle.vac_model.specs.Code.{code}
+use Rattle.vac_manager.specs.Called.{HasAllGrants}
 use Rattle.vac_manager.specs.declared.fault.Fault.{Fault}
 use Rattle.vac_manager.specs.declared.fault.Fault.TheVariants as fault
 use Rattle.vac_draws.specs.declared.settings.Settings.{Settings}
@@ -64,7 +65,7 @@ abbrev pub least_attempts : ℕ → Tally → ℕ
 least_attempts tries t = t.answered + t.spent + t.busy * tries
 
 -- a client asked for the first n of its tasks: those that were answered are a part of the tasks
--- drawn, in their order, and each of them added its record
+-- drawn, in their order, and each of them added its record. Alone it met no conflict
 pub record Looped {D : Type 0} (leads : D → ℕ → D → Type 0) (s : Settings) (renewal n : ℕ)
     (v v' : Client) (state last : D) (t : Tally) : Type 0 where
   pub tasks : List Task
@@ -75,6 +76,7 @@ pub record Looped {D : Type 0} (leads : D → ℕ → D → Type 0) (s : Setting
   pub answered : Answered renewal done v v'
   pub all : total t ≡ n
   pub attempts : v.attempt.number + least_attempts s.tries t ≤ v'.attempt.number
+  pub alone : HasAllGrants v → t.busy ≡ 0
 
 -- how many attempts a task made at least that ended so, with so many tries
 abbrev pub attempts_of : {R : Type 0} → ℕ → Result R Fault → ℕ
@@ -85,10 +87,11 @@ abbrev pub answered_by : {R : Type 0} → Task → Result R Fault → List Task
 answered_by t (Ok reply) = t ∷ []
 answered_by t (Err e) = []
 
--- a task that was built was asked for, and ended so; one that was not built ended for want of
--- memory
+-- a task that was built was asked for, and ended so, by a conflict only where other clients were
+-- out; one that was not built ended for want of memory
 abbrev pub RanOne : {R E : Type 0} → ℕ → Result Task E → ℕ → Result R Fault → Client → Client
     → Type 0
 RanOne renewal (Ok t) tries end v v' = Answered renewal (answered_by t end) v v'
     × (v.attempt.number + attempts_of tries end ≤ v'.attempt.number)
+    × (HasAllGrants v → (counted end nothing).busy ≡ 0)
 RanOne renewal (Err e) tries end v v' = (end ≡ Err fault.Memory) × (v' ≡ v)

@@ -1,28 +1,55 @@
 -- What the opening of a load does.
-use Rattle.std.specs.Prelude.{◌≡◌, ℕ, List, map}
+use Rattle.std.specs.Prelude.{◌≡◌, ◌≤◌, ◌+◌, ℕ, List, [], ◌∷◌, ◌++◌, length, map}
 use Rattle.stm_core.specs.Client.{Client}
 use Rattle.vac_model.specs.declared.commands.Command.{Command}
 use Rattle.vac_model.specs.declared.tasks.Task.{Task}
 use Rattle.vac_model.specs.declared.tasks.Task.TheVariants as task
 use Rattle.vac_manager.specs.declared.fault.Fault.{Fault}
 use Rattle.vac_manager.specs.declared.fault.Fault.TheVariants as fault
-use Rattle.vac_draws.specs.Draws.{Reader, Drawn}
+use Rattle.vac_draws.specs.Draws.{Reader, Reads, Drew, Drawn}
 use Rattle.vac_load.specs.Looping.{Answered}
 
 -- each command as a task
 abbrev pub as_tasks : List Command → List Task
 as_tasks commands = map (λ c. task.One c) commands
 
--- commands were read from drawn words, and each of them was asked for and answered, in their order
+-- commands were read from drawn words, and each of them was asked for and answered, in their
+-- order; each took the version that the client knows on by at most one
 pub record Ran {D : Type 0} (leads : D → ℕ → D → Type 0) (renewal : ℕ)
     (reader : Reader (List Command)) (v v' : Client) (state last : D) : Type 0 where
   pub commands : List Command
   pub drawn : Drawn leads reader state commands last
   pub answered : Answered renewal (as_tasks commands) v v'
+  pub near : v'.floor ≤ v.floor + length commands
 
--- why an opening may stop: want of memory, or a clock that is spent at this last version
-abbrev pub IsOpeningFault : ℕ → Fault → Type 0
-IsOpeningFault last fault.Arguments = ⊥
-IsOpeningFault last fault.Memory = Unit {0}
-IsOpeningFault last (fault.Busy conflict) = ⊥
-IsOpeningFault last (fault.Spent version) = version ≡ last
+-- words were drawn from the first state to the last one, and with some words more behind them
+-- these items are read first
+pub record Begun {D X : Type 0} (leads : D → ℕ → D → Type 0) (reader : Reader (List X))
+    (state : D) (xs : List X) (last : D) : Type 0 where
+  pub words : List ℕ
+  pub drew : Drew leads state words last
+  pub more : List ℕ
+  pub rest : List X
+  pub reads : Reads reader (words ++ more) (xs ++ rest)
+
+-- why a command of the opening is refused to a client that knows this version: want of memory, or
+-- a clock that is spent at this last version, which is the one that the client knows
+abbrev pub IsOpeningFault : ℕ → ℕ → Fault → Type 0
+IsOpeningFault last floor fault.Arguments = ⊥
+IsOpeningFault last floor fault.Memory = Unit {0}
+IsOpeningFault last floor (fault.Busy conflict) = ⊥
+IsOpeningFault last floor (fault.Spent version) = (version ≡ last) × (floor ≡ last)
+
+-- commands were read from the front of drawn words, and asked for in their order: those before the
+-- last one were answered, and the last one was refused with this fault and added no record
+pub record Stopped {D : Type 0} (leads : D → ℕ → D → Type 0) (renewal last : ℕ)
+    (reader : Reader (List Command)) (e : Fault) (v v' : Client) (state left : D)
+    : Type 0 where
+  pub asked : List Command
+  pub refused : Command
+  pub begun : Begun leads reader state (asked ++ (refused ∷ [])) left
+  pub between : Client
+  pub answered : Answered renewal (as_tasks asked) v between
+  pub near : between.floor ≤ v.floor + length asked
+  pub kept : v'.records ≡ between.records
+  pub why : IsOpeningFault last between.floor e

@@ -1,9 +1,11 @@
 //! A load.
 
 ghost use Rattle.std.specs.Prelude.{◌≡◌, ◌↔◌, true, false, map, vec_len, IfOk, IfErr, IsErrOf};
+ghost use Rattle.vac_manager.specs.Called.{HasAllGrants};
+ghost use Rattle.vac_manager.specs.Opening.{Closes};
 ghost use Rattle.vac_draws.specs.Setting.{is_settings};
 ghost use Rattle.vac_load.specs.Load.{Loaded, is_load, IsLoadFault, IsStopOfLoad};
-ghost use Rattle.vac_draws.specs.Streams.{streams_of};
+ghost use Rattle.vac_draws.specs.Streams.{gives, stream_of, streams_of};
 ghost use Rattle.vac_load.specs.Streams.{LoadedBySeed};
 
 use crate::opening::open;
@@ -15,9 +17,10 @@ use std::sync::Wait;
 use std::thread::Threads;
 use stm_attempt::{Gate, NoGate};
 use stm_region::RegionFault;
+use stm_words::Version;
 use thiserror::Error;
 use vac_draws::{Draws, PcgDraws, Settings};
-use vac_manager::{Fault, Manager, Report};
+use vac_manager::{Client, Fault, Manager, Report};
 
 /// What a load leaves: how its tasks ended, over all rounds, and the report of the words after all
 /// clients were gathered for the last time.
@@ -45,34 +48,48 @@ pub enum LoadFault {
     Opening(Fault),
 }
 
+/// Ends the manager with its one client. That is refused for want of memory alone.
+fn close(manager: Manager, client: Client) -> Result<(Vec<u64>, Version), LoadFault>
+    requires own { client.table ≡ manager.table }
+    requires alone { HasAllGrants client.value }
+    ensures closes { IfOk result (λ r. Closes manager client.value r.0.items r.1) }
+    ensures refused { IfErr result (λ fault. fault ≡ LoadFault.Memory) }
+{
+    match manager.close(client) {
+        Ok(closed) => Ok(closed),
+        Err((_, _, fault)) => {
+            prove!(fault == RegionFault::Memory);
+            Err(LoadFault::Memory)
+        }
+    }
+}
+
 /// Runs a load whose arguments are in their ranges.
 fn run_in_range<R: Threads + Wait, D: Draws + Send + Drop, G: Gate + Send + Drop>(
     rt: &R,
     alloc: Global,
     settings: &Settings,
-    mut opening: D,
+    opening: &mut D,
     clients: Vec<(D, G)>,
 ) -> Result<LoadReport, LoadFault>
     requires settings { is_settings settings.now ≡ true }
     requires number { vec_len clients ≡ settings.now.clients }
     ensures loaded { IfOk result (λ r. Loaded D.leads settings.now (λ p. p.0)
-        opening clients.items r.tally r.report) }
-    ensures refused { IfErr result (λ fault. IsStopOfLoad settings.now.last fault) }
+        opening.old clients.items r.tally r.report) }
+    ensures stopped { IfErr result (λ fault.
+        IsStopOfLoad D.leads settings.now opening.old opening.new fault) }
 {
     let Ok((manager, mut client)) = Manager::new(alloc, settings.blocks, settings.last) else {
         return Err(LoadFault::Memory);
     };
-    if let Err(fault) = open(&manager, &mut client, &mut opening, settings) {
+    if let Err(fault) = open(&manager, &mut client, opening, settings) {
         return Err(LoadFault::Opening(fault));
     }
     let progress = run_rounds(rt, alloc, settings, manager, client, clients)?;
     let Progress { manager, round } = progress;
-    let words = match manager.close(round.client) {
+    let words = match close(manager, round.client) {
         Ok((words, _)) => words,
-        Err((_, _, fault)) => {
-            prove!(fault == RegionFault::Memory);
-            return Err(LoadFault::Memory);
-        }
+        Err(fault) => return Err(fault),
     };
     let report = report_of(words);
     Ok(LoadReport {
@@ -89,17 +106,22 @@ pub fn run_load_with<
     R: Threads + Wait + AllocGlobal,
     D: Draws + Send + Drop,
     G: Gate + Send + Drop,
->(rt: &R, settings: &Settings, opening: D, clients: Vec<(D, G)>) -> Result<LoadReport, LoadFault>
+>(
+    rt: &R,
+    settings: &Settings,
+    mut opening: D,
+    clients: Vec<(D, G)>,
+) -> Result<LoadReport, LoadFault>
     ensures arguments { IsErrOf result LoadFault.Arguments
         ↔ (is_load settings.now (vec_len clients) ≡ false) }
     ensures loaded { IfOk result (λ r. Loaded D.leads settings.now (λ p. p.0)
         opening clients.items r.tally r.report) }
-    ensures refused { IfErr result (λ fault. IsLoadFault settings.now.last fault) }
+    ensures refused { IfErr result (λ fault. IsLoadFault D.leads settings.now opening fault) }
 {
     if !(settings.is_in_range() && clients.len() == settings.clients as usize) {
         return Err(LoadFault::Arguments);
     }
-    run_in_range(rt, rt.alloc(), settings, opening, clients)
+    run_in_range(rt, rt.alloc(), settings, &mut opening, clients)
 }
 
 /// The draws of each client, from a stream of its own, and no gate.
@@ -124,7 +146,8 @@ pub fn run_load<R: Threads + Wait + AllocGlobal>(
     ensures arguments { IsErrOf result LoadFault.Arguments
         ↔ (is_settings settings.now ≡ false) }
     ensures loaded { IfOk result (λ r. LoadedBySeed settings.now r.tally r.report) }
-    ensures refused { IfErr result (λ fault. IsLoadFault settings.now.last fault) }
+    ensures refused { IfErr result (λ fault.
+        IsLoadFault gives settings.now (stream_of settings.now.seed 0) fault) }
 {
     if !settings.is_in_range() {
         return Err(LoadFault::Arguments);
@@ -132,11 +155,6 @@ pub fn run_load<R: Threads + Wait + AllocGlobal>(
     let Ok(clients) = streams(rt.alloc(), settings.seed, settings.clients) else {
         return Err(LoadFault::Memory);
     };
-    run_in_range(
-        rt,
-        rt.alloc(),
-        settings,
-        PcgDraws::new(settings.seed, 0),
-        clients,
-    )
+    let mut opening = PcgDraws::new(settings.seed, 0);
+    run_in_range(rt, rt.alloc(), settings, &mut opening, clients)
 }

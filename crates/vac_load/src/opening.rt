@@ -1,13 +1,13 @@
 //! The opening of a load: its items and customers.
 
-ghost use Rattle.std.specs.Prelude.{◌≡◌, ◌<◌, ◌≤◌, ◌^◌, true, IfOk, IfErr, [], ◌∷◌};
+ghost use Rattle.std.specs.Prelude.{◌≡◌, ◌<◌, ◌≤◌, ◌+◌, ◌^◌, true, IfOk, IfErr, [], ◌∷◌};
 ghost use Rattle.vac_model.specs.Ranges.{is_command};
 ghost use Rattle.vac_manager.specs.Called.{HasAllGrants};
 ghost use Rattle.vac_draws.specs.Draws.{for_each};
 ghost use Rattle.vac_draws.specs.Setting.{is_settings};
 ghost use Rattle.vac_load.specs.Looping.{Answered};
 ghost use Rattle.vac_draws.specs.Tasks.{stock, stocks, opening};
-ghost use Rattle.vac_load.specs.Opening.{Ran, IsOpeningFault};
+ghost use Rattle.vac_load.specs.Opening.{Ran, Stopped, IsOpeningFault};
 
 use vac_draws::{Draws, Settings, draw_stock};
 use vac_manager::{Client, Fault, Manager};
@@ -25,7 +25,10 @@ fn ask_for(manager: &Manager, client: &mut Client, command: Command) -> Result<(
     ensures grants { HasAllGrants client.new.value }
     ensures answered { IfOk result (λ _. Answered manager.now.renewal (Task.One command ∷ [])
         client.old.value client.new.value) }
-    ensures refused { IfErr result (λ fault. IsOpeningFault manager.now.last fault) }
+    ensures near { IfOk result (λ _. client.new.value.floor ≤ client.old.value.floor + 1) }
+    ensures refused { IfErr result (λ fault.
+        IsOpeningFault manager.now.last client.old.value.floor fault) }
+    ensures kept { IfErr result (λ _. client.new.value.records ≡ client.old.value.records) }
 {
     match manager.call(client, &Task::One(command), TRIES) {
         Ok(_) => Ok(()),
@@ -48,7 +51,8 @@ fn add_item<D: Draws>(
     ensures grants { HasAllGrants client.new.value }
     ensures ran { IfOk result (λ _. Ran D.leads manager.now.renewal (stock id kind)
         client.old.value client.new.value draws.old draws.new) }
-    ensures refused { IfErr result (λ fault. IsOpeningFault manager.now.last fault) }
+    ensures stopped { IfErr result (λ fault. Stopped D.leads manager.now.renewal manager.now.last
+        (stock id kind) fault client.old.value client.new.value draws.old draws.new) }
 {
     ask_for(manager, client, draw_stock(draws, id, kind))
 }
@@ -67,7 +71,8 @@ fn add_items<D: Draws>(
     ensures grants { HasAllGrants client.new.value }
     ensures ran { IfOk result (λ _. Ran D.leads manager.now.renewal (stocks id)
         client.old.value client.new.value draws.old draws.new) }
-    ensures refused { IfErr result (λ fault. IsOpeningFault manager.now.last fault) }
+    ensures stopped { IfErr result (λ fault. Stopped D.leads manager.now.renewal manager.now.last
+        (stocks id) fault client.old.value client.new.value draws.old draws.new) }
 {
     add_item(manager, client, draws, id, Kind::Car)?;
     add_item(manager, client, draws, id, Kind::Flight)?;
@@ -88,7 +93,8 @@ fn add_all<D: Draws>(
     ensures grants { HasAllGrants client.new.value }
     ensures ran { IfOk result (λ _. Ran D.leads manager.now.renewal (for_each items stocks)
         client.old.value client.new.value draws.old draws.new) }
-    ensures refused { IfErr result (λ fault. IsOpeningFault manager.now.last fault) }
+    ensures stopped { IfErr result (λ fault. Stopped D.leads manager.now.renewal manager.now.last
+        (for_each items stocks) fault client.old.value client.new.value draws.old draws.new) }
 {
     'items: for place in 0..items {
         add_items(manager, client, draws, place + 1)?;
@@ -112,7 +118,8 @@ pub fn open<D: Draws>(
     ensures grants { HasAllGrants client.new.value }
     ensures ran { IfOk result (λ _. Ran D.leads manager.now.renewal (opening settings.now)
         client.old.value client.new.value draws.old draws.new) }
-    ensures refused { IfErr result (λ fault. IsOpeningFault manager.now.last fault) }
+    ensures stopped { IfErr result (λ fault. Stopped D.leads manager.now.renewal manager.now.last
+        (opening settings.now) fault client.old.value client.new.value draws.old draws.new) }
 {
     add_all(manager, client, draws, settings.items)?;
     'customers: for place in 0..settings.items {

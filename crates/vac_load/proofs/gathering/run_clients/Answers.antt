@@ -1,7 +1,8 @@
 use Rattle.std.proofs.Common.{◌∙◌, ◌≤◌, ap, arith}
 use Rattle.vac_manager.specs.Called.{CallerShown}
 use Rattle.vac_load.proofs.Joining.{few}
-use Rattle.vac_load.proofs.Shares.{ran_all, worked_own, worked_grants, worked_tasks, paired_length}
+use Rattle.vac_load.proofs.Pairs.{paired_length}
+use Rattle.vac_load.proofs.Shares.{ran_all, worked_own, worked_grants, worked_tasks}
 use Rattle.vac_load.proofs.gathering.run_clients.Goals as goal
 
 pub gather_all-requires : goal.gather_all-requires
@@ -26,7 +27,7 @@ gather_all-requires g c =
 
 pub returns-clause-ran : goal.returns-clause-ran
 returns-clause-ran g c = ran_all g.D.Draws.leads c.args.settings.now c.args.manager.now.renewal (λ p. p.0) (λ w. w.client) (λ w. w.draws) (λ r. r.worker.client) (λ r. r.worker.draws) (λ r. r.tally) c.args.client _ _ _ _ _ _ c.gather_all.result.client.value _
-    c.requires.known c.in_ok-crew.ensures.hired c.in_ok-crew-2.ensures.first c.in_ok-crew-2.ensures.others c.gather_all.ensures.gathered c.gather_all.ensures.pairs
+    c.requires.known c.in_ok-crew.ensures.hired c.in_ok-crew-2.ensures.first c.in_ok-crew-2.ensures.others c.gather_all.ensures.gathered c.gather_all.ensures.pairs (omega (arith, c.in_ok-crew.ensures.grants))
 
 pub returns-clause-number : goal.returns-clause-number
 returns-clause-number g c =

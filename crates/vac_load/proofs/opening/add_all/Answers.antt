@@ -1,6 +1,8 @@
-use Rattle.std.proofs.Common.{rules}
+use Rattle.std.proofs.Common.{rules, ◌+◌, ◌≤◌}
+use Rattle.vac_draws.specs.Draws.{for_each}
 use Rattle.vac_draws.specs.Tasks.{stocks}
-use Rattle.vac_load.proofs.Opened.{ran_more}
+use Rattle.vac_load.specs.Opening.{Stopped}
+use Rattle.vac_load.proofs.Opened.{ran_more, stopped_items, handed_on}
 use Rattle.vac_load.proofs.opening.add_all.Goals as goal
 
 pub items-preserved : goal.items-preserved
@@ -9,3 +11,12 @@ items-preserved g c = record {
   grants = search rules;
   ran = ran_more g.D.Draws.leads c.args.manager.now.renewal c.items.place stocks _ _ _ _ _ _ c.items.invariant.ran c.in_ok-add_items.ensures.ran;
 }
+
+pub returns-in_err-add_items-clause-stopped : goal.returns-in_err-add_items-clause-stopped
+returns-in_err-add_items-clause-stopped g c =
+    let leads = g.D.Draws.leads in
+    let n = c.args.manager.now.renewal in
+    let last = c.args.manager.now.last in
+    let less : c.items.place + 1 ≤ c.args.items = search rules in
+    handed_on c.from_residual.result c.in_err-add_items.field-0.0 (λ e. Stopped leads n last (for_each c.args.items stocks) e c.args.client.now.value c.add_items.new.client.value c.args.draws.now c.add_items.new.draws) c.from_residual.ensures.1
+    (stopped_items leads n last c.items.place c.args.items _ _ _ _ _ _ _ less c.items.invariant.ran c.in_err-add_items.ensures.stopped)
