@@ -22,7 +22,7 @@ use Rattle.tx_list.specs.Lists.{IsListAt, HasList}
 use Rattle.tx_list.specs.Search.{IsSpot}
 use Rattle.tx_list.proofs.Frame.{list_block}
 use Rattle.tx_list.proofs.Spots.{spot_stays}
-use Rattle.vac_records.specs.Items.{mem, item_in, IsNode, IsItemNow, CanMake, ItemChanged}
+use Rattle.vac_records.specs.Items.{mem, item_in, IsNode, IsItemNow, CanMakeOf, ItemChanged}
 use Rattle.vac_records.specs.Bookings.{kind_of, place_in, place_key, booking_in}
 use Rattle.vac_records.specs.Customers.{head_of, IsLoose, CanBook, IsBooked, BookedAt, Booked}
 use Rattle.vac_records.specs.Heap.{used_in, count_in}
@@ -36,6 +36,7 @@ use Rattle.vac_records.proofs.Bridges.{pool_there, list_there}
 use Rattle.vac_records.proofs.Hands.{block_taken, block_written}
 use Rattle.vac_records.proofs.Links.{list_one}
 use Rattle.vac_records.proofs.Single.{none_left, some_left}
+use Rattle.vac_commands.specs.declared.bookings.Offer.{Offer}
 use Rattle.vac_commands.specs.Entries.{HasItemAt, HasCustomerAt}
 use Rattle.vac_commands.specs.BookingSteps.{booking_block, LacksBooking, IsOffered, RanInPlace}
 use Rattle.vac_commands.proofs.Serving.{Lands, in_place, reads_in_place}
@@ -154,8 +155,8 @@ module _ (m : ℕ → ℕ) (n : ℕ) (s : State) (h : IsState m n s) (customer o
       item_same : item_in m2 item ≡ item_in m item
       item_same = item_words m m2 n [] [] s more h.represents kind id item joined (at_item m n s h customer owner kind id item e) (item_of-with_bookings s customer (insert had (kind, id) (booking_in k.between b)) kind id)
 
-      pub free_still : num ≤ m2 (item + 5)
-      free_still = omega (arith, free, ap (λ (x : Item). x.free) item_same)
+      pub free_same : m2 (item + 5) ≡ m (item + 5)
+      free_same = ap (λ (x : Item). x.free) item_same
 
       pub used_fits : m2 (item + 4) + num < 2 ^ 64
       used_fits = omega (arith, counts_fit m n s h kind id item num there free, ap (λ (x : Item). x.used) item_same)
@@ -177,14 +178,17 @@ module _ (m : ℕ → ℕ) (n : ℕ) (s : State) (h : IsState m n s) (customer o
           }
 
 -- the calls, under all images
-module _ (s : View) (customer owner : ℕ) (kind : Kind) (id item num price : ℕ) (held : HoldsState s) (c : HasCustomerAt s customer owner) (f : HasItemAt s kind id item)
-    (o : IsOffered s item num price) (g : LacksBooking s owner (kind, id)) (small : id < 2 ^ 32) where
+module _ (s : View) (customer owner : ℕ) (kind : Kind) (id item num : ℕ) (offer : Offer) (held : HoldsState s) (c : HasCustomerAt s customer owner) (f : HasItemAt s kind id item)
+    (o : IsOffered s item num offer) (g : LacksBooking s owner (kind, id)) (small : id < 2 ^ 32) where
+  enough_at : (image : List ℕ) → Sees s image → num ≤ mem s image (item + 5)
+  enough_at image i = omega (arith, o.enough, o.free_is image i)
+
   pub no_block : (s1 : View) → IsTrue (is_command (command.Reserve customer kind id num)) → NoneFree s s1 → RanInPlace s s1 (command.Reserve customer kind id num) (reply.No Full)
   no_block s1 range z = reads_in_place s s1 (command.Reserve customer kind id num) (reply.No Full) range (record { kept = z.kept; writes = z.writes }) (λ image state i h.
       let i0 = z.kept.seen image i in
       let p = h.represents.parts in
       no_place (mem s image) (length image) state h customer owner kind id item (here s customer owner kind id item c f small image state i0 h) (g.none image state i0 h)
-      num (o.free.enough image i0) (z.none image p.free (used_in p) (count_in p) i (pool_there (mem s image) (length image) [] state h.represents)))
+      num (enough_at image i0) (z.none image p.free (used_in p) (count_in p) i (pool_there (mem s image) (length image) [] state h.represents)))
 
   module _ (s1 : View) (b start : ℕ) (spot : Spot) (t : Taken s s1 start b) where
     its_taking : (image : List ℕ) (state : State) → Sees s1 image → (h : IsState (mem s image) (length image) state) →
@@ -232,30 +236,29 @@ module _ (s : View) (customer owner : ℕ) (kind : Kind) (id item num price : �
     pub spot_room : IsSpot s (head_of owner) (place_key (kind, id)) spot → spot.link.0 < s1.size
     spot_room p = (still_spot p).room
 
-    pub its_booked : (s2 : View) → IsSpot s (head_of owner) (place_key (kind, id)) spot → BookedAt s1 s2 spot (kind, id) num price b → Booked s1 s2 owner (kind, id) num price b
+    pub its_booked : (s2 : View) → IsSpot s (head_of owner) (place_key (kind, id)) spot → BookedAt s1 s2 spot (kind, id) num offer.price b → Booked s1 s2 owner (kind, id) num offer.price b
     its_booked s2 p w = w.booked owner has_list (still_spot p) can_book
 
-    module _ (s2 : View) (w : Booked s1 s2 owner (kind, id) num price b) where
+    module _ (s2 : View) (w : Booked s1 s2 owner (kind, id) num offer.price b) where
       its_booking : (image : List ℕ) (state : State) → Sees s2 image → (i1 : Sees s1 image) (i0 : Sees s image) → (h : IsState (mem s image) (length image) state) →
           IsBooked (mem s1 image) (mem s2 image) (length image) owner
           (rows_now (mem s image) (length image) state h customer owner kind id item (here s customer owner kind id item c f small image state i0 h) (g.none image state i0 h) (mem s1 image) b start (its_taking image state i1 h))
-          (kind, id) num price b
+          (kind, id) num offer.price b
       its_booking image state i i1 i0 h =
           let e = here s customer owner kind id item c f small image state i0 h in
           w.booked image (rows_now (mem s image) (length image) state h customer owner kind id item e (g.none image state i0 h) (mem s1 image) b start (its_taking image state i1 h)) i
           (list_now (mem s image) (length image) state h customer owner kind id item e (g.none image state i0 h) (mem s1 image) b start (its_taking image state i1 h))
 
-      pub can_make : CanMake s2 item num
+      pub can_make : CanMakeOf s2 item num offer.free
       can_make = record {
-        free = record {
-          enough = λ image i.
-              let i1 = w.kept.seen image i in
-              let i0 = t.kept.seen image i1 in
-              let r = held.under image i0 in
-              let e = here s customer owner kind id item c f small image r.0 i0 r.1 in
-              free_still (mem s image) (length image) r.0 r.1 customer owner kind id item e (g.none image r.0 i0 r.1) (mem s1 image) b start (its_taking image r.0 i1 r.1)
-              (mem s2 image) num price (its_booking image r.0 i i1 i0 r.1) (o.free.enough image i0) (o.price_is image i0);
-        };
+        free_is = λ image i.
+            let i1 = w.kept.seen image i in
+            let i0 = t.kept.seen image i1 in
+            let r = held.under image i0 in
+            let e = here s customer owner kind id item c f small image r.0 i0 r.1 in
+            free_same (mem s image) (length image) r.0 r.1 customer owner kind id item e (g.none image r.0 i0 r.1) (mem s1 image) b start (its_taking image r.0 i1 r.1)
+            (mem s2 image) num offer.price (its_booking image r.0 i i1 i0 r.1) (enough_at image i0) (o.price_is image i0) ∙ o.free_is image i0;
+        enough = o.enough;
         used = record {
           fits = λ image i.
               let i1 = w.kept.seen image i in
@@ -263,7 +266,7 @@ module _ (s : View) (customer owner : ℕ) (kind : Kind) (id item num price : �
               let r = held.under image i0 in
               let e = here s customer owner kind id item c f small image r.0 i0 r.1 in
               used_fits (mem s image) (length image) r.0 r.1 customer owner kind id item e (g.none image r.0 i0 r.1) (mem s1 image) b start (its_taking image r.0 i1 r.1)
-              (mem s2 image) num price (its_booking image r.0 i i1 i0 r.1) (o.free.enough image i0) (o.price_is image i0);
+              (mem s2 image) num offer.price (its_booking image r.0 i i1 i0 r.1) (enough_at image i0) (o.price_is image i0);
         };
       }
 
@@ -278,5 +281,5 @@ module _ (s : View) (customer owner : ℕ) (kind : Kind) (id item num price : �
             let i0 = t.kept.seen image i1 in
             let e = here s customer owner kind id item c f small image state i0 h in
             added_lands (mem s image) (length image) state h customer owner kind id item e (g.none image state i0 h) (mem s1 image) b start (its_taking image state i1 h)
-            (mem s2 image) num price (its_booking image state i2 i1 i0 h) (o.free.enough image i0) (o.price_is image i0) (mem s3 image) (made.changed image i);
+            (mem s2 image) num offer.price (its_booking image state i2 i1 i0 h) (enough_at image i0) (o.price_is image i0) (mem s3 image) (made.changed image i);
       })

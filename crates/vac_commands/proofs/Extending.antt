@@ -16,7 +16,7 @@ use Rattle.vac_model.specs.State.{State, Bookings, item_of, with_item, with_book
 use Rattle.vac_model.specs.Step.{done, refused, step, taken, extended, unit_limit}
 use Rattle.vac_model.specs.Balanced.{IsBooking}
 use Rattle.vac_model.proofs.States.{item_of-with_bookings}
-use Rattle.vac_records.specs.Items.{mem, item_in, IsItemNow, CanMake, ItemChanged}
+use Rattle.vac_records.specs.Items.{mem, item_in, IsItemNow, CanMakeOf, ItemChanged}
 use Rattle.vac_records.specs.Bookings.{booking_in}
 use Rattle.vac_records.specs.Customers.{IsBookingNow, CanExtend, BookingChanged}
 use Rattle.vac_records.specs.Represents.{IsState}
@@ -25,6 +25,7 @@ use Rattle.vac_records.specs.Laws.{Stays, IsItemAt}
 use Rattle.vac_records.specs.Steps.{kept_both}
 use Rattle.vac_records.proofs.Items.{item_replaced}
 use Rattle.vac_records.proofs.Booked.{booking_replaced}
+use Rattle.vac_commands.specs.declared.bookings.Offer.{Offer}
 use Rattle.vac_commands.specs.Entries.{HasItemAt, HasCustomerAt}
 use Rattle.vac_commands.specs.BookingSteps.{booking_block, HasBookingAt, IsOffered, RanInPlace}
 use Rattle.vac_commands.proofs.Serving.{Lands, in_place, reads_in_place}
@@ -33,8 +34,8 @@ use Rattle.vac_commands.proofs.Owners.{Here, here, owned, at_owner, at_item, its
 use Rattle.vac_commands.proofs.Cancelling.{item_stays, item_words}
 
 -- an item that is offered has a price in its range
-pub price_small : (s : View) (kind : Kind) (id item num price : ℕ) → HoldsState s → HasItemAt s kind id item → IsOffered s item num price → ∥ ((image : List ℕ) × Stands s image) ∥₁ → price ≤ 1000000
-price_small s kind id item num price held f o ws = some_le price 1000000 ws (λ w.
+pub price_small : (s : View) (kind : Kind) (id item num : ℕ) (offer : Offer) → HoldsState s → HasItemAt s kind id item → IsOffered s item num offer → ∥ ((image : List ℕ) × Stands s image) ∥₁ → offer.price ≤ 1000000
+price_small s kind id item num offer held f o ws = some_le offer.price 1000000 ws (λ w.
     let i = w.1.sees in
     let t = held.under w.0 i in
     let r = t.1.small.balanced.items kind id (item_in (mem s w.0) item) (item_is s kind id item f w.0 t.0 i t.1) in
@@ -84,8 +85,8 @@ module _ (m : ℕ → ℕ) (n : ℕ) (s : State) (h : IsState m n s) (customer o
     item_same : item_in m2 item ≡ item_in m item
     item_same = item_words m m2 n [] [] s more h.represents kind id item grown (at_item m n s h customer owner kind id item e) (item_of-with_bookings s customer (insert had (kind, id) (booking_in m2 b)) kind id)
 
-    pub free_still : num ≤ m2 (item + 5)
-    free_still = omega (arith, free, ap (λ (x : Item). x.free) item_same)
+    pub free_same : m2 (item + 5) ≡ m (item + 5)
+    free_same = ap (λ (x : Item). x.free) item_same
 
     pub used_fits : m2 (item + 4) + num < 2 ^ 64
     used_fits = omega (arith, counts_fit m n s h kind id item num there free, ap (λ (x : Item). x.used) item_same)
@@ -107,8 +108,11 @@ module _ (m : ℕ → ℕ) (n : ℕ) (s : State) (h : IsState m n s) (customer o
         }
 
 -- the calls, under all images
-module _ (s : View) (customer owner : ℕ) (kind : Kind) (id item num price b : ℕ) (held : HoldsState s) (c : HasCustomerAt s customer owner) (f : HasItemAt s kind id item)
-    (o : IsOffered s item num price) (g : HasBookingAt s owner (kind, id) b) (small : id < 2 ^ 32) (few : num < 2 ^ 32) (cheap : price ≤ 1000000) where
+module _ (s : View) (customer owner : ℕ) (kind : Kind) (id item num : ℕ) (offer : Offer) (b : ℕ) (held : HoldsState s) (c : HasCustomerAt s customer owner) (f : HasItemAt s kind id item)
+    (o : IsOffered s item num offer) (g : HasBookingAt s owner (kind, id) b) (small : id < 2 ^ 32) (few : num < 2 ^ 32) (cheap : offer.price ≤ 1000000) where
+  enough_at : (image : List ℕ) → Sees s image → num ≤ mem s image (item + 5)
+  enough_at image i = omega (arith, o.enough, o.free_is image i)
+
   b_some : b ≢ 0
   b_some = omega (arith, g.inside.0)
 
@@ -127,11 +131,11 @@ module _ (s : View) (customer owner : ℕ) (kind : Kind) (id item num price b : 
     too_many range over = reads_in_place s s1 (command.Reserve customer kind id num) (reply.No UnitLimit) range (record { kept = l.kept; writes = l.writes }) (λ image state i h.
         let i0 = l.kept.seen image i in
         over_limit (mem s image) (length image) state h customer owner kind id item b (here s customer owner kind id item c f small image state i0 h) (g.at image state i0 h) b_some
-        num (o.free.enough image i0) (omega (arith, over, l.answer image i)))
+        num (enough_at image i0) (omega (arith, over, l.answer image i)))
 
-    pub can_extend : CanExtend s1 b num price
+    pub can_extend : CanExtend s1 b num offer.price
     can_extend =
-        let product : num * price ≤ num * 1000000 = mul-le-mul_left num cheap in
+        let product : num * offer.price ≤ num * 1000000 = mul-le-mul_left num cheap in
         record {
           sum = record {
             fits = λ image i.
@@ -148,25 +152,24 @@ module _ (s : View) (customer owner : ℕ) (kind : Kind) (id item num price b : 
           };
         }
 
-    module _ (s2 : View) (w : BookingChanged s1 s2 b (λ x. extended x num price)) where
-      its_change : (image : List ℕ) → Sees s2 image → IsBookingNow (mem s image) (mem s2 image) b (extended (booking_in (mem s image) b) num price)
+    module _ (s2 : View) (w : BookingChanged s1 s2 b (λ x. extended x num offer.price)) where
+      its_change : (image : List ℕ) → Sees s2 image → IsBookingNow (mem s image) (mem s2 image) b (extended (booking_in (mem s image) b) num offer.price)
       its_change image i = rw l.writes at (w.changed image i)
 
-      pub can_make : CanMake s2 item num
+      pub can_make : CanMakeOf s2 item num offer.free
       can_make = record {
-        free = record {
-          enough = λ image i.
-              let i0 = l.kept.seen image (w.kept.seen image i) in
-              let t = held.under image i0 in
-              free_still (mem s image) (length image) t.0 t.1 customer owner kind id item b (here s customer owner kind id item c f small image t.0 i0 t.1) (g.at image t.0 i0 t.1) b_some
-              (mem s2 image) num price (o.free.enough image i0) (o.price_is image i0) (its_change image i);
-        };
+        free_is = λ image i.
+            let i0 = l.kept.seen image (w.kept.seen image i) in
+            let t = held.under image i0 in
+            free_same (mem s image) (length image) t.0 t.1 customer owner kind id item b (here s customer owner kind id item c f small image t.0 i0 t.1) (g.at image t.0 i0 t.1) b_some
+            (mem s2 image) num offer.price (enough_at image i0) (o.price_is image i0) (its_change image i) ∙ o.free_is image i0;
+        enough = o.enough;
         used = record {
           fits = λ image i.
               let i0 = l.kept.seen image (w.kept.seen image i) in
               let t = held.under image i0 in
               used_fits (mem s image) (length image) t.0 t.1 customer owner kind id item b (here s customer owner kind id item c f small image t.0 i0 t.1) (g.at image t.0 i0 t.1) b_some
-              (mem s2 image) num price (o.free.enough image i0) (o.price_is image i0) (its_change image i);
+              (mem s2 image) num offer.price (enough_at image i0) (o.price_is image i0) (its_change image i);
         };
       }
 
@@ -180,6 +183,6 @@ module _ (s : View) (customer owner : ℕ) (kind : Kind) (id item num price b : 
             let i1 = w.kept.seen image i2 in
             let i0 = l.kept.seen image i1 in
             extended_lands (mem s image) (length image) state h customer owner kind id item b (here s customer owner kind id item c f small image state i0 h) (g.at image state i0 h) b_some
-            (mem s2 image) num price (o.free.enough image i0) (o.price_is image i0) (its_change image i2)
+            (mem s2 image) num offer.price (enough_at image i0) (o.price_is image i0) (its_change image i2)
             (mem s3 image) (omega (arith, under, l.answer image i1)) (made.changed image i);
       })

@@ -42,12 +42,9 @@ sold_out s s1 customer owner kind id item num v c f range l less = reads_in_plac
     sold_step state customer kind id num o.bookings (item_in (mem s image) item) o.there (item_is s kind id item f image state i0 h) (omega (arith, less, l.answer image i)))
 
 -- free units and a price that were read are there after further reads
-pub offered : (s s1 s2 s3 : View) (item num v price : ℕ) → Loaded s s1 (item + 5) v → num ≤ v → Loaded s1 s2 (item + 7) price → OnlyRead s2 s3 → IsOffered s3 item num price
+pub offered : (s s1 s2 s3 : View) (item num v price : ℕ) → Loaded s s1 (item + 5) v → num ≤ v → Loaded s1 s2 (item + 7) price → OnlyRead s2 s3 → IsOffered s3 item num (record { free = v; price = price })
 offered s s1 s2 s3 item num v price l le k r = record {
-  free = record {
-    enough = λ image i.
-        let at = l.answer image (k.kept.seen image (r.kept.seen image i)) in
-        rw (r.writes, k.writes, l.writes) (omega (arith, at, le));
-  };
+  enough = le;
+  free_is = λ image i. rw (r.writes, k.writes, l.writes) (l.answer image (k.kept.seen image (r.kept.seen image i)));
   price_is = λ image i. rw r.writes (rw k.writes (k.answer image (r.kept.seen image i)));
 }

@@ -1,14 +1,15 @@
 -- What the parts of a reservation need, and what a command on bookings does.
-use Rattle.std.specs.Prelude.{◌≡◌, ℕ, ◌+◌, List, length}
+use Rattle.std.specs.Prelude.{◌≡◌, ℕ, ◌+◌, ◌≤◌, List, length}
 use Rattle.stm_words.specs.View.{View, Sees}
 use Rattle.vac_model.specs.declared.commands.Command.{Command}
 use Rattle.vac_model.specs.declared.replies.Reply.{Reply}
 use Rattle.vac_model.specs.State.{State, Place}
 use Rattle.tx_alloc.specs.Rows.{block_at}
 use Rattle.tx_tree.specs.Table.{IsInside}
-use Rattle.vac_records.specs.Items.{mem, EnoughAt}
+use Rattle.vac_records.specs.Items.{mem}
 use Rattle.vac_records.specs.Bookings.{place_key}
 use Rattle.vac_records.specs.Represents.{IsState}
+use Rattle.vac_commands.specs.declared.bookings.Offer.{Offer}
 use Rattle.vac_commands.specs.Ran.{Ran}
 use Rattle.vac_commands.specs.Entries.{ItemsStay, CustomersStay}
 
@@ -27,10 +28,11 @@ pub record HasBookingAt (s : View) (owner : ℕ) (place : Place) (b : ℕ) : Typ
   pub at : (image : List ℕ) (state : State) → Sees s image →
       (h : IsState (mem s image) (length image) state) → booking_block h owner place ≡ b
 
--- under each image so many units of the item are free, and this is its price
-pub record IsOffered (s : View) (item num price : ℕ) : Type 0 where
-  pub free : EnoughAt s (item + 5) num
-  pub price_is : (image : List ℕ) → Sees s image → mem s image (item + 7) ≡ price
+-- under each image these are the item's free units, so many or more, and its price
+pub record IsOffered (s : View) (item num : ℕ) (offer : Offer) : Type 0 where
+  pub enough : num ≤ offer.free
+  pub free_is : (image : List ℕ) → Sees s image → mem s image (item + 5) ≡ offer.free
+  pub price_is : (image : List ℕ) → Sees s image → mem s image (item + 7) ≡ offer.price
 
 -- the command ran, and items and customers stand in the same blocks as before
 pub record RanInPlace (s s' : View) (c : Command) (r : Reply) : Type 0 where

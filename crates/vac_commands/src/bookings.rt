@@ -17,9 +17,18 @@ use tx_list::Spot;
 use vac_model::limits::MOST_UNITS;
 use vac_model::{Command, Kind, Reply, Why};
 use vac_records::{
-    book_at, book_more, cancel as give_units_back, free_at, make, price_at, spot_of, unbook_at,
+    book_at, book_more, cancel as give_units_back, free_at, make_of, price_at, spot_of, unbook_at,
     units_at,
 };
+
+/// What was read of an item.
+#[derive(Clone, Copy)]
+struct Offer {
+    /// How many units can be booked.
+    free: u64,
+    /// The price of one.
+    price: u64,
+}
 
 /// Books units of an item for a customer, at the item's price of now. A booking that is there takes
 /// more units; a new one takes its block from the first free list that has one, from `start` on.
@@ -69,17 +78,19 @@ pub fn reserve_at<M: TxMem>(
     ensures items { IfOk result (λ _. ItemsStay (M.view memory.old) (M.view memory.new)) }
     ensures customers { IfOk result (λ _. CustomersStay (M.view memory.old) (M.view memory.new)) }
 {
-    if free_at(memory, item.0)? < num as u64 {
+    let free = free_at(memory, item.0)?;
+    if free < num as u64 {
         return Ok(Reply::No(Why::SoldOut));
     }
     let price = price_at(memory, item.0)?;
+    let offer = Offer { free, price };
     let spot = spot_of(memory, owner.0, kind, id)?;
     match spot.entry {
         Some(booking) => {
-            extend_booking(memory, customer, owner, kind, id, item, num, price, booking)
+            extend_booking(memory, customer, owner, kind, id, item, num, offer, booking)
         }
         None => add_booking(
-            memory, customer, owner, kind, id, item, num, price, spot, start,
+            memory, customer, owner, kind, id, item, num, offer, spot, start,
         ),
     }
 }
@@ -94,13 +105,13 @@ fn extend_booking<M: TxMem>(
     id: u32,
     item: Block,
     num: u32,
-    price: u64,
+    offer: Offer,
     booking: Block,
 ) -> Result<Reply, M::Stop>
     requires state { HoldsState (M.view memory.old) }
     requires customer { HasCustomerAt (M.view memory.old) customer owner.0.0 }
     requires item { HasItemAt (M.view memory.old) kind id item.0.0 }
-    requires offered { IsOffered (M.view memory.old) item.0.0 num price }
+    requires offered { IsOffered (M.view memory.old) item.0.0 num offer }
     requires booking { HasBookingAt (M.view memory.old) owner.0.0 (kind, id) booking.0.0 }
     requires range { IsTrue (is_command (Command.Reserve customer kind id num)) }
     ensures origin { M.origin memory.new ≡ M.origin memory.old }
@@ -110,8 +121,8 @@ fn extend_booking<M: TxMem>(
     if units_at(memory, booking.0)? + num as u64 > MOST_UNITS {
         return Ok(Reply::No(Why::UnitLimit));
     }
-    book_more(memory, booking.0, num, price)?;
-    make(memory, item.0, num)?;
+    book_more(memory, booking.0, num, offer.price)?;
+    make_of(memory, item.0, num, offer.free)?;
     Ok(Reply::Done)
 }
 
@@ -125,7 +136,7 @@ fn add_booking<M: TxMem>(
     id: u32,
     item: Block,
     num: u32,
-    price: u64,
+    offer: Offer,
     spot: Spot,
     start: u32,
 ) -> Result<Reply, M::Stop>
@@ -133,7 +144,7 @@ fn add_booking<M: TxMem>(
     requires state { HoldsState (M.view memory.old) }
     requires customer { HasCustomerAt (M.view memory.old) customer owner.0.0 }
     requires item { HasItemAt (M.view memory.old) kind id item.0.0 }
-    requires offered { IsOffered (M.view memory.old) item.0.0 num price }
+    requires offered { IsOffered (M.view memory.old) item.0.0 num offer }
     requires missing { LacksBooking (M.view memory.old) owner.0.0 (kind, id) }
     requires spot { IsSpot (M.view memory.old) (head_of owner.0.0) (place_key (kind, id)) spot }
     requires range { IsTrue (is_command (Command.Reserve customer kind id num)) }
@@ -144,8 +155,8 @@ fn add_booking<M: TxMem>(
     let Some(block) = take(memory, start)? else {
         return Ok(Reply::No(Why::Full));
     };
-    book_at(memory, spot, block, kind, id, num, price)?;
-    make(memory, item.0, num)?;
+    book_at(memory, spot, block, kind, id, num, offer.price)?;
+    make_of(memory, item.0, num, offer.free)?;
     Ok(Reply::Done)
 }
 

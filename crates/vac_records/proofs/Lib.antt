@@ -1,5 +1,6 @@
 pub mod Making
 pub mod Counting
+mod Known
 pub mod Keyed
 pub mod Links
 pub mod TableRows

@@ -80,6 +80,12 @@ pub record CanMake (s : View) (node num : ℕ) : Type 0 where
   pub free : EnoughAt s (node + 5) num
   pub used : RoomAt s (node + 4) num
 
+-- the same, where this is how many units are free
+pub record CanMakeOf (s : View) (node num free : ℕ) : Type 0 where
+  pub free_is : (image : List ℕ) → Sees s image → mem s image (node + 5) ≡ free
+  pub enough : num ≤ free
+  pub used : RoomAt s (node + 4) num
+
 -- under each image so many units are used, and fit the free ones
 pub record CanCancel (s : View) (node num : ℕ) : Type 0 where
   pub used : EnoughAt s (node + 4) num

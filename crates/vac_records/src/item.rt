@@ -3,7 +3,7 @@
 ghost use Rattle.std.specs.Prelude.{◌≡◌, ◌+◌, IfOk, IfErr};
 ghost use Rattle.stm_words.specs.View.{Loaded, Stored};
 ghost use Rattle.vac_model.specs.Step.{deleted, taken, given_back};
-ghost use Rattle.vac_records.specs.Items.{IsNode, HasRoom, HasFree, CanMake, CanCancel, ItemMade, ItemRead, ItemChanged, UnitsAdded};
+ghost use Rattle.vac_records.specs.Items.{IsNode, HasRoom, HasFree, CanMake, CanMakeOf, CanCancel, ItemMade, ItemRead, ItemChanged, UnitsAdded};
 
 use crate::place;
 use crate::word::{lower, raise, word_of};
@@ -147,7 +147,20 @@ pub fn make<M: TxMem>(memory: &mut M, node: Addr, num: u32) -> Result<(), M::Sto
     ensures answer { IfOk result (λ _. ItemChanged (M.view memory.old) (M.view memory.new) node.0
         (λ item. taken item num)) }
 {
-    lower(memory, word_of(node, place::FREE), num as u64)?;
+    let free = free_at(memory, node)?;
+    make_of(memory, node, num, free)?;
+    Ok(())
+}
+
+/// The same where the caller has read how many units are free.
+pub fn make_of<M: TxMem>(memory: &mut M, node: Addr, num: u32, free: u64) -> Result<(), M::Stop>
+    requires node { IsNode (M.view memory.old) node.0 }
+    requires units { CanMakeOf (M.view memory.old) node.0 num free }
+    ensures origin { M.origin memory.new ≡ M.origin memory.old }
+    ensures answer { IfOk result (λ _. ItemChanged (M.view memory.old) (M.view memory.new) node.0
+        (λ item. taken item num)) }
+{
+    store(memory, word_of(node, place::FREE), free - num as u64)?;
     raise(memory, word_of(node, place::USED), num as u64)?;
     Ok(())
 }

@@ -17,8 +17,8 @@ mod word;
 pub use booking::{book_more, booking_at, key_of, sum_at, units_at};
 pub use customer::{bill, book, book_at, booking_of, init_customer, spot_of, unbook, unbook_at};
 pub use item::{
-    add_total, cancel, free_at, init_item, item_at, make, price_at, set_price, sub_total, total_at,
-    used_at,
+    add_total, cancel, free_at, init_item, item_at, make, make_of, price_at, set_price, sub_total,
+    total_at, used_at,
 };
 pub use laws::{
     blocks_in_hand_are_no_entries, bookings_follow_their_blocks, capacity_is_a_count_of_blocks,

@@ -22,12 +22,12 @@ pub book_at-requires-clause-sum : goal.book_at-requires-clause-sum
 book_at-requires-clause-sum g c =
     sum_small _ _ c.ranges.num.fits (price_small _ _ _ _ _ _ c.requires.state c.requires.item c.requires.offered (g.met.M.TxRead.seen c.args.memory.now))
 
-pub make-requires-clause-units : goal.make-requires-clause-units
-make-requires-clause-units g c =
+pub make_of-requires-clause-units : goal.make_of-requires-clause-units
+make_of-requires-clause-units g c =
     let w = its_booked _ _ _ _ _ _ _ _ c.requires.state c.requires.customer c.requires.item c.requires.offered c.requires.missing c.ranges.id.fits _ _ _ c.args.spot (rw c.in-Some.is at c.in_ok-block.ensures.answer) _ c.requires.spot c.in_ok-book_at.ensures.answer in
     can_make _ _ _ _ _ _ _ _ c.requires.state c.requires.customer c.requires.item c.requires.offered c.requires.missing c.ranges.id.fits _ _ _ c.args.spot (rw c.in-Some.is at c.in_ok-block.ensures.answer) _ w
 
 pub returns-clause-answer : goal.returns-clause-answer
 returns-clause-answer g c =
     let w = its_booked _ _ _ _ _ _ _ _ c.requires.state c.requires.customer c.requires.item c.requires.offered c.requires.missing c.ranges.id.fits _ _ _ c.args.spot (rw c.in-Some.is at c.in_ok-block.ensures.answer) _ c.requires.spot c.in_ok-book_at.ensures.answer in
-    add_done _ _ _ _ _ _ _ _ c.requires.state c.requires.customer c.requires.item c.requires.offered c.requires.missing c.ranges.id.fits _ _ _ c.args.spot (rw c.in-Some.is at c.in_ok-block.ensures.answer) _ w _ c.requires.range c.in_ok-make.ensures.answer
+    add_done _ _ _ _ _ _ _ _ c.requires.state c.requires.customer c.requires.item c.requires.offered c.requires.missing c.ranges.id.fits _ _ _ c.args.spot (rw c.in-Some.is at c.in_ok-block.ensures.answer) _ w _ c.requires.range c.in_ok-make_of.ensures.answer

@@ -25,8 +25,8 @@ book_more-requires-clause-room g c =
     (price_small _ _ _ _ _ _ c.requires.state c.requires.item c.requires.offered (g.met.M.TxRead.seen c.args.memory.now))
     _ _ c.in_ok-units_at.ensures.answer
 
-pub make-requires-clause-units : goal.make-requires-clause-units
-make-requires-clause-units g c =
+pub make_of-requires-clause-units : goal.make_of-requires-clause-units
+make_of-requires-clause-units g c =
     can_make _ _ _ _ _ _ _ _ _ c.requires.state c.requires.customer c.requires.item c.requires.offered c.requires.booking c.ranges.id.fits c.ranges.num.fits
     (price_small _ _ _ _ _ _ c.requires.state c.requires.item c.requires.offered (g.met.M.TxRead.seen c.args.memory.now))
     _ _ c.in_ok-units_at.ensures.answer _ c.in_ok-book_more.ensures.answer
@@ -36,4 +36,4 @@ returns-clause-answer g c =
     extend_done _ _ _ _ _ _ _ _ _ c.requires.state c.requires.customer c.requires.item c.requires.offered c.requires.booking c.ranges.id.fits c.ranges.num.fits
     (price_small _ _ _ _ _ _ c.requires.state c.requires.item c.requires.offered (g.met.M.TxRead.seen c.args.memory.now))
     _ _ c.in_ok-units_at.ensures.answer _ c.in_ok-book_more.ensures.answer
-    _ c.requires.range c.if-branch-num-gt-MOST_UNITS.false c.in_ok-make.ensures.answer
+    _ c.requires.range c.if-branch-num-gt-MOST_UNITS.false c.in_ok-make_of.ensures.answer

@@ -1,13 +1,10 @@
-use Rattle.std.proofs.Common.{arith}
-use Rattle.vac_records.proofs.Counting.{enough_at, room_later, units_made}
+use Rattle.vac_model.specs.Step.{taken}
+use Rattle.vac_records.proofs.Known.{made_known, changed_after}
 use Rattle.vac_records.proofs.item.make.Goals as goal
 
-pub lower-requires-clause-enough : goal.lower-requires-clause-enough
-lower-requires-clause-enough g c = enough_at _ _ _ _ c.word_of.ensures c.requires.units.free
-
-pub raise-requires-clause-room : goal.raise-requires-clause-room
-raise-requires-clause-room g c =
-    room_later _ _ _ _ _ _ _ _ c.in_ok-lower.ensures.answer c.word_of.ensures c.word_of-2.ensures (omega arith) c.requires.units.used
+pub make_of-requires-clause-units : goal.make_of-requires-clause-units
+make_of-requires-clause-units g c =
+    made_known _ _ _ _ _ c.requires.units c.in_ok-free.ensures.answer (g.met.M.TxRead.seen c.free_at.new.memory)
 
 pub returns-clause-answer : goal.returns-clause-answer
-returns-clause-answer g c = units_made _ _ _ _ _ _ _ c.word_of.ensures c.word_of-2.ensures c.in_ok-lower.ensures.answer c.in_ok-raise.ensures.answer
+returns-clause-answer g c = changed_after _ _ _ _ _ _ (λ item. taken item c.args.num) c.in_ok-free.ensures.answer c.in_ok-make_of.ensures.answer
