@@ -16,9 +16,12 @@ fn words_of(alloc: Global, words: &[&str]) -> Result<Vec<String>, AllocError> {
     Ok(owned)
 }
 
+/// What `--version` writes.
+const VERSION: &[u8] = b"vacation 0.1.0\nrattle-kit-13b logic dac8208d650f15bf\n";
+
 #[test]
 fn command_lines(rt: HostRuntime) -> Result<(), Fail> {
-    let rows: [(&[&str], u8, &[u8]); 12] = [
+    let rows: [(&[&str], u8, &[u8]); 16] = [
         (&["vacation", "run"], 0, ANSWERS),
         (&["vacation", "run", "--blocks", "1"], 0, ANSWERS),
         (&["vacation", "run", "--blocks=262144"], 0, ANSWERS),
@@ -31,6 +34,10 @@ fn command_lines(rt: HostRuntime) -> Result<(), Fail> {
         (&["vacation", "fly"], 2, b""),
         (&["vacation"], 2, b""),
         (&["vacation", "run", "car"], 2, b""),
+        (&["vacation", "--version"], 0, VERSION),
+        (&["vacation", "-V", "run"], 0, VERSION),
+        (&["vacation", "run", "--version"], 2, b""),
+        (&["vacation", "--version=1"], 2, b""),
     ];
     for (words, status, answers) in rows {
         let words = words_of(rt.alloc(), words)?;
@@ -59,6 +66,20 @@ fn help(rt: HostRuntime) -> Result<(), Fail> {
         let mut broken = Sink::new(rt.alloc(), 1, 0, Stop::Nothing);
         let ended = run_words(&rt, words.as_slice(), &mut input, &mut broken, &mut errors);
         assert_eq!(rt; ended, 1);
+    }
+    Ok(())
+}
+
+#[test]
+fn a_version_that_is_not_written_whole(rt: HostRuntime) -> Result<(), Fail> {
+    let words = words_of(rt.alloc(), &["vacation", "--version"])?;
+    for stops_at in 0..VERSION.len() {
+        let mut errors = Vec::new(rt.alloc());
+        let mut input: &[u8] = b"";
+        let mut broken = Sink::new(rt.alloc(), 1, stops_at, Stop::Nothing);
+        let ended = run_words(&rt, words.as_slice(), &mut input, &mut broken, &mut errors);
+        let wants = (1, &VERSION[..stops_at], true);
+        assert_eq!(rt; (ended, broken.taken.as_slice(), errors.is_empty()), wants);
     }
     Ok(())
 }

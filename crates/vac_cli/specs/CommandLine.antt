@@ -93,10 +93,13 @@ load_options = client_options ++ task_options
 abbrev pub with_options : Text → List Rule → Shape
 with_options name options = record (new_shape name) { rules = options }
 
--- the program without its subcommands, of which one must be named
+-- the program without its subcommands, of which one must be named; it tells its version
 abbrev pub top_command : App
 top_command = record {
-  top = record (new_shape (codes "vacation")) { subcommand_required = true };
+  top = record (new_shape (codes "vacation")) {
+    has_version = true;
+    subcommand_required = true;
+  };
   subs = [];
 }
 

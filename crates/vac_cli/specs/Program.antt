@@ -1,5 +1,6 @@
 -- What the program does with a command line: its status, and what it reads and writes.
 use Rattle.std.specs.Prelude.{◌≡◌, ℕ, ◌≤◌, ◌⊎◌, true, false, Option, List, []}
+use Rattle.std.specs.Prelude.{◌++◌, codes}
 use Rattle.std.specs.Io.KnownBytes.{Appends}
 use Rattle.clap.specs.Words.{IsAmong, Text, fault_of}
 use Rattle.clap.specs.declared.error.kind.ErrorKind.{ErrorKind}
@@ -9,6 +10,7 @@ use Rattle.vac_draws.specs.Setting.{is_settings}
 use Rattle.vac_load.specs.declared.load.LoadFault.TheVariants.{Arguments}
 use Rattle.vac_cli.specs.declared.asked.Asked.{Asked}
 use Rattle.vac_cli.specs.declared.asked.Asked.TheVariants.{Run, Dump, Check, Judge, Load, Tasks}
+use Rattle.vac_lines.specs.Script.{as_line}
 use Rattle.vac_script.specs.declared.fault.RunFault.TheVariants.{Memory}
 use Rattle.vac_script.specs.Script.{AppendsPrefix, WroteAll, WrotePrefix}
 use Rattle.vac_script.specs.Dump.{Dumped, DumpStopped}
@@ -60,15 +62,20 @@ Does (Load settings tells) status unread left held holds =
 Does (Tasks settings) status unread left held holds =
     (left ≡ unread) × Lists status settings held holds
 
--- what it shows of an error of this kind: the fault where memory was refused, help on the output,
--- and nothing on the output where the words are refused
+-- what the program says of itself: its name and version, and what proved and built it
+abbrev pub version_text : List ℕ
+version_text = as_line (codes "vacation 0.1.0")
+    ++ as_line (codes "rattle-kit-13b logic dac8208d650f15bf")
+
+-- what it shows of an error of this kind: the fault where memory was refused, help and the version
+-- on the output, and nothing on the output where the words are refused
 abbrev pub Shows : ErrorKind → ℕ → Option (List ℕ) → Option (List ℕ) → Type 0
 Shows error.OutOfMemory status held holds =
     (status ≡ 1) × AppendsPrefix held holds (fault_line Memory)
 Shows error.DisplayHelp status held holds =
     (status ≤ 1) × ((text : List ℕ) × Appends held holds text)
 Shows error.DisplayVersion status held holds =
-    (status ≤ 1) × ((text : List ℕ) × Appends held holds text)
+    Ends status (Appends held holds version_text) (AppendsPrefix held holds version_text)
 Shows kind status held holds = (status ≡ 2) × (holds ≡ held)
 
 -- clap takes the words, and what they ask for was done

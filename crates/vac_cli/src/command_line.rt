@@ -3,12 +3,14 @@
 ghost use Rattle.std.specs.Prelude.{◌≡◌, ◌≤◌, ℕ, true, List, map, string_bytes};
 ghost use Rattle.std.specs.Io.KnownBytes.{Appends};
 ghost use Rattle.clap.specs.Words.{kind_of};
+ghost use Rattle.clap.specs.declared.error.kind.ErrorKind.TheVariants.{DisplayVersion};
 ghost use Rattle.vac_manager.specs.Opening.{is_block_count};
 ghost use Rattle.vac_cli.specs.Ending.{as_run_fault};
 ghost use Rattle.vac_cli.specs.Program.{Does, Lists, Shows, Serves};
 
 use crate::asked::{Asked, read_asked};
 use crate::load::load;
+use crate::options::VERSION;
 use crate::status::{DONE, FAULT, REFUSED, end_by, end_load_by};
 use clap::Error;
 use clap::error::ErrorKind;
@@ -23,12 +25,13 @@ use vac_script::{RunFault, check_words, dump_script, run_script, write_and_flush
 use vac_worklist::{TasksFault, write_tasks};
 
 /// Runs the program on a command line, of which the first word is the program's name, and answers
-/// its status: 0 where it did its work or showed its help, 1 after a fault, where `check` found no
-/// balanced state and where `judge` found no legal history, 2 where the command line was refused.
+/// its status: 0 where it did its work or showed its help or its version, 1 after a fault, where
+/// `check` found no balanced state and where `judge` found no legal history, 2 where the command
+/// line was refused.
 ///
-/// Help goes to `output`, the text of a refused command line to `errors`. A fault is the last line
-/// of `output`, unless `output` is what failed. A load that is to tell how far it is tells that on
-/// `errors`, which changes neither `output` nor the status.
+/// Help and the version go to `output`, the text of a refused command line to `errors`. A fault is
+/// the last line of `output`, unless `output` is what failed. A load that is to tell how far it is
+/// tells that on `errors`, which changes neither `output` nor the status.
 pub fn run_words<
     T: Threads + Wait + Clock + Sync + AllocGlobal,
     R: Read,
@@ -137,17 +140,29 @@ fn list_tasks<W: Write>(alloc: Global, settings: &Settings, output: &mut W) -> u
     }
 }
 
-/// Shows the help that was asked for, or why the command line was refused, and answers the status.
+/// Shows the help or the version that was asked for, or why the command line was refused, and
+/// answers the status.
 fn show<W: Write, E: Write>(alloc: Global, error: &Error, output: &mut W, errors: &mut E) -> u8
     ensures { Shows (kind_of error.now) result (W.contents output.old) (W.contents output.new) }
 {
     match error.kind() {
         ErrorKind::OutOfMemory => end_by(RunFault::Memory, output),
-        ErrorKind::DisplayHelp | ErrorKind::DisplayVersion => show_help(alloc, error, output),
+        ErrorKind::DisplayHelp => show_help(alloc, error, output),
+        ErrorKind::DisplayVersion => show_version(output),
         _ => {
             let _ = write!(errors, "{error}");
             REFUSED
         }
+    }
+}
+
+/// Writes what the program says of itself, and answers the status.
+fn show_version<W: Write>(output: &mut W) -> u8
+    ensures { Shows DisplayVersion result (W.contents output.old) (W.contents output.new) }
+{
+    match write_and_flush(output, VERSION.as_bytes()) {
+        Ok(()) => DONE,
+        Err(_) => FAULT,
     }
 }
 

@@ -18,6 +18,10 @@ use vac_load::{MOST_CLIENTS, MOST_ITEMS, MOST_ROUNDS, MOST_TASKS, PERCENT};
 use vac_manager::MOST_TRIES;
 use vac_model::limits::{MOST_BLOCKS, MOST_PARTS};
 
+/// What `--version` writes: the program and its version, and the toolchain that proved and built
+/// it, as `rt version` names it.
+pub(crate) const VERSION: &str = "vacation 0.1.0\nrattle-kit-13b logic dac8208d650f15bf\n";
+
 /// How many blocks a system has where the command line does not say.
 const DEFAULT_BLOCKS: &str = "1024";
 
@@ -325,6 +329,7 @@ fn top_command<'a>(alloc: Global) -> Command<'a>
     ensures { app_of result ≡ top_command }
 {
     Command::new(alloc, "vacation")
+        .version(VERSION)
         .about("A reservation system")
         .subcommand_required(true)
 }
