@@ -166,8 +166,8 @@ long_stocks : (n : ℕ) (ws : List ℕ) (xs : List Command) (us : List ℕ) → 
 long_stocks zero ws xs us e = long_always {X = Command} [] ws xs us e
 long_stocks (suc n) ws xs us e =
     let l = long_joined (for_each n stocks) (stocks (suc n)) (n * 3) 3 (long_stocks n)
-        (long_joined (joined (stock (suc n) Car) (stock (suc n) Flight)) (stock (suc n) Room) 2 1
-            (long_joined (stock (suc n) Car) (stock (suc n) Flight) 1 1 (long_stock (suc n) Car) (long_stock (suc n) Flight)) (long_stock (suc n) Room)) ws xs us e in
+    (long_joined (joined (stock (suc n) Car) (stock (suc n) Flight)) (stock (suc n) Room) 2 1
+    (long_joined (stock (suc n) Car) (stock (suc n) Flight) 1 1 (long_stock (suc n) Car) (long_stock (suc n) Flight)) (long_stock (suc n) Room)) ws xs us e in
     omega (arith, l)
 
 pub long_customers : (n : ℕ) → length (customers n) ≡ n
@@ -178,5 +178,5 @@ long_customers (suc n) = let l = length-append (customers n) (command.NewCustome
 pub long_opening : (s : Settings) (ws : List ℕ) (xs : List Command) (us : List ℕ) → opening s ws ≡ Some (xs, us) → length xs ≡ 4 * s.items
 long_opening s ws xs us e =
     let l = long_then (for_each s.items stocks) (s.items * 3) s.items (λ xs. xs ++ customers s.items) (long_stocks s.items)
-        (λ xs. (let m = length-append xs (customers s.items) in let n = long_customers s.items in omega (arith, m, n))) ws xs us e in
+    (λ xs. (let m = length-append xs (customers s.items) in let n = long_customers s.items in omega (arith, m, n))) ws xs us e in
     omega (arith, l)

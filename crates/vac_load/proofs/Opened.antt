@@ -121,7 +121,7 @@ pub stopped_items : {D : Type 0} (leads : D → ℕ → D → Type 0) (renewal l
     Ran leads renewal (for_each n stocks) v w a b → Stopped leads renewal last (stocks (n + 1)) fault w u b c → Stopped leads renewal last (for_each m stocks) fault v u a c
 stopped_items leads renewal last n m fault v w u a b c less p q =
     let here : Stopped leads renewal last (for_each (suc n) stocks) fault v u a c = stopped_second leads renewal last (for_each n stocks) (stocks (suc n)) fault v w u a b c p
-        (subst (λ (k : ℕ). Stopped leads renewal last (stocks k) fault w u b c) (plus_one n) q) in
+    (subst (λ (k : ℕ). Stopped leads renewal last (stocks k) fault w u b c) (plus_one n) q) in
     record {
       asked = here.asked;
       refused = here.refused;

@@ -128,7 +128,14 @@ pub fn run_load_with<
     if !(settings.is_in_range() && clients.len() == settings.clients as usize) {
         return Err(LoadFault::Arguments);
     }
-    match run_in_range(rt, rt.alloc(), settings, &mut opening, clients, &mut NoPhases) {
+    match run_in_range(
+        rt,
+        rt.alloc(),
+        settings,
+        &mut opening,
+        clients,
+        &mut NoPhases,
+    ) {
         Ok((report, _)) => Ok(report),
         Err(fault) => Err(fault),
     }
@@ -172,11 +179,7 @@ pub fn run_load<R: Threads + Wait + AllocGlobal>(
 
 /// The same, each client with a copy of the gate. Beside the report, answers what the calls of all
 /// clients in all rounds took. The phases are told when the rounds begin and when they are over.
-pub fn run_load_counted<
-    R: Threads + Wait + AllocGlobal,
-    G: Gate + Copy + Send + Drop,
-    S: Phases,
->(
+pub fn run_load_counted<R: Threads + Wait + AllocGlobal, G: Gate + Copy + Send + Drop, S: Phases>(
     rt: &R,
     settings: &Settings,
     gate: G,

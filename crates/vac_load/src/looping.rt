@@ -113,5 +113,7 @@ pub fn client_loop<D: Draws, G: Gate>(
     ensures looped { Looped D.leads settings.now manager.now.renewal settings.now.tasks
         client.old.value client.new.value draws.old draws.new result }
 {
-    count_loop(alloc, manager, client, draws, settings, gate).apart().0
+    count_loop(alloc, manager, client, draws, settings, gate)
+        .apart()
+        .0
 }
