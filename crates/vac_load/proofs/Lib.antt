@@ -1,4 +1,5 @@
 mod Order
+mod Attempting
 mod Answering
 mod Beginning
 mod Opened

@@ -19,6 +19,7 @@ use Rattle.vac_draws.specs.Draws.{Reader}
 use Rattle.vac_model.specs.declared.commands.Command.{Command}
 use Rattle.std.specs.Prelude.{Result, Ok, Err, IfOk, IfErr}
 use Rattle.rand_pcg.specs.Lcg.{Lcg}
+use Rattle.vac_load.specs.declared.efforts.Efforts.{Efforts}
 use Rattle.vac_load.specs.declared.load.LoadReport.{LoadReport}
 use Rattle.vac_load.specs.declared.load.LoadFault.{LoadFault}
 use Rattle.vac_load.specs.declared.load.LoadFault.TheVariants as load
@@ -105,12 +106,12 @@ loaded_by leads s draws_of state pairs states t r e h = record {
 }
 
 -- the same of a load by the streams of a seed
-pub by_seed : {P : Type 0} (draws_of : P → Lcg) (s : Settings) (result : Result LoadReport LoadFault) (state : Lcg) (pairs : List P) →
+pub by_seed : {P : Type 0} (draws_of : P → Lcg) (s : Settings) (result : Result (LoadReport × Efforts) LoadFault) (state : Lcg) (pairs : List P) →
     state ≡ stream_of s.seed 0 → map draws_of pairs ≡ streams_of s.seed s.clients →
-    IfOk result (λ r. Loaded gives s draws_of state pairs r.tally r.report) → IfOk result (λ r. LoadedBySeed s r.tally r.report)
+    IfOk result (λ r. Loaded gives s draws_of state pairs r.0.tally r.0.report) → IfOk result (λ r. LoadedBySeed s r.0.tally r.0.report)
 by_seed draws_of s (Ok r) state pairs begins are h =
-    subst (λ (d : Lcg). Loaded gives s (λ x. x) d (streams_of s.seed s.clients) r.tally r.report) begins
-    (loaded_by gives s draws_of state pairs (streams_of s.seed s.clients) r.tally r.report are h)
+    subst (λ (d : Lcg). Loaded gives s (λ x. x) d (streams_of s.seed s.clients) r.0.tally r.0.report) begins
+    (loaded_by gives s draws_of state pairs (streams_of s.seed s.clients) r.0.tally r.0.report are h)
 by_seed draws_of s (Err fault) state pairs begins are h = tt
 
 -- the manager of a load was made, and its opening was answered whole
@@ -146,11 +147,11 @@ was_stopped leads s e state left stripes region opener after opens stopped =
     }
 
 -- a load that stopped is one that was not run to its end
-pub stops : {D : Type 0} (leads : D → ℕ → D → Type 0) (s : Settings) (state left : D) (result : Result LoadReport LoadFault) → IfErr result (λ e. IsStopOfLoad leads s state left e) → IfErr result (λ e. IsLoadFault leads s state e)
+pub stops : {D R : Type 0} (leads : D → ℕ → D → Type 0) (s : Settings) (state left : D) (result : Result R LoadFault) → IfErr result (λ e. IsStopOfLoad leads s state left e) → IfErr result (λ e. IsLoadFault leads s state e)
 stops leads s state left (Ok r) h = tt
 stops leads s state left (Err e) h = inr (left, h)
 
-pub stops_by_seed : (s : Settings) (state left : Lcg) (result : Result LoadReport LoadFault) → state ≡ stream_of s.seed 0 → IfErr result (λ e. IsStopOfLoad gives s state left e) → IfErr result (λ e. IsLoadFault gives s (stream_of s.seed 0) e)
+pub stops_by_seed : {R : Type 0} (s : Settings) (state left : Lcg) (result : Result R LoadFault) → state ≡ stream_of s.seed 0 → IfErr result (λ e. IsStopOfLoad gives s state left e) → IfErr result (λ e. IsLoadFault gives s (stream_of s.seed 0) e)
 stops_by_seed s state left result begins h = stops gives s (stream_of s.seed 0) left result (subst (λ (d : Lcg). IfErr result (λ e. IsStopOfLoad gives s d left e)) begins h)
 
 -- where memory or a thread is wanting once the opening was answered

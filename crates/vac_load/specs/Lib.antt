@@ -1,3 +1,4 @@
+pub mod Attempted
 pub mod Looping
 pub mod Opening
 pub mod Sums

@@ -8,8 +8,8 @@ ghost use Rattle.vac_draws.specs.Setting.{is_settings};
 ghost use Rattle.vac_draws.specs.declared.settings.TheConstants.{MOST_TASKS, MOST_CLIENTS};
 ghost use Rattle.vac_load.specs.Load.{Paired, Gathered, Hired, AreKnown, RanAll};
 
+use crate::counts::Counts;
 use crate::load::LoadFault;
-use crate::tally::Tally;
 use crate::workers::{Crew, Worked, Worker, run_all};
 use std::alloc::Global;
 use std::sync::Wait;
@@ -24,7 +24,7 @@ use vac_manager::{Client, Manager};
 pub(crate) struct Round<D, G> {
     pub(crate) client: Client,
     pub(crate) pairs: Vec<(D, G)>,
-    pub(crate) tally: Tally,
+    pub(crate) tally: Counts,
 }
 
 /// Gathers the clients into the first one, in their order, hands their draws and gates back, and

@@ -4,18 +4,23 @@
 //! Minh, Chung, Kozyrakis, Olukotun, IISWC 2008).
 #![tactic(auto)]
 
+mod counts;
+mod efforts;
 mod gathering;
 mod load;
 mod looping;
 mod opening;
+mod phases;
 mod report;
 mod rounds;
 mod tally;
 mod workers;
 
-pub use load::{LoadFault, LoadReport, run_load, run_load_with};
+pub use efforts::Efforts;
+pub use load::{LoadFault, LoadReport, run_load, run_load_counted, run_load_with};
 pub use looping::client_loop;
 pub use opening::open;
+pub use phases::Phases;
 pub use tally::Tally;
 pub use vac_draws::{
     Draws, FixedDraws, MOST_CLIENTS, MOST_ITEMS, MOST_ROUNDS, MOST_TASKS, PERCENT, PcgDraws,

@@ -7,15 +7,19 @@ ghost use Rattle.vac_draws.specs.Setting.{is_settings};
 ghost use Rattle.vac_load.specs.Load.{Loaded, is_load, IsLoadFault, IsStopOfLoad};
 ghost use Rattle.vac_draws.specs.Streams.{gives, stream_of, streams_of};
 ghost use Rattle.vac_load.specs.Streams.{LoadedBySeed};
+ghost use Rattle.vac_load.specs.Attempted.{IsEffort};
 
+use crate::efforts::Efforts;
+use crate::gathering::Round;
 use crate::opening::open;
+use crate::phases::{NoPhases, Phases, Ungated};
 use crate::report::report_of;
 use crate::rounds::{Progress, run_rounds};
 use crate::tally::Tally;
 use std::alloc::{AllocError, Global};
 use std::sync::Wait;
 use std::thread::Threads;
-use stm_attempt::{Gate, NoGate};
+use stm_attempt::Gate;
 use stm_region::RegionFault;
 use stm_words::Version;
 use thiserror::Error;
@@ -65,17 +69,19 @@ fn close(manager: Manager, client: Client) -> Result<(Vec<u64>, Version), LoadFa
 }
 
 /// Runs a load whose arguments are in their ranges.
-fn run_in_range<R: Threads + Wait, D: Draws + Send + Drop, G: Gate + Send + Drop>(
+fn run_in_range<R: Threads + Wait, D: Draws + Send + Drop, G: Gate + Send + Drop, S: Phases>(
     rt: &R,
     alloc: Global,
     settings: &Settings,
     opening: &mut D,
     clients: Vec<(D, G)>,
-) -> Result<LoadReport, LoadFault>
+    phases: &mut S,
+) -> Result<(LoadReport, Efforts), LoadFault>
     requires settings { is_settings settings.now ≡ true }
     requires number { vec_len clients ≡ settings.now.clients }
     ensures loaded { IfOk result (λ r. Loaded D.leads settings.now (λ p. p.0)
-        opening.old clients.items r.tally r.report) }
+        opening.old clients.items r.0.tally r.0.report) }
+    ensures efforts { IfOk result (λ r. IsEffort r.0.tally r.1) }
     ensures stopped { IfErr result (λ fault.
         IsStopOfLoad D.leads settings.now opening.old opening.new fault) }
 {
@@ -85,17 +91,18 @@ fn run_in_range<R: Threads + Wait, D: Draws + Send + Drop, G: Gate + Send + Drop
     if let Err(fault) = open(&manager, &mut client, opening, settings) {
         return Err(LoadFault::Opening(fault));
     }
+    phases.begin();
     let progress = run_rounds(rt, alloc, settings, manager, client, clients)?;
+    phases.end();
     let Progress { manager, round } = progress;
-    let words = match close(manager, round.client) {
+    let Round { client, tally, .. } = round;
+    let words = match close(manager, client) {
         Ok((words, _)) => words,
         Err(fault) => return Err(fault),
     };
     let report = report_of(words);
-    Ok(LoadReport {
-        tally: round.tally,
-        report,
-    })
+    let (tally, efforts) = tally.apart();
+    Ok((LoadReport { tally, report }, efforts))
 }
 
 /// Runs a load: the opening by the first client, with the words that are drawn for it; then, in
@@ -121,18 +128,33 @@ pub fn run_load_with<
     if !(settings.is_in_range() && clients.len() == settings.clients as usize) {
         return Err(LoadFault::Arguments);
     }
-    run_in_range(rt, rt.alloc(), settings, &mut opening, clients)
+    match run_in_range(
+        rt,
+        rt.alloc(),
+        settings,
+        &mut opening,
+        clients,
+        &mut NoPhases,
+    ) {
+        Ok((report, _)) => Ok(report),
+        Err(fault) => Err(fault),
+    }
 }
 
-/// The draws of each client, from a stream of its own, and no gate.
-fn streams(alloc: Global, seed: u64, clients: u32) -> Result<Vec<(PcgDraws, NoGate)>, AllocError>
+/// The draws of each client, from a stream of its own, and its copy of the gate.
+fn streams<G: Copy + Drop>(
+    alloc: Global,
+    seed: u64,
+    clients: u32,
+    gate: G,
+) -> Result<Vec<(PcgDraws, G)>, AllocError>
     ensures number { IfOk result (λ v. vec_len v ≡ clients) }
     ensures streams { IfOk result (λ v.
         map (λ pair. pair.0) v.items ≡ streams_of seed clients) }
 {
     let mut pairs = Vec::with_capacity(alloc, clients as usize)?;
     for number in 0..clients {
-        pairs.push((PcgDraws::new(seed, u64::from(number) + 1), NoGate))?;
+        pairs.push((PcgDraws::new(seed, u64::from(number) + 1), gate))?;
     }
     Ok(pairs)
 }
@@ -149,12 +171,33 @@ pub fn run_load<R: Threads + Wait + AllocGlobal>(
     ensures refused { IfErr result (λ fault.
         IsLoadFault gives settings.now (stream_of settings.now.seed 0) fault) }
 {
+    match run_load_counted(rt, settings, Ungated, &mut NoPhases) {
+        Ok((report, _)) => Ok(report),
+        Err(fault) => Err(fault),
+    }
+}
+
+/// The same, each client with a copy of the gate. Beside the report, answers what the calls of all
+/// clients in all rounds took. The phases are told when the rounds begin and when they are over.
+pub fn run_load_counted<R: Threads + Wait + AllocGlobal, G: Gate + Copy + Send + Drop, S: Phases>(
+    rt: &R,
+    settings: &Settings,
+    gate: G,
+    phases: &mut S,
+) -> Result<(LoadReport, Efforts), LoadFault>
+    ensures arguments { IsErrOf result LoadFault.Arguments
+        ↔ (is_settings settings.now ≡ false) }
+    ensures loaded { IfOk result (λ r. LoadedBySeed settings.now r.0.tally r.0.report) }
+    ensures efforts { IfOk result (λ r. IsEffort r.0.tally r.1) }
+    ensures refused { IfErr result (λ fault.
+        IsLoadFault gives settings.now (stream_of settings.now.seed 0) fault) }
+{
     if !settings.is_in_range() {
         return Err(LoadFault::Arguments);
     }
-    let Ok(clients) = streams(rt.alloc(), settings.seed, settings.clients) else {
+    let Ok(clients) = streams(rt.alloc(), settings.seed, settings.clients, gate) else {
         return Err(LoadFault::Memory);
     };
     let mut opening = PcgDraws::new(settings.seed, 0);
-    run_in_range(rt, rt.alloc(), settings, &mut opening, clients)
+    run_in_range(rt, rt.alloc(), settings, &mut opening, clients, phases)
 }

@@ -4,9 +4,9 @@ ghost use Rattle.std.specs.Prelude.{◌≡◌, ◌≤◌, ◌⊎◌, [], true, I
 ghost use Rattle.vac_draws.specs.Setting.{is_settings};
 ghost use Rattle.vac_load.specs.Load.{Paired, HasWorked, IsPromise};
 
+use crate::counts::Counts;
 use crate::load::LoadFault;
-use crate::looping::client_loop;
-use crate::tally::Tally;
+use crate::looping::count_loop;
 use std::alloc::Global;
 use std::snapshot::Snapshot;
 use std::sync::Wait;
@@ -28,7 +28,7 @@ pub(crate) struct Worker<D, G> {
 #[derive(Drop)]
 pub(crate) struct Worked<D, G> {
     pub(crate) worker: Worker<D, G>,
-    pub(crate) tally: Tally,
+    pub(crate) tally: Counts,
 }
 
 /// The promise of a client's thread: that the client ran its tasks.
@@ -65,7 +65,7 @@ fn work<D: Draws, G: Gate>(
         mut draws,
         mut gate,
     } = worker;
-    let tally = client_loop(alloc, manager, &mut client, &mut draws, settings, &mut gate);
+    let tally = count_loop(alloc, manager, &mut client, &mut draws, settings, &mut gate);
     let worker = Worker {
         client,
         draws,

@@ -13,9 +13,9 @@ run_rounds-requires-clause-known g c = λ _ _.
 pub returns-clause-loaded : goal.returns-clause-loaded
 returns-clause-loaded g c =
     let n : length c.args.clients.items ≡ c.args.settings.now.clients = search rules in
-    loaded g.D.Draws.leads c.args.settings.now (λ p. p.0) c.args.opening.now c.open.new.draws c.args.clients.items c.in_ok-progress.progress.round.pairs.items (min (16 + 8 * c.args.settings.now.blocks) 1048576)
+    rw c.apart.ensures.tally (loaded g.D.Draws.leads c.args.settings.now (λ p. p.0) c.args.opening.now c.open.new.draws c.args.clients.items c.in_ok-progress.progress.round.pairs.items (min (16 + 8 * c.args.settings.now.blocks) 1048576)
     c.in-Ok.manager c.in_ok-progress.progress.manager c.in-Ok.client c.open.new.client.value c.in_ok-progress.progress.round.client.value c.in_ok-progress.progress.round.tally c.in-Ok-close.words.items c.in-Ok-close.field-0-1 c.report_of-report.result n
-    (search rules) (search rules) (search rules) (search rules) (search rules) c.report_of-report.ensures
+    (search rules) (search rules) (search rules) (search rules) (search rules) c.report_of-report.ensures)
 
 pub returns-in_default-clause-stopped : goal.returns-in_default-clause-stopped
 returns-in_default-clause-stopped g c = inl refl

@@ -6,7 +6,7 @@ use Rattle.vac_draws.proofs.Streaming.{next_stream}
 use Rattle.vac_load.proofs.load.streams.Goals as goal
 
 pub loop-number-preserved : goal.loop-number-preserved
-loop-number-preserved c = (
+loop-number-preserved g c = (
   search rules,
   ap (map (λ pair. pair.0)) c.in_ok-push.ensures.items ∙ map-append (λ pair. pair.0) c.loop-number.pairs.items _
       ∙ ap (λ (states : List Lcg). states ++ (c.new.result ∷ [])) c.loop-number.invariant.1

@@ -1,6 +1,6 @@
 use Rattle.std.proofs.Common.{◌≡◌}
 use Rattle.vac_load.specs.Looping.{Looped}
-use Rattle.vac_load.proofs.looping.client_loop.Given as goal
+use Rattle.vac_load.proofs.looping.count_loop.Given as goal
 
 abbrev pub invariant-tasks : goal.invariant-tasks
 invariant-tasks g l = record {

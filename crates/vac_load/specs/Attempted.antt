@@ -1,0 +1,52 @@
+-- What the calls of a load took, and what that has to do with how they ended.
+use Rattle.std.specs.Prelude.{◌≡◌, ◌≤◌, ℕ, ◌+◌, ◌*◌}
+use Rattle.vac_model.specs.declared.limits.TheConstants.{MOST_TRIES}
+use Rattle.vac_manager.specs.declared.placed.Effort.{Effort}
+use Rattle.vac_load.specs.declared.efforts.Efforts.{Efforts}
+use Rattle.vac_load.specs.declared.tally.Tally.{Tally}
+
+-- no attempt
+abbrev pub no_effort : Efforts
+no_effort = record {
+  attempts = 0;
+  held = 0;
+  newer = 0;
+  moved = 0;
+  lost_lock = 0;
+  lost_tick = 0;
+}
+
+-- how many attempts ended in a conflict
+abbrev pub conflicts_in : Efforts → ℕ
+conflicts_in e = e.held + e.newer + e.moved + e.lost_lock + e.lost_tick
+
+-- with what one call more took
+abbrev pub with_call : Effort → Efforts → Efforts
+with_call c e = record {
+  attempts = e.attempts + c.attempts;
+  held = e.held + c.held;
+  newer = e.newer + c.newer;
+  moved = e.moved + c.moved;
+  lost_lock = e.lost_lock + c.lost_lock;
+  lost_tick = e.lost_tick + c.lost_tick;
+}
+
+-- both added up
+abbrev pub both_efforts : Efforts → Efforts → Efforts
+both_efforts d e = record {
+  attempts = d.attempts + e.attempts;
+  held = d.held + e.held;
+  newer = d.newer + e.newer;
+  moved = d.moved + e.moved;
+  lost_lock = d.lost_lock + e.lost_lock;
+  lost_tick = d.lost_tick + e.lost_tick;
+}
+
+-- the calls of tasks that ended so took this: one attempt each for an answer and for a spent clock,
+-- at most one for want of memory, which may come before the call, and beside these only attempts
+-- that ended in a conflict, at least one for each busy task; no call took more than the most tries
+pub record IsEffort (t : Tally) (e : Efforts) : Type 0 where
+  pub least : conflicts_in e + t.answered + t.spent ≤ e.attempts
+  pub most : e.attempts ≤ conflicts_in e + t.answered + t.memory + t.spent
+  pub busy : t.busy ≤ conflicts_in e
+  pub few : e.attempts ≤ (t.answered + t.busy + t.memory + t.spent) * MOST_TRIES

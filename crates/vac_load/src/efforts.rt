@@ -1,0 +1,73 @@
+//! What the calls of a load took.
+
+ghost use Rattle.std.specs.Prelude.{◌≡◌, ◌<◌, ◌≤◌, ◌+◌, ◌^◌};
+ghost use Rattle.vac_manager.specs.Placed.{conflicts_of};
+ghost use Rattle.vac_load.specs.Attempted.{no_effort, conflicts_in, with_call, both_efforts};
+
+use vac_manager::Effort;
+
+/// How many attempts the calls of a load took, and how many of these ended in a conflict of each
+/// kind.
+#[derive(Clone, Copy, Debug, PartialEq, Eq, Default)]
+pub struct Efforts {
+    /// How many attempts were begun.
+    pub attempts: u64,
+    /// How many found a lock word held by another client.
+    pub held: u64,
+    /// How many found a version above their read version.
+    pub newer: u64,
+    /// How many saw a lock word change while they read.
+    pub moved: u64,
+    /// How many lost the exchange that takes a lock.
+    pub lost_lock: u64,
+    /// How many lost the last tick that is tried.
+    pub lost_tick: u64,
+}
+
+impl Efforts {
+    /// No attempt.
+    pub(crate) fn new() -> Efforts
+        ensures { result ≡ no_effort }
+    {
+        Efforts {
+            attempts: 0,
+            held: 0,
+            newer: 0,
+            moved: 0,
+            lost_lock: 0,
+            lost_tick: 0,
+        }
+    }
+
+    /// Adds what a call took.
+    pub(crate) fn add(&mut self, effort: Effort)
+        requires few { self.old.attempts < 2 ^ 62 }
+        requires conflicts { conflicts_in self.old ≤ self.old.attempts }
+        requires fits { conflicts_of effort ≤ effort.attempts }
+        ensures { self.new ≡ with_call effort self.old }
+    {
+        self.attempts += u64::from(effort.attempts);
+        self.held += u64::from(effort.held);
+        self.newer += u64::from(effort.newer);
+        self.moved += u64::from(effort.moved);
+        self.lost_lock += u64::from(effort.lost_lock);
+        self.lost_tick += u64::from(effort.lost_tick);
+    }
+
+    /// Both added up.
+    pub(crate) fn plus(self, other: Efforts) -> Efforts
+        requires fits { self.attempts + other.attempts < 2 ^ 63 }
+        requires conflicts { conflicts_in self ≤ self.attempts }
+        requires others { conflicts_in other ≤ other.attempts }
+        ensures { result ≡ both_efforts self other }
+    {
+        Efforts {
+            attempts: self.attempts + other.attempts,
+            held: self.held + other.held,
+            newer: self.newer + other.newer,
+            moved: self.moved + other.moved,
+            lost_lock: self.lost_lock + other.lost_lock,
+            lost_tick: self.lost_tick + other.lost_tick,
+        }
+    }
+}
