@@ -7,7 +7,7 @@ use Rattle.clap.specs.declared.builder.command.Command.{Command}
 use Rattle.clap.specs.declared.builder.arg.Arg.{Arg}
 use Rattle.clap.specs.declared.builder.value_parser.ValueParser.{ValueParser}
 use Rattle.clap.specs.declared.builder.texts.Texts.TheVariants.{One}
-use Rattle.vac_cli.specs.CommandLine.{IsOption, IsCommand, AddsOptions, AddsCommands, with_commands, with_rules, with_options, client_options, task_options, load_options}
+use Rattle.vac_cli.specs.CommandLine.{IsOption, IsCommand, AddsOptions, AddsCommands, with_commands, with_rules, with_options, client_options, task_options, telling_options, load_options}
 
 -- ---- options
 
@@ -62,13 +62,14 @@ option_more (Err e) (Ok before) (Ok after) a options option s h is = absurd s
 option_more (Ok first) (Ok before) (Ok after) a options option s h is = one_more first before after a options option s h is
 
 -- a command with these options
-pub command_with : (first : Command) (middle result : Result Command AllocError) (name : Text) → IsCommand first (with_options name []) → Gets (Ok first) client_options middle
-    → Gets middle task_options result → IfOk result (λ c. IsCommand c (with_options name load_options))
-command_with first middle (Err e) name is a b = tt
-command_with first (Err e) (Ok after) name is a b = absurd b
-command_with first (Ok before) (Ok after) name is a b = record {
-  app = b.app ∙ ap (λ (w : App). with_rules w task_options) (a.app ∙ ap (λ (w : App). with_rules w client_options) is.app);
-  own = b.own ∙ a.own ∙ is.own;
+pub command_with : (first : Command) (second third result : Result Command AllocError) (name : Text) → IsCommand first (with_options name []) → Gets (Ok first) client_options second
+    → Gets second task_options third → Gets third telling_options result → IfOk result (λ c. IsCommand c (with_options name load_options))
+command_with first second third (Err e) name is a b c = tt
+command_with first second (Err e) (Ok after) name is a b c = absurd c
+command_with first (Err e) (Ok before) (Ok after) name is a b c = absurd b
+command_with first (Ok middle) (Ok before) (Ok after) name is a b c = record {
+  app = c.app ∙ ap (λ (w : App). with_rules w telling_options) (b.app ∙ ap (λ (w : App). with_rules w task_options) (a.app ∙ ap (λ (w : App). with_rules w client_options) is.app));
+  own = c.own ∙ b.own ∙ a.own ∙ is.own;
 }
 
 -- ---- subcommands

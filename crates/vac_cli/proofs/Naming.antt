@@ -38,7 +38,7 @@ use Rattle.clap.specs.Facts.{unwrap_or_range}
 use Rattle.clap.specs.Values.{is_request}
 use Rattle.clap.specs.Walk.{action_of, arg_by_id}
 use Rattle.std.proofs.Common.{nat_lt}
-use Rattle.vac_cli.specs.CommandLine.{vacation, blocks_option, number_option, seed_option, progress_flag, Gives, GivesIn, Tells, HasSettings, Names}
+use Rattle.vac_cli.specs.CommandLine.{vacation, blocks_option, number_option, seed_option, flag, Gives, GivesIn, Says, IsFlag, HasSettings, Names}
 use Rattle.vac_cli.proofs.FoundRows.{Each, IsFit, found_each, found_passes, is_counted, no_fault, no_some, same_some}
 use Rattle.vac_cli.proofs.Walks.{AllFit}
 use Rattle.vac_cli.proofs.Given.{IsGiven, IsEntered, level_gives, subcommand_entered, top_passes}
@@ -116,11 +116,11 @@ seed_given rows a most parser g =
       high = accepted.3;
     }
 
--- the flag is set or not
-flag_given : (rows : List Row) → IsGiven (filled progress_flag) rows → Tells rows true ⊎ Tells rows false
-flag_given rows g = go (bytes_eq g.text (codes "true")) refl g.passes
+-- a flag is set or not
+flag_given : (rows : List Row) (name : Text) → IsGiven (filled (flag name)) rows → IsFlag rows name
+flag_given rows name g = go (bytes_eq g.text (codes "true")) refl g.passes
   where
-    go : (b : Bool) → bytes_eq g.text (codes "true") ≡ b → (b || bytes_eq g.text (codes "false")) ≡ true → Tells rows true ⊎ Tells rows false
+    go : (b : Bool) → bytes_eq g.text (codes "true") ≡ b → (b || bytes_eq g.text (codes "false")) ≡ true → IsFlag rows name
     go true is e = inl (g.one ∙ ap (λ (t : Text). Some t) ((bytes_eq-Decides g.text (codes "true")).0 is))
     go false is e = inr (g.one ∙ ap (λ (t : Text). Some t) ((bytes_eq-Decides g.text (codes "false")).0 e))
 
@@ -156,7 +156,7 @@ settings_fit name = (
         fit refl refl refl,
         (
           fit refl refl refl,
-          (fit refl refl refl, (fit refl refl refl, (fit refl refl refl, (fit refl refl refl, (fit refl refl refl, (fit refl refl refl, tt)))))),
+          (fit refl refl refl, (fit refl refl refl, (fit refl refl refl, (fit refl refl refl, (fit refl refl refl, (fit refl refl refl, (fit refl refl refl, tt))))))),
         ),
       ),
     ),
@@ -176,10 +176,9 @@ unfolding shape_at with_settings
 settings_seed of rows e = seed_given rows (filled seed_option) 18446744073709551615 refl
     (subst (IsGiven (filled seed_option)) e.rows_are (level_gives (with_settings of) e.words (filled seed_option) (settings_fit of) e.passes refl (omega arith)))
 
-settings_tell : (of : Text) (rows : List Row) → IsEntered (with_settings of) rows → Tells rows true ⊎ Tells rows false
-unfolding shape_at with_settings
-settings_tell of rows e = flag_given rows
-    (subst (IsGiven (filled progress_flag)) e.rows_are (level_gives (with_settings of) e.words (filled progress_flag) (settings_fit of) e.passes refl (omega arith)))
+settings_flag : (of : Text) (rows : List Row) → IsEntered (with_settings of) rows → (name : Text) → arg_by_id (with_settings of).rules name ≡ Some (filled (flag name)) → IsFlag rows name
+settings_flag of rows e name own = flag_given rows name
+    (subst (IsGiven (filled (flag name))) e.rows_are (level_gives (with_settings of) e.words (filled (flag name)) (settings_fit of) e.passes own (omega arith)))
 
 settings_given : (of : Text) (rows : List Row) → IsEntered (with_settings of) rows → HasSettings rows
 unfolding shape_at with_settings
@@ -193,7 +192,10 @@ settings_given of rows e = record {
   blocks = settings_number of rows e (codes "blocks") 1 MOST_BLOCKS (codes "1024") refl;
   tries = settings_number of rows e (codes "tries") 1 MOST_TRIES (codes "64") refl;
   rounds = settings_number of rows e (codes "rounds") 1 MOST_ROUNDS (codes "1") refl;
-  tells = settings_tell of rows e;
+  flags = record {
+    progress = settings_flag of rows e (codes "progress") refl;
+    stats = settings_flag of rows e (codes "stats") refl;
+  };
 }
 
 blocks_given : (of : Text) (rows : List Row) → IsEntered (with_blocks of) rows → GivesIn rows (codes "blocks") 1 MOST_BLOCKS
@@ -354,10 +356,10 @@ block_count rows n g is =
     and_true true b e f = f
     and_true false b e f = e
 
-pub flag_read : (f : Found) (b : Bool) → (one_text f (codes "progress") ≡ Some (codes "true") → b ≡ true) → (one_text f (codes "progress") ≡ Some (codes "false") → b ≡ false)
-    → Tells (rows_of f) true ⊎ Tells (rows_of f) false → Tells (rows_of f) b
-flag_read f b set unset (inl is) = subst (Tells (rows_of f)) (sym (set (one_text-rows f (codes "progress") ∙ is))) is
-flag_read f b set unset (inr is) = subst (Tells (rows_of f)) (sym (unset (one_text-rows f (codes "progress") ∙ is))) is
+pub flag_read : (f : Found) (name : Text) (b : Bool) → (one_text f name ≡ Some (codes "true") → b ≡ true) → (one_text f name ≡ Some (codes "false") → b ≡ false)
+    → IsFlag (rows_of f) name → Says (rows_of f) name b
+flag_read f name b set unset (inl is) = subst (Says (rows_of f) name) (sym (set (one_text-rows f name ∙ is))) is
+flag_read f name b set unset (inr is) = subst (Says (rows_of f) name) (sym (unset (one_text-rows f name ∙ is))) is
 
 not_some : {X : Type 0} (o : Option X) → o ≡ None → IsSome o → ⊥
 not_some None e some = let bad : false ≡ true = some in cc

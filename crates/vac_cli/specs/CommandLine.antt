@@ -20,6 +20,7 @@ use Rattle.vac_draws.specs.declared.settings.Settings.{Settings}
 use Rattle.vac_model.specs.declared.limits.TheConstants.{MOST_TRIES}
 use Rattle.vac_manager.specs.Opening.{is_block_count}
 use Rattle.vac_script.specs.declared.system.TheConstants.{LAST_VERSION}
+use Rattle.vac_cli.specs.declared.asked.How.{How}
 use Rattle.vac_cli.specs.declared.asked.Asked.{Asked}
 use Rattle.vac_cli.specs.declared.asked.Asked.TheVariants.{Run, Dump, Check, Judge, Load, Tasks}
 
@@ -55,15 +56,9 @@ rounds_option = number_option (codes "rounds") 1 MOST_ROUNDS (codes "1")
 abbrev pub tries_option : Rule
 tries_option = number_option (codes "tries") 1 MOST_TRIES (codes "64")
 
-abbrev pub progress_flag : Rule
-progress_flag = record (new_rule (codes "progress")) {
-  long = Some (codes "progress");
-  action = Some SetTrue;
-}
-
 -- the options of a load that say how many clients ask how often
 abbrev pub client_options : List Rule
-client_options = clients_option ∷ tasks_option ∷ rounds_option ∷ tries_option ∷ progress_flag ∷ []
+client_options = clients_option ∷ tasks_option ∷ rounds_option ∷ tries_option ∷ []
 
 abbrev pub items_option : Rule
 items_option = number_option (codes "items") 1 MOST_ITEMS (codes "16")
@@ -85,9 +80,17 @@ seed_option = record (valued_option (codes "seed")) {
 abbrev pub task_options : List Rule
 task_options = items_option ∷ asks_option ∷ user_option ∷ seed_option ∷ blocks_option ∷ []
 
+-- a flag `--name`
+abbrev pub flag : Text → Rule
+flag name = record (new_rule name) { long = Some name; action = Some SetTrue }
+
+-- those that say what a load tells of itself
+abbrev pub telling_options : List Rule
+telling_options = flag (codes "progress") ∷ flag (codes "stats") ∷ []
+
 -- the options of a load
 abbrev pub load_options : List Rule
-load_options = client_options ++ task_options
+load_options = client_options ++ task_options ++ telling_options
 
 -- a subcommand with these options
 abbrev pub with_options : Text → List Rule → Shape
@@ -170,11 +173,20 @@ pub record GivesIn (rows : List Row) (option : Text) (least most : ℕ) : Type 0
   pub low : least ≤ number
   pub high : number ≤ most
 
--- it says whether the flag is set
-abbrev pub Tells : List Row → Bool → Type 0
-Tells rows tells = one_of (codes "progress") rows ≡ Some (bool_text tells)
+-- it says whether a flag is set
+abbrev pub Says : List Row → Text → Bool → Type 0
+Says rows name is_set = one_of name rows ≡ Some (bool_text is_set)
 
--- each option of a load gives a number in its range, and the flag is set or not
+-- it says that the flag is set, or that it is not
+abbrev pub IsFlag : List Row → Text → Type 0
+IsFlag rows name = Says rows name true ⊎ Says rows name false
+
+-- what it says of each flag of a load
+pub record HasFlags (rows : List Row) : Type 0 where
+  pub progress : IsFlag rows (codes "progress")
+  pub stats : IsFlag rows (codes "stats")
+
+-- each option of a load gives a number in its range, and each flag is set or not
 pub record HasSettings (rows : List Row) : Type 0 where
   pub clients : GivesIn rows (codes "clients") 1 MOST_CLIENTS
   pub tasks : GivesIn rows (codes "tasks") 1 MOST_TASKS
@@ -185,7 +197,7 @@ pub record HasSettings (rows : List Row) : Type 0 where
   pub blocks : GivesIn rows (codes "blocks") 1 MOST_BLOCKS
   pub tries : GivesIn rows (codes "tries") 1 MOST_TRIES
   pub rounds : GivesIn rows (codes "rounds") 1 MOST_ROUNDS
-  pub tells : Tells rows true ⊎ Tells rows false
+  pub flags : HasFlags rows
 
 -- each setting is what the option of its name gives
 pub record AreGiven (rows : List Row) (s : Settings) : Type 0 where
@@ -200,6 +212,11 @@ pub record AreGiven (rows : List Row) (s : Settings) : Type 0 where
   pub last : s.last ≡ LAST_VERSION
   pub rounds : Gives rows (codes "rounds") s.rounds
 
+-- a load is to tell of itself what the flags say
+pub record IsTold (rows : List Row) (how : How) : Type 0 where
+  pub progress : Says rows (codes "progress") how.progress
+  pub stats : Says rows (codes "stats") how.stats
+
 -- the words name this subcommand, and clap found this for its options
 abbrev pub Names : List Text → Text → List Row → Type 0
 Names words name rows = subcommand_of vacation words ≡ Some (name, rows)
@@ -213,7 +230,7 @@ AsksFor words (Dump blocks) = (rows : List Row) × Names words (codes "dump") ro
 AsksFor words Check = (rows : List Row) × Names words (codes "check") rows
 AsksFor words (Judge blocks) = (rows : List Row) × Names words (codes "judge") rows
     × Gives rows (codes "blocks") blocks × (is_block_count blocks ≡ true)
-AsksFor words (Load settings tells) = (rows : List Row) × Names words (codes "load") rows
-    × AreGiven rows settings × Tells rows tells
+AsksFor words (Load settings how) = (rows : List Row) × Names words (codes "load") rows
+    × AreGiven rows settings × IsTold rows how
 AsksFor words (Tasks settings) = (rows : List Row) × Names words (codes "tasks") rows
     × AreGiven rows settings

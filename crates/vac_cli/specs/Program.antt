@@ -57,7 +57,7 @@ Does (Judge blocks) status unread left held holds =
     Ends status (HasJudged blocks true unread left held holds)
     (HasJudged blocks false unread left held holds
     ⊎ NamedAfter (HasStopped blocks unread left held) holds)
-Does (Load settings tells) status unread left held holds =
+Does (Load settings how) status unread left held holds =
     (left ≡ unread) × Loads status settings held holds
 Does (Tasks settings) status unread left held holds =
     (left ≡ unread) × Lists status settings held holds

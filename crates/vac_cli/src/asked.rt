@@ -1,19 +1,28 @@
 //! What a command line asks for.
 
-ghost use Rattle.std.specs.Prelude.{◌≡◌, ◌<◌, ◌⊎◌, ◌^◌, ℕ, true, false, Some, List, map};
+ghost use Rattle.std.specs.Prelude.{◌≡◌, ◌<◌, ◌^◌, ℕ, true, Some, List, map};
 ghost use Rattle.std.specs.Prelude.{string_bytes, codes, IfOk, IfSome, IsSome};
 ghost use Rattle.clap.specs.Words.{FailsBy, Row, fault_of, found_of, rows_of};
 ghost use Rattle.clap.specs.Words.{subcommand_of, subcommand_rows_of};
 ghost use Rattle.vac_model.specs.declared.limits.TheConstants.{MOST_BLOCKS};
 ghost use Rattle.vac_manager.specs.Opening.{is_block_count};
 ghost use Rattle.vac_cli.specs.CommandLine.{vacation, Gives, GivesIn, HasSettings, AreGiven};
-ghost use Rattle.vac_cli.specs.CommandLine.{Tells, AsksFor};
+ghost use Rattle.vac_cli.specs.CommandLine.{Says, IsFlag, HasFlags, IsTold, AsksFor};
 
 use crate::options::command_line;
 use clap::{ArgMatches, Error};
 use std::alloc::Global;
 use vac_load::Settings;
 use vac_script::LAST_VERSION;
+
+/// What a load is to tell of itself, beside its two lines.
+#[derive(Clone, Copy)]
+pub(crate) struct How {
+    /// Whether to tell how far it is.
+    pub(crate) progress: bool,
+    /// Whether to tell how long it took, and how often it tried.
+    pub(crate) stats: bool,
+}
 
 /// What a command line asks for.
 pub(crate) enum Asked {
@@ -25,8 +34,8 @@ pub(crate) enum Asked {
     Check,
     /// To judge a history over a system of so many blocks.
     Judge(u32),
-    /// To run a load, and whether to tell how far it is.
-    Load(Settings, bool),
+    /// To run a load, and what it is to tell of itself.
+    Load(Settings, How),
     /// To write the tasks of a load.
     Tasks(Settings),
 }
@@ -73,13 +82,23 @@ fn seed_of(matches: &ArgMatches) -> u64
     }
 }
 
-/// Whether a load is to tell how far it is.
-fn tells_of(matches: &ArgMatches) -> bool
-    requires { Tells (rows_of (found_of matches.now)) true
-        ⊎ Tells (rows_of (found_of matches.now)) false }
-    ensures { Tells (rows_of (found_of matches.now)) result }
+/// Whether a flag is set.
+fn flag_of(matches: &ArgMatches, name: &str) -> bool
+    requires { IsFlag (rows_of (found_of matches.now)) name.now }
+    ensures { Says (rows_of (found_of matches.now)) name.now result }
 {
-    matches.get_flag("progress")
+    matches.get_flag(name)
+}
+
+/// What a load is to tell of itself.
+fn how_of(matches: &ArgMatches) -> How
+    requires { HasFlags (rows_of (found_of matches.now)) }
+    ensures { IsTold (rows_of (found_of matches.now)) result }
+{
+    How {
+        progress: flag_of(matches, "progress"),
+        stats: flag_of(matches, "stats"),
+    }
 }
 
 /// The number of blocks that a subcommand gives, or the default.
@@ -132,7 +151,7 @@ pub(crate) fn read_asked(alloc: Global, words: &[String]) -> Result<Asked, Error
         return Ok(Asked::Tasks(settings_of(tasks)));
     }
     match named(&matches, "load") {
-        Some(load) => Ok(Asked::Load(settings_of(load), tells_of(load))),
+        Some(load) => Ok(Asked::Load(settings_of(load), how_of(load))),
         None => unreachable!(),
     }
 }

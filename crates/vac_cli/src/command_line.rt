@@ -48,7 +48,7 @@ pub fn run_words<
         Ok(Asked::Dump(blocks)) => dump(alloc, blocks, input, output),
         Ok(Asked::Check) => check(alloc, input, output),
         Ok(Asked::Judge(blocks)) => judge(alloc, blocks, input, output),
-        Ok(Asked::Load(settings, tells)) => load(rt, &settings, tells, output, errors),
+        Ok(Asked::Load(settings, how)) => load(rt, &settings, how, output, errors),
         Ok(Asked::Tasks(settings)) => list_tasks(alloc, &settings, output),
         Err(error) => show(alloc, &error, output, errors),
     }

@@ -7,6 +7,7 @@ mod asked;
 mod command_line;
 mod load;
 mod options;
+mod stats;
 mod status;
 mod telling;
 

@@ -12,6 +12,8 @@ ghost use Rattle.vac_lines.specs.Script.{as_line};
 ghost use Rattle.vac_script.specs.Script.{AppendsPrefix};
 ghost use Rattle.vac_lines.specs.Text.{report_text};
 
+use crate::asked::How;
+use crate::stats::{Span, Unwatched, tell_stats};
 use crate::status::{DONE, FAULT, end_by, end_load_by};
 use crate::telling::run_load_told;
 use std::alloc::{AllocError, Global};
@@ -20,28 +22,35 @@ use std::sync::Wait;
 use std::thread::Threads;
 use std::time::Clock;
 use vac_lines::print_reply;
-use vac_load::{LoadFault, LoadReport, Settings, Tally, run_load};
+use vac_load::{LoadFault, LoadReport, Settings, Tally, run_load_counted};
 use vac_model::{Reply, Report};
 use vac_script::{RunFault, write_and_flush};
 
 /// Runs a load, writes its two lines, and answers the status. Where that is asked for, tells on
-/// `errors` how far it is.
+/// `errors` how far it is, and in the end how long its clients took and how often they tried.
 pub(crate) fn load<T: Threads + Wait + Clock + Sync + AllocGlobal, W: Write, E: Write + Send>(
     rt: &T,
     settings: &Settings,
-    tells: bool,
+    how: How,
     output: &mut W,
     errors: &mut E,
 ) -> u8
     ensures { Loads result settings.now (W.contents output.old) (W.contents output.new) }
 {
-    let loaded = if tells {
-        run_load_told(rt, settings, errors)
+    let mut span = Span::new(rt);
+    let loaded = if how.progress {
+        run_load_told(rt, settings, &mut span, errors)
     } else {
-        run_load(rt, settings)
+        run_load_counted(rt, settings, Unwatched, &mut span)
     };
     match loaded {
-        Ok(report) => write_load(rt.alloc(), &report, output),
+        Ok((report, efforts)) => {
+            if how.stats {
+                let answered = report.tally.answered;
+                tell_stats(rt.alloc(), span.nanos(), answered, efforts, errors);
+            }
+            write_load(rt.alloc(), &report, output)
+        }
         Err(fault) => end_load_by(fault, output),
     }
 }

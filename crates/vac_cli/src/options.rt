@@ -4,7 +4,7 @@ ghost use Rattle.std.specs.Prelude.{◌≡◌, [], ◌∷◌, IfOk, IsOkAnd};
 ghost use Rattle.clap.specs.Words.{AddsArg, AddsSubcommand, app_of};
 ghost use Rattle.vac_cli.specs.CommandLine.{valued_option, number_parser, number_option};
 ghost use Rattle.vac_cli.specs.CommandLine.{blocks_option, clients_option, tasks_option};
-ghost use Rattle.vac_cli.specs.CommandLine.{rounds_option, tries_option, progress_flag};
+ghost use Rattle.vac_cli.specs.CommandLine.{rounds_option, tries_option, flag, telling_options};
 ghost use Rattle.vac_cli.specs.CommandLine.{items_option, asks_option, user_option, seed_option};
 ghost use Rattle.vac_cli.specs.CommandLine.{client_options, task_options, load_options};
 ghost use Rattle.vac_cli.specs.CommandLine.{with_options, top_command, script_commands};
@@ -125,16 +125,6 @@ fn tries_option<'a>(alloc: Global) -> Arg<'a>
     )
 }
 
-/// The flag that asks to be told how far a load is.
-fn progress_flag<'a>(alloc: Global) -> Arg<'a>
-    ensures { IsOption result progress_flag }
-{
-    Arg::new(alloc, "progress")
-        .long("progress")
-        .help("Tells on standard error how many tasks were answered, at most twice a second")
-        .action(ArgAction::SetTrue)
-}
-
 /// The option that says how many items there are.
 fn items_option<'a>(alloc: Global) -> Arg<'a>
     ensures { IsOption result items_option }
@@ -209,8 +199,7 @@ fn add_client_options<'a>(
     let command = add_option(command, clients_option(alloc));
     let command = add_option(command, tasks_option(alloc));
     let command = add_option(command, rounds_option(alloc));
-    let command = add_option(command, tries_option(alloc));
-    add_option(command, progress_flag(alloc))
+    add_option(command, tries_option(alloc))
 }
 
 /// Adds the options that say what the tasks of a load are, unless memory was refused before.
@@ -226,6 +215,37 @@ fn add_task_options<'a>(
     let command = add_option(command, user_option(alloc));
     let command = add_option(command, seed_option(alloc));
     add_option(command, blocks_option(alloc))
+}
+
+/// A flag.
+fn flag<'a>(alloc: Global, name: &'a str, help: &'a str) -> Arg<'a>
+    ensures { IsOption result (flag name.now) }
+{
+    Arg::new(alloc, name)
+        .long(name)
+        .help(help)
+        .action(ArgAction::SetTrue)
+}
+
+/// Adds the flags that say what a load tells of itself, unless memory was refused before.
+fn add_telling_options<'a>(
+    alloc: Global,
+    command: Result<Command<'a>, AllocError>,
+) -> Result<Command<'a>, AllocError>
+    ensures { IfOk result (λ after. IsOkAnd command.entry
+        (λ before. AddsOptions before telling_options after)) }
+{
+    let progress = flag(
+        alloc,
+        "progress",
+        "Tells on standard error how many tasks were answered, at most twice a second",
+    );
+    let stats = flag(
+        alloc,
+        "stats",
+        "Tells on standard error how long the clients took, and how often they tried",
+    );
+    add_option(add_option(command, progress), stats)
 }
 
 /// A subcommand without options.
@@ -251,7 +271,8 @@ fn load_command<'a>(alloc: Global, name: &'a str, about: &'a str) -> Result<Comm
     ensures { IfOk result (λ c. IsCommand c (with_options name.now load_options)) }
 {
     let command = add_client_options(alloc, Ok(plain_command(alloc, name, about)));
-    add_task_options(alloc, command)
+    let command = add_task_options(alloc, command);
+    add_telling_options(alloc, command)
 }
 
 /// Adds a subcommand, unless memory was refused before.

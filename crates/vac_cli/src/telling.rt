@@ -1,11 +1,11 @@
 //! Loads that tell how far they are while they run.
 
-ghost use Rattle.std.specs.Prelude.{◌≡◌, ◌↔◌, false, map, vec_len, IfOk, IsErrOf};
+ghost use Rattle.std.specs.Prelude.{◌≡◌, ◌↔◌, false, IfOk, IsErrOf};
 ghost use Rattle.vac_draws.specs.Setting.{is_settings};
-ghost use Rattle.vac_draws.specs.Streams.{streams_of};
 ghost use Rattle.vac_load.specs.Streams.{LoadedBySeed};
 
-use std::alloc::{AllocError, Global};
+use crate::stats::Span;
+use std::alloc::Global;
 use std::io::Write;
 use std::sync::Wait;
 use std::sync::atomic::{AtomicBool, AtomicU64, Ordering};
@@ -13,13 +13,13 @@ use std::thread;
 use std::thread::{Parker, Threads};
 use std::time::{Clock, Duration, Instant};
 use stm_attempt::{Gate, Point};
-use vac_load::{LoadFault, LoadReport, PcgDraws, Settings, run_load_with};
+use vac_load::{Efforts, LoadFault, LoadReport, Settings, run_load_counted};
 
 /// The least time between two lines, in milliseconds.
 const PAUSE_MILLIS: u64 = 500;
 
 /// The gate of a client, which counts the tasks that are answered.
-#[derive(Drop)]
+#[derive(Clone, Copy, Drop)]
 struct Counter<'a> {
     answered: &'a AtomicU64,
 }
@@ -30,44 +30,6 @@ impl Gate for Counter<'_> {
             self.answered.fetch_add(1, Ordering::SeqCst);
         }
     }
-}
-
-/// The draws of each client, from a stream of its own, and a gate that counts for all of them.
-fn counters<'a>(
-    alloc: Global,
-    seed: u64,
-    clients: u32,
-    answered: &'a AtomicU64,
-) -> Result<Vec<(PcgDraws, Counter<'a>)>, AllocError>
-    ensures number { IfOk result (λ v. vec_len v ≡ clients) }
-    ensures streams { IfOk result (λ v.
-        map (λ pair. pair.0) v.items ≡ streams_of seed clients) }
-{
-    let mut pairs = Vec::with_capacity(alloc, clients as usize)?;
-    for number in 0..clients {
-        let draws = PcgDraws::new(seed, u64::from(number) + 1);
-        pairs.push((draws, Counter { answered }))?;
-    }
-    Ok(pairs)
-}
-
-/// Runs the load of a seed, and counts the tasks that are answered.
-fn run_counted<T: Threads + Wait + AllocGlobal>(
-    rt: &T,
-    settings: &Settings,
-    answered: &AtomicU64,
-) -> Result<LoadReport, LoadFault>
-    ensures arguments { IsErrOf result LoadFault.Arguments
-        ↔ (is_settings settings.now ≡ false) }
-    ensures loaded { IfOk result (λ r. LoadedBySeed settings.now r.tally r.report) }
-{
-    if !settings.is_in_range() {
-        return Err(LoadFault::Arguments);
-    }
-    let Ok(clients) = counters(rt.alloc(), settings.seed, settings.clients, answered) else {
-        return Err(LoadFault::Memory);
-    };
-    run_load_with(rt, settings, PcgDraws::new(settings.seed, 0), clients)
 }
 
 /// What a load shares with the thread that tells how far it is.
@@ -88,16 +50,18 @@ impl Progress {
     }
 
     /// Runs the load, and then lets the teller end.
-    fn run<T: Threads + Wait + AllocGlobal>(
+    fn run<T: Threads + Wait + Clock + AllocGlobal>(
         &self,
         rt: &T,
         settings: &Settings,
-    ) -> Result<LoadReport, LoadFault>
+        span: &mut Span<T>,
+    ) -> Result<(LoadReport, Efforts), LoadFault>
         ensures arguments { IsErrOf result LoadFault.Arguments
             ↔ (is_settings settings.now ≡ false) }
-        ensures loaded { IfOk result (λ r. LoadedBySeed settings.now r.tally r.report) }
+        ensures loaded { IfOk result (λ r. LoadedBySeed settings.now r.0.tally r.0.report) }
     {
-        let loaded = run_counted(rt, settings, &self.answered);
+        let answered = &self.answered;
+        let loaded = run_load_counted(rt, settings, Counter { answered }, span);
         self.has_ended.store(true, Ordering::SeqCst);
         self.teller.unpark();
         loaded
@@ -154,7 +118,7 @@ fn all_tasks(settings: &Settings) -> u64 {
     of_one.saturating_mul(u64::from(settings.clients))
 }
 
-/// Runs the load of a seed as `run_load` does. While it runs, tells on `errors`, at most twice a
+/// Runs the load of a seed as `run_load_counted` does. While it runs, tells on `errors`, at most twice a
 /// second, how many of its tasks were answered.
 ///
 /// Where no thread can be started to tell that, the load is run and nothing is told: a join then
@@ -162,21 +126,22 @@ fn all_tasks(settings: &Settings) -> u64 {
 pub(crate) fn run_load_told<T: Threads + Wait + Clock + Sync + AllocGlobal, E: Write + Send>(
     rt: &T,
     settings: &Settings,
+    span: &mut Span<T>,
     errors: &mut E,
-) -> Result<LoadReport, LoadFault>
+) -> Result<(LoadReport, Efforts), LoadFault>
     ensures arguments { IsErrOf result LoadFault.Arguments
         ↔ (is_settings settings.now ≡ false) }
-    ensures loaded { IfOk result (λ r. LoadedBySeed settings.now r.tally r.report) }
+    ensures loaded { IfOk result (λ r. LoadedBySeed settings.now r.0.tally r.0.report) }
 {
     let progress = Progress::new();
     let (shared, settings) = (&progress, *settings);
     let all = all_tasks(&settings);
     let tell = || shared.tell(rt, all, errors);
-    let run = move || -> Result<LoadReport, LoadFault>
+    let run = move || -> Result<(LoadReport, Efforts), LoadFault>
         ensures arguments { IsErrOf result LoadFault.Arguments
             ↔ (is_settings settings ≡ false) }
-        ensures loaded { IfOk result (λ r. LoadedBySeed settings r.tally r.report) }
-    { shared.run(rt, &settings) };
+        ensures loaded { IfOk result (λ r. LoadedBySeed settings r.0.tally r.0.report) }
+    { shared.run(rt, &settings, span) };
     let ((), loaded) = thread::join(rt, tell, run);
     loaded
 }

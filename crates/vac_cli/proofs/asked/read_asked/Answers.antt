@@ -17,8 +17,8 @@ settings_of-requires c = tasks_settings (map string_bytes c.args.words.now) _ c.
 pub settings_of-requires-in-Some-named-4 : goal.settings_of-requires-in-Some-named-4
 settings_of-requires-in-Some-named-4 c = load_settings (map string_bytes c.args.words.now) _ c.in_ok-matches.ensures.fails (sym c.in_ok-matches.ensures.found ∙ c.in-Some-named-4.ensures.some)
 
-pub tells_of-requires : goal.tells_of-requires
-tells_of-requires c = (load_settings (map string_bytes c.args.words.now) _ c.in_ok-matches.ensures.fails (sym c.in_ok-matches.ensures.found ∙ c.in-Some-named-4.ensures.some)).tells
+pub how_of-requires : goal.how_of-requires
+how_of-requires c = (load_settings (map string_bytes c.args.words.now) _ c.in_ok-matches.ensures.fails (sym c.in_ok-matches.ensures.found ∙ c.in-Some-named-4.ensures.some)).flags
 
 pub unreachable-requires : goal.unreachable-requires
 unreachable-requires c =
