@@ -118,8 +118,8 @@ fn all_tasks(settings: &Settings) -> u64 {
     of_one.saturating_mul(u64::from(settings.clients))
 }
 
-/// Runs the load of a seed as `run_load_counted` does. While it runs, tells on `errors`, at most twice a
-/// second, how many of its tasks were answered.
+/// Runs the load of a seed as `run_load_counted` does. While it runs, tells on `errors`, at most
+/// twice a second, how many of its tasks were answered.
 ///
 /// Where no thread can be started to tell that, the load is run and nothing is told: a join then
 /// makes its second call first.

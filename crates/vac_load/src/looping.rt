@@ -71,8 +71,8 @@ fn ask_for<G: Gate>(
 }
 
 /// Asks for as many tasks as the settings say for a round, one after the other, each as it is
-/// drawn, and counts how they ended and what their calls took. A task that was not built counts under memory. The gate is
-/// told `Answered` after each call that was answered.
+/// drawn, and counts how they ended and what their calls took. A task that was not built counts
+/// under memory. The gate is told `Answered` after each call that was answered.
 pub(crate) fn count_loop<D: Draws, G: Gate>(
     alloc: Global,
     manager: &Manager,
