@@ -149,7 +149,7 @@ impl<'a, L: Law, R: Allocator, A: Allocator + Copy> TxRead for Attempt<'a, L, R,
     /// The attempt's own write of this address, or a value that a probe and a check of its lock
     /// enclose, with equal words, and which enters the reads. The probe answers `Held` before
     /// `Newer`, the check `Moved` where it differs.
-    #[inline]
+    #[inline(always)]
     fn read(&mut self, addr: Addr) -> Result<u64, Refusal>
         requires { addr.0 < (view self.old).size }
         ensures origin { origin self.new ≡ origin self.old }

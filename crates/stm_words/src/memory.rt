@@ -59,7 +59,7 @@ pub trait TxMem: TxRead {
 
 /// A read, in terms of every image that the memory may stand on: under each that agrees with the
 /// reads afterwards, the word was the answer.
-#[inline]
+#[inline(always)]
 pub fn load<M: TxRead>(memory: &mut M, addr: Addr) -> Result<u64, M::Stop>
     requires { addr.0 < (M.view memory.old).size }
     ensures origin { M.origin memory.new ≡ M.origin memory.old }
