@@ -14,4 +14,5 @@ pub mod ChainLemmas
 pub mod ClearLemmas
 pub mod StripeLemmas
 pub mod LockLemmas
+pub mod MarkLemmas
 pub mod Crosses

@@ -1,7 +1,9 @@
 -- A write log: its tree, and how the tree changes.
-use Rattle.std.specs.Prelude.{◌≡◌, ◌≢◌, ℕ, ◌+◌, ◌<◌, ◌≤◌, Option, Some, None, List, length}
+use Rattle.std.specs.Prelude.{◌≡◌, ◌≢◌, ℕ, ◌+◌, ◌%◌, ◌<◌, ◌≤◌, Bool, false, Option, Some, None, List, length, slice_index_or}
 use Rattle.std.specs.FinMap.{get, insert}
+use Rattle.stm_words.specs.View.{Words}
 use Rattle.stm_logs.specs.declared.nodes.Node.{Node}
+use Rattle.stm_logs.specs.declared.write.TheConstants.{MARKS}
 use Rattle.stm_logs.specs.Nodes.{Block, at}
 use Rattle.stm_logs.specs.Log.{LogValue, empty_log}
 use Rattle.stm_logs.specs.Index.{IsIndexed, SameNode, IsTaken}
@@ -18,6 +20,11 @@ pub record IsLog (ns : List Node) (n : ℕ) : Type 0 where
 abbrev pub held_value : Option LogValue → LogValue
 held_value None = empty_log
 held_value (Some tree) = tree
+
+-- an address without the mark of its remainder has no value
+abbrev pub IsMarked : List Bool → Words → Type 0
+IsMarked marks words =
+    (a : ℕ) → slice_index_or marks (a % MARKS) false ≡ false → get words a ≡ None
 
 -- the log with one word more
 abbrev pub with_word : LogValue → ℕ → ℕ → ℕ → LogValue

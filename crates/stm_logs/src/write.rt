@@ -1,5 +1,5 @@
 //! The write log: the addresses that a transaction has written, with their values and locks.
-ghost use Rattle.std.specs.Prelude.{◌≡◌, ◌≢◌, ◌↔◌, ℕ, ◌<◌, IsTrue, IsOk, None, Some, length, slice_index, IfOk};
+ghost use Rattle.std.specs.Prelude.{◌≡◌, ◌≢◌, ◌↔◌, ℕ, ◌%◌, ◌<◌, IsTrue, IsOk, None, Some, length, slice_index, IfOk};
 ghost use Rattle.std.specs.FinMap.{get, len};
 ghost use Rattle.stm_logs.specs.Refusals.{Becomes};
 ghost use Rattle.stm_logs.specs.Held.{with_word};
@@ -11,6 +11,9 @@ use std::alloc::{AllocError, Allocator, Global};
 use std::marker::Model;
 use stm_words::Addr;
 
+/// The marks of a write log, one for each remainder of the addresses.
+const MARKS: usize = 128;
+
 /// A finite map from addresses to values, with the number of each address's lock. It keeps its
 /// memory when it is cleared.
 #[derive(Drop)]
@@ -18,6 +21,17 @@ pub struct WriteLog<A: Allocator + Copy = Global> {
     alloc: A,
     tree: Option<Tree<A>>,
     len: usize,
+    // Whether an address of this remainder may be there.
+    marks: [bool; MARKS],
+}
+
+/// The place of an address's mark.
+#[inline]
+fn mark_of(addr: Addr) -> usize
+    ensures mark { result ≡ addr.0 % MARKS }
+    ensures inside { result < MARKS }
+{
+    addr.0 as usize % MARKS
 }
 
 impl<A: Allocator + Copy> Model for WriteLog<A> {
@@ -29,11 +43,13 @@ impl<A: Allocator + Copy> Model for WriteLog<A> {
 
     ghost coded = { log_code };
 
-    ghost use Rattle.stm_logs.specs.Held.{held_value};
+    ghost use Rattle.stm_logs.specs.Held.{held_value, IsMarked};
 
     ghost view = { λ w. held_value w.tree };
 
-    ghost invariant = { λ w. w.len ≡ map.len (held_value w.tree).words };
+    ghost invariant = { λ w.
+        (w.len ≡ map.len (held_value w.tree).words)
+        × IsMarked w.marks (held_value w.tree).words };
 }
 
 impl<A: Allocator + Copy> WriteLog<A> {
@@ -45,6 +61,7 @@ impl<A: Allocator + Copy> WriteLog<A> {
             alloc,
             tree: None,
             len: 0,
+            marks: [false; MARKS],
         }
     }
 
@@ -70,6 +87,7 @@ impl<A: Allocator + Copy> WriteLog<A> {
             Some(tree) => {
                 if tree.put(addr.0, lock, value)? {
                     self.len += 1;
+                    self.marks[mark_of(addr)] = true;
                 }
             }
             None => {
@@ -77,17 +95,19 @@ impl<A: Allocator + Copy> WriteLog<A> {
                 tree.put(addr.0, lock, value)?;
                 self.tree = Some(tree);
                 self.len = 1;
+                self.marks[mark_of(addr)] = true;
             }
         }
         Ok(())
     }
 
-    /// The value that stands at the address.
+    /// The value that stands at the address. Of an address that is not there the index is seldom
+    /// asked: one mark tells.
     #[inline]
     pub fn get(&self, addr: Addr) -> Option<u64>
         ensures { result ≡ get self.now.words addr.0 }
     {
-        if self.len == 0 {
+        if !self.marks[mark_of(addr)] {
             return None;
         }
         match &self.tree {
@@ -168,6 +188,7 @@ impl<A: Allocator + Copy> WriteLog<A> {
         ensures { self.new ≡ empty_log }
     {
         self.len = 0;
+        self.marks = [false; MARKS];
         if let Some(tree) = &mut self.tree {
             tree.clear();
         }

@@ -1,5 +1,5 @@
 use Rattle.std.proofs.Common.{◌≡◌, Option, ℕ, sym, ap, ◌∙◌}
-use Rattle.std.specs.FinMap.{len, len-empty}
+use Rattle.std.specs.FinMap.{get, len, get-empty, len-empty}
 use Rattle.std.specs.Ordering.{nat_cmp}
 use Rattle.stm_logs.specs.Log.{LogValue, empty_log}
 use Rattle.stm_logs.specs.Held.{held_value}
@@ -10,6 +10,12 @@ pub invariant_of-self : goal.invariant_of-self
 invariant_of-self g c =
     let none : 0 ≡ len empty_log.words = sym (len-empty nat_cmp ℕ) in
     elim c.match-self.branch [
-      | in-Some w ↦ rw w.self-inside-is (none ∙ sym (ap (λ (x : LogValue). len x.words) w.clear.ensures))
-      | in_default w ↦ rw w.self-inside-is (none ∙ sym (ap (λ (o : Option LogValue). len (held_value o).words) w.in_default.is))
+      | in-Some w ↦ rw w.self-inside-is (
+        none ∙ sym (ap (λ (x : LogValue). len x.words) w.clear.ensures),
+        λ a away. ap (λ (x : LogValue). get x.words a) w.clear.ensures ∙ get-empty nat_cmp a,
+      )
+      | in_default w ↦ rw w.self-inside-is (
+        none ∙ sym (ap (λ (o : Option LogValue). len (held_value o).words) w.in_default.is),
+        λ a away. ap (λ (o : Option LogValue). get (held_value o).words a) w.in_default.is ∙ get-empty nat_cmp a,
+      )
     ]

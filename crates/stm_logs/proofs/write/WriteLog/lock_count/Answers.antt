@@ -8,12 +8,12 @@ use Rattle.stm_logs.proofs.write.WriteLog.lock_count.Goals as goal
 
 pub overflow_sub-result : goal.overflow_sub-result
 overflow_sub-result g c =
-    let words : c.self.inside.len ≡ len c.in-Some.tree.words = c.self.invariant ∙ ap (λ (o : Option LogValue). len (held_value o).words) c.in-Some.is in
+    let words : c.self.inside.len ≡ len c.in-Some.tree.words = c.self.invariant.0 ∙ ap (λ (o : Option LogValue). len (held_value o).words) c.in-Some.is in
     omega (arith, words, c.node_count.ensures)
 
 pub returns-in-Some : goal.returns-in-Some
 returns-in-Some g c =
-    let words : c.self.inside.len ≡ len c.in-Some.tree.words = c.self.invariant ∙ ap (λ (o : Option LogValue). len (held_value o).words) c.in-Some.is in
+    let words : c.self.inside.len ≡ len c.in-Some.tree.words = c.self.invariant.0 ∙ ap (λ (o : Option LogValue). len (held_value o).words) c.in-Some.is in
     let tree : c.in-Some.tree ≡ c.args.self.now = held_some c.self.inside.tree _ _ c.in-Some.is c.self.view_is in
     omega (arith, words, c.node_count.ensures, ap (λ (w : LogValue). length (log_locks w)) tree)
 

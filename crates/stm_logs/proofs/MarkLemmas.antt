@@ -1,0 +1,29 @@
+-- The marks of a write log.
+use Rattle.std.proofs.Common.{◌≡◌, inl, inr, ℕ, ◌%◌, ◌<◌, Bool, true, false, List, length, get_or, set, sym, ap, ◌∙◌, get_or-set_same, get_or-set_other}
+use Rattle.std.specs.FinMap.{get}
+use Rattle.stm_logs.specs.declared.write.TheConstants.{MARKS}
+use Rattle.stm_logs.specs.Log.{LogValue}
+use Rattle.stm_logs.specs.Held.{IsMarked, IsReplaced, with_word}
+use Rattle.stm_logs.proofs.NodeLemmas.{same_or}
+use Rattle.stm_logs.proofs.TableLemmas.{get_other, true_false}
+
+-- a mark that is not there was not there before another was set
+was_away : (marks : List Bool) (i j : ℕ) → i < length marks → get_or (set marks i true) j false ≡ false → get_or marks j false ≡ false
+was_away marks i j l away = elim (same_or j i) [
+  | inl is ↦ absurd (true_false _ (ap (λ k. get_or (set marks i true) k false) is ∙ get_or-set_same marks i true false l) away)
+  | inr ne ↦ sym (get_or-set_other marks i j true false ne) ∙ away
+]
+
+-- an address enters with its mark
+pub enters_marked : (marks : List Bool) (i a lock v : ℕ) (old new : LogValue) → i ≡ a % MARKS → i < length marks → IsMarked marks old.words → new ≡ with_word old a lock v → IsMarked (set marks i true) new.words
+enters_marked marks i a lock v old new at_i l was is b away = ap (λ (w : LogValue). get w.words b) is ∙ elim (same_or b a) [
+  | inl here ↦ absurd (true_false _ (ap (λ k. get_or (set marks i true) k false) (ap (λ k. k % MARKS) here ∙ sym at_i) ∙ get_or-set_same marks i true false l) away)
+  | inr ne ↦ get_other old.words a v b ne ∙ was b (was_away marks i (b % MARKS) l away)
+]
+
+-- an address that is there has its mark
+pub replaced_marked : (marks : List Bool) (a v : ℕ) (old new : LogValue) → IsReplaced old new a v → IsMarked marks old.words → IsMarked marks new.words
+replaced_marked marks a v old new there was b away = ap (λ (w : LogValue). get w.words b) there.put ∙ elim (same_or b a) [
+  | inl here ↦ absurd (there.has_word (ap (get old.words) (sym here) ∙ was b away))
+  | inr ne ↦ get_other old.words a v b ne ∙ was b away
+]
