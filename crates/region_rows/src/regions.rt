@@ -31,7 +31,7 @@ pub(crate) fn read_at(
         return None;
     }
     let value = region.fetch(client, addr);
-    if region.check(client, addr) != word {
+    if region.check(client, addr, lock) != word {
         return None;
     }
     region.finish(client, &7u64);

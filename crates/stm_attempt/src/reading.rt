@@ -59,7 +59,7 @@ pub(crate) fn read_word<L: Law, R: Allocator>(
         return Err(Conflict::Newer { lock, version, rv });
     }
     let value = region.fetch(client, addr);
-    let second = region.check(client, addr);
+    let second = region.check(client, addr, lock);
     if second != first {
         return Err(Conflict::Moved {
             lock,

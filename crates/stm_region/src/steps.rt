@@ -3,7 +3,7 @@ ghost use Rattle.std.specs.Prelude.{◌≡◌, ◌≢◌, ℕ, ◌+◌, ◌*◌,
 ghost use Rattle.stm_core.specs.Client.{word_before, decided};
 ghost use Rattle.stm_core.specs.Event.{begin as begins, probe as probes, fetch as fetches, check as checks, lock as locks, tick as ticks, validate as validates, put as puts, release as releases, give_back as gives_back, finish as finishes};
 ghost use Rattle.stm_logs.specs.Log.{log_pairs};
-ghost use Rattle.stm_region.specs.Shown.{Exchanged, IsAllowed, acted};
+ghost use Rattle.stm_region.specs.Shown.{Exchanged, IsAllowed, acted, stripe_of};
 ghost use Rattle.stm_region.specs.declared.limits.TheConstants.{MOST_GRANTS};
 ghost use Rattle.stm_region.specs.Told.{IsLockWord, IsLoneOpen, StandsOn, IsOfOneVersion, IsOfOneVersionAt, AreEarlier, Decides, DecidesAt};
 ghost use Rattle.std.specs.Prelude.{◌⊎◌};
@@ -66,11 +66,12 @@ impl<L: Law, A: Allocator> Region<L, A> {
         self.load_as::<Brand>(&mut client.seat, self.cells + addr.0 as usize, addr.0)
     }
 
-    /// Loads the lock word of an address again. Where it is as it was, the value fetched enters
-    /// the reads.
+    /// Loads the lock word of an address again, whose lock has the given number. Where it is as it
+    /// was, the value fetched enters the reads.
     #[inline]
-    pub fn check(&self, client: &mut Client<L>, addr: Addr) -> u64
+    pub fn check(&self, client: &mut Client<L>, addr: Addr, lock: u32) -> u64
         requires own { client.old.table ≡ self.now.table }
+        requires lock { lock ≡ stripe_of self.now.stripes addr.0 }
         requires allowed { IsAllowed L.lawful self.now (checks addr.0) client.old }
         ensures client { client.new ≡ acted self.now (checks addr.0) result client.old }
         ensures word { IsLockWord self.now.last result }
@@ -81,7 +82,6 @@ impl<L: Law, A: Allocator> Region<L, A> {
         ensures after { IsOfOneVersionAt L.fits L.lawful self.now (checks addr.0) result
             client.old.value client.new.value }
     {
-        let lock = self.lock_of(addr);
         self.load_as::<Brand>(&mut client.seat, FIRST_LOCK + lock as usize, addr.0)
     }
 
