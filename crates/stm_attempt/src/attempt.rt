@@ -1,6 +1,5 @@
 //! An attempt: one transaction of one client.
 ghost use Rattle.std.specs.Prelude.{◌≡◌, ◌≢◌, ◌↔◌, ℕ, ◌+◌, ◌*◌, ◌<◌, ◌≤◌, length, None, Some, true};
-ghost use Rattle.std.specs.FinMap.{get};
 ghost use Rattle.stm_core.specs.Core.{IsFreeHanded};
 ghost use Rattle.stm_core.specs.Event.{begin as begins};
 ghost use Rattle.stm_region.specs.Shown.{acted};
@@ -14,7 +13,6 @@ use crate::logs::Logs;
 use crate::reading::read_word;
 use crate::standing::Standing;
 use std::alloc::{Allocator, Global};
-use stm_logs::WriteLog;
 use stm_region::{Client, Region};
 use stm_words::{Addr, Law, TxMem, TxRead, Version};
 
@@ -39,18 +37,6 @@ pub struct Attempt<'a, L: Law, R: Allocator = Global, A: Allocator + Copy = Glob
     ghost placed: { logs.now.in_use ≡ true → IsPlaced region.now logs.now.writes },
     ghost stands: { IsStanding logs.now.in_use region.now client.now.value
         standing.size.value standing.client.value.value.attempt.reads },
-}
-
-/// The value that the attempt has written at an address. An empty log costs one test.
-#[inline]
-fn own_write<A: Allocator + Copy>(writes: &WriteLog<A>, addr: Addr) -> Option<u64>
-    ensures { result ≡ get writes.now.words addr.0 }
-{
-    if writes.len() == 0 {
-        None
-    } else {
-        writes.get(addr)
-    }
 }
 
 impl<'a, L: Law, R: Allocator, A: Allocator + Copy> Attempt<'a, L, R, A> {
@@ -172,7 +158,7 @@ impl<'a, L: Law, R: Allocator, A: Allocator + Copy> TxRead for Attempt<'a, L, R,
         if self.stopped.is_some() {
             return Err(Refusal::Stopped);
         }
-        if let Some(value) = own_write(&self.logs.writes, addr) {
+        if let Some(value) = self.logs.writes.get(addr) {
             return Ok(value);
         }
         self.logs.reads.push(addr)?;

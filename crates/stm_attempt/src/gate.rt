@@ -24,7 +24,7 @@ pub trait Gate {
 }
 
 /// The gate that does nothing.
-#[derive(Drop)]
+#[derive(Clone, Copy)]
 pub struct NoGate;
 
 impl Gate for NoGate {

@@ -7,7 +7,7 @@ pub returns-in-Ok-clause-answer : goal.returns-in-Ok-clause-answer
 returns-in-Ok-clause-answer g c =
     has_entered c.args.self.now.logs.now.in_use c.args.self.now.region.now g.L.Law.fits c.args.self.now.client.now.value c.read_word.new.client.value c.args.self.now.logs.now.writes _ _
     (runs_inside _ _ _ _ _ _ c.requires)
-    (sym c.own_write.ensures ∙ c.in_default.is) c.in-Ok.ensures.ok c.in-Ok.ensures.stands
+    (sym c.get.ensures ∙ c.in_default.is) c.in-Ok.ensures.ok c.in-Ok.ensures.stands
 
 pub returns-in-Some-clause-own : goal.returns-in-Some-clause-own
 returns-in-Some-clause-own g c = λ none value is. (ap Ok (same_some _ _ (c.in-Some.ensures ∙ is)), (refl, refl))
