@@ -8,8 +8,8 @@ use crate::finger::{nearer, point};
 use crate::nodes::{Node, Nodes};
 use std::alloc::Allocator;
 
-/// The places of a block whose chains are so short that a walk needs no finger.
-const SHORT: usize = 256;
+/// The nodes of a log whose chains are so short that a walk needs no finger.
+const SHORT: usize = 128;
 
 #[inline]
 fn set_next<A: Allocator>(nodes: &mut Nodes<A>, e: usize, next: usize)
@@ -117,7 +117,7 @@ pub(crate) fn link<A: Allocator>(nodes: &mut Nodes<A>, parent: usize)
     let start = start(nodes, parent, number);
     if start == 0 {
         link_first(nodes, parent, child);
-    } else if nodes.len() <= SHORT || comes_next(nodes, start, number) {
+    } else if nodes.count() <= SHORT || comes_next(nodes, start, number) {
         let before = walk(nodes, parent, start, number);
         link_behind(nodes, parent, before, child);
     } else {
