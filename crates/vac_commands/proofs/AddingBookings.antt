@@ -305,6 +305,6 @@ module _ (s : View) (customer owner : ℕ) (kind : Kind) (id item num : ℕ) (of
                 let k = its_booking image t0.0 i2 i1 i0 t0.1 in
                 ap (λ (z : Rows). block_at z (place_key (kind, id)))
                 (rows_after (mem s image) (length image) t0.0 t0.1 customer owner kind id item e (mem s2 image) (mem s3 image) state3 h3 (put_row rows (place_key (kind, id)) b)
-                    (ran.customers.stay image t0.0 state3 i t0.1 h3 customer ∙ e.owner_is) k.list.list (made.changed image i).others)
+                (ran.customers.stay image t0.0 state3 i t0.1 h3 customer ∙ e.owner_is) k.list.list (made.changed image i).others)
                 ∙ put_here rows (place_key (kind, id)) b;
           }

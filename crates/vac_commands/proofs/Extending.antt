@@ -202,6 +202,6 @@ module _ (s : View) (customer owner : ℕ) (kind : Kind) (id item num : ℕ) (of
             let list = list_extended (mem s image) (length image) t.0 t.1 customer owner kind id item e (mem s2 image) b is b_some (its_change image i2).others in
             ap (λ (z : Rows). block_at z (place_key (kind, id)))
             (rows_after (mem s image) (length image) t.0 t.1 customer owner kind id item e (mem s2 image) (mem s3 image) state3 h3 (t.1.represents.parts.lists owner)
-                (ran.customers.stay image t.0 state3 i t.1 h3 customer ∙ e.owner_is) list (made.changed image i).others)
+            (ran.customers.stay image t.0 state3 i t.1 h3 customer ∙ e.owner_is) list (made.changed image i).others)
             ∙ is;
       }

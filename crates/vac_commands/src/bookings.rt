@@ -17,8 +17,8 @@ use tx_list::Spot;
 use vac_model::limits::MOST_UNITS;
 use vac_model::{Command, Kind, Reply, Why};
 use vac_records::{
-    book_at, book_more, cancel as give_units_back, free_at, make_of, price_at, spot_behind, spot_of,
-    unbook_at, units_at,
+    book_at, book_more, cancel as give_units_back, free_at, make_of, price_at, spot_behind,
+    spot_of, unbook_at, units_at,
 };
 
 /// What was read of an item.

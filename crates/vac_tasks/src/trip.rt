@@ -218,9 +218,24 @@ fn book_choices<M: TxMem>(
     let id = customer;
     let block = owner.block;
     let car = reserve_choice(memory, id, block, None, Kind::Car, choices.car, start)?;
-    let flight =
-        reserve_choice(memory, id, block, car.last, Kind::Flight, choices.flight, start)?;
-    let room = reserve_choice(memory, id, block, flight.last, Kind::Room, choices.room, start)?;
+    let flight = reserve_choice(
+        memory,
+        id,
+        block,
+        car.last,
+        Kind::Flight,
+        choices.flight,
+        start,
+    )?;
+    let room = reserve_choice(
+        memory,
+        id,
+        block,
+        flight.last,
+        Kind::Room,
+        choices.room,
+        start,
+    )?;
     Ok(Reply::Trip(TripReply {
         joined: owner.joined,
         picks: [car.pick, flight.pick, room.pick],
