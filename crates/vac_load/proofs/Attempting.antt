@@ -1,5 +1,5 @@
 -- What calls took.
-use Rattle.std.proofs.Common.{◌≡◌, ◌≤◌, ◌+◌, ◌*◌, ℕ, List, [], ◌∷◌, Result, Ok, Err, refl, subst, arith}
+use Rattle.std.proofs.Common.{◌≡◌, ◌≤◌, ◌+◌, ℕ, List, [], ◌∷◌, Result, Ok, Err, refl, subst, arith}
 use Rattle.stm_attempt.specs.declared.conflict.Conflict.{Conflict}
 use Rattle.stm_attempt.specs.declared.conflict.Conflict.TheVariants.{Held, Newer, Moved, LostLock, LostTick}
 use Rattle.vac_model.specs.declared.replies.Reply.{Reply}
@@ -12,7 +12,7 @@ use Rattle.vac_manager.specs.Placed.{replied, closed_by, effort_of, conflicts_of
 use Rattle.vac_load.specs.declared.tally.Tally.{Tally}
 use Rattle.vac_load.specs.declared.efforts.Efforts.{Efforts}
 use Rattle.vac_load.specs.Looping.{nothing, counted}
-use Rattle.vac_load.specs.Attempted.{IsEffort, no_effort, with_call, both_efforts}
+use Rattle.vac_load.specs.Attempted.{IsEffort, no_effort, with_call}
 
 -- each attempt of these ended in a conflict
 pub all_conflicts : (cs : List Conflict) → (effort_of cs).attempts ≡ conflicts_of (effort_of cs)

@@ -1,10 +1,10 @@
 -- Calls that keepers keep.
-use Rattle.std.proofs.Common.{◌≡◌, ◌∙◌, ℕ, List, [], ◌∷◌, ◌++◌, Option, Some, None, Result, Ok, Err, IfOk, refl, sym, ap, subst, append_assoc, append-nil, map}
+use Rattle.std.proofs.Common.{◌≡◌, ◌∙◌, ℕ, List, [], ◌∷◌, ◌++◌, Some, None, Result, Ok, Err, IfOk, refl, sym, ap, subst, append_assoc, append-nil}
 use Rattle.stm_core.specs.Client.{Client, Record}
 use Rattle.vac_model.specs.declared.tasks.Task.{Task}
 use Rattle.vac_model.specs.Code.{code}
 use Rattle.vac_manager.specs.declared.placed.Placed.{Placed}
-use Rattle.vac_manager.specs.Placed.{AddsAt, IsPlaced, place_of}
+use Rattle.vac_manager.specs.Placed.{AddsAt, IsPlaced}
 use Rattle.vac_manager.specs.declared.fault.Fault.{Fault}
 use Rattle.stm_region.specs.Shown.{RegionShown}
 use Rattle.vac_history.specs.declared.note.Note.{Note}

@@ -14,10 +14,10 @@ use Rattle.vac_load.specs.declared.tally.Tally.{Tally}
 use Rattle.vac_load.specs.Looping.{total}
 use Rattle.vac_draws.specs.Draws.{Drawn, times}
 use Rattle.vac_draws.specs.Tasks.{task_of}
-use Rattle.vac_load.specs.Keeping.{AreKept, HasKeptAdded, SeatShown}
+use Rattle.vac_load.specs.Keeping.{AreKept, SeatShown}
 use Rattle.vac_load.specs.Sums.{sum_of, plus, added_up}
 use Rattle.vac_load.specs.Lists.{Paired, none, both}
-use Rattle.vac_load.specs.Load.{SubEach, all_merged, Gathered, HasWorked, IsHired, Hired, AreKnown, Share, HasShare, HasKeptShare, RanAll}
+use Rattle.vac_load.specs.Load.{SubEach, all_merged, Gathered, HasWorked, IsHired, Hired, AreKnown, Share, HasKeptShare, RanAll}
 use Rattle.vac_load.proofs.Order.{IsLater, added_later, known_first, merged_behind}
 use Rattle.vac_load.proofs.Gatherings.{length_merged}
 use Rattle.vac_load.proofs.Notes.{kept_added}

@@ -63,12 +63,7 @@ fn renew(
 }
 
 /// Renews the clock and runs one more round, in which the seats go on.
-fn go_on<
-    R: Threads + Wait,
-    D: Draws + Send + Drop,
-    G: Gate + Send + Drop,
-    K: Keep + Send + Drop,
->(
+fn go_on<R: Threads + Wait, D: Draws + Send + Drop, G: Gate + Send + Drop, K: Keep + Send + Drop>(
     rt: &R,
     alloc: Global,
     settings: &Settings,

@@ -1,4 +1,4 @@
-use Rattle.std.proofs.Common.{rules, inl, inr, refl, ◌≡◌, ◌+◌, ◌*◌, length, min, ap}
+use Rattle.std.proofs.Common.{rules, inl, refl, ◌≡◌, ◌+◌, ◌*◌, length, min, ap}
 use Rattle.vac_manager.specs.Called.{CallerShown}
 use Rattle.vac_load.specs.Keeping.{shown}
 use Rattle.vac_load.specs.Load.{IsStopOfLoad}

@@ -1,4 +1,4 @@
-use Rattle.std.proofs.Common.{rules, refl, sym, subst, ◌≡◌, ℕ, ◌∙◌, ◌+◌, ap, ◌∷◌, [], ◌++◌, List, length, map}
+use Rattle.std.proofs.Common.{rules, sym, subst, ◌≡◌, ℕ, ◌∙◌, ap, ◌∷◌, [], ◌++◌, List, length, map}
 use Rattle.std.proofs.lemmas.List.{map-append}
 use Rattle.rand_pcg.specs.Lcg.{Lcg}
 use Rattle.vac_draws.specs.Streams.{streams_of}

@@ -1,4 +1,4 @@
-use Rattle.std.proofs.Common.{rules, ◌≡◌, ◌∙◌, ap, sym, ◌∷◌, [], ◌++◌, List, map}
+use Rattle.std.proofs.Common.{rules, ◌∙◌, ap, sym, ◌∷◌, [], ◌++◌, List, map}
 use Rattle.std.proofs.lemmas.List.{map-append}
 use Rattle.vac_load.proofs.Pairs.{one_on, all_met, same_length}
 use Rattle.vac_load.proofs.seats.seats_unkept.Goals as goal
