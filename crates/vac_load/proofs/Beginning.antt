@@ -4,7 +4,7 @@ use Rattle.vac_model.specs.declared.items.Kind.{Kind}
 use Rattle.vac_model.specs.declared.items.Kind.TheVariants.{Car, Flight, Room}
 use Rattle.vac_model.specs.declared.commands.Command.{Command}
 use Rattle.vac_model.specs.declared.commands.Command.TheVariants as command
-use Rattle.vac_draws.specs.Draws.{Drew, Reader, always, below, going_on, after, joined, for_each, Reads, Drawn}
+use Rattle.vac_draws.specs.Draws.{Drew, Reader, always, going_on, after, joined, for_each, Reads, Drawn}
 use Rattle.vac_draws.specs.Tasks.{stock, stocks, customers, opening}
 use Rattle.vac_draws.specs.declared.settings.Settings.{Settings}
 use Rattle.vac_load.specs.Opening.{Begun}

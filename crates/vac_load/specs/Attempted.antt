@@ -1,5 +1,5 @@
 -- What the calls of a load took, and what that has to do with how they ended.
-use Rattle.std.specs.Prelude.{◌≡◌, ◌≤◌, ℕ, ◌+◌, ◌*◌}
+use Rattle.std.specs.Prelude.{◌≤◌, ℕ, ◌+◌, ◌*◌}
 use Rattle.vac_model.specs.declared.limits.TheConstants.{MOST_TRIES}
 use Rattle.vac_manager.specs.declared.placed.Effort.{Effort}
 use Rattle.vac_load.specs.declared.efforts.Efforts.{Efforts}

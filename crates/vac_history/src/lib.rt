@@ -1,0 +1,8 @@
+//! The answered calls of a system's clients, kept and written as one history.
+#![tactic(auto)]
+
+mod keep;
+mod note;
+
+pub use keep::{Keep, Unkept};
+pub use note::Note;

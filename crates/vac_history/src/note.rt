@@ -1,0 +1,17 @@
+//! A call that was answered.
+
+use vac_manager::Place;
+use vac_model::{Reply, Task};
+
+/// A call that was answered.
+#[derive(Drop)]
+pub struct Note {
+    /// When it began: nanoseconds of a clock that all clients share.
+    pub begin: u64,
+    /// When it was answered, by that clock.
+    pub end: u64,
+    pub task: Task,
+    pub reply: Reply,
+    /// Where its record stands.
+    pub place: Place,
+}
