@@ -1,7 +1,6 @@
 //! Clients in threads, and one that audits meanwhile.
 ghost use Rattle.std.specs.Prelude.{◌≡◌, ◌*◌};
 
-use crate::caller::Caller;
 use crate::draws::{BLOCKS, draw_task};
 use crate::scripts::LAST;
 use rand_pcg::Pcg32;
@@ -10,7 +9,7 @@ use std::process::Abort;
 use std::thread;
 use std::thread::Threads;
 use vac_check::audit_words;
-use vac_manager::{Client, Manager};
+use vac_manager::{Client, Manager, Session};
 use vac_model::{Command, Reply, Report, Task};
 
 /// How many random tasks each client runs, and how many reports the other one asks for.
@@ -36,14 +35,14 @@ fn run_tasks(alloc: Global, manager: &Manager, client: Client, seed: u64) -> Cli
     requires { client.table ≡ manager.now.table }
     ensures { result.table ≡ manager.now.table }
 {
-    let mut caller = Caller { manager, client };
+    let mut session = Session::of(manager, client);
     let mut draws = Pcg32::new(seed, 5);
     for _ in 0..TASKS {
         if let Ok(task) = draw_task(alloc, &mut draws) {
-            let _ = caller.call(&task, TRIES);
+            let _ = session.call(&task, TRIES);
         }
     }
-    caller.client
+    session.into_client()
 }
 
 /// Asks for reports.
@@ -51,13 +50,13 @@ fn audit(manager: &Manager, client: Client) -> (Client, Reports)
     requires { client.table ≡ manager.now.table }
     ensures { result.0.table ≡ manager.now.table }
 {
-    let mut caller = Caller { manager, client };
+    let mut session = Session::of(manager, client);
     let mut reports = Reports {
         sound: 0,
         others: 0,
     };
     for _ in 0..TASKS {
-        if let Ok(Reply::Report(report)) = caller.call(&Task::One(Command::Audit), TRIES) {
+        if let Ok(Reply::Report(report)) = session.call(&Task::One(Command::Audit), TRIES) {
             if is_sound(&report) {
                 reports.sound = reports.sound.wrapping_add(1);
             } else {
@@ -65,7 +64,7 @@ fn audit(manager: &Manager, client: Client) -> (Client, Reports)
             }
         }
     }
-    (caller.client, reports)
+    (session.into_client(), reports)
 }
 
 /// Two clients run random tasks.

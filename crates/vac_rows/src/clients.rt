@@ -1,7 +1,7 @@
 //! Clients of a manager over a region that come and go.
 ghost use Rattle.std.specs.Prelude.{◌≡◌, ◌*◌, All};
 
-use crate::caller::Caller;
+use crate::calls::expect;
 use crate::scripts::{
     LAST, Line, add, add_command, audit, cancel, delete, delete_command, drop_customer,
     new_customer, number, pick, report, reserve, trip, update,
@@ -9,11 +9,21 @@ use crate::scripts::{
 use std::alloc::Global;
 use std::process::Abort;
 use stm_region::RegionFault;
-use vac_manager::{Client, Manager};
+use vac_manager::{Client, Manager, Session};
 use vac_model::Joined;
 use vac_model::Kind::{Car, Room};
 use vac_model::Reply::{Done, No};
 use vac_model::Why::Full;
+
+/// Enters a customer, and answers the client that did.
+fn enter(rt: &impl Abort, alloc: Global, manager: &Manager, client: Client, id: u32) -> Client
+    requires { client.table ≡ manager.now.table }
+    ensures { result.table ≡ manager.now.table }
+{
+    let mut session = Session::of(manager, client);
+    expect(rt, alloc, &mut session, 1, &[(new_customer(id), Ok(Done))]);
+    session.into_client()
+}
 
 /// Splits off as many clients as there can be, and each enters a customer of its own.
 fn crowd(rt: &impl Abort, alloc: Global, manager: &Manager, client: &mut Client) -> Vec<Client>
@@ -23,10 +33,9 @@ fn crowd(rt: &impl Abort, alloc: Global, manager: &Manager, client: &mut Client)
 {
     let mut others = Vec::new(alloc);
     for id in 2..=64 {
-        let client = manager.split(client).expect(rt, "there are grants");
-        let mut other = Caller { manager, client };
-        other.expect(rt, alloc, 1, &[(new_customer(id), Ok(Done))]);
-        others.push(other.client).expect(rt, "there is memory");
+        let other = manager.split(client).expect(rt, "there are grants");
+        let other = enter(rt, alloc, manager, other, id);
+        others.push(other).expect(rt, "there is memory");
     }
     others
 }
@@ -51,24 +60,18 @@ fn sixty_four_clients(rt: HostRuntime) {
         manager.split(&mut client).err(),
         Some(RegionFault::Clients)
     );
-    let mut caller = Caller {
-        manager: &manager,
-        client,
-    };
+    let mut session = Session::of(&manager, client);
     let script = [
         (new_customer(1), Ok(Done)),
         (new_customer(65), Ok(No(Full))),
     ];
-    caller.expect(&rt, alloc, 1, &script);
-    let mut client = caller.client;
+    expect(&rt, alloc, &mut session, 1, &script);
+    let mut client = session.into_client();
     gather_all(&manager, &mut client, others);
-    let mut caller = Caller {
-        manager: &manager,
-        client,
-    };
+    let mut session = Session::of(&manager, client);
     let counts = report([0, 0, 0, 64], 0, 0, 0);
-    caller.expect(&rt, alloc, 1, &[(audit(), Ok(counts))]);
-    let client = caller.client;
+    expect(&rt, alloc, &mut session, 1, &[(audit(), Ok(counts))]);
+    let client = session.into_client();
     assert!(rt; manager.close(client).is_ok());
 }
 
@@ -93,20 +96,17 @@ fn close_late(rt: &impl Abort, manager: Manager, client: Client, other: Client) 
 fn one_block_and_two_clients(rt: HostRuntime) {
     let alloc = rt.alloc();
     let (manager, client) = Manager::new(alloc, 1, LAST).expect(&rt, "it opens");
-    let mut a = Caller {
-        manager: &manager,
-        client,
-    };
+    let mut a = Session::of(&manager, client);
     let mut b = a.split().expect(&rt, "there are grants");
     let script = [
         (new_customer(3), Ok(Done)),
         (new_customer(4), Ok(No(Full))),
         (drop_customer(3), Ok(Done)),
     ];
-    b.expect(&rt, alloc, 1, &script);
-    a.expect(&rt, alloc, 1, &[(new_customer(4), Ok(Done))]);
-    let first = a.client;
-    let second = b.client;
+    expect(&rt, alloc, &mut b, 1, &script);
+    expect(&rt, alloc, &mut a, 1, &[(new_customer(4), Ok(Done))]);
+    let first = a.into_client();
+    let second = b.into_client();
     let (words, version) = close_late(&rt, manager, first, second);
     assert_eq!(rt; words.len(), 24);
     assert_eq!(rt; words.get(4), Some(&16));
@@ -131,10 +131,7 @@ fn closed_words(rt: &impl Abort, manager: Manager, client: Client) -> Vec<u64>
 fn each_client_has_a_list_of_its_own(rt: HostRuntime) {
     let alloc = rt.alloc();
     let (manager, client) = Manager::new(alloc, 16, LAST).expect(&rt, "it opens");
-    let mut a = Caller {
-        manager: &manager,
-        client,
-    };
+    let mut a = Session::of(&manager, client);
     let mut b = a.split().expect(&rt, "there are grants");
     let script = [
         (add(Car, 5, 1, Some(10)), Ok(Done)),
@@ -146,10 +143,10 @@ fn each_client_has_a_list_of_its_own(rt: HostRuntime) {
         (delete(Car, 5, 1), Ok(Done)),
         (drop_customer(6), Ok(Done)),
     ];
-    b.expect(&rt, alloc, 1, &script);
-    a.expect(&rt, alloc, 1, &[(new_customer(7), Ok(Done))]);
+    expect(&rt, alloc, &mut b, 1, &script);
+    expect(&rt, alloc, &mut a, 1, &[(new_customer(7), Ok(Done))]);
     a.gather(b);
-    let client = a.client;
+    let client = a.into_client();
     let words = closed_words(&rt, manager, client);
     let found = [1, 4, 8, 9, 88, 24, 32, 10].map(|place| words.get(place).copied());
     assert_eq!(rt; found, [0, 16, 80, 88, 24, 32, 0, 96].map(Some));
@@ -160,10 +157,7 @@ fn each_client_has_a_list_of_its_own(rt: HostRuntime) {
 fn tasks_keep_to_the_list_of_their_client(rt: HostRuntime) {
     let alloc = rt.alloc();
     let (manager, client) = Manager::new(alloc, 16, LAST).expect(&rt, "it opens");
-    let mut a = Caller {
-        manager: &manager,
-        client,
-    };
+    let mut a = Session::of(&manager, client);
     let mut b = a.split().expect(&rt, "there are grants");
     let changes = [
         add_command(Car, 5, 1, Some(10)),
@@ -176,9 +170,9 @@ fn tasks_keep_to_the_list_of_their_client(rt: HostRuntime) {
         (Line::Trip(6, &[(Car, 5)]), Ok(trip(Joined::Added, picks))),
         (Line::Leave(6), Ok(number(10))),
     ];
-    b.expect(&rt, alloc, 1, &script);
+    expect(&rt, alloc, &mut b, 1, &script);
     a.gather(b);
-    let client = a.client;
+    let client = a.into_client();
     let words = closed_words(&rt, manager, client);
     let found = [1, 9, 88, 32, 8, 10].map(|place| words.get(place).copied());
     assert_eq!(rt; found, [24, 88, 32, 0, 16, 96].map(Some));
@@ -188,10 +182,7 @@ fn tasks_keep_to_the_list_of_their_client(rt: HostRuntime) {
 #[test]
 fn grants_go_with_clients(rt: HostRuntime) {
     let (manager, client) = Manager::new(rt.alloc(), 8, LAST).expect(&rt, "it opens");
-    let mut a = Caller {
-        manager: &manager,
-        client,
-    };
+    let mut a = Session::of(&manager, client);
     let mut b = a.split().expect(&rt, "there are grants");
     let c = a.split().expect(&rt, "there are grants");
     b.gather(c);
@@ -199,9 +190,9 @@ fn grants_go_with_clients(rt: HostRuntime) {
         .split()
         .expect(&rt, "there is the grant of the client taken in");
     assert_eq!(rt; b.split().err(), Some(RegionFault::Clients));
-    let first = a.client;
-    let _second = b.client;
-    let _fourth = d.client;
+    let first = a.into_client();
+    let _second = b.into_client();
+    let _fourth = d.into_client();
     let Err((_, _, fault)) = manager.close(first) else {
         panic!(rt; "it closed while clients were out")
     };

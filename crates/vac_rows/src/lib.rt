@@ -7,8 +7,6 @@
 #[cfg(test)]
 mod audits;
 #[cfg(test)]
-mod caller;
-#[cfg(test)]
 mod calls;
 #[cfg(test)]
 mod clients;
@@ -18,7 +16,6 @@ mod draws;
 mod lines;
 #[cfg(test)]
 mod meetings;
-mod opened;
 #[cfg(test)]
 mod openings;
 #[cfg(test)]
@@ -45,5 +42,3 @@ mod spent;
 mod tasks;
 #[cfg(test)]
 mod threads;
-
-pub use opened::Opened;

@@ -2,12 +2,11 @@
 //! its gate is told, while the other one calls.
 ghost use Rattle.std.specs.Prelude.{◌≡◌};
 
-use crate::caller::Caller;
 use crate::outcome::Outcome;
 use crate::scripts::{LAST, add_command};
 use std::process::Abort;
 use stm_attempt::{Gate, Point};
-use vac_manager::{Client, Manager};
+use vac_manager::{Client, Manager, Session};
 use vac_model::Kind::{Car, Room};
 use vac_model::Reply::{Done, No, Number};
 use vac_model::Why::SoldOut;
@@ -41,7 +40,7 @@ struct Told {
 #[derive(Drop)]
 struct Meanwhile<'a> {
     when: Point,
-    other: Caller<'a>,
+    other: Session<'a>,
     told: Option<Told>,
 }
 
@@ -64,32 +63,32 @@ struct Met {
 }
 
 /// So many cars and two customers.
-fn fill(caller: &mut Caller<'_>, cars: u32) {
+fn fill(session: &mut Session<'_>, cars: u32) {
     let car = Task::One(add_command(Car, 7, cars, Some(50)));
-    let _ = caller.call(&car, 1);
-    let _ = caller.call(&enter(3), 1);
-    let _ = caller.call(&enter(4), 1);
+    let _ = session.call(&car, 1);
+    let _ = session.call(&enter(3), 1);
+    let _ = session.call(&enter(4), 1);
 }
 
 /// The client reserves a car by so many tries, and at this point the other client does.
 fn meet<'a>(
-    caller: &mut Caller<'_>,
-    other: Caller<'a>,
+    session: &mut Session<'_>,
+    other: Session<'a>,
     when: Point,
     tries: u32,
-) -> (Met, Caller<'a>) {
+) -> (Met, Session<'a>) {
     let mut gate = Meanwhile {
         when,
         other,
         told: None,
     };
-    let mine = Outcome::of(caller.call_gated(&reserve_car(3), tries, &mut gate));
+    let mine = Outcome::of(session.call_gated(&reserve_car(3), tries, &mut gate));
     let Meanwhile {
         when: _,
         other,
         told,
     } = gate;
-    let free = Outcome::of(caller.call(&FREE_CAR, 1));
+    let free = Outcome::of(session.call(&FREE_CAR, 1));
     (Met { mine, told, free }, other)
 }
 
@@ -97,10 +96,10 @@ fn meet<'a>(
 fn last_car(rt: &impl Abort, manager: &Manager, client: Client, tries: u32) -> Met
     requires { client.table ≡ manager.now.table }
 {
-    let mut caller = Caller { manager, client };
-    let other = caller.split().expect(rt, "there are grants");
-    fill(&mut caller, 1);
-    let (met, _) = meet(&mut caller, other, Point::ReadsDone, tries);
+    let mut session = Session::of(manager, client);
+    let other = session.split().expect(rt, "there are grants");
+    fill(&mut session, 1);
+    let (met, _) = meet(&mut session, other, Point::ReadsDone, tries);
     met
 }
 
@@ -150,14 +149,14 @@ fn the_last_car_takes_the_last_version(rt: HostRuntime) {
 fn two_cars(rt: &impl Abort, manager: &Manager, client: Client, when: Point) -> (Met, Outcome)
     requires { client.table ≡ manager.now.table }
 {
-    let mut caller = Caller { manager, client };
-    let other = caller.split().expect(rt, "there are grants");
-    fill(&mut caller, 2);
-    let (met, mut other) = meet(&mut caller, other, when, 1);
+    let mut session = Session::of(manager, client);
+    let other = session.split().expect(rt, "there are grants");
+    fill(&mut session, 2);
+    let (met, mut other) = meet(&mut session, other, when, 1);
     let again = if met.mine == Outcome::Replied(Done) {
         other.call(&reserve_car(4), 1)
     } else {
-        caller.call(&reserve_car(3), 1)
+        session.call(&reserve_car(3), 1)
     };
     (met, Outcome::of(again))
 }

@@ -2,7 +2,6 @@
 ghost use Rattle.std.specs.Prelude.{◌≡◌};
 
 use crate::draws::{BLOCKS, TASKS, draw_task};
-use crate::opened::Opened;
 use crate::scripts::LAST;
 use rand_core::Rng;
 use rand_pcg::Pcg32;
@@ -47,7 +46,7 @@ fn alone(rt: &impl Abort, alloc: Global, session: &mut Session<'_>) {
 #[test]
 fn random_tasks_of_one_client(rt: HostRuntime) {
     let alloc = rt.alloc();
-    let Opened { manager, client } = Opened::new(alloc, BLOCKS, LAST).expect(&rt, "it opens");
+    let (manager, client) = Manager::new(alloc, BLOCKS, LAST).expect(&rt, "it opens");
     alone(&rt, alloc, &mut Session::of(&manager, client));
 }
 

@@ -1,25 +1,24 @@
 //! A manager that goes on with its entries on a new clock.
 ghost use Rattle.std.specs.Prelude.{◌≡◌, ◌*◌};
 
-use crate::caller::Caller;
-use crate::opened::Opened;
+use crate::calls::expect;
 use crate::outcome::Outcome;
 use crate::scripts::{add, cancel, free, new_customer, number, report, reserve, reserve_command};
 use std::alloc::Global;
 use std::process::Abort;
 use stm_region::RegionFault;
 use vac_check::audit_words;
-use vac_manager::{Client, Manager, RenewFault};
+use vac_manager::{Client, Manager, RenewFault, Session};
 use vac_model::Kind::Car;
 use vac_model::Reply::Done;
 use vac_model::{Reply, Task};
 
 /// The clock is at its end, and no version is left for a reservation.
-fn expect_spent(rt: &impl Abort, caller: &mut Caller<'_>)
-    ensures { caller.new.client.table ≡ caller.old.client.table }
+fn expect_spent(rt: &impl Abort, session: &mut Session<'_>)
+    ensures { session.new.manager ≡ session.old.manager }
 {
     let task = Task::One(reserve_command(3, Car, 1, 1));
-    assert_eq!(rt; Outcome::of(caller.call(&task, 1)), Outcome::Spent(2));
+    assert_eq!(rt; Outcome::of(session.call(&task, 1)), Outcome::Spent(2));
 }
 
 /// Two calls take both versions of the clock.
@@ -27,14 +26,14 @@ fn spend(rt: &impl Abort, alloc: Global, manager: &Manager, client: Client) -> C
     requires { client.table ≡ manager.now.table }
     ensures { result.table ≡ manager.now.table }
 {
-    let mut caller = Caller { manager, client };
+    let mut session = Session::of(manager, client);
     let script = [
         (add(Car, 1, 1, Some(10)), Ok(Done)),
         (new_customer(3), Ok(Done)),
     ];
-    caller.expect(rt, alloc, 1, &script);
-    expect_spent(rt, &mut caller);
-    caller.client
+    expect(rt, alloc, &mut session, 1, &script);
+    expect_spent(rt, &mut session);
+    session.into_client()
 }
 
 /// Two more calls on the entries of before take both versions of the new clock.
@@ -42,15 +41,15 @@ fn go_on(rt: &impl Abort, alloc: Global, manager: &Manager, client: Client) -> C
     requires { client.table ≡ manager.now.table }
     ensures { result.table ≡ manager.now.table }
 {
-    let mut caller = Caller { manager, client };
+    let mut session = Session::of(manager, client);
     let script = [
         (reserve(3, Car, 1, 1), Ok(Done)),
         (free(Car, 1), Ok(number(0))),
         (cancel(3, Car, 1), Ok(Done)),
     ];
-    caller.expect(rt, alloc, 1, &script);
-    expect_spent(rt, &mut caller);
-    caller.client
+    expect(rt, alloc, &mut session, 1, &script);
+    expect_spent(rt, &mut session);
+    session.into_client()
 }
 
 /// A renewal that is refused. Answers why.
@@ -72,7 +71,7 @@ fn refused(
 #[test]
 fn a_spent_clock_is_renewed(rt: HostRuntime) {
     let alloc = rt.alloc();
-    let Opened { manager, client } = Opened::new(alloc, 8, 2).expect(&rt, "it opens");
+    let (manager, client) = Manager::new(alloc, 8, 2).expect(&rt, "it opens");
     let client = spend(&rt, alloc, &manager, client);
     let (manager, mut client, fault) = refused(&rt, manager, client, 0);
     assert_eq!(rt; fault, RegionFault::Last);

@@ -1,12 +1,11 @@
 //! Clients in threads.
 ghost use Rattle.std.specs.Prelude.{◌≡◌};
 
-use crate::caller::Caller;
 use crate::scripts::LAST;
 use std::process::Abort;
 use std::thread;
 use std::thread::Threads;
-use vac_manager::{Client, Manager};
+use vac_manager::{Client, Manager, Session};
 use vac_model::{Command, Kind, Reply, Task};
 
 /// How many calls each client makes.
@@ -42,10 +41,10 @@ fn task_of(call: u32, seed: u32) -> Task {
 }
 
 /// Makes one call. Answers how many units were added.
-fn add(caller: &mut Caller<'_>, call: u32, seed: u32) -> u64
-    ensures { caller.new.client.table ≡ caller.old.client.table }
+fn add(session: &mut Session<'_>, call: u32, seed: u32) -> u64
+    ensures { session.new.manager ≡ session.old.manager }
 {
-    match caller.call(&task_of(call, seed), TRIES) {
+    match session.call(&task_of(call, seed), TRIES) {
         Ok(Reply::Done) => u64::from(units_of(call)),
         _ => 0,
     }
@@ -56,12 +55,12 @@ fn add_units(manager: &Manager, client: Client, seed: u32) -> Added
     requires { client.table ≡ manager.now.table }
     ensures { result.0.table ≡ manager.now.table }
 {
-    let mut caller = Caller { manager, client };
+    let mut session = Session::of(manager, client);
     let mut added = 0u64;
     for call in 0..CALLS {
-        added = added.wrapping_add(add(&mut caller, call, seed));
+        added = added.wrapping_add(add(&mut session, call, seed));
     }
-    (caller.client, added)
+    (session.into_client(), added)
 }
 
 fn two_clients<R: Threads + Sync>(
@@ -130,8 +129,8 @@ fn gather(manager: &Manager, first: Added, second: Added) -> Added
 }
 
 /// How many units the cars have.
-fn units(caller: &mut Caller<'_>) -> u64
-    ensures { caller.new.client.table ≡ caller.old.client.table }
+fn units(session: &mut Session<'_>) -> u64
+    ensures { session.new.manager ≡ session.old.manager }
 {
     let mut units = 0u64;
     for id in 1..=CARS {
@@ -139,7 +138,7 @@ fn units(caller: &mut Caller<'_>) -> u64
             kind: Kind::Car,
             id,
         });
-        if let Ok(Reply::Number(Some(n))) = caller.call(&free, 1) {
+        if let Ok(Reply::Number(Some(n))) = session.call(&free, 1) {
             units = units.wrapping_add(n);
         }
     }
@@ -150,13 +149,10 @@ fn units(caller: &mut Caller<'_>) -> u64
 fn four_clients_add_units(rt: HostRuntime) {
     let (manager, client) = Manager::new(rt.alloc(), 16, LAST).expect(&rt, "it opens");
     let (client, added) = four_clients(&rt, &manager, client);
-    let mut caller = Caller {
-        manager: &manager,
-        client,
-    };
-    let units = units(&mut caller);
+    let mut session = Session::of(&manager, client);
+    let units = units(&mut session);
     assert!(rt; added > 0);
     assert_eq!(rt; units, added);
-    let client = caller.client;
+    let client = session.into_client();
     assert!(rt; manager.close(client).is_ok());
 }
