@@ -1,1 +1,4 @@
 pub mod Keeping
+pub mod Turns
+pub mod Order
+pub mod Picking
