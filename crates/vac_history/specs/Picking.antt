@@ -18,3 +18,9 @@ PicksAll lists (e ∷ all) left =
 -- nothing is left
 abbrev pub IsSpent : List (List Entry) → Type 0
 IsSpent lists = (place : ℕ) → list_at lists place ≡ []
+
+-- these were picked, one after the other, until nothing was left
+pub record Merges (lists : List (List Entry)) (all : List Entry) : Type 0 where
+  pub left : List (List Entry)
+  pub picked : PicksAll lists all left
+  pub spent : IsSpent left
