@@ -1,5 +1,5 @@
 -- Which of the first calls of the lists is to be written next.
-use Rattle.std.proofs.Common.{◌≡◌, ◌∙◌, ◌+◌, ◌<◌, ◌≤◌, ◌⊎◌, inl, inr, refl, sym, ap, subst, arith, ℕ, zero, suc, true, false, List, [], ◌∷◌, Option, Some, None, slice_get}
+use Rattle.std.proofs.Common.{◌≡◌, ◌∙◌, ◌+◌, inl, inr, refl, sym, ap, subst, arith, ℕ, true, false, List, [], ◌∷◌, Option, Some, None, slice_get}
 use Rattle.std.specs.Borrow.{Bor}
 use Rattle.std.proofs.lemmas.Bool.{cases_lt}
 use Rattle.vac_history.specs.declared.note.Note.{Note}
@@ -65,10 +65,14 @@ module _ (lists : List (List Entry)) (place client : ℕ) (notes : List Note) (a
       | inl less ↦ i k less
       | inr more ↦ let e : k ≡ place = omega (arith, low, more) in subst (λ (j : ℕ). list_at lists j ≡ []) (sym e) none_at
     ]
-    best_skipped (Some best) i = (omega (arith, i.0), i.1, λ k m low b. elim (cases_lt k place) [
-      | inl less ↦ i.2 k m less b
-      | inr more ↦
-          let e : k ≡ place = omega (arith, low, more) in
-          let b' : BeginsWith lists place m = subst (λ (j : ℕ). BeginsWith lists j m) e b in
-          absurd (let h : b'.0 ∷ b'.1 ≡ [] = sym b'.2 ∙ none_at in cc)
-    ])
+    best_skipped (Some best) i = (
+      omega (arith, i.0),
+      i.1,
+      λ k m low b. elim (cases_lt k place) [
+        | inl less ↦ i.2 k m less b
+        | inr more ↦
+            let e : k ≡ place = omega (arith, low, more) in
+            let b' : BeginsWith lists place m = subst (λ (j : ℕ). BeginsWith lists j m) e b in
+            absurd (let h : b'.0 ∷ b'.1 ≡ [] = sym b'.2 ∙ none_at in cc)
+      ],
+    )

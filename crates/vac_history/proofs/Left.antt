@@ -1,11 +1,11 @@
 -- What is left of the clients' calls, place by place.
-use Rattle.std.proofs.Common.{◌≡◌, ◌∙◌, ◌<◌, ◌≤◌, ◌≢◌, ◌⊎◌, inl, inr, refl, sym, ap, subst, arith, ℕ, false, List, [], ◌∷◌, get_or, set, take, drop, length, map, ◌-◌, length-drop}
+use Rattle.std.proofs.Common.{◌≡◌, ◌∙◌, ◌<◌, ◌≤◌, inl, inr, refl, sym, ap, subst, arith, ℕ, false, List, [], ◌∷◌, get_or, set, take, drop, length, ◌-◌, length-drop}
 use Rattle.std.proofs.lemmas.List.{get_or-map, length-map, map-set, get_or_past, take_all}
 use Rattle.std.proofs.lemmas.Bool.{cases_lt}
 use Rattle.vac_history.specs.declared.note.Note.{Note}
 use Rattle.vac_history.specs.declared.merging.Rest.{Rest}
-use Rattle.vac_history.specs.Order.{Entry, entries_of, list_at, precedes, Takes}
-use Rattle.vac_history.specs.Picking.{Picks, IsSpent}
+use Rattle.vac_history.specs.Order.{Entry, entries_of, list_at, precedes}
+use Rattle.vac_history.specs.Picking.{Picks}
 use Rattle.vac_history.specs.Rests.{left_of, BeginsWith, IsLeast}
 
 pub left_at : (rests : List Rest) (place : ℕ) (r : Rest) → place < length rests → r ≡ get_or rests place r → list_at (left_of rests) place ≡ entries_of r.client r.notes.now

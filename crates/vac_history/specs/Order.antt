@@ -1,5 +1,5 @@
 -- The order in which the calls of all clients are written.
-use Rattle.std.specs.Prelude.{◌≡◌, ℕ, suc, ◌+◌, ◌*◌, ◌||◌, ◌&&◌, Bool, true, false, cond, eqb, ltb}
+use Rattle.std.specs.Prelude.{◌≡◌, ℕ, suc, ◌+◌, ◌*◌, ◌||◌, ◌&&◌, Bool, false, cond, eqb, ltb}
 use Rattle.std.specs.Prelude.{List, [], ◌∷◌, map, slice_index_or, slice_set}
 use Rattle.std.specs.List.{AllPairs}
 use Rattle.vac_manager.specs.declared.placed.Place.{Place}

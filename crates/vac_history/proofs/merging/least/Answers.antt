@@ -1,4 +1,4 @@
-use Rattle.std.proofs.Common.{◌≡◌, ◌≤◌, length, arith, subst, ℕ}
+use Rattle.std.proofs.Common.{◌≡◌, length, arith, subst, ℕ}
 use Rattle.vac_history.specs.Rests.{left_of, IsBest}
 use Rattle.vac_history.proofs.Left.{left_at}
 use Rattle.vac_history.proofs.merging.least.Goals as goal
