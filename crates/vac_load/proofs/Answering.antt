@@ -5,11 +5,10 @@ use Rattle.stm_words.specs.Image.{In}
 use Rattle.stm_core.specs.Client.{Client, Record, before}
 use Rattle.stm_core.specs.History.{Sub, done, keep, skip}
 use Rattle.stm_core.proofs.Renewing.{sorted_append}
-use Rattle.stm_region.specs.Shown.{RegionShown}
 use Rattle.vac_model.specs.declared.tasks.Task.{Task}
 use Rattle.vac_model.specs.declared.replies.Reply.{Reply}
 use Rattle.vac_model.specs.Code.{code}
-use Rattle.vac_manager.specs.Called.{Adds, Records, Attempts, HasAllGrants, IsNotBusy}
+use Rattle.vac_manager.specs.Called.{Adds, HasAllGrants}
 use Rattle.vac_manager.specs.declared.fault.Fault.{Fault}
 use Rattle.vac_manager.specs.declared.fault.Fault.TheVariants as fault
 use Rattle.vac_draws.specs.declared.settings.Settings.{Settings}
@@ -82,13 +81,6 @@ answered_both n ts us v w u p q = record {
   grants = q.grants ∙ p.grants;
 }
 
-pub ran_one : (region : RegionShown) (t : Task) (tries : ℕ) (result : Result Reply Fault) (v v' : Client) → Records region t result v v' → Attempts tries v.attempt.number v'.attempt.number result → v.floor ≤ v'.floor → v'.grants ≡ v.grants → (HasAllGrants v → IfErr result (λ fault. IsNotBusy fault)) → RanOne {E = Fault} region.renewal (Ok t) tries result v v'
-ran_one region t tries (Ok reply) v v' a n floor grants alone = (answered_one region.renewal t reply v v' a floor grants, omega (arith, n), λ h. refl)
-ran_one region t tries (Err fault.Arguments) v v' a n floor grants alone = (answered_quiet region.renewal v v' a floor grants, omega (arith, n), λ h. refl)
-ran_one region t tries (Err fault.Memory) v v' a n floor grants alone = (answered_quiet region.renewal v v' a floor grants, omega (arith, n), λ h. refl)
-ran_one region t tries (Err (fault.Busy conflict)) v v' a n floor grants alone = (answered_quiet region.renewal v v' a floor grants, omega (arith, n), λ h. absurd (alone h))
-ran_one region t tries (Err (fault.Spent version)) v v' a n floor grants alone = (answered_quiet region.renewal v v' a floor grants, omega (arith, n), λ h. refl)
-
 sub_last : (us : List Task) (t : Task) → Sub (t ∷ []) (us ++ (t ∷ []))
 sub_last [] t = keep t done
 sub_last (u ∷ us) t = skip u (sub_last us t)
@@ -103,7 +95,7 @@ sub_skip ts us t done = done
 sub_skip ts us t (keep x p) = keep x (sub_skip _ _ t p)
 sub_skip ts us t (skip y p) = skip y (sub_skip _ _ t p)
 
-pub total_counted : (end : Result Reply Fault) (t : Tally) → total (counted end t) ≡ total t + 1
+pub total_counted : {R : Type 0} (end : Result R Fault) (t : Tally) → total (counted end t) ≡ total t + 1
 total_counted (Ok reply) t = omega arith
 total_counted (Err fault.Arguments) t = omega arith
 total_counted (Err fault.Memory) t = omega arith
@@ -113,14 +105,14 @@ total_counted (Err (fault.Spent version)) t = omega arith
 one_more : (n k : ℕ) → (n + 1) * k ≡ n * k + 1 * k
 one_more n k = grind arith
 
-attempts_counted : (tries : ℕ) (end : Result Reply Fault) (t : Tally) → least_attempts tries (counted end t) ≡ least_attempts tries t + attempts_of tries end
+attempts_counted : {R : Type 0} (tries : ℕ) (end : Result R Fault) (t : Tally) → least_attempts tries (counted end t) ≡ least_attempts tries t + attempts_of tries end
 attempts_counted tries (Ok reply) t = omega arith
 attempts_counted tries (Err fault.Arguments) t = omega arith
 attempts_counted tries (Err fault.Memory) t = omega arith
 attempts_counted tries (Err (fault.Busy conflict)) t = omega (arith, one_more t.busy tries)
 attempts_counted tries (Err (fault.Spent version)) t = omega arith
 
-busy_counted : (end : Result Reply Fault) (t : Tally) → (counted end t).busy ≡ t.busy + (counted end nothing).busy
+busy_counted : {R : Type 0} (end : Result R Fault) (t : Tally) → (counted end t).busy ≡ t.busy + (counted end nothing).busy
 busy_counted (Ok reply) t = omega arith
 busy_counted (Err fault.Arguments) t = omega arith
 busy_counted (Err fault.Memory) t = omega arith
@@ -128,13 +120,13 @@ busy_counted (Err (fault.Busy conflict)) t = omega arith
 busy_counted (Err (fault.Spent version)) t = omega arith
 
 -- what one task adds to a loop
-record Turn (n : ℕ) (t : Task) (end : Result Reply Fault) (tries : ℕ) (v v' : Client) : Type 0 where
+record Turn {R : Type 0} (n : ℕ) (t : Task) (end : Result R Fault) (tries : ℕ) (v v' : Client) : Type 0 where
   pub answered : Answered n (answered_by t end) v v'
   pub attempts : v.attempt.number + attempts_of tries end ≤ v'.attempt.number
   pub alone : HasAllGrants v → (counted end nothing).busy ≡ 0
 
 -- what one task adds to a loop, also one that was not built
-turn_of : {E : Type 0} (n : ℕ) (built : Result Task E) (t : Task) (end : Result Reply Fault) (tries : ℕ) (v v' : Client) → IfOk built (λ b. b ≡ t) → RanOne n built tries end v v' → Turn n t end tries v v'
+turn_of : {R E : Type 0} (n : ℕ) (built : Result Task E) (t : Task) (end : Result R Fault) (tries : ℕ) (v v' : Client) → IfOk built (λ b. b ≡ t) → RanOne n built tries end v v' → Turn n t end tries v v'
 turn_of n (Ok b) t end tries v v' same ran =
     record { answered = subst (λ (x : Task). Answered n (answered_by x end) v v') same ran.0; attempts = ran.1; alone = ran.2 }
 turn_of n (Err e) t end tries v v' same ran = rw ran.0 (rw ran.1 (record {
@@ -143,11 +135,11 @@ turn_of n (Err e) t end tries v v' same ran = rw ran.0 (rw ran.1 (record {
   alone = λ h. refl;
 }))
 
-among_more : (end : Result Reply Fault) (t : Task) (ts us : List Task) → Sub ts us → Sub (ts ++ answered_by t end) (us ++ (t ∷ []))
+among_more : {R : Type 0} (end : Result R Fault) (t : Task) (ts us : List Task) → Sub ts us → Sub (ts ++ answered_by t end) (us ++ (t ∷ []))
 among_more (Ok reply) t ts us p = sub_keep ts us t p
 among_more (Err e) t ts us p = rw (append-nil ts) (sub_skip ts us t p)
 
-number_more : (end : Result Reply Fault) (t : Task) (n : ℕ) (k : Tally) → n ≡ k.answered → n + length (answered_by t end) ≡ (counted end k).answered
+number_more : {R : Type 0} (end : Result R Fault) (t : Task) (n : ℕ) (k : Tally) → n ≡ k.answered → n + length (answered_by t end) ≡ (counted end k).answered
 number_more (Ok reply) t n k e = omega (arith, e)
 number_more (Err fault.Arguments) t n k e = omega (arith, e)
 number_more (Err fault.Memory) t n k e = omega (arith, e)
@@ -167,7 +159,7 @@ looped_none leads s renewal v a = record {
   alone = λ h. refl;
 }
 
-pub looped_more : {D E : Type 0} (leads : D → ℕ → D → Type 0) (s : Settings) (renewal n : ℕ) (v w u : Client) (a b c : D) (k : Tally) (built : Result Task E) (end : Result Reply Fault) →
+pub looped_more : {D R E : Type 0} (leads : D → ℕ → D → Type 0) (s : Settings) (renewal n : ℕ) (v w u : Client) (a b c : D) (k : Tally) (built : Result Task E) (end : Result R Fault) →
     Looped leads s renewal n v w a b k → DrawnTask leads (task_of s) b built c → RanOne renewal built s.tries end w u → Looped leads s renewal (n + 1) v u a c (counted end k)
 looped_more leads s renewal n v w u a b c k built end l d ran =
     let turn = turn_of renewal built d.task end s.tries w u d.built ran in

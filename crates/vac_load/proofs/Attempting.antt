@@ -1,7 +1,8 @@
 -- What calls took.
-use Rattle.std.proofs.Common.{◌≡◌, ◌≤◌, ◌+◌, ◌*◌, ℕ, List, [], ◌∷◌, Result, Ok, Err, refl, arith}
+use Rattle.std.proofs.Common.{◌≡◌, ◌≤◌, ◌+◌, ◌*◌, ℕ, List, [], ◌∷◌, Result, Ok, Err, refl, subst, arith}
 use Rattle.stm_attempt.specs.declared.conflict.Conflict.{Conflict}
 use Rattle.stm_attempt.specs.declared.conflict.Conflict.TheVariants.{Held, Newer, Moved, LostLock, LostTick}
+use Rattle.vac_model.specs.declared.replies.Reply.{Reply}
 use Rattle.vac_manager.specs.declared.fault.Fault.{Fault}
 use Rattle.vac_manager.specs.declared.fault.Fault.TheVariants as fault
 use Rattle.vac_manager.specs.declared.placed.Placed.{Placed}
@@ -40,6 +41,24 @@ pub took_effort : (tries before now : ℕ) (end : Result Placed Fault) (cs : Lis
     e ≡ closed_by end (effort_of cs) → before + e.attempts ≡ now → IsEffort (counted (replied end) nothing) (with_call e no_effort)
 took_effort tries before now end cs e some few a same b =
     rw same (closed tries before now end cs some few a (rw same at b))
+
+-- the same whatever is told of the answer
+pub took_answered : (tries before now : ℕ) (end : Result Placed Fault) (placed : Placed) (cs : List Conflict) (e : Effort) → end ≡ Ok placed → 1 ≤ tries → tries ≤ 1048576 → Attempts tries before now (replied end) →
+    e ≡ closed_by end (effort_of cs) → before + e.attempts ≡ now → IsEffort (counted {R = Unit {0}} (Ok tt) nothing) (with_call e no_effort)
+took_answered tries before now end placed cs e is some few a same b =
+    subst (λ (r : Result Placed Fault). IsEffort (counted (replied r) nothing) (with_call e no_effort)) is (took_effort tries before now end cs e some few a same b)
+
+counted_same : (R S : Type 0) (f : Fault) → counted {R = R} (Err f) nothing ≡ counted {R = S} (Err f) nothing
+counted_same R S fault.Arguments = refl
+counted_same R S fault.Memory = refl
+counted_same R S (fault.Busy conflict) = refl
+counted_same R S (fault.Spent version) = refl
+
+pub took_refused : (tries before now : ℕ) (end : Result Placed Fault) (f : Fault) (cs : List Conflict) (e : Effort) → end ≡ Err f → 1 ≤ tries → tries ≤ 1048576 → Attempts tries before now (replied end) →
+    e ≡ closed_by end (effort_of cs) → before + e.attempts ≡ now → IsEffort (counted {R = Unit {0}} (Err f) nothing) (with_call e no_effort)
+took_refused tries before now end f cs e is some few a same b =
+    subst (λ (t : Tally). IsEffort t (with_call e no_effort)) (counted_same Reply (Unit {0}) f)
+    (subst (λ (r : Result Placed Fault). IsEffort (counted (replied r) nothing) (with_call e no_effort)) is (took_effort tries before now end cs e some few a same b))
 
 -- one task more
 pub effort_counted : {R : Type 0} (end : Result R Fault) (t : Tally) (d : Efforts) (e : Effort) → IsEffort t d → IsEffort (counted end nothing) (with_call e no_effort) → IsEffort (counted end t) (with_call e d)

@@ -13,9 +13,12 @@ use Rattle.std.proofs.lemmas.Bool.Decides.{nat_tests}
 use Rattle.vac_draws.specs.Setting.{is_settings, is_work, is_system}
 use Rattle.vac_load.specs.Looping.{total}
 use Rattle.vac_load.specs.Sums.{sum_of, plus, added_up}
-use Rattle.vac_load.specs.Load.{Paired, none, both, SubEach, AreKnown, Share, HasShare, RanAll, RanMore}
+use Rattle.vac_load.specs.Lists.{Paired, none, both}
+use Rattle.vac_load.specs.Keeping.{SeatShown}
+use Rattle.vac_load.specs.Load.{SubEach, AreKnown, Share, drawn_share, HasShare, HasKeptShare, RanAll, RanMore}
 use Rattle.vac_draws.proofs.Drawing.{drawn_both}
 use Rattle.vac_load.proofs.Answering.{are_of_both}
+use Rattle.vac_load.proofs.Notes.{are_kept_both}
 use Rattle.vac_load.proofs.Pairs.{paired_through, paired_length}
 
 sub_after : {A : Type 0} (us bs xs : List A) → Sub xs bs → Sub xs (us ++ bs)
@@ -42,22 +45,29 @@ share_both leads s n m state x y h k = record {
   all = omega (arith, h.all, k.all);
 }
 
+-- the same with what was kept
+kept_share_both : {D : Type 0} (leads : D → ℕ → D → Type 0) (s : Settings) (n m : ℕ) (state : SeatShown D) (x y : Share (SeatShown D)) → HasKeptShare leads s n state x → HasKeptShare leads s m x.left y → HasKeptShare leads s (n + m) state (joined_share x y)
+kept_share_both leads s n m state x y h k = record {
+  has = share_both leads s n m state.draws (drawn_share x) (drawn_share y) h.has k.has;
+  kept = are_kept_both x.records y.records state.kept x.left.kept y.left.kept h.kept k.kept;
+}
+
 abbrev zipped : {D : Type 0} → List (Share D) → List (Share D) → List (Share D)
 zipped [] ys = []
 zipped (x ∷ xs) [] = []
 zipped (x ∷ xs) (y ∷ ys) = joined_share x y ∷ zipped xs ys
 
-module _ {D P : Type 0} (leads : D → ℕ → D → Type 0) (s : Settings) (draws_of : P → D) (n m : ℕ) where
-  zip_each : (ps : List P) (xs ys : List (Share D)) → Paired (λ p x. HasShare leads s n (draws_of p) x) ps xs → Paired (λ x y. HasShare leads s m x.left y) xs ys →
-      Paired (λ p x. HasShare leads s (n + m) (draws_of p) x) ps (zipped xs ys)
+module _ {D P : Type 0} (leads : D → ℕ → D → Type 0) (s : Settings) (shown_of : P → SeatShown D) (n m : ℕ) where
+  zip_each : (ps : List P) (xs ys : List (Share (SeatShown D))) → Paired (λ p x. HasKeptShare leads s n (shown_of p) x) ps xs → Paired (λ x y. HasKeptShare leads s m x.left y) xs ys →
+      Paired (λ p x. HasKeptShare leads s (n + m) (shown_of p) x) ps (zipped xs ys)
   zip_each [] [] [] none none = none
-  zip_each (p ∷ ps) (x ∷ xs) (y ∷ ys) (both h hs) (both k ks) = both (share_both leads s n m (draws_of p) x y h k) (zip_each ps xs ys hs ks)
+  zip_each (p ∷ ps) (x ∷ xs) (y ∷ ys) (both h hs) (both k ks) = both (kept_share_both leads s n m (shown_of p) x y h k) (zip_each ps xs ys hs ks)
   zip_each [] (x ∷ xs) ys hs ks = elim hs [ ]
   zip_each (p ∷ ps) [] ys hs ks = elim hs [ ]
   zip_each [] [] (y ∷ ys) hs ks = elim ks [ ]
   zip_each (p ∷ ps) (x ∷ xs) [] hs ks = elim ks [ ]
 
-  zip_left : (xs ys : List (Share D)) (ps : List P) → Paired (λ x y. HasShare leads s m x.left y) xs ys → Paired (λ y p. draws_of p ≡ y.left) ys ps → Paired (λ x p. draws_of p ≡ x.left) (zipped xs ys) ps
+  zip_left : (xs ys : List (Share (SeatShown D))) (ps : List P) → Paired (λ x y. HasKeptShare leads s m x.left y) xs ys → Paired (λ y p. shown_of p ≡ y.left) ys ps → Paired (λ x p. shown_of p ≡ x.left) (zipped xs ys) ps
   zip_left [] [] [] none none = none
   zip_left (x ∷ xs) (y ∷ ys) (p ∷ ps) (both h hs) (both k ks) = both k (zip_left xs ys ps hs ks)
   zip_left [] (y ∷ ys) ps hs ks = elim hs [ ]
@@ -65,36 +75,36 @@ module _ {D P : Type 0} (leads : D → ℕ → D → Type 0) (s : Settings) (dra
   zip_left [] [] (p ∷ ps) hs ks = elim ks [ ]
   zip_left (x ∷ xs) (y ∷ ys) [] hs ks = elim ks [ ]
 
-  zip_among : (xs ys : List (Share D)) (k l : List Record) → Paired (λ x y. HasShare leads s m x.left y) xs ys → SubEach (λ (x : Share D). x.records) xs k → SubEach (λ (x : Share D). x.records) ys l →
-      SubEach (λ (x : Share D). x.records) (zipped xs ys) (k ++ l)
+  zip_among : (xs ys : List (Share (SeatShown D))) (k l : List Record) → Paired (λ x y. HasKeptShare leads s m x.left y) xs ys → SubEach (λ (x : Share (SeatShown D)). x.records) xs k → SubEach (λ (x : Share (SeatShown D)). x.records) ys l →
+      SubEach (λ (x : Share (SeatShown D)). x.records) (zipped xs ys) (k ++ l)
   zip_among [] [] k l none a b = tt
   zip_among (x ∷ xs) (y ∷ ys) k l (both h hs) a b = (sub_both y.records l a.0 b.0, zip_among xs ys k l hs a.1 b.1)
   zip_among [] (y ∷ ys) k l hs a b = elim hs [ ]
   zip_among (x ∷ xs) [] k l hs a b = elim hs [ ]
 
   -- sums over shares of what adds up
-  zip_sum : (f : Share D → ℕ) → ((x y : Share D) → f (joined_share x y) ≡ f x + f y) → (xs ys : List (Share D)) → Paired (λ x y. HasShare leads s m x.left y) xs ys → sum_of f (zipped xs ys) ≡ sum_of f xs + sum_of f ys
+  zip_sum : (f : Share (SeatShown D) → ℕ) → ((x y : Share (SeatShown D)) → f (joined_share x y) ≡ f x + f y) → (xs ys : List (Share (SeatShown D))) → Paired (λ x y. HasKeptShare leads s m x.left y) xs ys → sum_of f (zipped xs ys) ≡ sum_of f xs + sum_of f ys
   zip_sum f adds [] [] none = refl
   zip_sum f adds (x ∷ xs) (y ∷ ys) (both h hs) = omega (arith, adds x y, zip_sum f adds xs ys hs)
   zip_sum f adds [] (y ∷ ys) hs = elim hs [ ]
   zip_sum f adds (x ∷ xs) [] hs = elim hs [ ]
 
-  zip_tallies : (xs ys : List (Share D)) → Paired (λ x y. HasShare leads s m x.left y) xs ys → added_up (λ (x : Share D). x.tally) (zipped xs ys) ≡ plus (added_up (λ (x : Share D). x.tally) xs) (added_up (λ (x : Share D). x.tally) ys)
+  zip_tallies : (xs ys : List (Share (SeatShown D))) → Paired (λ x y. HasKeptShare leads s m x.left y) xs ys → added_up (λ (x : Share (SeatShown D)). x.tally) (zipped xs ys) ≡ plus (added_up (λ (x : Share (SeatShown D)). x.tally) xs) (added_up (λ (x : Share (SeatShown D)). x.tally) ys)
   zip_tallies xs ys h = λ i. record {
-    answered = zip_sum (λ (x : Share D). x.tally.answered) (λ x y. refl) xs ys h i;
-    busy = zip_sum (λ (x : Share D). x.tally.busy) (λ x y. refl) xs ys h i;
-    memory = zip_sum (λ (x : Share D). x.tally.memory) (λ x y. refl) xs ys h i;
-    spent = zip_sum (λ (x : Share D). x.tally.spent) (λ x y. refl) xs ys h i;
+    answered = zip_sum (λ (x : Share (SeatShown D)). x.tally.answered) (λ x y. refl) xs ys h i;
+    busy = zip_sum (λ (x : Share (SeatShown D)). x.tally.busy) (λ x y. refl) xs ys h i;
+    memory = zip_sum (λ (x : Share (SeatShown D)). x.tally.memory) (λ x y. refl) xs ys h i;
+    spent = zip_sum (λ (x : Share (SeatShown D)). x.tally.spent) (λ x y. refl) xs ys h i;
   }
 
-  pub ran_both : (before middle after : List Record) (pairs between left : List P) (t u : Tally) → RanAll leads s draws_of n before pairs middle between t → RanAll leads s draws_of m middle between after left u →
-      RanAll leads s draws_of (n + m) before pairs after left (plus t u)
+  pub ran_both : (before middle after : List Record) (pairs between left : List P) (t u : Tally) → RanAll leads s shown_of n before pairs middle between t → RanAll leads s shown_of m middle between after left u →
+      RanAll leads s shown_of (n + m) before pairs after left (plus t u)
   ran_both before middle after pairs between left t u h k =
-      let goes : Paired (λ x y. HasShare leads s m x.left y) h.shares k.shares =
-      paired_through (λ (x : Share D) p. draws_of p ≡ x.left) (λ p (y : Share D). HasShare leads s m (draws_of p) y) (λ (x : Share D) y. HasShare leads s m x.left y)
-      (λ x p y e f. subst (λ (d : D). HasShare leads s m d y) e f) h.shares between k.shares h.left_are k.each in
+      let goes : Paired (λ x y. HasKeptShare leads s m x.left y) h.shares k.shares =
+      paired_through (λ (x : Share (SeatShown D)) p. shown_of p ≡ x.left) (λ p (y : Share (SeatShown D)). HasKeptShare leads s m (shown_of p) y) (λ (x : Share (SeatShown D)) y. HasKeptShare leads s m x.left y)
+      (λ x p y e f. subst (λ (d : SeatShown D). HasKeptShare leads s m d y) e f) h.shares between k.shares h.left_are k.each in
       let long = length-append h.rest k.rest in
-      let sums = zip_sum (λ (x : Share D). length x.records) (λ x y. length-append x.records y.records) h.shares k.shares goes in
+      let sums = zip_sum (λ (x : Share (SeatShown D)). length x.records) (λ x y. length-append x.records y.records) h.shares k.shares goes in
       record {
         shares = zipped h.shares k.shares;
         each = zip_each pairs h.shares k.shares h.each goes;
@@ -103,7 +113,7 @@ module _ {D P : Type 0} (leads : D → ℕ → D → Type 0) (s : Settings) (dra
         behind = k.behind ∙ (ap (λ (l : List Record). l ++ k.rest) h.behind ∙ append_assoc before h.rest k.rest);
         among = zip_among h.shares k.shares h.rest k.rest goes h.among k.among;
         number = omega (arith, long, sums, h.number, k.number);
-        tallies = ap (λ (x : Tally). plus x u) h.tallies ∙ (ap (λ (x : Tally). plus (added_up (λ (y : Share D). y.tally) h.shares) x) k.tallies ∙ sym (zip_tallies h.shares k.shares goes));
+        tallies = ap (λ (x : Tally). plus x u) h.tallies ∙ (ap (λ (x : Tally). plus (added_up (λ (y : Share (SeatShown D)). y.tally) h.shares) x) k.tallies ∙ sym (zip_tallies h.shares k.shares goes));
         alone = λ one. (
             let same : length between ≡ length pairs = paired_length _ h.shares between h.left_are ∙ paired_length _ pairs h.shares h.each in
             let a = h.alone one in
@@ -112,28 +122,28 @@ module _ {D P : Type 0} (leads : D → ℕ → D → Type 0) (s : Settings) (dra
       }
 
 -- one round more
-pub ran_more : {D P : Type 0} (leads : D → ℕ → D → Type 0) (s : Settings) (draws_of : P → D) (rounds : ℕ) (before middle after : List Record) (pairs between left : List P) (t t' : Tally) →
-    RanAll leads s draws_of (rounds * s.tasks) before pairs middle between t → RanMore leads s draws_of middle between t after left t' → RanAll leads s draws_of ((rounds + 1) * s.tasks) before pairs after left t'
-ran_more leads s draws_of rounds before middle after pairs between left t t' h k =
+pub ran_more : {D P : Type 0} (leads : D → ℕ → D → Type 0) (s : Settings) (shown_of : P → SeatShown D) (rounds : ℕ) (before middle after : List Record) (pairs between left : List P) (t t' : Tally) →
+    RanAll leads s shown_of (rounds * s.tasks) before pairs middle between t → RanMore leads s shown_of middle between t after left t' → RanAll leads s shown_of ((rounds + 1) * s.tasks) before pairs after left t'
+ran_more leads s shown_of rounds before middle after pairs between left t t' h k =
     let n : rounds * s.tasks + s.tasks ≡ (rounds + 1) * s.tasks = grind arith in
-    subst (λ (j : ℕ). RanAll leads s draws_of j before pairs after left t') n
-    (subst (λ (u : Tally). RanAll leads s draws_of (rounds * s.tasks + s.tasks) before pairs after left u) (sym k.tally_is)
-    (ran_both leads s draws_of (rounds * s.tasks) s.tasks before middle after pairs between left t k.more h k.ran))
+    subst (λ (j : ℕ). RanAll leads s shown_of j before pairs after left t') n
+    (subst (λ (u : Tally). RanAll leads s shown_of (rounds * s.tasks + s.tasks) before pairs after left u) (sym k.tally_is)
+    (ran_both leads s shown_of (rounds * s.tasks) s.tasks before middle after pairs between left t k.more h k.ran))
 
 -- tallies of so many tasks each
-total_of : {D P : Type 0} (leads : D → ℕ → D → Type 0) (s : Settings) (draws_of : P → D) (n : ℕ) (pairs : List P) (shares : List (Share D)) →
-    Paired (λ p x. HasShare leads s n (draws_of p) x) pairs shares → total (added_up (λ (x : Share D). x.tally) shares) ≡ length pairs * n
-total_of leads s draws_of n [] [] none = omega arith
-total_of leads s draws_of n (p ∷ pairs) (x ∷ shares) (both h hs) = counts (total_of leads s draws_of n pairs shares hs) h.all
+total_of : {D P : Type 0} (leads : D → ℕ → D → Type 0) (s : Settings) (shown_of : P → SeatShown D) (n : ℕ) (pairs : List P) (shares : List (Share (SeatShown D))) →
+    Paired (λ p x. HasKeptShare leads s n (shown_of p) x) pairs shares → total (added_up (λ (x : Share (SeatShown D)). x.tally) shares) ≡ length pairs * n
+total_of leads s shown_of n [] [] none = omega arith
+total_of leads s shown_of n (p ∷ pairs) (x ∷ shares) (both h hs) = counts (total_of leads s shown_of n pairs shares hs) h.has.all
   where
     counts : total (added_up (λ (y : Share _). y.tally) shares) ≡ length pairs * n → total x.tally ≡ n → total (added_up (λ (y : Share _). y.tally) (x ∷ shares)) ≡ suc (length pairs) * n
     counts e f = omega (arith, e, f)
-total_of leads s draws_of n [] (x ∷ shares) hs = elim hs [ ]
-total_of leads s draws_of n (p ∷ pairs) [] hs = elim hs [ ]
+total_of leads s shown_of n [] (x ∷ shares) hs = elim hs [ ]
+total_of leads s shown_of n (p ∷ pairs) [] hs = elim hs [ ]
 
-pub ran_total : {D P : Type 0} (leads : D → ℕ → D → Type 0) (s : Settings) (draws_of : P → D) (n : ℕ) (before after : List Record) (pairs left : List P) (t : Tally) →
-    RanAll leads s draws_of n before pairs after left t → total t ≡ length pairs * n
-ran_total leads s draws_of n before after pairs left t h = ap (λ (u : Tally). total u) h.tallies ∙ total_of leads s draws_of n pairs h.shares h.each
+pub ran_total : {D P : Type 0} (leads : D → ℕ → D → Type 0) (s : Settings) (shown_of : P → SeatShown D) (n : ℕ) (before after : List Record) (pairs left : List P) (t : Tally) →
+    RanAll leads s shown_of n before pairs after left t → total t ≡ length pairs * n
+ran_total leads s shown_of n before after pairs left t h = ap (λ (u : Tally). total u) h.tallies ∙ total_of leads s shown_of n pairs h.shares h.each
 
 -- the product of numbers below bounds
 below_both : (a b c d : ℕ) → a ≤ b → c ≤ d → a * c ≤ b * d

@@ -4,6 +4,7 @@ mod Answering
 mod Beginning
 mod Opened
 mod Pairs
+mod Notes
 mod Words
 mod Gatherings
 mod Shares

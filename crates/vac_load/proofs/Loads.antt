@@ -1,5 +1,6 @@
 -- A load as a whole: the opening, the clients, and the report.
-use Rattle.std.proofs.Common.{◌≡◌, ◌∙◌, ◌⊎◌, ℕ, ◌*◌, ◌-◌, ◌/◌, List, [], ◌∷◌, ◌++◌, length, length-append, append_assoc, map, refl, sym, inl, inr, ap, subst, arith}
+use Rattle.std.proofs.lemmas.Bool.Decides.{nat_tests}
+use Rattle.std.proofs.Common.{Bool, true, ◌≡◌, ◌∙◌, ◌⊎◌, ℕ, ◌+◌, ◌*◌, ◌-◌, ◌/◌, List, [], ◌∷◌, ◌++◌, length, length-append, append_assoc, map, refl, sym, inl, inr, ap, subst, arith}
 use Rattle.stm_words.specs.Image.{In}
 use Rattle.stm_core.specs.Client.{Client, Record}
 use Rattle.stm_region.specs.Shown.{RegionShown}
@@ -17,16 +18,18 @@ use Rattle.vac_manager.specs.declared.fault.Fault.TheVariants as fault
 use Rattle.vac_load.specs.Opening.{Ran, Stopped}
 use Rattle.vac_draws.specs.Draws.{Reader}
 use Rattle.vac_model.specs.declared.commands.Command.{Command}
-use Rattle.std.specs.Prelude.{Result, Ok, Err, IfOk, IfErr}
 use Rattle.rand_pcg.specs.Lcg.{Lcg}
-use Rattle.vac_load.specs.declared.efforts.Efforts.{Efforts}
-use Rattle.vac_load.specs.declared.load.LoadReport.{LoadReport}
+use Rattle.vac_load.specs.declared.seats.Keepers.{Keepers}
 use Rattle.vac_load.specs.declared.load.LoadFault.{LoadFault}
 use Rattle.vac_load.specs.declared.load.LoadFault.TheVariants as load
 use Rattle.vac_draws.specs.Streams.{stream_of, streams_of, gives}
-use Rattle.vac_load.specs.Streams.{LoadedBySeed}
-use Rattle.vac_load.specs.Load.{Paired, none, both, AreKnown, HasShare, RanAll, Loaded, WasOpened, WasStopped, IsTooShort, IsStopOfLoad, IsLoadFault}
+use Rattle.vac_load.specs.Streams.{KeptBySeed}
+use Rattle.vac_load.specs.Lists.{Paired, none, both}
+use Rattle.vac_load.specs.Keeping.{Kept, AreKept, HasKeptAdded, AllKept, none_kept, one_kept, SeatShown}
+use Rattle.vac_load.specs.Sums.{sum_of, added_up}
+use Rattle.vac_load.specs.Load.{SubEach, AreKnown, Share, drawn_share, HasShare, HasKeptShare, RanAll, is_load, LoadedKept, WasOpened, WasStopped, IsTooShort, IsStopOfLoad, IsLoadFault}
 use Rattle.vac_load.proofs.Order.{added_known}
+use Rattle.vac_load.proofs.Notes.{kept_added}
 use Rattle.vac_load.proofs.Joining.{ran_total}
 use Rattle.vac_load.proofs.Beginning.{long_opening}
 
@@ -37,40 +40,80 @@ opened_known leads renewal reader v v' state last empty ran = λ r i.
     let all : v'.records ≡ a.added = a.records ∙ ap (λ (l : List Record). l ++ a.added) empty in
     added_known renewal v.floor v'.floor r (a.each r (subst (λ (l : List Record). In r l) all i)))
 
-pub loaded : {D P : Type 0} (leads : D → ℕ → D → Type 0) (s : Settings) (draws_of : P → D) (state last : D) (pairs left : List P) (stripes : ℕ) (region region' : RegionShown) (opener : CallerShown) (ready after : Client) (t : Tally) (words : List ℕ) (version : ℕ) (r : Report) →
-    length pairs ≡ s.clients →
+-- shares without what was kept
+module _ {D : Type 0} where
+  among_drawn : (xs : List (Share (SeatShown D))) (l : List Record) → SubEach (λ (x : Share (SeatShown D)). x.records) xs l → SubEach (λ (x : Share D). x.records) (map drawn_share xs) l
+  among_drawn [] l h = tt
+  among_drawn (x ∷ xs) l h = (h.0, among_drawn xs l h.1)
+
+  sum_drawn : (f : Share D → ℕ) (xs : List (Share (SeatShown D))) → sum_of f (map drawn_share xs) ≡ sum_of (λ x. f (drawn_share x)) xs
+  sum_drawn f [] = refl
+  sum_drawn f (x ∷ xs) = ap (λ n. f (drawn_share x) + n) (sum_drawn f xs)
+
+  tallies_drawn : (xs : List (Share (SeatShown D))) → added_up (λ (x : Share D). x.tally) (map drawn_share xs) ≡ added_up (λ (x : Share (SeatShown D)). x.tally) xs
+  tallies_drawn xs = λ i. record {
+    answered = sum_drawn (λ x. x.tally.answered) xs i;
+    busy = sum_drawn (λ x. x.tally.busy) xs i;
+    memory = sum_drawn (λ x. x.tally.memory) xs i;
+    spent = sum_drawn (λ x. x.tally.spent) xs i;
+  }
+
+module _ {D P : Type 0} (leads : D → ℕ → D → Type 0) (s : Settings) (shown_of : P → SeatShown D) (n : ℕ) where
+  each_drawn : (ps : List P) (xs : List (Share (SeatShown D))) → Paired (λ p x. HasKeptShare leads s n (shown_of p) x) ps xs → Paired (λ p x. HasShare leads s n (shown_of p).draws x) ps (map drawn_share xs)
+  each_drawn [] [] none = none
+  each_drawn (p ∷ ps) (x ∷ xs) (both h hs) = both h.has (each_drawn ps xs hs)
+  each_drawn [] (x ∷ xs) hs = elim hs [ ]
+  each_drawn (p ∷ ps) [] hs = elim hs [ ]
+
+  kept_drawn : (ps : List P) (xs : List (Share (SeatShown D))) (qs : List P) → Paired (λ p x. HasKeptShare leads s n (shown_of p) x) ps xs → Paired (λ x p. shown_of p ≡ x.left) xs qs →
+      AllKept (λ (x : Share D). x.records) (map drawn_share xs) (map (λ p. (shown_of p).kept) ps) (map (λ p. (shown_of p).kept) qs)
+  kept_drawn [] [] [] none none = none_kept
+  kept_drawn (p ∷ ps) (x ∷ xs) (q ∷ qs) (both h hs) (both k ks) =
+      one_kept (subst (λ (y : SeatShown D). AreKept x.records (shown_of p).kept y.kept) (sym k) h.kept) (kept_drawn ps xs qs hs ks)
+  kept_drawn [] (x ∷ xs) qs hs ks = elim hs [ ]
+  kept_drawn (p ∷ ps) [] qs hs ks = elim hs [ ]
+  kept_drawn [] [] (q ∷ qs) hs ks = elim ks [ ]
+  kept_drawn (p ∷ ps) (x ∷ xs) [] hs ks = elim ks [ ]
+
+pub loaded_kept : {D P : Type 0} (leads : D → ℕ → D → Type 0) (s : Settings) (shown_of : P → SeatShown D) (state last : D) (seats left : List P) (stripes : ℕ) (region region' : RegionShown) (opener : CallerShown) (ready after : Client) (before kept : Kept) (t : Tally) (words : List ℕ) (version : ℕ) (r : Report) →
+    length seats ≡ s.clients →
     Opens s.blocks s.last stripes region opener →
     Ran leads region.renewal (opening s) opener.value ready state last →
-    RanAll leads s draws_of (s.rounds * s.tasks) ready.records pairs after.records left t →
+    HasKeptAdded opener.value ready before kept →
+    RanAll leads s shown_of (s.rounds * s.tasks) ready.records seats after.records left t →
     region'.size ≡ region.size →
     Closes region' after words version →
     ((x : State) → Shows words x → report x ≡ r) →
-    Loaded leads s draws_of state pairs t r
-loaded leads s draws_of state last pairs left stripes region region' opener ready after t words version r n opens ran all size closes shows =
+    LoadedKept leads s (λ p. (shown_of p).draws) state seats t r before kept (map (λ p. (shown_of p).kept) seats) (map (λ p. (shown_of p).kept) left)
+loaded_kept leads s shown_of state last seats left stripes region region' opener ready after before kept t words version r n opens ran keeps all size closes shows =
     let added = ran.answered.added in
     let records : ready.records ≡ added = ran.answered.records ∙ ap (λ (c : CallerShown). c.value.records ++ added) opens.client_is in
     let capacity : capacity_of region' ≡ s.blocks = ap (λ (k : ℕ). (k - 16) / 8) size ∙ opens.capacity in
     let count : s.clients * (s.rounds * s.tasks) ≡ s.rounds * s.clients * s.tasks = grind arith in
     record {
-      history = after.records;
-      last = closes.last;
-      legal = subst (λ (k : ℕ). IsLegal (empty_state k) after.records closes.last) capacity closes.legal;
-      shown = shows closes.last closes.shown;
-      opened = added;
-      rest = all.rest;
-      opening_first = all.behind ∙ ap (λ (l : List Record). l ++ all.rest) records;
-      rounds_in_order = closes.ends.sorted;
-      commands = ran.commands;
-      drawn = last;
-      opening_is = ran.drawn;
-      opened_are = ran.answered.are_of;
-      shares = all.shares;
-      each = all.each;
-      among = all.among;
-      number = all.number;
-      tallies = all.tallies;
-      all = ran_total leads s draws_of (s.rounds * s.tasks) ready.records after.records pairs left t all ∙ (ap (λ (k : ℕ). k * (s.rounds * s.tasks)) n ∙ count);
-      alone = λ one. all.alone (n ∙ one);
+      loaded = record {
+        history = after.records;
+        last = closes.last;
+        legal = subst (λ (k : ℕ). IsLegal (empty_state k) after.records closes.last) capacity closes.legal;
+        shown = shows closes.last closes.shown;
+        opened = ran.answered.added;
+        rest = all.rest;
+        opening_first = all.behind ∙ ap (λ (l : List Record). l ++ all.rest) records;
+        rounds_in_order = closes.ends.sorted;
+        commands = ran.commands;
+        drawn = last;
+        opening_is = ran.drawn;
+        opened_are = ran.answered.are_of;
+        shares = map drawn_share all.shares;
+        each = each_drawn leads s shown_of (s.rounds * s.tasks) seats all.shares all.each;
+        among = among_drawn all.shares all.rest all.among;
+        number = all.number ∙ sym (sum_drawn (λ x. length x.records) all.shares);
+        tallies = all.tallies ∙ sym (tallies_drawn all.shares);
+        all = ran_total leads s shown_of (s.rounds * s.tasks) ready.records after.records seats left t all ∙ (ap (λ (k : ℕ). k * (s.rounds * s.tasks)) n ∙ count);
+        alone = λ one. all.alone (n ∙ one);
+      };
+      opening_kept = kept_added opener.value ready ran.answered.added before kept ran.answered.records keeps;
+      clients_kept = kept_drawn leads s shown_of (s.rounds * s.tasks) seats all.shares left all.each all.left_are;
     }
 
 -- what holds between images and elements holds between the list of images and the elements
@@ -80,39 +123,71 @@ paired_map f related (a ∷ ks) (x ∷ xs) (both h hs) = both h (paired_map f re
 paired_map f related [] (x ∷ xs) hs = elim hs [ ]
 paired_map f related (a ∷ ks) [] hs = elim hs [ ]
 
--- a load is one of the states that its clients' draws begin with
-pub loaded_by : {D P : Type 0} (leads : D → ℕ → D → Type 0) (s : Settings) (draws_of : P → D) (state : D) (pairs : List P) (states : List D) (t : Tally) (r : Report) →
-    map draws_of pairs ≡ states → Loaded leads s draws_of state pairs t r → Loaded leads s (λ d. d) state states t r
-loaded_by leads s draws_of state pairs states t r e h = record {
-  history = h.history;
-  last = h.last;
-  legal = h.legal;
-  shown = h.shown;
-  opened = h.opened;
-  rest = h.rest;
-  opening_first = h.opening_first;
-  rounds_in_order = h.rounds_in_order;
-  commands = h.commands;
-  drawn = h.drawn;
-  opening_is = h.opening_is;
-  opened_are = h.opened_are;
-  shares = h.shares;
-  each = subst (λ ds. Paired (λ d x. HasShare leads s (s.rounds * s.tasks) d x) ds h.shares) e (paired_map draws_of (λ d x. HasShare leads s (s.rounds * s.tasks) d x) pairs h.shares h.each);
-  among = h.among;
-  number = h.number;
-  tallies = h.tallies;
-  all = h.all;
-  alone = h.alone;
+paired_unmap : {A B X : Type 0} (f : A → B) (related : B → X → Type 0) (ks : List A) (xs : List X) → Paired related (map f ks) xs → Paired (λ a x. related (f a) x) ks xs
+paired_unmap f related [] [] none = none
+paired_unmap f related (a ∷ ks) (x ∷ xs) (both h hs) = both h (paired_unmap f related ks xs hs)
+paired_unmap f related [] (x ∷ xs) hs = elim hs [ ]
+paired_unmap f related (a ∷ ks) [] hs = elim hs [ ]
+
+-- a load is one of whatever its clients' draws begin with
+pub kept_on : {D P Q : Type 0} (leads : D → ℕ → D → Type 0) (s : Settings) (draws_of : P → D) (drawing : Q → D) (state : D) (ps : List P) (qs : List Q) (t : Tally) (r : Report) (before after : Kept) (befores afters : List Kept) →
+    map draws_of ps ≡ map drawing qs → LoadedKept leads s draws_of state ps t r before after befores afters → LoadedKept leads s drawing state qs t r before after befores afters
+kept_on leads s draws_of drawing state ps qs t r before after befores afters e h = record {
+  loaded = record {
+    history = h.loaded.history;
+    last = h.loaded.last;
+    legal = h.loaded.legal;
+    shown = h.loaded.shown;
+    opened = h.loaded.opened;
+    rest = h.loaded.rest;
+    opening_first = h.loaded.opening_first;
+    rounds_in_order = h.loaded.rounds_in_order;
+    commands = h.loaded.commands;
+    drawn = h.loaded.drawn;
+    opening_is = h.loaded.opening_is;
+    opened_are = h.loaded.opened_are;
+    shares = h.loaded.shares;
+    each = paired_unmap drawing (λ d x. HasShare leads s (s.rounds * s.tasks) d x) qs h.loaded.shares
+        (subst (λ ds. Paired (λ d x. HasShare leads s (s.rounds * s.tasks) d x) ds h.loaded.shares) e (paired_map draws_of (λ d x. HasShare leads s (s.rounds * s.tasks) d x) ps h.loaded.shares h.loaded.each));
+    among = h.loaded.among;
+    number = h.loaded.number;
+    tallies = h.loaded.tallies;
+    all = h.loaded.all;
+    alone = h.loaded.alone;
+  };
+  opening_kept = h.opening_kept;
+  clients_kept = h.clients_kept;
 }
 
--- the same of a load by the streams of a seed
-pub by_seed : {P : Type 0} (draws_of : P → Lcg) (s : Settings) (result : Result (LoadReport × Efforts) LoadFault) (state : Lcg) (pairs : List P) →
-    state ≡ stream_of s.seed 0 → map draws_of pairs ≡ streams_of s.seed s.clients →
-    IfOk result (λ r. Loaded gives s draws_of state pairs r.0.tally r.0.report) → IfOk result (λ r. LoadedBySeed s r.0.tally r.0.report)
-by_seed draws_of s (Ok r) state pairs begins are h =
-    subst (λ (d : Lcg). Loaded gives s (λ x. x) d (streams_of s.seed s.clients) r.0.tally r.0.report) begins
-    (loaded_by gives s draws_of state pairs (streams_of s.seed s.clients) r.0.tally r.0.report are h)
-by_seed draws_of s (Err fault) state pairs begins are h = tt
+map_same : {A : Type 0} (xs : List A) → map (λ x. x) xs ≡ xs
+map_same [] = refl
+map_same (x ∷ xs) = ap (λ (l : List _). x ∷ l) (map_same xs)
+
+map_both : {A B C : Type 0} (f : A → B) (g : B → C) (xs : List A) → map (λ x. g (f x)) xs ≡ map g (map f xs)
+map_both f g [] = refl
+map_both f g (x ∷ xs) = ap (λ (l : List _). g (f x) ∷ l) (map_both f g xs)
+
+-- a load that can be run has as many clients as its settings say
+pub load_count : (s : Settings) (n m : ℕ) (b : Bool) → m ≡ n → b ≡ is_load s m → b ≡ true → n ≡ s.clients
+load_count s n m b same is holds =
+    let can : is_load s m ≡ true = sym is ∙ holds in
+    let here : m ≡ s.clients = grind (arith, nat_tests, can) in
+    sym same ∙ here
+
+-- the same by the streams of a seed, with the keepers of the seats
+pub kept_by_seed : {P K : Type 0} (draws_of : P → Lcg) (keep_of : P → K) (notes : K → Kept) (s : Settings) (t : Tally) (r : Report) (state : Lcg) (n : ℕ) (seats left : List P) (before after : Keepers K) →
+    state ≡ stream_of s.seed 0 → map draws_of seats ≡ streams_of s.seed n → n ≡ s.clients → map keep_of seats ≡ before.clients.items → after.clients.items ≡ map keep_of left →
+    LoadedKept gives s draws_of state seats t r (notes before.opening) (notes after.opening) (map (λ p. notes (keep_of p)) seats) (map (λ p. notes (keep_of p)) left) →
+    KeptBySeed notes s t r before after
+kept_by_seed draws_of keep_of notes s t r state n seats left before after begins are number come go h =
+    let streams = streams_of s.seed s.clients in
+    let first : map (λ p. notes (keep_of p)) seats ≡ map notes before.clients.items = map_both keep_of notes seats ∙ ap (λ (l : List _). map notes l) come in
+    let last : map (λ p. notes (keep_of p)) left ≡ map notes after.clients.items = map_both keep_of notes left ∙ sym (ap (λ (l : List _). map notes l) go) in
+    kept_on gives s draws_of (λ d. d) (stream_of s.seed 0) seats streams t r _ _ _ _
+    (are ∙ (ap (λ (k : ℕ). streams_of s.seed k) number ∙ sym (map_same streams)))
+    (subst (λ (d : Lcg). LoadedKept gives s draws_of d seats t r (notes before.opening) (notes after.opening) (map notes before.clients.items) (map notes after.clients.items)) begins
+    (subst (λ (l : List Kept). LoadedKept gives s draws_of state seats t r (notes before.opening) (notes after.opening) l (map notes after.clients.items)) first
+    (subst (λ (l : List Kept). LoadedKept gives s draws_of state seats t r (notes before.opening) (notes after.opening) (map (λ p. notes (keep_of p)) seats) l) last h)))
 
 -- the manager of a load was made, and its opening was answered whole
 pub was_opened : {D : Type 0} (leads : D → ℕ → D → Type 0) (s : Settings) (state left : D) (stripes : ℕ) (region : RegionShown) (opener : CallerShown) (ready : Client) →
@@ -146,13 +221,9 @@ was_stopped leads s e state left stripes region opener after opens stopped =
       short = too_short leads s region.renewal e opener.value after state left (ap (λ (c : CallerShown). c.value.floor) opens.client_is) at;
     }
 
--- a load that stopped is one that was not run to its end
-pub stops : {D R : Type 0} (leads : D → ℕ → D → Type 0) (s : Settings) (state left : D) (result : Result R LoadFault) → IfErr result (λ e. IsStopOfLoad leads s state left e) → IfErr result (λ e. IsLoadFault leads s state e)
-stops leads s state left (Ok r) h = tt
-stops leads s state left (Err e) h = inr (left, h)
-
-pub stops_by_seed : {R : Type 0} (s : Settings) (state left : Lcg) (result : Result R LoadFault) → state ≡ stream_of s.seed 0 → IfErr result (λ e. IsStopOfLoad gives s state left e) → IfErr result (λ e. IsLoadFault gives s (stream_of s.seed 0) e)
-stops_by_seed s state left result begins h = stops gives s (stream_of s.seed 0) left result (subst (λ (d : Lcg). IfErr result (λ e. IsStopOfLoad gives s d left e)) begins h)
+-- a load by a seed that stopped is one that was not run to its end
+pub stop_by_seed : (s : Settings) (state left : Lcg) (e : LoadFault) → state ≡ stream_of s.seed 0 → IsStopOfLoad gives s state left e → IsLoadFault gives s (stream_of s.seed 0) e
+stop_by_seed s state left e begins h = inr (left, subst (λ (d : Lcg). IsStopOfLoad gives s d left e) begins h)
 
 -- where memory or a thread is wanting once the opening was answered
 pub stop_behind : {D : Type 0} (leads : D → ℕ → D → Type 0) (s : Settings) (state left : D) (e : LoadFault) → WasOpened leads s state left → (e ≡ load.Memory) ⊎ (e ≡ load.Spawn) → IsStopOfLoad leads s state left e

@@ -12,7 +12,7 @@ use Rattle.vac_draws.specs.declared.settings.Settings.{Settings}
 use Rattle.vac_load.specs.Looping.{Answered}
 use Rattle.vac_manager.specs.declared.fault.Fault.{Fault}
 use Rattle.vac_load.specs.Opening.{as_tasks, Ran, Begun, Stopped, IsOpeningFault}
-use Rattle.vac_draws.proofs.Drawing.{plus_one, drawn_then_always, drawn_joined}
+use Rattle.vac_draws.proofs.Drawing.{plus_one, drawn_always, drawn_then_always, drawn_joined}
 use Rattle.vac_load.proofs.Answering.{answered_both, answered_quiet}
 use Rattle.vac_load.proofs.Beginning.{Readable, readable_stocks, begun_whole, begun_first, begun_second, begun_on, begun_items, begun_customers, More, more_customers, long_customers}
 
@@ -25,6 +25,10 @@ ran_joined leads renewal first second v w u a b c p q = record {
       (answered_both renewal (as_tasks p.commands) (as_tasks q.commands) v w u p.answered q.answered);
   near = omega (arith, length-append p.commands q.commands, p.near, q.near);
 }
+
+-- nothing yet
+pub ran_none : {D : Type 0} (leads : D → ℕ → D → Type 0) (renewal : ℕ) (f : ℕ → Reader (List Command)) (v : Client) (a : D) → Ran leads renewal (for_each 0 f) v v a a
+ran_none leads renewal f v a = record { commands = []; drawn = drawn_always leads a []; answered = answered_quiet renewal v v refl (omega arith) refl; near = omega arith }
 
 pub ran_more : {D : Type 0} (leads : D → ℕ → D → Type 0) (renewal : ℕ) (n : ℕ) (f : ℕ → Reader (List Command)) (v w u : Client) (a b c : D) →
     Ran leads renewal (for_each n f) v w a b → Ran leads renewal (f (n + 1)) w u b c → Ran leads renewal (for_each (n + 1) f) v u a c

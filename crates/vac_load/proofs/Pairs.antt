@@ -1,10 +1,13 @@
 -- Lists whose elements are related place by place.
-use Rattle.std.proofs.Common.{◌≡◌, ◌∙◌, ◌++◌, ◌<◌, ℕ, zero, suc, slice_index_or, List, [], ◌∷◌, length, append-nil, append_assoc, All, refl, sym, ap, subst, arith}
+use Rattle.std.proofs.Common.{◌≡◌, ◌∙◌, ◌++◌, ◌<◌, ℕ, zero, suc, slice_index_or, List, [], ◌∷◌, length, length-append, map, ◌+◌, append-nil, append_assoc, All, refl, sym, ap, subst, arith}
 use Rattle.vac_manager.specs.Called.{CallerShown}
 use Rattle.vac_draws.specs.declared.settings.Settings.{Settings}
 use Rattle.vac_load.specs.declared.tally.Tally.{Tally}
 use Rattle.vac_load.specs.declared.workers.WorkOf.{WorkOf}
-use Rattle.vac_load.specs.Load.{Paired, none, both, IsPromise, HasWorked}
+use Rattle.vac_load.specs.declared.seats.Seat.{Seat}
+use Rattle.vac_load.specs.Lists.{Paired, none, both}
+use Rattle.vac_load.specs.Keeping.{Kept, shown}
+use Rattle.vac_load.specs.Load.{IsPromise, HasWorked}
 
 -- one place more
 pub paired_more : {A B : Type 0} (related : A → B → Type 0) (xs : List A) (ys : List B) (x : A) (y : B) → Paired related xs ys → related x y → Paired related (xs ++ (x ∷ [])) (ys ++ (y ∷ []))
@@ -75,15 +78,31 @@ pub all_but_first : {A : Type 0} (P : A → Type 0) (xs ys : List A) (x : A) →
 all_but_first P xs ys x e h = let g : All P (x ∷ ys) = subst (λ (l : List _). All P l) e h in λ k d less. g (suc k) d (omega (arith, less))
 
 -- promises of work that were kept
-pub worked_through : {D W H R : Type 0} (leads : D → ℕ → D → Type 0) (s : Settings) (renewal : ℕ) (client : W → CallerShown) (draws : W → D) (promise : H → WorkOf D) (after : R → CallerShown) (last : R → D) (tally : R → Tally) (ws : List W) (hs : List H) (rs : List R) →
-    Paired (λ w h. IsPromise s renewal (client w) (draws w) (promise h)) ws hs →
-    Paired (λ h r. HasWorked leads (promise h).settings (promise h).manager.value.renewal (promise h).client.value (after r) (promise h).draws.value (last r) (tally r)) hs rs →
-    Paired (λ w r. HasWorked leads s renewal (client w) (after r) (draws w) (last r) (tally r)) ws rs
-worked_through leads s renewal client draws promise after last tally ws hs rs = paired_through _ _ _ (λ w h r p k.
-    subst (λ (x : Settings). HasWorked leads x renewal (client w) (after r) (draws w) (last r) (tally r)) p.settings_is
-    (subst (λ (n : ℕ). HasWorked leads (promise h).settings n (client w) (after r) (draws w) (last r) (tally r)) p.renewal_is
-    (subst (λ (x : CallerShown). HasWorked leads (promise h).settings (promise h).manager.value.renewal x (after r) (draws w) (last r) (tally r)) p.client_is
-    (subst (λ (x : _). HasWorked leads (promise h).settings (promise h).manager.value.renewal (promise h).client.value (after r) x (last r) (tally r)) p.draws_is k)))) ws hs rs
+pub worked_through : {D G K W H R : Type 0} (leads : D → ℕ → D → Type 0) (notes : K → Kept) (s : Settings) (renewal : ℕ) (client : W → CallerShown) (seat : W → Seat D G K) (promise : H → WorkOf D G K) (after : R → CallerShown) (last : R → Seat D G K) (tally : R → Tally) (ws : List W) (hs : List H) (rs : List R) →
+    Paired (λ w h. IsPromise s renewal (client w) (seat w) (promise h)) ws hs →
+    Paired (λ h r. HasWorked leads (promise h).settings (promise h).manager.value.renewal (promise h).client.value (after r) (shown notes (promise h).seat.value) (shown notes (last r)) (tally r)) hs rs →
+    Paired (λ w r. HasWorked leads s renewal (client w) (after r) (shown notes (seat w)) (shown notes (last r)) (tally r)) ws rs
+worked_through leads notes s renewal client seat promise after last tally ws hs rs = paired_through _ _ _ (λ w h r p k.
+    subst (λ (x : Settings). HasWorked leads x renewal (client w) (after r) (shown notes (seat w)) (shown notes (last r)) (tally r)) p.settings_is
+    (subst (λ (n : ℕ). HasWorked leads (promise h).settings n (client w) (after r) (shown notes (seat w)) (shown notes (last r)) (tally r)) p.renewal_is
+    (subst (λ (x : CallerShown). HasWorked leads (promise h).settings (promise h).manager.value.renewal x (after r) (shown notes (seat w)) (shown notes (last r)) (tally r)) p.client_is
+    (subst (λ (x : Seat _ _ _). HasWorked leads (promise h).settings (promise h).manager.value.renewal (promise h).client.value (after r) (shown notes x) (shown notes (last r)) (tally r)) p.seat_is k)))) ws hs rs
 
 pub all_first : {A : Type 0} (P : A → Type 0) (xs ys : List A) (x : A) → xs ≡ x ∷ ys → All P xs → P x
 all_first P xs ys x e h = let g : All P (x ∷ ys) = subst (λ (l : List _). All P l) e h in g 0 x (omega arith)
+
+map_length : {A B : Type 0} (f : A → B) (xs : List A) → length (map f xs) ≡ length xs
+map_length f [] = refl
+map_length f (x ∷ xs) = ap suc (map_length f xs)
+
+-- lists with the same images are equally long
+pub same_length : {A B C : Type 0} (f : A → C) (g : B → C) (xs : List A) (ys : List B) → map f xs ≡ map g ys → length xs ≡ length ys
+same_length f g xs ys e = sym (map_length f xs) ∙ (ap (λ (l : List _). length l) e ∙ map_length g ys)
+
+-- a list is as long as that of its images
+pub image_length : {A C : Type 0} (f : A → C) (xs : List A) (ys : List C) → map f xs ≡ ys → length xs ≡ length ys
+image_length f xs ys e = sym (map_length f xs) ∙ ap (λ (l : List _). length l) e
+
+-- one element more
+pub one_longer : {A : Type 0} (ys xs : List A) (x : A) → ys ≡ xs ++ (x ∷ []) → length ys ≡ length xs + 1
+one_longer ys xs x e = ap (λ (l : List _). length l) e ∙ length-append xs (x ∷ [])

@@ -14,10 +14,13 @@ use Rattle.vac_load.specs.declared.tally.Tally.{Tally}
 use Rattle.vac_load.specs.Looping.{total}
 use Rattle.vac_draws.specs.Draws.{Drawn, times}
 use Rattle.vac_draws.specs.Tasks.{task_of}
+use Rattle.vac_load.specs.Keeping.{AreKept, HasKeptAdded, SeatShown}
 use Rattle.vac_load.specs.Sums.{sum_of, plus, added_up}
-use Rattle.vac_load.specs.Load.{Paired, none, both, SubEach, all_merged, Gathered, HasWorked, IsHired, Hired, AreKnown, Share, HasShare, RanAll}
+use Rattle.vac_load.specs.Lists.{Paired, none, both}
+use Rattle.vac_load.specs.Load.{SubEach, all_merged, Gathered, HasWorked, IsHired, Hired, AreKnown, Share, HasShare, HasKeptShare, RanAll}
 use Rattle.vac_load.proofs.Order.{IsLater, added_later, known_first, merged_behind}
 use Rattle.vac_load.proofs.Gatherings.{length_merged}
+use Rattle.vac_load.proofs.Notes.{kept_added}
 use Rattle.vac_load.proofs.Pairs.{paired_through, paired_length, all_cons}
 
 -- a client that was split off
@@ -60,16 +63,16 @@ paired_both related P Q f [] (y ∷ ys) h p = elim p [ ]
 paired_both related P Q f (x ∷ xs) [] h p = elim p [ ]
 
 -- the records that a client added, and that they stand behind those that it had
-pub record Did {D : Type 0} (leads : D → ℕ → D → Type 0) (s : Settings) (renewal floor : ℕ) (before : List Record) (state left : D) (after : CallerShown) (t : Tally) : Type 0 where
+pub record Did {D : Type 0} (leads : D → ℕ → D → Type 0) (s : Settings) (renewal floor : ℕ) (before : List Record) (state left : SeatShown D) (after : CallerShown) (t : Tally) : Type 0 where
   pub added : List Record
   pub records_are : after.value.records ≡ before ++ added
   pub sorted : Sorted added
   pub later : (r : Record) → In r added → IsLater renewal floor r
-  pub has : HasShare leads s s.tasks state (record { records = added; tally = t; left = left })
+  pub has : HasKeptShare leads s s.tasks state (record { records = added; tally = t; left = left })
 
-pub did : {D : Type 0} (leads : D → ℕ → D → Type 0) (s : Settings) (renewal floor : ℕ) (table : TableId) (before : List Record) (state draws left : D) (c c' : CallerShown) (t : Tally) →
-    IsHired table before floor state c draws → HasWorked leads s renewal c c' draws left t → Did leads s renewal floor before state left c' t
-did leads s renewal floor table before state draws left c c' t h w =
+pub did : {D : Type 0} (leads : D → ℕ → D → Type 0) (s : Settings) (renewal floor : ℕ) (table : TableId) (before : List Record) (state seat left : SeatShown D) (c c' : CallerShown) (t : Tally) →
+    IsHired table before floor state c seat → HasWorked leads s renewal c c' seat left t → Did leads s renewal floor before state left c' t
+did leads s renewal floor table before state seat left c c' t h w =
     let l = w.looped in
     let a = l.answered in
     record {
@@ -78,13 +81,16 @@ did leads s renewal floor table before state draws left c c' t h w =
       sorted = a.sorted;
       later = λ r i. added_later renewal floor c.value.floor c'.value.floor r h.knows (a.each r i);
       has = record {
-        tasks = l.tasks;
-        drawn = subst (λ (x : _). Drawn leads (times s.tasks (task_of s)) x l.tasks left) h.draws_are l.drawn;
-        answered = l.done;
-        among = l.among;
-        number = l.number;
-        are_of = a.are_of;
-        all = l.all;
+        has = record {
+          tasks = l.tasks;
+          drawn = subst (λ (x : SeatShown _). Drawn leads (times s.tasks (task_of s)) x.draws l.tasks left.draws) h.draws_are l.drawn;
+          answered = l.done;
+          among = l.among;
+          number = l.number;
+          are_of = a.are_of;
+          all = l.all;
+        };
+        kept = subst (λ (x : SeatShown _). AreKept a.added x.kept left.kept) h.draws_are (kept_added c.value c'.value a.added seat.kept left.kept a.records w.kept);
       };
     }
 
@@ -122,23 +128,23 @@ no_sum : {X : Type 0} (f : X → ℕ) (xs : List X) → length xs ≡ 0 → sum_
 no_sum f [] e = refl
 no_sum f (x ∷ xs) e = absurd (omega (arith, e))
 
-module _ {D P W R : Type 0} (leads : D → ℕ → D → Type 0) (s : Settings) (renewal : ℕ) (draws_of : P → D) (client_of : W → CallerShown) (drawing : W → D) (after_of : R → CallerShown) (last_of : R → D) (tally_of : R → Tally) where
+module _ {D P W R : Type 0} (leads : D → ℕ → D → Type 0) (s : Settings) (renewal : ℕ) (shown_of : P → SeatShown D) (client_of : W → CallerShown) (seat_of : W → SeatShown D) (after_of : R → CallerShown) (last_of : R → SeatShown D) (tally_of : R → Tally) where
   -- the shares of the clients that began without records
   record Shared (floor : ℕ) (ps : List P) (rs : List R) : Type 0 where
-    shares : List (Share D)
-    each : Paired (λ p x. HasShare leads s s.tasks (draws_of p) x) ps shares
+    shares : List (Share (SeatShown D))
+    each : Paired (λ p x. HasKeptShare leads s s.tasks (shown_of p) x) ps shares
     left_are : Paired (λ x r. last_of r ≡ x.left) shares rs
     later : AreLater renewal floor shares
-    merges : (l : List Record) → all_merged (λ r. (after_of r).value.records) l rs ≡ all_merged (λ (x : Share D). x.records) l shares
-    tallies : added_up tally_of rs ≡ added_up (λ (x : Share D). x.tally) shares
+    merges : (l : List Record) → all_merged (λ r. (after_of r).value.records) l rs ≡ all_merged (λ (x : Share (SeatShown D)). x.records) l shares
+    tallies : added_up tally_of rs ≡ added_up (λ (x : Share (SeatShown D)). x.tally) shares
 
   shared : (table : TableId) (floor : ℕ) (ps : List P) (ws : List W) (rs : List R) →
-      Paired (λ p w. IsHired table [] floor (draws_of p) (client_of w) (drawing w)) ps ws →
-      Paired (λ w r. HasWorked leads s renewal (client_of w) (after_of r) (drawing w) (last_of r) (tally_of r)) ws rs →
+      Paired (λ p w. IsHired table [] floor (shown_of p) (client_of w) (seat_of w)) ps ws →
+      Paired (λ w r. HasWorked leads s renewal (client_of w) (after_of r) (seat_of w) (last_of r) (tally_of r)) ws rs →
       Shared floor ps rs
   shared table floor [] [] [] none none = record { shares = []; each = none; left_are = none; later = tt; merges = λ l. refl; tallies = refl }
   shared table floor (p ∷ ps) (w ∷ ws) (r ∷ rs) (both h hs) (both k ks) =
-      let d = did leads s renewal floor table [] (draws_of p) (drawing w) (last_of r) (client_of w) (after_of r) (tally_of r) h k in
+      let d = did leads s renewal floor table [] (shown_of p) (seat_of w) (last_of r) (client_of w) (after_of r) (tally_of r) h k in
       let more = shared table floor ps ws rs hs ks in
       record {
         shares = record { records = d.added; tally = tally_of r; left = last_of r } ∷ more.shares;
@@ -155,24 +161,24 @@ module _ {D P W R : Type 0} (leads : D → ℕ → D → Type 0) (s : Settings) 
 
   pub ran_all : (opener : CallerShown) (pairs left : List P) (first : W) (others : List W) (first' : R) (others' : List R) (after : Client) (t : Tally) →
       AreKnown renewal opener.value.floor opener.value.records →
-      Hired draws_of opener pairs client_of drawing first others →
-      HasWorked leads s renewal (client_of first) (after_of first') (drawing first) (last_of first') (tally_of first') →
-      Paired (λ w r. HasWorked leads s renewal (client_of w) (after_of r) (drawing w) (last_of r) (tally_of r)) others others' →
+      Hired shown_of opener pairs client_of seat_of first others →
+      HasWorked leads s renewal (client_of first) (after_of first') (seat_of first) (last_of first') (tally_of first') →
+      Paired (λ w r. HasWorked leads s renewal (client_of w) (after_of r) (seat_of w) (last_of r) (tally_of r)) others others' →
       Gathered (λ r. (after_of r).value.records) tally_of first' others' after.records t →
-      Paired (λ r p. draws_of p ≡ last_of r) (first' ∷ others') left →
+      Paired (λ r p. shown_of p ≡ last_of r) (first' ∷ others') left →
       (client_of first).value.grants + length others ≡ MOST_GRANTS →
-      RanAll leads s draws_of s.tasks opener.value.records pairs after.records left t
+      RanAll leads s shown_of s.tasks opener.value.records pairs after.records left t
   ran_all opener pairs left first others first' others' after t known h k ks g lefts grants =
       let floor = opener.value.floor in
-      let d = did leads s renewal floor opener.table opener.value.records (draws_of h.pair) (drawing first) (last_of first') (client_of first) (after_of first') (tally_of first') h.opening k in
+      let d = did leads s renewal floor opener.table opener.value.records (shown_of h.pair) (seat_of first) (last_of first') (client_of first) (after_of first') (tally_of first') h.opening k in
       let more = shared opener.table floor h.rest others others' h.others_are ks in
       let inside = within renewal floor d.added more.shares d.sorted more.later in
-      let mine : Share D = record { records = d.added; tally = tally_of first'; left = last_of first' } in
+      let mine : Share (SeatShown D) = record { records = d.added; tally = tally_of first'; left = last_of first' } in
       record {
         shares = mine ∷ more.shares;
-        each = subst (λ (l : List P). Paired (λ p x. HasShare leads s s.tasks (draws_of p) x) l (mine ∷ more.shares)) (sym h.pairs_are) (both d.has more.each);
-        left_are = paired_through (λ x r. last_of r ≡ x.left) (λ r p. draws_of p ≡ last_of r) (λ x p. draws_of p ≡ x.left) (λ x r p e f. f ∙ e) (mine ∷ more.shares) (first' ∷ others') left (both refl more.left_are) lefts;
-        rest = all_merged (λ (x : Share D). x.records) d.added more.shares;
+        each = subst (λ (l : List P). Paired (λ p x. HasKeptShare leads s s.tasks (shown_of p) x) l (mine ∷ more.shares)) (sym h.pairs_are) (both d.has more.each);
+        left_are = paired_through (λ x r. last_of r ≡ x.left) (λ r p. shown_of p ≡ last_of r) (λ x p. shown_of p ≡ x.left) (λ x r p e f. f ∙ e) (mine ∷ more.shares) (first' ∷ others') left (both refl more.left_are) lefts;
+        rest = all_merged (λ (x : Share (SeatShown D)). x.records) d.added more.shares;
         behind = g.records_are
             ∙ (ap (λ (m : List Record). all_merged (λ r. (after_of r).value.records) m others') d.records_are
             ∙ (more.merges (opener.value.records ++ d.added)
@@ -189,15 +195,15 @@ module _ {D P W R : Type 0} (leads : D → ℕ → D → Type 0) (s : Settings) 
             omega (arith, none, quiet, busy));
       }
 
-module _ {D W R : Type 0} (leads : D → ℕ → D → Type 0) (s : Settings) (renewal : ℕ) (client_of : W → CallerShown) (drawing : W → D) (after_of : R → CallerShown) (last_of : R → D) (tally_of : R → Tally) where
+module _ {D W R : Type 0} (leads : D → ℕ → D → Type 0) (s : Settings) (renewal : ℕ) (client_of : W → CallerShown) (seat_of : W → SeatShown D) (after_of : R → CallerShown) (last_of : R → SeatShown D) (tally_of : R → Tally) where
   pub worked_own : (table : TableId) (ws : List W) (rs : List R) → All (λ w. (client_of w).table ≡ table) ws →
-      Paired (λ w r. HasWorked leads s renewal (client_of w) (after_of r) (drawing w) (last_of r) (tally_of r)) ws rs → All (λ r. (after_of r).table ≡ table) rs
+      Paired (λ w r. HasWorked leads s renewal (client_of w) (after_of r) (seat_of w) (last_of r) (tally_of r)) ws rs → All (λ r. (after_of r).table ≡ table) rs
   worked_own table ws rs h p = paired_both _ (λ w. (client_of w).table ≡ table) (λ r. (after_of r).table ≡ table) (λ w r e k. ap (λ (x : CallerShown). x.table) k.client ∙ e) ws rs h p
 
   pub worked_grants : (ws : List W) (rs : List R) → All (λ w. (client_of w).value.grants ≡ 0) ws →
-      Paired (λ w r. HasWorked leads s renewal (client_of w) (after_of r) (drawing w) (last_of r) (tally_of r)) ws rs → All (λ r. (after_of r).value.grants ≡ 0) rs
+      Paired (λ w r. HasWorked leads s renewal (client_of w) (after_of r) (seat_of w) (last_of r) (tally_of r)) ws rs → All (λ r. (after_of r).value.grants ≡ 0) rs
   worked_grants ws rs h p = paired_both _ (λ w. (client_of w).value.grants ≡ 0) (λ r. (after_of r).value.grants ≡ 0) (λ w r e k. k.looped.answered.grants ∙ e) ws rs h p
 
   pub worked_tasks : (n : ℕ) (ws : List W) (rs : List R) → s.tasks ≤ n →
-      Paired (λ w r. HasWorked leads s renewal (client_of w) (after_of r) (drawing w) (last_of r) (tally_of r)) ws rs → All (λ r. total (tally_of r) ≤ n) rs
+      Paired (λ w r. HasWorked leads s renewal (client_of w) (after_of r) (seat_of w) (last_of r) (tally_of r)) ws rs → All (λ r. total (tally_of r) ≤ n) rs
   worked_tasks n ws rs few p = paired_each _ (λ r. total (tally_of r) ≤ n) (λ w r k. (let q = k.looped.all in omega (arith, q, few))) ws rs p

@@ -14,7 +14,10 @@ use Rattle.vac_manager.specs.declared.fault.Fault.TheVariants as fault
 use Rattle.vac_draws.specs.declared.settings.Settings.{Settings}
 use Rattle.vac_load.specs.declared.tally.Tally.{Tally}
 use Rattle.vac_load.specs.declared.workers.WorkOf.{WorkOf}
+use Rattle.vac_load.specs.declared.seats.Seat.{Seat}
 use Rattle.vac_load.specs.Looping.{Looped, AreOf, total}
+use Rattle.vac_load.specs.Lists.{Paired}
+use Rattle.vac_load.specs.Keeping.{Kept, AreKept, AllKept, HasKeptAdded, SeatShown}
 use Rattle.vac_load.specs.Opening.{as_tasks, Ran, Stopped}
 use Rattle.vac_draws.specs.Setting.{is_settings}
 use Rattle.vac_load.specs.declared.load.LoadFault.{LoadFault}
@@ -27,27 +30,22 @@ use Rattle.vac_draws.specs.Draws.{Drawn, times}
 use Rattle.vac_draws.specs.Tasks.{task_of, opening}
 use Rattle.vac_load.specs.Sums.{sum_of, plus, added_up}
 
--- the lists are equally long, and the relation holds between the elements at each place
-pub data Paired {A B : Type 0} (related : A → B → Type 0) : List A → List B → Type 0 where
-  none : Paired related [] []
-  both : {x : A} {y : B} {xs : List A} {ys : List B} → related x y → Paired related xs ys →
-      Paired related (x ∷ xs) (y ∷ ys)
-
 -- a client of some manager ran its tasks of a round, in this renewal: it is the client that it
--- was, and its value has what its loop made of it
+-- was, its value has what its loop made of it, and its keeper kept its answered calls
 pub record HasWorked {D : Type 0} (leads : D → ℕ → D → Type 0) (s : Settings) (renewal : ℕ)
-    (c c' : CallerShown) (state last : D) (t : Tally) : Type 0 where
+    (c c' : CallerShown) (state last : SeatShown D) (t : Tally) : Type 0 where
   pub client : c' ≡ record c { value = c'.value }
-  pub looped : Looped leads s renewal s.tasks c.value c'.value state last t
+  pub looped : Looped leads s renewal s.tasks c.value c'.value state.draws last.draws t
+  pub kept : HasKeptAdded c.value c'.value state.kept last.kept
 
 -- the promise is of the tasks of this client, by these settings, in this renewal, and from this
--- state of its draws
-pub record IsPromise {D : Type 0} (s : Settings) (renewal : ℕ) (c : CallerShown) (state : D)
-    (p : WorkOf D) : Type 0 where
+-- seat
+pub record IsPromise {D G K : Type 0} (s : Settings) (renewal : ℕ) (c : CallerShown)
+    (seat : Seat D G K) (p : WorkOf D G K) : Type 0 where
   pub settings_is : p.settings ≡ s
   pub renewal_is : p.manager.value.renewal ≡ renewal
   pub client_is : p.client.value ≡ c
-  pub draws_is : p.draws.value ≡ state
+  pub seat_is : p.seat.value ≡ seat
 
 -- each of the lists is a part of this one, in its order
 abbrev pub SubEach : {X : Type 0} → (X → List Record) → List X → List Record → Type 0
@@ -66,7 +64,7 @@ pub record Gathered {X : Type 0} (records_of : X → List Record) (tally_of : X 
   pub tallies : t ≡ added_up tally_of (first ∷ others)
 
 -- a client is of this table, and begins with these records, a floor of at least this one, and this
--- state of its draws
+-- seat
 pub record IsHired {D : Type 0} (table : TableId) (records : List Record) (floor : ℕ)
     (state : D) (c : CallerShown) (draws : D) : Type 0 where
   pub own : c.table ≡ table
@@ -74,8 +72,7 @@ pub record IsHired {D : Type 0} (table : TableId) (records : List Record) (floor
   pub knows : floor ≤ c.value.floor
   pub draws_are : draws ≡ state
 
--- each pair got a client with its draws: the first the opening client, the others clients without
--- records
+-- each seat got a client: the first the opening client, the others clients without records
 pub record Hired {D P W : Type 0} (draws_of : P → D) (opener : CallerShown) (pairs : List P)
     (client_of : W → CallerShown) (drawing : W → D) (first : W) (others : List W) : Type 0 where
   pub pair : P
@@ -115,29 +112,40 @@ pub record HasShare {D : Type 0} (leads : D → ℕ → D → Type 0) (s : Setti
   pub are_of : AreOf answered x.records
   pub all : total x.tally ≡ n
 
+-- the share without what its keeper keeps
+abbrev pub drawn_share : {D : Type 0} → Share (SeatShown D) → Share D
+drawn_share x = record { records = x.records; tally = x.tally; left = x.left.draws }
+
+-- a client drew n tasks, one behind the other, from this seat on, and its keeper kept the calls of
+-- those that were answered
+pub record HasKeptShare {D : Type 0} (leads : D → ℕ → D → Type 0) (s : Settings) (n : ℕ)
+    (state : SeatShown D) (x : Share (SeatShown D)) : Type 0 where
+  pub has : HasShare leads s n state.draws (drawn_share x)
+  pub kept : AreKept x.records state.kept x.left.kept
+
 -- all clients ran n tasks each, in one round or in several, and were gathered: the records of
 -- their answered tasks, and no others, stand behind those from before, each client's in their
--- order. The draws of each client are left as its tasks left them. One client alone meets no
+-- order. The seat of each client is left as its tasks left it. One client alone meets no
 -- conflict
-pub record RanAll {D P : Type 0} (leads : D → ℕ → D → Type 0) (s : Settings) (draws_of : P → D)
-    (n : ℕ) (before : List Record) (pairs : List P) (after : List Record) (left : List P)
-    (t : Tally) : Type 0 where
-  pub shares : List (Share D)
-  pub each : Paired (λ p x. HasShare leads s n (draws_of p) x) pairs shares
-  pub left_are : Paired (λ x p. draws_of p ≡ x.left) shares left
+pub record RanAll {D P : Type 0} (leads : D → ℕ → D → Type 0) (s : Settings)
+    (shown_of : P → SeatShown D) (n : ℕ) (before : List Record) (seats : List P)
+    (after : List Record) (left : List P) (t : Tally) : Type 0 where
+  pub shares : List (Share (SeatShown D))
+  pub each : Paired (λ p x. HasKeptShare leads s n (shown_of p) x) seats shares
+  pub left_are : Paired (λ x p. shown_of p ≡ x.left) shares left
   pub rest : List Record
   pub behind : after ≡ before ++ rest
   pub among : SubEach (λ x. x.records) shares rest
   pub number : length rest ≡ sum_of (λ x. length x.records) shares
   pub tallies : t ≡ added_up (λ x. x.tally) shares
-  pub alone : length pairs ≡ 1 → t.busy ≡ 0
+  pub alone : length seats ≡ 1 → t.busy ≡ 0
 
--- one round more was run, from these records, draws and tally on
-pub record RanMore {D P : Type 0} (leads : D → ℕ → D → Type 0) (s : Settings) (draws_of : P → D)
-    (before : List Record) (pairs : List P) (t : Tally)
+-- one round more was run, from these records, seats and tally on
+pub record RanMore {D P : Type 0} (leads : D → ℕ → D → Type 0) (s : Settings)
+    (shown_of : P → SeatShown D) (before : List Record) (seats : List P) (t : Tally)
     (after : List Record) (left : List P) (t' : Tally) : Type 0 where
   pub more : Tally
-  pub ran : RanAll leads s draws_of s.tasks before pairs after left more
+  pub ran : RanAll leads s shown_of s.tasks before seats after left more
   pub tally_is : t' ≡ plus t more
 
 -- a load can be run with these settings and so many clients
@@ -217,3 +225,12 @@ pub record Loaded {D P : Type 0} (leads : D → ℕ → D → Type 0) (s : Setti
   pub tallies : t ≡ added_up (λ x. x.tally) shares
   pub all : total t ≡ s.rounds * s.clients * s.tasks
   pub alone : s.clients ≡ 1 → t.busy ≡ 0
+
+-- a load whose keepers kept the answered calls: the opening's keeper those of the opening, and the
+-- keeper of each client those of its client's tasks, each call once, in the order of its records
+pub record LoadedKept {D P : Type 0} (leads : D → ℕ → D → Type 0) (s : Settings)
+    (draws_of : P → D) (state : D) (pairs : List P) (t : Tally) (r : Report)
+    (before after : Kept) (befores afters : List Kept) : Type 0 where
+  pub loaded : Loaded leads s draws_of state pairs t r
+  pub opening_kept : AreKept loaded.opened before after
+  pub clients_kept : AllKept (λ x. x.records) loaded.shares befores afters

@@ -9,7 +9,6 @@ use crate::efforts::Efforts;
 use crate::tally::Tally;
 use std::marker::Model;
 use vac_manager::{Effort, Fault};
-use vac_model::Reply;
 
 /// How tasks ended, with what their calls took. Contracts see the tally.
 #[derive(Drop)]
@@ -42,7 +41,7 @@ impl Counts {
 
     /// Counts a task by how it ended, and what its call took. None is asked for whose numbers are
     /// out of their ranges.
-    pub(crate) fn count(&mut self, end: &Result<Reply, Fault>, effort: Effort)
+    pub(crate) fn count(&mut self, end: &Result<(), Fault>, effort: Effort)
         requires few { total self.old < 2 ^ 32 }
         requires in_range { IfErr end.now (λ fault. fault ≢ Fault.Arguments) }
         requires took { IsEffort (counted end.now nothing) (with_call effort no_effort) }

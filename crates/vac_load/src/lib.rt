@@ -13,14 +13,16 @@ mod opening;
 mod phases;
 mod report;
 mod rounds;
+mod seats;
 mod tally;
 mod workers;
 
 pub use efforts::Efforts;
-pub use load::{LoadFault, LoadReport, run_load, run_load_counted, run_load_with};
+pub use load::{LoadFault, LoadReport, run_load, run_load_counted, run_load_kept, run_load_with};
 pub use looping::client_loop;
 pub use opening::open;
 pub use phases::Phases;
+pub use seats::Keepers;
 pub use tally::Tally;
 pub use vac_draws::{
     Draws, FixedDraws, MOST_CLIENTS, MOST_ITEMS, MOST_ROUNDS, MOST_TASKS, PERCENT, PcgDraws,

@@ -1,22 +1,24 @@
 //! A load.
 
-ghost use Rattle.std.specs.Prelude.{◌≡◌, ◌↔◌, true, false, map, vec_len, IfOk, IfErr, IsErrOf};
+ghost use Rattle.std.specs.Prelude.{◌≡◌, ◌↔◌, true, false, vec_len, IfOk, IfErr, IsErrOf};
 ghost use Rattle.vac_manager.specs.Called.{HasAllGrants};
 ghost use Rattle.vac_manager.specs.Opening.{Closes};
 ghost use Rattle.vac_draws.specs.Setting.{is_settings};
-ghost use Rattle.vac_load.specs.Load.{Loaded, is_load, IsLoadFault, IsStopOfLoad};
-ghost use Rattle.vac_draws.specs.Streams.{gives, stream_of, streams_of};
-ghost use Rattle.vac_load.specs.Streams.{LoadedBySeed};
+ghost use Rattle.vac_load.specs.Keeping.{kept_at};
+ghost use Rattle.vac_load.specs.Load.{Loaded, LoadedKept, is_load, IsLoadFault, IsStopOfLoad};
+ghost use Rattle.vac_draws.specs.Streams.{gives, stream_of};
+ghost use Rattle.vac_load.specs.Streams.{LoadedBySeed, KeptBySeed};
 ghost use Rattle.vac_load.specs.Attempted.{IsEffort};
 
 use crate::efforts::Efforts;
 use crate::gathering::Round;
-use crate::opening::open;
+use crate::opening::open_kept;
 use crate::phases::{NoPhases, Phases, Ungated};
 use crate::report::report_of;
 use crate::rounds::{Progress, run_rounds};
+use crate::seats::{Keepers, Seat, keepers_of, keepers_unkept, seats_by_seed, seats_unkept};
 use crate::tally::Tally;
-use std::alloc::{AllocError, Global};
+use std::alloc::Global;
 use std::sync::Wait;
 use std::thread::Threads;
 use stm_attempt::Gate;
@@ -24,6 +26,7 @@ use stm_region::RegionFault;
 use stm_words::Version;
 use thiserror::Error;
 use vac_draws::{Draws, PcgDraws, Settings};
+use vac_history::{Keep, Unkept};
 use vac_manager::{Client, Fault, Manager, Report};
 
 /// What a load leaves: how its tasks ended, over all rounds, and the report of the words after all
@@ -68,19 +71,29 @@ fn close(manager: Manager, client: Client) -> Result<(Vec<u64>, Version), LoadFa
     }
 }
 
-/// Runs a load whose arguments are in their ranges.
-fn run_in_range<R: Threads + Wait, D: Draws + Send + Drop, G: Gate + Send + Drop, S: Phases>(
+/// Runs a load whose arguments are in their ranges, with this keeper of the opening, and hands the
+/// seats back.
+fn run_in_range<
+    R: Threads + Wait,
+    D: Draws + Send + Drop,
+    G: Gate + Send + Drop,
+    K: Keep + Send + Drop,
+    S: Phases,
+>(
     rt: &R,
     alloc: Global,
     settings: &Settings,
     opening: &mut D,
-    clients: Vec<(D, G)>,
+    keep: &mut K,
+    seats: Vec<Seat<D, G, K>>,
     phases: &mut S,
-) -> Result<(LoadReport, Efforts), LoadFault>
+) -> Result<(LoadReport, Efforts, Vec<Seat<D, G, K>>), LoadFault>
     requires settings { is_settings settings.now ≡ true }
-    requires number { vec_len clients ≡ settings.now.clients }
-    ensures loaded { IfOk result (λ r. Loaded D.leads settings.now (λ p. p.0)
-        opening.old clients.items r.0.tally r.0.report) }
+    requires number { vec_len seats ≡ settings.now.clients }
+    ensures kept { IfOk result (λ r. LoadedKept D.leads settings.now (λ seat. seat.draws)
+        opening.old seats.items r.0.tally r.0.report (K.notes keep.old) (K.notes keep.new)
+        (kept_at K.notes seats.items) (kept_at K.notes r.2.items)) }
+    ensures number { IfOk result (λ r. vec_len r.2 ≡ vec_len seats) }
     ensures efforts { IfOk result (λ r. IsEffort r.0.tally r.1) }
     ensures stopped { IfErr result (λ fault.
         IsStopOfLoad D.leads settings.now opening.old opening.new fault) }
@@ -88,21 +101,32 @@ fn run_in_range<R: Threads + Wait, D: Draws + Send + Drop, G: Gate + Send + Drop
     let Ok((manager, mut client)) = Manager::new(alloc, settings.blocks, settings.last) else {
         return Err(LoadFault::Memory);
     };
-    if let Err(fault) = open(&manager, &mut client, opening, settings) {
+    if let Err(fault) = open_kept(&manager, &mut client, opening, settings, keep) {
         return Err(LoadFault::Opening(fault));
     }
     phases.begin();
-    let progress = run_rounds(rt, alloc, settings, manager, client, clients)?;
+    let progress = run_rounds(rt, alloc, settings, manager, client, seats)?;
     phases.end();
     let Progress { manager, round } = progress;
-    let Round { client, tally, .. } = round;
+    let Round {
+        client,
+        seats,
+        tally,
+    } = round;
     let words = match close(manager, client) {
         Ok((words, _)) => words,
         Err(fault) => return Err(fault),
     };
     let report = report_of(words);
     let (tally, efforts) = tally.apart();
-    Ok((LoadReport { tally, report }, efforts))
+    Ok((LoadReport { tally, report }, efforts, seats))
+}
+
+/// Whether a load can be run with these settings and so many clients.
+fn can_run(settings: &Settings, clients: usize) -> bool
+    ensures { result ≡ is_load settings.now clients }
+{
+    settings.is_in_range() && clients == settings.clients as usize
 }
 
 /// Runs a load: the opening by the first client, with the words that are drawn for it; then, in
@@ -125,38 +149,24 @@ pub fn run_load_with<
         opening clients.items r.tally r.report) }
     ensures refused { IfErr result (λ fault. IsLoadFault D.leads settings.now opening fault) }
 {
-    if !(settings.is_in_range() && clients.len() == settings.clients as usize) {
+    if !can_run(settings, clients.len()) {
         return Err(LoadFault::Arguments);
     }
+    let Ok(seats) = seats_unkept(rt.alloc(), clients) else {
+        return Err(LoadFault::Memory);
+    };
     match run_in_range(
         rt,
         rt.alloc(),
         settings,
         &mut opening,
-        clients,
+        &mut Unkept,
+        seats,
         &mut NoPhases,
     ) {
-        Ok((report, _)) => Ok(report),
+        Ok((report, _efforts, _seats)) => Ok(report),
         Err(fault) => Err(fault),
     }
-}
-
-/// The draws of each client, from a stream of its own, and its copy of the gate.
-fn streams<G: Copy + Drop>(
-    alloc: Global,
-    seed: u64,
-    clients: u32,
-    gate: G,
-) -> Result<Vec<(PcgDraws, G)>, AllocError>
-    ensures number { IfOk result (λ v. vec_len v ≡ clients) }
-    ensures streams { IfOk result (λ v.
-        map (λ pair. pair.0) v.items ≡ streams_of seed clients) }
-{
-    let mut pairs = Vec::with_capacity(alloc, clients as usize)?;
-    for number in 0..clients {
-        pairs.push((PcgDraws::new(seed, u64::from(number) + 1), gate))?;
-    }
-    Ok(pairs)
 }
 
 /// Runs a load with the words of a generator: the opening with those of stream 0, the k-th client
@@ -195,9 +205,62 @@ pub fn run_load_counted<R: Threads + Wait + AllocGlobal, G: Gate + Copy + Send +
     if !settings.is_in_range() {
         return Err(LoadFault::Arguments);
     }
-    let Ok(clients) = streams(rt.alloc(), settings.seed, settings.clients, gate) else {
+    let Ok(clients) = keepers_unkept(rt.alloc(), settings.clients) else {
+        return Err(LoadFault::Memory);
+    };
+    let opening = Unkept;
+    match run_load_kept(rt, settings, gate, phases, Keepers { opening, clients }) {
+        Ok((report, efforts, _kept)) => Ok((report, efforts)),
+        Err(fault) => Err(fault),
+    }
+}
+
+/// The same, with keepers of the answered calls: one of the opening's, and one of each client's,
+/// which goes on from round to round. Each is asked for room before a call and is handed the call
+/// once it is answered; where it has no room the call is not made, and the task counts under
+/// memory, or the opening stops for want of memory. The keepers are handed back in their order.
+pub fn run_load_kept<
+    R: Threads + Wait + AllocGlobal,
+    G: Gate + Copy + Send + Drop,
+    S: Phases,
+    K: Keep + Send + Drop,
+>(
+    rt: &R,
+    settings: &Settings,
+    gate: G,
+    phases: &mut S,
+    keepers: Keepers<K>,
+) -> Result<(LoadReport, Efforts, Keepers<K>), LoadFault>
+    ensures arguments { IsErrOf result LoadFault.Arguments
+        ↔ (is_load settings.now (vec_len keepers.clients) ≡ false) }
+    ensures loaded { IfOk result (λ r. LoadedBySeed settings.now r.0.tally r.0.report) }
+    ensures kept { IfOk result (λ r.
+        KeptBySeed K.notes settings.now r.0.tally r.0.report keepers r.2) }
+    ensures efforts { IfOk result (λ r. IsEffort r.0.tally r.1) }
+    ensures refused { IfErr result (λ fault.
+        IsLoadFault gives settings.now (stream_of settings.now.seed 0) fault) }
+{
+    let Keepers {
+        opening: mut keep,
+        clients,
+    } = keepers;
+    if !can_run(settings, clients.len()) {
+        return Err(LoadFault::Arguments);
+    }
+    let alloc = rt.alloc();
+    let Ok(left) = Vec::with_capacity(alloc, clients.len()) else {
+        return Err(LoadFault::Memory);
+    };
+    let Ok(seats) = seats_by_seed(alloc, settings.seed, gate, clients) else {
         return Err(LoadFault::Memory);
     };
     let mut opening = PcgDraws::new(settings.seed, 0);
-    run_in_range(rt, rt.alloc(), settings, &mut opening, clients, phases)
+    match run_in_range(rt, alloc, settings, &mut opening, &mut keep, seats, phases) {
+        Ok((report, efforts, seats)) => {
+            let clients = keepers_of(seats, left);
+            let opening = keep;
+            Ok((report, efforts, Keepers { opening, clients }))
+        }
+        Err(fault) => Err(fault),
+    }
 }

@@ -1,106 +1,150 @@
 //! The rounds of a load, with a renewal of the clock between two of them.
 
 ghost use Rattle.std.specs.Prelude.{◌≡◌, ◌≤◌, ◌<◌, ◌+◌, ◌*◌, ◌⊎◌, true, vec_len, IfOk, IfErr};
+ghost use Rattle.stm_core.specs.Event.{renewing};
 ghost use Rattle.vac_manager.specs.Called.{HasAllGrants};
+ghost use Rattle.vac_manager.specs.Renewed.{ClosesSomewhere};
 ghost use Rattle.vac_load.specs.Looping.{total};
 ghost use Rattle.vac_draws.specs.Setting.{is_settings};
 ghost use Rattle.vac_draws.specs.declared.settings.TheConstants.{MOST_CLIENTS, MOST_ROUNDS, MOST_TASKS};
+ghost use Rattle.vac_load.specs.Keeping.{shown};
 ghost use Rattle.vac_load.specs.Load.{AreKnown, RanAll, RanMore};
 
 use crate::gathering::{Round, run_clients};
 use crate::load::LoadFault;
+use crate::seats::Seat;
 use std::alloc::Global;
 use std::sync::Wait;
 use std::thread::Threads;
 use stm_attempt::Gate;
 use stm_region::RegionFault;
 use vac_draws::{Draws, Settings};
+use vac_history::Keep;
 use vac_manager::{Client, Manager, RenewFault};
 
 /// A load after some of its rounds: its manager, and what the last round left, with the tasks of
 /// all rounds counted.
 #[derive(Drop)]
-pub(crate) struct Progress<D, G> {
+pub(crate) struct Progress<D, G, K> {
     pub(crate) manager: Manager,
-    pub(crate) round: Round<D, G>,
+    pub(crate) round: Round<D, G, K>,
 }
 
-/// Renews the clock and runs one more round, in which draws and gates go on.
-fn go_on<R: Threads + Wait, D: Draws + Send + Drop, G: Gate + Send + Drop>(
+/// Renews the clock. That is refused for want of memory alone.
+fn renew(
+    manager: Manager,
+    client: Client,
+    settings: &Settings,
+) -> Result<(Manager, Client), LoadFault>
+    requires own { client.table ≡ manager.table }
+    requires alone { HasAllGrants client.value }
+    requires renewals { manager.renewal < MOST_ROUNDS }
+    requires settings { is_settings settings.now ≡ true }
+    ensures manager { IfOk result (λ r. r.0 ≡ record manager {
+      table = r.0.table;
+      last = settings.now.last;
+      opening = r.0.opening;
+      renewal = manager.renewal + 1;
+      start = renewing client.value;
+    }) }
+    ensures client { IfOk result (λ r. r.1
+        ≡ record client { table = r.0.table; value = renewing client.value }) }
+    ensures words { IfOk result (λ r. ClosesSomewhere manager client.value r.0.opening) }
+    ensures refused { IfErr result (λ fault. fault ≡ LoadFault.Memory) }
+{
+    match manager.renew(client, settings.last) {
+        Ok(renewed) => Ok(renewed),
+        Err(RenewFault::Kept(_, _, fault)) => {
+            prove!(fault == RegionFault::Memory);
+            Err(LoadFault::Memory)
+        }
+        Err(RenewFault::Closed(..)) => Err(LoadFault::Memory),
+    }
+}
+
+/// Renews the clock and runs one more round, in which the seats go on.
+fn go_on<
+    R: Threads + Wait,
+    D: Draws + Send + Drop,
+    G: Gate + Send + Drop,
+    K: Keep + Send + Drop,
+>(
     rt: &R,
     alloc: Global,
     settings: &Settings,
-    progress: Progress<D, G>,
-) -> Result<Progress<D, G>, LoadFault>
+    progress: Progress<D, G, K>,
+) -> Result<Progress<D, G, K>, LoadFault>
     requires own { progress.round.client.table ≡ progress.manager.table }
     requires alone { HasAllGrants progress.round.client.value }
     requires renewals { progress.manager.renewal < MOST_ROUNDS }
     requires settings { is_settings settings.now ≡ true }
-    requires number { vec_len progress.round.pairs ≡ settings.now.clients }
+    requires number { vec_len progress.round.seats ≡ settings.now.clients }
     requires few { total progress.round.tally ≤ MOST_CLIENTS * (MOST_ROUNDS * MOST_TASKS) }
     ensures own { IfOk result (λ r. r.round.client.table ≡ r.manager.table) }
     ensures alone { IfOk result (λ r. HasAllGrants r.round.client.value) }
     ensures renewals { IfOk result (λ r. r.manager.renewal ≡ progress.manager.renewal + 1) }
-    ensures number { IfOk result (λ r. vec_len r.round.pairs ≡ settings.now.clients) }
+    ensures number { IfOk result (λ r. vec_len r.round.seats ≡ settings.now.clients) }
     ensures size { IfOk result (λ r. r.manager.size ≡ progress.manager.size) }
-    ensures ran { IfOk result (λ r. RanMore D.leads settings.now (λ p. p.0)
-        progress.round.client.value.records progress.round.pairs.items progress.round.tally
-        r.round.client.value.records r.round.pairs.items r.round.tally) }
+    ensures ran { IfOk result (λ r. RanMore D.leads settings.now (shown K.notes)
+        progress.round.client.value.records progress.round.seats.items progress.round.tally
+        r.round.client.value.records r.round.seats.items r.round.tally) }
     ensures refused { IfErr result (λ fault.
         (fault ≡ LoadFault.Memory) ⊎ (fault ≡ LoadFault.Spawn)) }
 {
     let Progress { manager, round } = progress;
     let Round {
         client,
-        pairs,
+        seats,
         tally,
     } = round;
-    let (manager, client) = match manager.renew(client, settings.last) {
+    let (manager, client) = match renew(manager, client, settings) {
         Ok(renewed) => renewed,
-        Err(RenewFault::Kept(_, _, fault)) => {
-            prove!(fault == RegionFault::Memory);
-            return Err(LoadFault::Memory);
-        }
-        Err(RenewFault::Closed(..)) => return Err(LoadFault::Memory),
+        Err(fault) => return Err(fault),
     };
     let Round {
         client,
-        pairs,
+        seats,
         tally: more,
-    } = run_clients(rt, alloc, &manager, settings, client, pairs)?;
+    } = run_clients(rt, alloc, &manager, settings, client, seats)?;
     let round = Round {
         client,
-        pairs,
+        seats,
         tally: tally.plus(more),
     };
     Ok(Progress { manager, round })
 }
 
 /// Runs all rounds of a load. Between two of them the manager is renewed.
-pub(crate) fn run_rounds<R: Threads + Wait, D: Draws + Send + Drop, G: Gate + Send + Drop>(
+pub(crate) fn run_rounds<
+    R: Threads + Wait,
+    D: Draws + Send + Drop,
+    G: Gate + Send + Drop,
+    K: Keep + Send + Drop,
+>(
     rt: &R,
     alloc: Global,
     settings: &Settings,
     manager: Manager,
     client: Client,
-    pairs: Vec<(D, G)>,
-) -> Result<Progress<D, G>, LoadFault>
+    seats: Vec<Seat<D, G, K>>,
+) -> Result<Progress<D, G, K>, LoadFault>
     requires own { client.table ≡ manager.table }
     requires alone { HasAllGrants client.value }
     requires renewals { manager.renewal ≡ 0 }
     requires settings { is_settings settings.now ≡ true }
-    requires number { vec_len pairs ≡ settings.now.clients }
+    requires number { vec_len seats ≡ settings.now.clients }
     requires known { AreKnown manager.renewal client.value.floor client.value.records }
     ensures own { IfOk result (λ r. r.round.client.table ≡ r.manager.table) }
     ensures alone { IfOk result (λ r. HasAllGrants r.round.client.value) }
     ensures size { IfOk result (λ r. r.manager.size ≡ manager.size) }
-    ensures ran { IfOk result (λ r. RanAll D.leads settings.now (λ p. p.0)
-        (settings.now.rounds * settings.now.tasks) client.value.records pairs.items
-        r.round.client.value.records r.round.pairs.items r.round.tally) }
+    ensures ran { IfOk result (λ r. RanAll D.leads settings.now (shown K.notes)
+        (settings.now.rounds * settings.now.tasks) client.value.records seats.items
+        r.round.client.value.records r.round.seats.items r.round.tally) }
+    ensures number { IfOk result (λ r. vec_len r.round.seats ≡ settings.now.clients) }
     ensures refused { IfErr result (λ fault.
         (fault ≡ LoadFault.Memory) ⊎ (fault ≡ LoadFault.Spawn)) }
 {
-    let round = run_clients(rt, alloc, &manager, settings, client, pairs)?;
+    let round = run_clients(rt, alloc, &manager, settings, client, seats)?;
     let mut progress = Progress { manager, round };
     'rounds: for done in 1..settings.rounds {
         progress = go_on(rt, alloc, settings, progress)?;

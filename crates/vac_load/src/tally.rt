@@ -5,7 +5,6 @@ ghost use Rattle.vac_load.specs.Looping.{nothing, counted, total};
 ghost use Rattle.vac_load.specs.Sums.{plus};
 
 use vac_manager::Fault;
-use vac_model::Reply;
 
 /// How many tasks were answered, and how many were not, by why.
 #[derive(Clone, Copy, Debug, PartialEq, Eq, Default)]
@@ -34,13 +33,13 @@ impl Tally {
     }
 
     /// Counts a task by how it ended. None is asked for whose numbers are out of their ranges.
-    pub(crate) fn count(&mut self, end: &Result<Reply, Fault>)
+    pub(crate) fn count(&mut self, end: &Result<(), Fault>)
         requires few { total self.old < 2 ^ 32 }
         requires in_range { IfErr end.now (λ fault. fault ≢ Fault.Arguments) }
         ensures { self.new ≡ counted end.now self.old }
     {
         match end {
-            Ok(_) => self.answered += 1,
+            Ok(()) => self.answered += 1,
             Err(Fault::Arguments) => unreachable!(),
             Err(Fault::Memory) => self.memory += 1,
             Err(Fault::Busy(_)) => self.busy += 1,

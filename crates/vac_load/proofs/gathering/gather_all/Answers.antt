@@ -2,7 +2,9 @@ use Rattle.std.proofs.Common.{rules, ◌≡◌, ◌≤◌, ◌+◌, min, [], ◌
 use Rattle.std.specs.Vec.Iter.{into_iter_items, into_iter_len}
 use Rattle.vac_manager.specs.Called.{CallerShown}
 use Rattle.vac_load.specs.Looping.{total}
-use Rattle.vac_load.specs.Load.{Paired, Gathered}
+use Rattle.vac_load.specs.Lists.{Paired}
+use Rattle.vac_load.specs.Keeping.{shown}
+use Rattle.vac_load.specs.Load.{Gathered}
 use Rattle.vac_load.proofs.Pairs.{all_met, paired_none, paired_step, one_on, all_same, all_but_first, all_first}
 use Rattle.vac_load.proofs.Gatherings.{gathered_one, gathered_more}
 use Rattle.vac_load.proofs.gathering.gather_all.Goals as goal
@@ -16,7 +18,7 @@ loop-worked-init g c = record {
   others = all_same (λ w. w.worker.client.table ≡ c.args.manager.now.table) _ _ (search rules) c.requires.others_own;
   tasks = all_same (λ w. total w.tally ≤ 1000000) _ _ (search rules) c.requires.others_tasks;
   gathered = gathered_one _ _ c.args.crew.first;
-  handed = paired_step (λ w p. p.0 ≡ w.worker.draws) [] c.args.pairs.items c.push.new.self.items c.args.crew.first (c.args.crew.first.worker.draws, c.args.crew.first.worker.gate) (search rules) (paired_none _ _ c.requires.empty) refl;
+  handed = paired_step (λ w seat. shown g.K.Keep.notes seat ≡ shown g.K.Keep.notes w.worker.seat) [] c.args.seats.items c.push.new.self.items c.args.crew.first c.args.crew.first.worker.seat (search rules) (paired_none _ _ c.requires.empty) refl;
   room = grind rules;
   bound = let n : into_iter_len c.into_iter-worked-iterator.result ≤ 64 = grind rules in omega (arith, n, c.requires.tasks);
 }
@@ -44,7 +46,7 @@ loop-worked-preserved g c =
       tasks = all_but_first (λ w. total w.tally ≤ 1000000) (into_iter_items c.loop-worked.worked-iterator) (into_iter_items c.next.new.self) c.in-Some.worked (search rules) c.loop-worked.invariant.tasks;
       gathered = gathered_more (λ w. w.worker.client.value.records) (λ w. w.tally) c.args.crew.first _ c.in-Some.worked c.loop-worked.client.value c.gather.new.client.value c.loop-worked.tally c.plus-tally.result
           c.loop-worked.invariant.gathered (search rules) c.plus-tally.ensures;
-      handed = paired_step (λ w p. p.0 ≡ w.worker.draws) (c.args.crew.first ∷ _) c.loop-worked.pairs.items c.push-in-loop-worked.new.self.items c.in-Some.worked (c.in-Some.worked.worker.draws, c.in-Some.worked.worker.gate) (search rules) c.loop-worked.invariant.handed refl;
+      handed = paired_step (λ w seat. shown g.K.Keep.notes seat ≡ shown g.K.Keep.notes w.worker.seat) (c.args.crew.first ∷ _) c.loop-worked.seats.items c.push-in-loop-worked.new.self.items c.in-Some.worked c.in-Some.worked.worker.seat (search rules) c.loop-worked.invariant.handed refl;
       room = grind rules;
       bound = rw c.plus-tally.ensures (omega (arith, m, less, c.loop-worked.invariant.bound));
     }
@@ -54,7 +56,7 @@ returns-clause-gathered g c =
     subst (λ (l : List _). Gathered (λ w. w.worker.client.value.records) (λ w. w.tally) c.args.crew.first l c.loop-worked.client.value.records c.loop-worked.tally)
     (all_met _ _ _ c.loop-worked.invariant.all (search rules)) c.loop-worked.invariant.gathered
 
-pub returns-clause-pairs : goal.returns-clause-pairs
-returns-clause-pairs g c =
-    subst (λ (l : List _). Paired (λ w p. p.0 ≡ w.worker.draws) (c.args.crew.first ∷ l) c.loop-worked.pairs.items)
+pub returns-clause-seats : goal.returns-clause-seats
+returns-clause-seats g c =
+    subst (λ (l : List _). Paired (λ w seat. shown g.K.Keep.notes seat ≡ shown g.K.Keep.notes w.worker.seat) (c.args.crew.first ∷ l) c.loop-worked.seats.items)
     (all_met _ _ _ c.loop-worked.invariant.all (search rules)) c.loop-worked.invariant.handed

@@ -2,7 +2,9 @@ use Rattle.std.proofs.Common.{◌≡◌, ◌≤◌, ◌+◌, ◌*◌, ◌++◌, 
 use Rattle.stm_core.specs.declared.limits.TheConstants.{MOST_GRANTS}
 use Rattle.std.specs.Vec.Iter.{into_iter_items, into_iter_len}
 use Rattle.vac_load.specs.Looping.{total}
-use Rattle.vac_load.specs.Load.{Paired, Gathered}
+use Rattle.vac_load.specs.Lists.{Paired}
+use Rattle.vac_load.specs.Keeping.{shown}
+use Rattle.vac_load.specs.Load.{Gathered}
 use Rattle.vac_load.proofs.gathering.gather_all.Given as goal
 
 abbrev pub invariant-loop-worked : goal.invariant-loop-worked
@@ -14,7 +16,7 @@ invariant-loop-worked g l = record {
   others : All (λ w. w.worker.client.table ≡ l.manager.table) (into_iter_items l.worked-iterator);
   tasks : All (λ w. total w.tally ≤ 1000000) (into_iter_items l.worked-iterator);
   gathered : Gathered (λ w. w.worker.client.value.records) (λ w. w.tally) l.fn.crew.first l.yielded l.client.value.records l.tally;
-  handed : Paired (λ w p. p.0 ≡ w.worker.draws) (l.fn.crew.first ∷ l.yielded) l.pairs.items;
-  room : vec_len l.pairs + into_iter_len l.worked-iterator ≤ vec_capacity l.pairs;
+  handed : Paired (λ w seat. shown g.K.Keep.notes seat ≡ shown g.K.Keep.notes w.worker.seat) (l.fn.crew.first ∷ l.yielded) l.seats.items;
+  room : vec_len l.seats + into_iter_len l.worked-iterator ≤ vec_capacity l.seats;
   bound : total l.tally + into_iter_len l.worked-iterator * 1000000 ≤ 65000000;
 }

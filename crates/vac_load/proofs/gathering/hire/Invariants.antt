@@ -1,18 +1,20 @@
 use Rattle.std.proofs.Common.{◌≡◌, ◌≤◌, ◌+◌, ◌++◌, [], All, vec_len, vec_capacity}
 use Rattle.stm_core.specs.declared.limits.TheConstants.{MOST_GRANTS}
 use Rattle.std.specs.Vec.Iter.{into_iter_items, into_iter_len}
-use Rattle.vac_load.specs.Load.{Paired, IsHired}
+use Rattle.vac_load.specs.Lists.{Paired}
+use Rattle.vac_load.specs.Keeping.{shown}
+use Rattle.vac_load.specs.Load.{IsHired}
 use Rattle.vac_load.proofs.gathering.hire.Given as goal
 
-abbrev pub invariant-loop-draws : goal.invariant-loop-draws
-invariant-loop-draws g l = record {
-  all : into_iter_items l.initial.draws-iterator ≡ l.yielded ++ into_iter_items l.draws-iterator;
+abbrev pub invariant-loop-another : goal.invariant-loop-another
+invariant-loop-another g l = record {
+  all : into_iter_items l.initial.another-iterator ≡ l.yielded ++ into_iter_items l.another-iterator;
   own : l.client.table ≡ l.fn.client.table;
   records : l.client.value.records ≡ l.fn.client.value.records;
   floor : l.client.value.floor ≡ l.fn.client.value.floor;
   grants : l.client.value.grants + vec_len l.others ≡ MOST_GRANTS;
   others_grants : All (λ w. w.client.value.grants ≡ 0) l.others.items;
-  count : vec_len l.others + into_iter_len l.draws-iterator + 1 ≡ vec_len l.fn.pairs;
-  room : vec_len l.others + into_iter_len l.draws-iterator ≤ vec_capacity l.others;
-  hired : Paired (λ p w. IsHired l.fn.client.table [] l.fn.client.value.floor p.0 w.client w.draws) l.yielded l.others.items;
+  count : vec_len l.others + into_iter_len l.another-iterator + 1 ≡ vec_len l.fn.seats;
+  room : vec_len l.others + into_iter_len l.another-iterator ≤ vec_capacity l.others;
+  hired : Paired (λ p w. IsHired l.fn.client.table [] l.fn.client.value.floor (shown g.K.Keep.notes p) w.client (shown g.K.Keep.notes w.seat)) l.yielded l.others.items;
 }

@@ -1,15 +1,25 @@
-use Rattle.std.proofs.Common.{rules, ◌+◌, ◌≤◌}
+use Rattle.std.proofs.Common.{rules, ◌+◌, ◌≤◌, refl}
 use Rattle.vac_draws.specs.Draws.{for_each}
 use Rattle.vac_draws.specs.Tasks.{stocks}
 use Rattle.vac_load.specs.Opening.{Stopped}
-use Rattle.vac_load.proofs.Opened.{ran_more, stopped_items, handed_on}
+use Rattle.vac_load.proofs.Opened.{ran_none, ran_more, stopped_items, handed_on}
+use Rattle.vac_load.proofs.Notes.{kept_none, kept_both}
 use Rattle.vac_load.proofs.opening.add_all.Goals as goal
+
+pub items-init : goal.items-init
+items-init g c = record {
+  client = search rules;
+  grants = search rules;
+  ran = ran_none g.D.Draws.leads c.args.manager.now.renewal stocks _ _;
+  kept = kept_none _ _ _ _ refl refl;
+}
 
 pub items-preserved : goal.items-preserved
 items-preserved g c = record {
   client = search rules;
   grants = search rules;
   ran = ran_more g.D.Draws.leads c.args.manager.now.renewal c.items.place stocks _ _ _ _ _ _ c.items.invariant.ran c.in_ok-add_items.ensures.ran;
+  kept = kept_both _ _ _ _ _ _ c.items.invariant.kept c.in_ok-add_items.ensures.kept;
 }
 
 pub returns-in_err-add_items-clause-stopped : goal.returns-in_err-add_items-clause-stopped

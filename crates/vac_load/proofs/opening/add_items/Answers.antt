@@ -4,6 +4,7 @@ use Rattle.vac_draws.specs.Tasks.{stock, stocks}
 use Rattle.vac_load.specs.Opening.{Stopped}
 use Rattle.vac_load.proofs.Beginning.{readable_stock}
 use Rattle.vac_load.proofs.Opened.{ran_joined, ran_both, stopped_first, stopped_second, stopped_second_if_err, handed_on}
+use Rattle.vac_load.proofs.Notes.{kept_both, kept_then}
 use Rattle.vac_load.proofs.opening.add_items.Goals as goal
 
 pub returns-clause-ran : goal.returns-clause-ran
@@ -43,3 +44,7 @@ returns-in_err-add_item-2-clause-stopped g c =
     handed_on c.from_residual-in_err-add_item-2.result c.in_err-add_item-2.field-0.0 (λ e. Stopped leads n last (stocks id) e c.args.client.now.value c.add_item-2.new.client.value c.args.draws.now c.add_item-2.new.draws) c.from_residual-in_err-add_item-2.ensures.1
     (stopped_first leads n last (joined (stock id Car) (stock id Flight)) (stock id Room) _ _ _ _ _ (readable_stock id Room)
     (stopped_second leads n last (stock id Car) (stock id Flight) _ _ _ _ _ _ _ c.in_ok-add_item.ensures.ran c.in_err-add_item-2.ensures.stopped))
+
+pub returns-clause-kept : goal.returns-clause-kept
+returns-clause-kept g c =
+    kept_then _ _ _ _ _ _ c.add_item-3.result (kept_both _ _ _ _ _ _ c.in_ok-add_item.ensures.kept c.in_ok-add_item-2.ensures.kept) c.add_item-3.ensures.kept

@@ -2,6 +2,7 @@ use Rattle.std.proofs.Common.{rules, ◌≡◌, ◌∙◌, length, List, ap, sub
 use Rattle.stm_core.specs.Client.{Record}
 use Rattle.stm_region.specs.Shown.{RegionShown}
 use Rattle.vac_manager.specs.Called.{CallerShown}
+use Rattle.vac_load.specs.Keeping.{shown}
 use Rattle.vac_load.specs.Load.{RanAll}
 use Rattle.vac_load.proofs.Joining.{ran_total, few, few_each, renewed_known}
 use Rattle.vac_load.proofs.rounds.go_on.Goals as goal
@@ -10,7 +11,7 @@ pub run_clients-requires-clause-own : goal.run_clients-requires-clause-own
 run_clients-requires-clause-own g c = λ _ _. ap (λ (x : CallerShown). x.table) c.in-Ok.ensures.client
 
 pub run_clients-requires-clause-alone : goal.run_clients-requires-clause-alone
-run_clients-requires-clause-alone g c = λ _ _. ap (λ (x : CallerShown). x.value.grants) c.in-Ok.ensures.client ∙ c.in-Ok.ensures.ranges.2
+run_clients-requires-clause-alone g c = λ _ _. ap (λ (x : CallerShown). x.value.grants) c.in-Ok.ensures.client ∙ c.requires.alone
 
 pub run_clients-requires-clause-known : goal.run_clients-requires-clause-known
 run_clients-requires-clause-known g c = λ _ _.
@@ -21,7 +22,7 @@ pub plus-requires : goal.plus-requires
 plus-requires g c =
     let most = few c.args.settings.now c.requires.settings in
     let all = ran_total _ _ _ _ _ _ _ _ _ c.in_ok-client.ensures.ran in
-    let number : length c.args.progress.round.pairs.items ≡ c.args.settings.now.clients = search rules in
+    let number : length c.args.progress.round.seats.items ≡ c.args.settings.now.clients = search rules in
     let more = few_each _ _ _ _ all number most.clients most.tasks in
     record { fits = omega (arith, more, c.requires.few) }
 
@@ -30,6 +31,6 @@ returns-clause-ran g c =
     let same = ap (λ (x : CallerShown). x.value.records) c.in-Ok.ensures.client in
     record {
       more = c.in_ok-client.field-0.tally;
-      ran = subst (λ (l : List Record). RanAll g.D.Draws.leads c.args.settings.now (λ p. p.0) c.args.settings.now.tasks l c.args.progress.round.pairs.items c.in_ok-client.field-0.client.value.records c.in_ok-client.field-0.pairs.items c.in_ok-client.field-0.tally) same c.in_ok-client.ensures.ran;
+      ran = subst (λ (l : List Record). RanAll g.D.Draws.leads c.args.settings.now (shown g.K.Keep.notes) c.args.settings.now.tasks l c.args.progress.round.seats.items c.in_ok-client.field-0.client.value.records c.in_ok-client.field-0.seats.items c.in_ok-client.field-0.tally) same c.in_ok-client.ensures.ran;
       tally_is = c.plus.ensures;
     }

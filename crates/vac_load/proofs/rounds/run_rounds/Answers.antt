@@ -1,4 +1,5 @@
 use Rattle.std.proofs.Common.{rules, ◌≡◌, ◌∙◌, ◌*◌, ◌≤◌, length, ℕ, refl, subst, arith}
+use Rattle.vac_load.specs.Keeping.{shown}
 use Rattle.vac_load.specs.Load.{RanAll}
 use Rattle.vac_load.proofs.Joining.{ran_more, ran_total, few, few_all}
 use Rattle.vac_load.proofs.rounds.run_rounds.Goals as goal
@@ -12,14 +13,14 @@ rounds-init g c =
       renewals = omega (arith, c.requires.renewals);
       number = c.in_ok-round.ensures.number;
       size = refl;
-      ran = subst (λ (n : ℕ). RanAll g.D.Draws.leads c.args.settings.now (λ p. p.0) n c.args.client.value.records c.args.pairs.items c.in_ok-round.round.client.value.records c.in_ok-round.round.pairs.items c.in_ok-round.round.tally) one c.in_ok-round.ensures.ran;
+      ran = subst (λ (n : ℕ). RanAll g.D.Draws.leads c.args.settings.now (shown g.K.Keep.notes) n c.args.client.value.records c.args.seats.items c.in_ok-round.round.client.value.records c.in_ok-round.round.seats.items c.in_ok-round.round.tally) one c.in_ok-round.ensures.ran;
     }
 
 pub go_on-requires-clause-few : goal.go_on-requires-clause-few
 go_on-requires-clause-few g c = λ _ _.
     let most = few c.args.settings.now c.requires.settings in
     let all = ran_total _ _ _ _ _ _ _ _ _ c.rounds.invariant.ran in
-    let number : length c.args.pairs.items ≡ c.args.settings.now.clients = search rules in
+    let number : length c.args.seats.items ≡ c.args.settings.now.clients = search rules in
     let rounds : c.rounds.done ≤ 100 = omega (arith, most.rounds) in
     few_all _ _ _ c.rounds.done _ all number most.clients rounds most.tasks
 
@@ -30,11 +31,11 @@ rounds-preserved g c = record {
   renewals = omega (arith, c.in_ok-progress.ensures.renewals, c.rounds.invariant.renewals);
   number = c.in_ok-progress.ensures.number;
   size = c.in_ok-progress.ensures.size ∙ c.rounds.invariant.size;
-  ran = ran_more g.D.Draws.leads c.args.settings.now (λ p. p.0) c.rounds.done _ _ _ _ _ _ _ _ c.rounds.invariant.ran c.in_ok-progress.ensures.ran;
+  ran = ran_more g.D.Draws.leads c.args.settings.now (shown g.K.Keep.notes) c.rounds.done _ _ _ _ _ _ _ _ c.rounds.invariant.ran c.in_ok-progress.ensures.ran;
 }
 
 pub returns-clause-ran : goal.returns-clause-ran
 returns-clause-ran g c =
     let most = few c.args.settings.now c.requires.settings in
     let all : c.rounds.done ≡ c.args.settings.now.rounds = omega (arith, most.some) in
-    subst (λ (n : ℕ). RanAll g.D.Draws.leads c.args.settings.now (λ p. p.0) (n * c.args.settings.now.tasks) c.args.client.value.records c.args.pairs.items c.rounds.progress.round.client.value.records c.rounds.progress.round.pairs.items c.rounds.progress.round.tally) all c.rounds.invariant.ran
+    subst (λ (n : ℕ). RanAll g.D.Draws.leads c.args.settings.now (shown g.K.Keep.notes) (n * c.args.settings.now.tasks) c.args.client.value.records c.args.seats.items c.rounds.progress.round.client.value.records c.rounds.progress.round.seats.items c.rounds.progress.round.tally) all c.rounds.invariant.ran

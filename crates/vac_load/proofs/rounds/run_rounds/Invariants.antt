@@ -1,5 +1,6 @@
 use Rattle.std.proofs.Common.{◌≡◌, ◌+◌, ◌*◌, vec_len}
 use Rattle.vac_manager.specs.Called.{HasAllGrants}
+use Rattle.vac_load.specs.Keeping.{shown}
 use Rattle.vac_load.specs.Load.{RanAll}
 use Rattle.vac_load.proofs.rounds.run_rounds.Given as goal
 
@@ -8,8 +9,8 @@ invariant-rounds g l = record {
   own : l.progress.round.client.table ≡ l.progress.manager.table;
   alone : HasAllGrants l.progress.round.client.value;
   renewals : l.progress.manager.renewal + 1 ≡ l.done;
-  number : vec_len l.progress.round.pairs ≡ l.fn.settings.clients;
+  number : vec_len l.progress.round.seats ≡ l.fn.settings.clients;
   size : l.progress.manager.size ≡ l.fn.manager.size;
-  ran : RanAll g.D.Draws.leads l.fn.settings (λ p. p.0) (l.done * l.fn.settings.tasks) l.fn.client.value.records l.fn.pairs.items
-      l.progress.round.client.value.records l.progress.round.pairs.items l.progress.round.tally;
+  ran : RanAll g.D.Draws.leads l.fn.settings (shown g.K.Keep.notes) (l.done * l.fn.settings.tasks) l.fn.client.value.records l.fn.seats.items
+      l.progress.round.client.value.records l.progress.round.seats.items l.progress.round.tally;
 }

@@ -1,5 +1,6 @@
 use Rattle.std.proofs.Common.{rules, ◌≡◌}
-use Rattle.vac_load.proofs.Pairs.{paired_none, paired_step, paired_all, one_on, all_same, all_but_first}
+use Rattle.std.specs.Vec.Iter.{into_iter_items}
+use Rattle.vac_load.proofs.Pairs.{paired_none, paired_step, paired_all, one_on, all_same, all_but_first, all_first}
 use Rattle.vac_load.proofs.workers.start_all.Goals as goal
 
 pub loop-worker-init : goal.loop-worker-init
@@ -22,3 +23,7 @@ loop-worker-preserved g c = record {
 
 pub returns-clause-promises : goal.returns-clause-promises
 returns-clause-promises g c = paired_all _ _ _ _ _ c.loop-worker.invariant.all (search rules) c.loop-worker.invariant.started
+
+pub start-requires-clause-own : goal.start-requires-clause-own
+start-requires-clause-own g c = λ _ _.
+    all_first (λ w. w.client.table ≡ c.args.manager.now.table) (into_iter_items c.loop-worker.worker-iterator) (into_iter_items c.next.new.self) c.in-Some.worker (search rules) c.loop-worker.invariant.own

@@ -3,13 +3,15 @@ use Rattle.vac_draws.specs.Tasks.{opening}
 use Rattle.vac_load.specs.Opening.{Stopped}
 use Rattle.vac_load.proofs.Answering.{answered_quiet}
 use Rattle.vac_load.proofs.Opened.{handed_on, Opening, opening_more, opening_all, stopped_opening, stopped_customers}
-use Rattle.vac_load.proofs.opening.open.Goals as goal
+use Rattle.vac_load.proofs.Notes.{kept_both}
+use Rattle.vac_load.proofs.opening.open_kept.Goals as goal
 
 pub customers-preserved : goal.customers-preserved
 customers-preserved g c = record {
   client = search rules;
   grants = search rules;
   opening = opening_more g.D.Draws.leads c.args.manager.now.renewal c.args.settings.now.items c.customers.place _ _ _ _ _ c.customers.invariant.opening c.in_ok-ask_for.ensures.answered c.in_ok-ask_for.ensures.near;
+  kept = kept_both _ _ _ _ _ _ c.customers.invariant.kept c.in_ok-ask_for.ensures.kept;
 }
 
 pub returns-clause-ran : goal.returns-clause-ran
@@ -33,7 +35,7 @@ returns-in_err-ask_for-clause-stopped g c =
     let last = c.args.manager.now.last in
     let less : c.customers.place + 1 ≤ c.args.settings.now.items = search rules in
     handed_on c.from_residual-in_err-ask_for.result c.in_err-ask_for.field-0.0 (λ e. Stopped leads n last (opening c.args.settings.now) e c.args.client.now.value c.ask_for.new.client.value c.args.draws.now c.add_all.new.draws) c.from_residual-in_err-ask_for.ensures.1
-    (stopped_customers leads n last c.args.settings.now c.customers.place _ _ _ _ _ _ less c.customers.invariant.opening c.in_err-ask_for.ensures.kept c.in_err-ask_for.ensures.refused)
+    (stopped_customers leads n last c.args.settings.now c.customers.place _ _ _ _ _ _ less c.customers.invariant.opening c.in_err-ask_for.ensures.same c.in_err-ask_for.ensures.refused)
 
 pub customers-init : goal.customers-init
 customers-init g c = record {
@@ -45,4 +47,5 @@ customers-init g c = record {
     made = answered_quiet c.args.manager.now.renewal _ _ refl (omega arith) refl;
     near = omega arith;
   };
+  kept = c.in_ok-add_all.ensures.kept;
 }

@@ -1,0 +1,97 @@
+-- Calls that keepers keep.
+use Rattle.std.proofs.Common.{◌≡◌, ◌∙◌, ℕ, List, [], ◌∷◌, ◌++◌, Option, Some, None, Result, Ok, Err, IfOk, refl, sym, ap, subst, append_assoc, append-nil, map}
+use Rattle.stm_core.specs.Client.{Client, Record}
+use Rattle.vac_model.specs.declared.tasks.Task.{Task}
+use Rattle.vac_model.specs.Code.{code}
+use Rattle.vac_manager.specs.declared.placed.Placed.{Placed}
+use Rattle.vac_manager.specs.Placed.{AddsAt, IsPlaced, place_of}
+use Rattle.vac_manager.specs.declared.fault.Fault.{Fault}
+use Rattle.stm_region.specs.Shown.{RegionShown}
+use Rattle.vac_history.specs.declared.note.Note.{Note}
+use Rattle.vac_history.specs.Keeping.{behind, HasKept, IsNoted}
+use Rattle.vac_load.specs.Lists.{Paired, none, both}
+use Rattle.vac_load.specs.Keeping.{Kept, AreKept, HasKeptAdded}
+
+paired_both : {A B : Type 0} (related : A → B → Type 0) (xs us : List A) (ys vs : List B) → Paired related xs ys → Paired related us vs → Paired related (xs ++ us) (ys ++ vs)
+paired_both related [] us [] vs none q = q
+paired_both related (x ∷ xs) us (y ∷ ys) vs (both r p) q = both r (paired_both related xs us ys vs p q)
+paired_both related [] us (y ∷ ys) vs p q = elim p [ ]
+paired_both related (x ∷ xs) us [] vs p q = elim p [ ]
+
+behind_none : (k : Kept) → behind k [] ≡ k
+behind_none None = refl
+behind_none (Some ns) = ap (λ (l : List Note). Some l) (append-nil ns)
+
+behind_both : (k : Kept) (ns ms : List Note) → behind (behind k ns) ms ≡ behind k (ns ++ ms)
+behind_both None ns ms = refl
+behind_both (Some ks) ns ms = ap (λ (l : List Note). Some l) (append_assoc ks ns ms)
+
+pub are_kept_both : (rs qs : List Record) (a b c : Kept) → AreKept rs a b → AreKept qs b c → AreKept (rs ++ qs) a c
+are_kept_both rs qs a b c p q = record {
+  notes = p.notes ++ q.notes;
+  are_of = paired_both IsNoted p.notes q.notes rs qs p.are_of q.are_of;
+  kept = q.kept ∙ (ap (λ (k : Kept). behind k q.notes) p.kept ∙ behind_both a p.notes q.notes);
+}
+
+-- nothing was added, and nothing kept
+pub kept_none : (v v' : Client) (a b : Kept) → v'.records ≡ v.records → b ≡ a → HasKeptAdded v v' a b
+kept_none v v' a b same e = record {
+  added = [];
+  records = same ∙ sym (append-nil v.records);
+  kept = record { notes = []; are_of = none; kept = e ∙ sym (behind_none a) };
+}
+
+-- the call that added a record was kept
+pub kept_one : (renewal : ℕ) (t : Task) (p : Placed) (v v' : Client) (a b c : Kept) → AddsAt renewal (code t p.reply) p.place v v' → b ≡ a → HasKept t p b c → HasKeptAdded v v' a c
+kept_one renewal t p v v' a b c adds same h = record {
+  added = adds.adds.added ∷ [];
+  records = adds.adds.records;
+  kept = record {
+    notes = h.note ∷ [];
+    are_of = both (record {
+      tag = rw h.task (rw h.reply adds.adds.tag_is);
+      place = h.place ∙ adds.place_is;
+    }) none;
+    kept = h.kept ∙ ap (λ (k : Kept). behind k (h.note ∷ [])) same;
+  };
+}
+
+-- one behind the other
+pub kept_both : (v w u : Client) (a b c : Kept) → HasKeptAdded v w a b → HasKeptAdded w u b c → HasKeptAdded v u a c
+kept_both v w u a b c p q = record {
+  added = p.added ++ q.added;
+  records = q.records ∙ (ap (λ (l : List Record). l ++ q.added) p.records ∙ append_assoc v.records p.added q.added);
+  kept = are_kept_both p.added q.added a b c p.kept q.kept;
+}
+
+abbrev rest_of : {A : Type 0} → List A → List A → List A
+rest_of [] ys = ys
+rest_of (x ∷ xs) [] = []
+rest_of (x ∷ xs) (y ∷ ys) = rest_of xs ys
+
+rest_is : {A : Type 0} (xs ys : List A) → rest_of xs (xs ++ ys) ≡ ys
+rest_is [] ys = refl
+rest_is (x ∷ xs) ys = rest_is xs ys
+
+-- what stands behind the same list is the same
+pub same_rest : {A : Type 0} (xs ys zs : List A) → xs ++ ys ≡ xs ++ zs → ys ≡ zs
+same_rest xs ys zs e = sym (rest_is xs ys) ∙ (ap (λ (l : List _). rest_of xs l) e ∙ rest_is xs zs)
+
+-- the calls of exactly these records were kept
+pub kept_added : (v v' : Client) (rs : List Record) (a b : Kept) → v'.records ≡ v.records ++ rs → HasKeptAdded v v' a b → AreKept rs a b
+kept_added v v' rs a b e h = subst (λ (l : List Record). AreKept l a b) (same_rest v.records h.added rs (sym h.records ∙ e)) h.kept
+
+-- a call that was answered was kept
+pub kept_answered : (region : RegionShown) (t : Task) (end : Result Placed Fault) (p : Placed) (v v' : Client) (a b c : Kept) → end ≡ Ok p → IsPlaced region t end v v' → b ≡ a → HasKept t p b c → HasKeptAdded v v' a c
+kept_answered region t end p v v' a b c is placed same h =
+    kept_one region.renewal t p v v' a b c (subst (λ (r : Result Placed Fault). IsPlaced region t r v v') is placed) same h
+
+-- a call that was refused was not
+pub kept_refused : (region : RegionShown) (t : Task) (end : Result Placed Fault) (e : Fault) (v v' : Client) (a b : Kept) → end ≡ Err e → IsPlaced region t end v v' → b ≡ a → HasKeptAdded v v' a b
+kept_refused region t end e v v' a b is placed same =
+    kept_none v v' a b (subst (λ (r : Result Placed Fault). IsPlaced region t r v v') is placed) same
+
+-- where the last of two was answered, both were kept
+pub kept_then : {X E : Type 0} (v w u : Client) (a b c : Kept) (result : Result X E) → HasKeptAdded v w a b → IfOk result (λ _. HasKeptAdded w u b c) → IfOk result (λ _. HasKeptAdded v u a c)
+kept_then v w u a b c (Ok x) p q = kept_both v w u a b c p q
+kept_then v w u a b c (Err e) p q = tt

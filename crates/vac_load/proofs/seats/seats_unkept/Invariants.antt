@@ -1,0 +1,9 @@
+use Rattle.std.proofs.Common.{◌≡◌, ◌++◌, map}
+use Rattle.std.specs.Vec.Iter.{into_iter_items}
+use Rattle.vac_load.proofs.seats.seats_unkept.Given as goal
+
+abbrev pub invariant-loop-draws : goal.invariant-loop-draws
+invariant-loop-draws g l = record {
+  all : l.fn.clients.items ≡ l.yielded ++ into_iter_items l.draws-iterator;
+  draws : map (λ seat. seat.draws) l.seats.items ≡ map (λ pair. pair.0) l.yielded;
+}

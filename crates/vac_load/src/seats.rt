@@ -1,0 +1,91 @@
+//! What clients go on with from round to round, and what keeps their answered calls.
+
+ghost use Rattle.std.specs.Prelude.{◌≡◌, ◌≤◌, map, [], vec_len, vec_capacity, IfOk};
+ghost use Rattle.vac_draws.specs.Streams.{streams_of};
+
+use std::alloc::{AllocError, Global};
+use vac_draws::PcgDraws;
+use vac_history::Unkept;
+
+/// What keeps the answered calls of a load: those of its opening, and those of each client, in the
+/// order of the clients.
+#[derive(Drop)]
+pub struct Keepers<K> {
+    pub opening: K,
+    pub clients: Vec<K>,
+}
+
+/// What a client goes on with from round to round: what its words are drawn from, its gate, and
+/// what keeps its answered calls.
+#[derive(Drop)]
+pub(crate) struct Seat<D, G, K> {
+    pub(crate) draws: D,
+    pub(crate) gate: G,
+    pub(crate) keep: K,
+}
+
+/// So many keepers that keep nothing.
+pub(crate) fn keepers_unkept(alloc: Global, clients: u32) -> Result<Vec<Unkept>, AllocError>
+    ensures { IfOk result (λ v. vec_len v ≡ clients) }
+{
+    let mut keepers = Vec::new(alloc);
+    for number in 0..clients {
+        keepers.push(Unkept)?;
+    }
+    Ok(keepers)
+}
+
+/// Seats whose keepers keep nothing.
+pub(crate) fn seats_unkept<D: Drop, G: Drop>(
+    alloc: Global,
+    clients: Vec<(D, G)>,
+) -> Result<Vec<Seat<D, G, Unkept>>, AllocError>
+    ensures number { IfOk result (λ v. vec_len v ≡ vec_len clients) }
+    ensures draws { IfOk result (λ v.
+        map (λ seat. seat.draws) v.items ≡ map (λ pair. pair.0) clients.items) }
+{
+    let mut seats = Vec::with_capacity(alloc, clients.len())?;
+    for (draws, gate) in clients {
+        let keep = Unkept;
+        seats.push(Seat { draws, gate, keep })?;
+    }
+    Ok(seats)
+}
+
+/// The seat of each client: draws from a stream of its own, its copy of the gate, and its keeper.
+pub(crate) fn seats_by_seed<G: Copy + Drop, K: Drop>(
+    alloc: Global,
+    seed: u64,
+    gate: G,
+    keepers: Vec<K>,
+) -> Result<Vec<Seat<PcgDraws, G, K>>, AllocError>
+    ensures number { IfOk result (λ v. vec_len v ≡ vec_len keepers) }
+    ensures streams { IfOk result (λ v.
+        map (λ seat. seat.draws) v.items ≡ streams_of seed (vec_len keepers)) }
+    ensures keepers { IfOk result (λ v. map (λ seat. seat.keep) v.items ≡ keepers.items) }
+{
+    let mut seats = Vec::with_capacity(alloc, keepers.len())?;
+    for keep in keepers {
+        let draws = PcgDraws::new(seed, seats.len() as u64 + 1);
+        seats.push(Seat { draws, gate, keep })?;
+    }
+    Ok(seats)
+}
+
+/// The keepers of the seats, in their order.
+pub(crate) fn keepers_of<D: Drop, G: Drop, K: Drop>(
+    seats: Vec<Seat<D, G, K>>,
+    mut keepers: Vec<K>,
+) -> Vec<K>
+    requires room { vec_len seats ≤ vec_capacity keepers }
+    requires empty { keepers.items ≡ [] }
+    ensures { result.items ≡ map (λ seat. seat.keep) seats.items }
+{
+    for seat in seats {
+        let Seat { keep, .. } = seat;
+        let Ok(()) = keepers.push(keep) else {
+            unreachable!()
+        };
+    }
+    keepers
+}
