@@ -1,1 +1,7 @@
 pub mod Keeping
+pub mod Turns
+pub mod Order
+pub mod Picking
+pub mod Rests
+pub mod History
+pub mod Sending

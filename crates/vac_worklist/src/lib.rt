@@ -13,3 +13,4 @@ mod writing;
 pub use fault::TasksFault;
 pub use laws::{drawn_lines_are_read, tasks_have_one_text};
 pub use worklist::write_tasks;
+pub use writing::{send_chunk, send_rest};

@@ -37,8 +37,8 @@ fn write_all<W: Write>(output: &mut W, text: &[u8]) -> Result<(), TasksFault>
     Err(TasksFault::Write)
 }
 
-/// Writes what is at hand, where it is a chunk.
-pub(crate) fn send_chunk<W: Write>(output: &mut W, hand: &mut Vec<u8>) -> Result<(), TasksFault>
+/// Writes what is at hand, where it is a chunk. A fault is that the output could not be written.
+pub fn send_chunk<W: Write>(output: &mut W, hand: &mut Vec<u8>) -> Result<(), TasksFault>
     ensures ok { OnOk result (Sent (W.contents output.old) (W.contents output.new)
         hand.old.items hand.new.items []) }
     ensures err { OnErr result
@@ -53,7 +53,7 @@ pub(crate) fn send_chunk<W: Write>(output: &mut W, hand: &mut Vec<u8>) -> Result
 }
 
 /// Writes the rest, and sees that all gets on its way.
-pub(crate) fn send_rest<W: Write>(output: &mut W, hand: &[u8]) -> Result<(), TasksFault>
+pub fn send_rest<W: Write>(output: &mut W, hand: &[u8]) -> Result<(), TasksFault>
     ensures ok { OnOk result (Appends (W.contents output.old) (W.contents output.new) hand.now) }
     ensures err { OnErr result
         (AppendsPrefix (W.contents output.old) (W.contents output.new) hand.now) }

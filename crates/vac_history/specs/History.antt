@@ -1,0 +1,38 @@
+-- The history that is written of the calls that were kept.
+use Rattle.std.specs.Prelude.{ℕ, List, ◌∷◌, map, Option}
+use Rattle.std.specs.Io.KnownBytes.{Appends}
+use Rattle.vac_judge.specs.Call.{Call}
+use Rattle.vac_judge.specs.CallText.{answered, history_text}
+use Rattle.vac_worklist.specs.Worklist.{AppendsPrefix}
+use Rattle.vac_history.specs.declared.note.Note.{Note}
+use Rattle.vac_history.specs.declared.journal.Journal.{Journal}
+use Rattle.vac_history.specs.Order.{Entry, IsMerged}
+
+-- the calls that a client kept
+abbrev pub notes_of : {C : Type 0} → Journal C → List Note
+notes_of journal = journal.notes.items
+
+-- those of the opening, which is client 0, and of the clients from 1 on
+abbrev pub kept_by : {C : Type 0} → Journal C → List (Journal C) → List (List Note)
+kept_by opening clients = notes_of opening ∷ map notes_of clients
+
+-- the call of a history that was kept so
+abbrev pub call_of : Entry → Call
+call_of e = answered e.client e.note.begin e.note.end e.note.task e.note.reply
+
+-- the lines of calls
+abbrev pub entries_text : List Entry → List ℕ
+entries_text all = history_text (map call_of all)
+
+-- the calls that the clients kept were written, a line each, in one order, and nothing else
+pub record WroteHistory (kept : List (List Note)) (held holds : Option (List ℕ)) : Type 0 where
+  pub all : List Entry
+  pub merged : IsMerged kept all
+  pub written : Appends held holds (entries_text all)
+
+-- a prefix of such a text was written
+pub record WroteHistoryPrefix (kept : List (List Note)) (held holds : Option (List ℕ))
+    : Type 0 where
+  pub all : List Entry
+  pub merged : IsMerged kept all
+  pub written : AppendsPrefix held holds (entries_text all)

@@ -1,0 +1,65 @@
+-- The order in which the calls of all clients are written.
+use Rattle.std.specs.Prelude.{◌≡◌, ℕ, suc, ◌+◌, ◌*◌, ◌||◌, ◌&&◌, Bool, false, cond, eqb, ltb}
+use Rattle.std.specs.Prelude.{List, [], ◌∷◌, map, slice_index_or, slice_set}
+use Rattle.std.specs.List.{AllPairs}
+use Rattle.vac_manager.specs.declared.placed.Place.{Place}
+use Rattle.vac_history.specs.declared.note.Note.{Note}
+
+-- a call that was kept, and the number of its client
+pub record Entry : Type 0 where
+  pub client : ℕ
+  pub note : Note
+
+-- the calls of a client, each with its number
+abbrev pub entries_of : ℕ → List Note → List Entry
+entries_of client notes = map (λ n. record { client = client; note = n }) notes
+
+-- those of each client; their numbers count from this one on
+abbrev pub entries_from : ℕ → List (List Note) → List (List Entry)
+entries_from first [] = []
+entries_from first (notes ∷ others) = entries_of first notes ∷ entries_from (suc first) others
+
+-- the list at this place, which is empty where there is none
+abbrev pub list_at : {X : Type 0} → List (List X) → ℕ → List X
+list_at lists place = slice_index_or lists place []
+
+-- x was the first of one of the lists, and was taken from it
+pub record Takes {X : Type 0} (x : X) (lists others : List (List X)) : Type 0 where
+  pub place : ℕ
+  pub rest : List X
+  pub first : list_at lists place ≡ x ∷ rest
+  pub left : others ≡ slice_set lists place rest
+
+-- the elements of all the lists, each once, those of each list in their order
+abbrev pub Interleaves : {X : Type 0} → List (List X) → List X → Type 0
+Interleaves lists [] = (place : ℕ) → list_at lists place ≡ []
+Interleaves {X} lists (x ∷ all) =
+    (others : List (List X)) × Takes x lists others × Interleaves others all
+
+-- where a record stands among those of its renewal: by version, the writer of a version before its
+-- readers
+abbrev pub rank_of : Place → ℕ
+rank_of place = 2 * place.version + cond place.wrote 0 1
+
+-- a is written before b: by renewal, by version, the writer of a version before its readers, and
+-- then by when the calls began
+abbrev pub precedes : Note → Note → Bool
+precedes a b =
+    ltb a.place.renewal b.place.renewal
+    || (eqb a.place.renewal b.place.renewal
+    && (ltb (rank_of a.place) (rank_of b.place)
+    || (eqb (rank_of a.place) (rank_of b.place) && ltb a.begin b.begin)))
+
+-- none precedes one that stands before it
+abbrev pub AreOrdered : List Note → Type 0
+AreOrdered notes = AllPairs (λ earlier later. precedes later earlier ≡ false) notes
+
+-- so is each of the lists
+abbrev pub EachOrdered : List (List Note) → Type 0
+EachOrdered lists = (place : ℕ) → AreOrdered (list_at lists place)
+
+-- the calls that the clients kept, from client 0 on, as one list: each of them once, each client's
+-- in its order, and all in order where those of each client are
+pub record IsMerged (kept : List (List Note)) (all : List Entry) : Type 0 where
+  pub each_once : Interleaves (entries_from 0 kept) all
+  pub ordered : EachOrdered kept → AreOrdered (map (λ e. e.note) all)

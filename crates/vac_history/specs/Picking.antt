@@ -1,0 +1,26 @@
+-- How the calls of all clients are picked, one after the other.
+use Rattle.std.specs.Prelude.{◌≡◌, ℕ, false, List, [], ◌∷◌}
+use Rattle.vac_history.specs.Order.{Entry, Takes, list_at, precedes}
+
+-- a call was the first of one of the lists, none of which begins with one that precedes it, and
+-- was taken from it
+pub record Picks (e : Entry) (lists others : List (List Entry)) : Type 0 where
+  pub takes : Takes e lists others
+  pub least : (place : ℕ) (first : Entry) (more : List Entry) →
+      list_at lists place ≡ first ∷ more → precedes first.note e.note ≡ false
+
+-- these were picked, one after the other, and these are left
+abbrev pub PicksAll : List (List Entry) → List Entry → List (List Entry) → Type 0
+PicksAll lists [] left = lists ≡ left
+PicksAll lists (e ∷ all) left =
+    (others : List (List Entry)) × Picks e lists others × PicksAll others all left
+
+-- nothing is left
+abbrev pub IsSpent : List (List Entry) → Type 0
+IsSpent lists = (place : ℕ) → list_at lists place ≡ []
+
+-- these were picked, one after the other, until nothing was left
+pub record Merges (lists : List (List Entry)) (all : List Entry) : Type 0 where
+  pub left : List (List Entry)
+  pub picked : PicksAll lists all left
+  pub spent : IsSpent left

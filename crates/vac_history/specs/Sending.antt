@@ -1,0 +1,42 @@
+-- Lines of calls that are gathered before they are written.
+use Rattle.std.specs.Prelude.{ℕ, List, [], ◌++◌, Option, codes, decimal}
+use Rattle.vac_lines.specs.TaskText.{task_text}
+use Rattle.vac_lines.specs.Text.{reply_text}
+use Rattle.vac_history.specs.declared.note.Note.{Note}
+use Rattle.vac_worklist.specs.Worklist.{AppendsPrefix}
+use Rattle.vac_worklist.specs.Sending.{Sent}
+use Rattle.vac_history.specs.Order.{Entry}
+use Rattle.vac_history.specs.Picking.{PicksAll, Merges}
+use Rattle.vac_history.specs.History.{entries_text}
+
+-- a number, and a space behind it
+abbrev pub number_text : ℕ → List ℕ
+number_text n = decimal n ++ codes " "
+
+-- the client and the times of a call, and a space behind each
+abbrev pub stamps_text : Entry → List ℕ
+stamps_text e = number_text e.client ++ number_text e.note.begin ++ number_text e.note.end
+
+-- its task and its reply
+abbrev pub answer_text : Note → List ℕ
+answer_text n = task_text n.task ++ codes " -> " ++ reply_text n.reply
+
+-- the lines of calls that were picked from the lists were sent, and these lists are left
+pub record SentPicked (lists left : List (List Entry)) (held holds : Option (List ℕ))
+    (hand : List ℕ) : Type 0 where
+  pub all : List Entry
+  pub picked : PicksAll lists all left
+  pub sent : Sent held holds [] hand (entries_text all)
+
+-- the lines of all calls were sent
+pub record SentMerged (lists : List (List Entry)) (held holds : Option (List ℕ))
+    (hand : List ℕ) : Type 0 where
+  pub all : List Entry
+  pub merges : Merges lists all
+  pub sent : Sent held holds [] hand (entries_text all)
+
+-- a prefix of the lines of all calls was written
+pub record MergedPrefix (lists : List (List Entry)) (held holds : Option (List ℕ)) : Type 0 where
+  pub all : List Entry
+  pub merges : Merges lists all
+  pub written : AppendsPrefix held holds (entries_text all)

@@ -1,0 +1,151 @@
+//! One history of the calls of all clients.
+
+ghost use Rattle.std.specs.Prelude.{◌≡◌, ◌<◌, ◌^◌, ◌++◌, [], length, OnOk, OnErr, IfOk};
+ghost use Rattle.vac_lines.specs.Script.{as_line};
+ghost use Rattle.vac_judge.specs.CallText.{call_text};
+ghost use Rattle.vac_worklist.specs.Worklist.{AppendsPrefix};
+ghost use Rattle.vac_worklist.specs.Sending.{Sent};
+ghost use Rattle.vac_history.specs.Order.{entries_from};
+ghost use Rattle.vac_history.specs.Rests.{left_of, entry_of};
+ghost use Rattle.vac_history.specs.History.{call_of, kept_by, WroteHistory, WroteHistoryPrefix};
+ghost use Rattle.vac_history.specs.Sending.{number_text, stamps_text, answer_text};
+ghost use Rattle.vac_history.specs.Sending.{SentMerged, MergedPrefix};
+
+use crate::fault::HistoryFault;
+use crate::journal::Journal;
+use crate::merging::{Picked, Rest, take_least};
+use crate::note::Note;
+use std::alloc::{AllocError, Global};
+use std::io::Write;
+use std::time::Clock;
+use vac_lines::{print_reply, print_task};
+use vac_model::Reply;
+use vac_worklist::{send_chunk, send_rest};
+
+/// The number of the client that runs the opening.
+const OPENING: u32 = 0;
+
+/// Appends a number and a space.
+fn append_number(hand: &mut Vec<u8>, number: u64) -> Result<(), AllocError>
+    ensures { OnOk result
+        (hand.new.items ≡ hand.old.items ++ number_text number) }
+{
+    print_reply(&Reply::Number(Some(number)), hand)?;
+    hand.extend_from_slice(b" ")
+}
+
+/// Appends a call's client and times, with a space behind each.
+fn append_stamps(hand: &mut Vec<u8>, picked: Picked<'_>) -> Result<(), AllocError>
+    ensures { OnOk result (hand.new.items ≡ hand.old.items ++ stamps_text (entry_of picked.entry)) }
+{
+    append_number(hand, u64::from(picked.client))?;
+    append_number(hand, picked.note.begin)?;
+    append_number(hand, picked.note.end)
+}
+
+/// Appends a call's task and reply.
+fn append_answer(hand: &mut Vec<u8>, note: &Note) -> Result<(), AllocError>
+    ensures { OnOk result (hand.new.items ≡ hand.old.items ++ answer_text note.now) }
+{
+    print_task(&note.task, hand)?;
+    hand.extend_from_slice(b" -> ")?;
+    print_reply(&note.reply, hand)
+}
+
+/// Appends the line of a call.
+fn append_line(hand: &mut Vec<u8>, picked: Picked<'_>) -> Result<(), AllocError>
+    ensures { OnOk result (hand.new.items
+        ≡ hand.old.items ++ as_line (call_text (call_of (entry_of picked.entry)))) }
+{
+    append_stamps(hand, picked)?;
+    append_answer(hand, picked.note)?;
+    hand.extend_from_slice(b"\n")
+}
+
+/// Sends the line of a call.
+fn send_line<W: Write>(
+    output: &mut W,
+    hand: &mut Vec<u8>,
+    picked: Picked<'_>,
+) -> Result<(), HistoryFault>
+    ensures ok { OnOk result (Sent (W.contents output.old) (W.contents output.new)
+        hand.old.items hand.new.items (as_line (call_text (call_of (entry_of picked.entry))))) }
+    ensures err { OnErr result (AppendsPrefix (W.contents output.old) (W.contents output.new)
+        (hand.old.items ++ as_line (call_text (call_of (entry_of picked.entry))))) }
+{
+    append_line(hand, picked)?;
+    match send_chunk(output, hand) {
+        Ok(()) => Ok(()),
+        Err(_) => Err(HistoryFault::Write),
+    }
+}
+
+/// Sends the lines of all calls that are left, in their order.
+fn send_all<W: Write>(
+    output: &mut W,
+    hand: &mut Vec<u8>,
+    rests: &mut [Rest<'_>],
+) -> Result<(), HistoryFault>
+    requires empty { hand.old.items ≡ [] }
+    ensures ok { OnOk result (SentMerged (left_of rests.old)
+        (W.contents output.old) (W.contents output.new) hand.new.items) }
+    ensures err { OnErr result (MergedPrefix (left_of rests.old)
+        (W.contents output.old) (W.contents output.new)) }
+{
+    'lines: while let Some(picked) = take_least(rests) {
+        send_line(output, hand, picked)?;
+    }
+    Ok(())
+}
+
+/// What is left of each client's calls before the first one is written: all of them.
+fn rests_of<'j, C: Clock>(
+    alloc: Global,
+    opening: &'j Journal<'_, C>,
+    clients: &'j [Journal<'_, C>],
+) -> Result<Vec<Rest<'j>>, AllocError>
+    requires few { length clients.now < 2 ^ 32 }
+    ensures { IfOk result (λ rests.
+        left_of rests.items ≡ entries_from 0 (kept_by opening.now clients.now)) }
+{
+    let mut rests = Vec::new(alloc);
+    rests.push(Rest {
+        client: OPENING,
+        notes: opening.notes(),
+    })?;
+    'clients: for place in 0..clients.len() {
+        rests.push(Rest {
+            client: place as u32 + 1,
+            notes: clients[place].notes(),
+        })?;
+    }
+    Ok(rests)
+}
+
+/// Writes the history of a system from its start: the calls that were kept, the opening's as those
+/// of client 0 and the others' as those of the clients from 1 on, a line each as `vacation judge`
+/// reads it. They are ordered as their records are: by renewal, by version, the writer of a version
+/// before its readers, and readers of one version by when they began.
+///
+/// Takes memory for one chunk of text, and a few words for each client. After a fault, what was
+/// written is nothing or a prefix of such a text.
+pub fn write_history<C: Clock, W: Write>(
+    alloc: Global,
+    opening: &Journal<'_, C>,
+    clients: &[Journal<'_, C>],
+    output: &mut W,
+) -> Result<(), HistoryFault>
+    requires few { length clients.now < 2 ^ 32 }
+    ensures ok { OnOk result (WroteHistory (kept_by opening.now clients.now)
+        (W.contents output.old) (W.contents output.new)) }
+    ensures err { OnErr result (WroteHistoryPrefix (kept_by opening.now clients.now)
+        (W.contents output.old) (W.contents output.new)) }
+{
+    let mut rests = rests_of(alloc, opening, clients)?;
+    let mut hand = Vec::new(alloc);
+    send_all(output, &mut hand, rests.as_mut_slice())?;
+    match send_rest(output, hand.as_slice()) {
+        Ok(()) => Ok(()),
+        Err(_) => Err(HistoryFault::Write),
+    }
+}
