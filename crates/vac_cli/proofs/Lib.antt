@@ -6,3 +6,5 @@ pub mod Walks
 pub mod Given
 pub mod Stops
 pub mod Naming
+pub mod Journals
+pub mod LoadEnds

@@ -156,7 +156,7 @@ settings_fit name = (
         fit refl refl refl,
         (
           fit refl refl refl,
-          (fit refl refl refl, (fit refl refl refl, (fit refl refl refl, (fit refl refl refl, (fit refl refl refl, (fit refl refl refl, (fit refl refl refl, tt))))))),
+          (fit refl refl refl, (fit refl refl refl, (fit refl refl refl, (fit refl refl refl, (fit refl refl refl, (fit refl refl refl, (fit refl refl refl, (fit refl refl refl, tt)))))))),
         ),
       ),
     ),
@@ -195,6 +195,7 @@ settings_given of rows e = record {
   flags = record {
     progress = settings_flag of rows e (codes "progress") refl;
     stats = settings_flag of rows e (codes "stats") refl;
+    history = settings_flag of rows e (codes "history") refl;
   };
 }
 

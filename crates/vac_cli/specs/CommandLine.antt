@@ -84,9 +84,10 @@ task_options = items_option ∷ asks_option ∷ user_option ∷ seed_option ∷ 
 abbrev pub flag : Text → Rule
 flag name = record (new_rule name) { long = Some name; action = Some SetTrue }
 
--- those that say what a load tells of itself
+-- those that say what a load tells of itself, and whether it writes its history
 abbrev pub telling_options : List Rule
-telling_options = flag (codes "progress") ∷ flag (codes "stats") ∷ []
+telling_options =
+    flag (codes "progress") ∷ flag (codes "stats") ∷ flag (codes "history") ∷ []
 
 -- the options of a load
 abbrev pub load_options : List Rule
@@ -185,6 +186,7 @@ IsFlag rows name = Says rows name true ⊎ Says rows name false
 pub record HasFlags (rows : List Row) : Type 0 where
   pub progress : IsFlag rows (codes "progress")
   pub stats : IsFlag rows (codes "stats")
+  pub history : IsFlag rows (codes "history")
 
 -- each option of a load gives a number in its range, and each flag is set or not
 pub record HasSettings (rows : List Row) : Type 0 where
@@ -216,6 +218,7 @@ pub record AreGiven (rows : List Row) (s : Settings) : Type 0 where
 pub record IsTold (rows : List Row) (how : How) : Type 0 where
   pub progress : Says rows (codes "progress") how.progress
   pub stats : Says rows (codes "stats") how.stats
+  pub history : Says rows (codes "history") how.history
 
 -- the words name this subcommand, and clap found this for its options
 abbrev pub Names : List Text → Text → List Row → Type 0

@@ -1,5 +1,5 @@
 -- The lines that a load writes.
-use Rattle.std.specs.Prelude.{ℕ, ◌⊎◌, List, ◌++◌, Option, codes, decimal}
+use Rattle.std.specs.Prelude.{◌≡◌, ℕ, ◌⊎◌, true, false, Bool, List, ◌∷◌, ◌++◌, Option, codes, decimal}
 use Rattle.std.specs.Io.KnownBytes.{Appends}
 use Rattle.vac_lines.specs.Script.{as_line}
 use Rattle.vac_lines.specs.Text.{report_text}
@@ -7,9 +7,13 @@ use Rattle.vac_load.specs.declared.tally.Tally.{Tally}
 use Rattle.vac_load.specs.declared.load.LoadReport.{LoadReport}
 use Rattle.vac_load.specs.declared.load.LoadFault.{LoadFault}
 use Rattle.vac_draws.specs.declared.settings.Settings.{Settings}
+use Rattle.vac_history.specs.declared.note.Note.{Note}
+use Rattle.vac_history.specs.Keeping.{IsNoted}
+use Rattle.vac_history.specs.History.{WroteHistory, WroteHistoryPrefix}
+use Rattle.vac_load.specs.Lists.{Paired}
 use Rattle.vac_load.specs.Streams.{LoadedBySeed}
 use Rattle.vac_script.specs.Script.{AppendsPrefix}
-use Rattle.vac_cli.specs.Ending.{load_fault_line}
+use Rattle.vac_cli.specs.Ending.{NamedAfter, load_fault_line}
 
 -- a name and how often it came
 abbrev pub count_text : List ℕ → ℕ → List ℕ
@@ -51,3 +55,37 @@ NamedFault held holds =
 -- a load ended by a fault: nothing was written but a prefix of its line, or of those of the load
 abbrev pub LoadStopped : Settings → Option (List ℕ) → Option (List ℕ) → Type 0
 LoadStopped s held holds = NamedFault held holds ⊎ WroteLoadInPart s held holds
+
+-- the load of these settings was run to its end, and these are its answered calls: those of the
+-- opening, one for each of its records, and those of each client, one for each of its records
+pub record HasNoted (s : Settings) (opening : List Note) (clients : List (List Note))
+    : Type 0 where
+  pub load : LoadReport
+  pub loaded : LoadedBySeed s load.tally load.report
+  pub of_opening : Paired IsNoted opening loaded.opened
+  pub of_clients : Paired (λ notes x. Paired IsNoted notes x.records) clients loaded.shares
+
+-- the load was run to its end, and the history of its answered calls was written and nothing else
+pub record WroteCalls (s : Settings) (held holds : Option (List ℕ)) : Type 0 where
+  pub opening : List Note
+  pub clients : List (List Note)
+  pub noted : HasNoted s opening clients
+  pub written : WroteHistory (opening ∷ clients) held holds
+
+-- the load was run to its end, and a prefix of that was written
+pub record WroteCallsInPart (s : Settings) (held holds : Option (List ℕ)) : Type 0 where
+  pub opening : List Note
+  pub clients : List (List Note)
+  pub noted : HasNoted s opening clients
+  pub written : WroteHistoryPrefix (opening ∷ clients) held holds
+
+-- the same where the history is written, or the two lines are
+abbrev pub LoadWrote : Bool → Settings → Option (List ℕ) → Option (List ℕ) → Type 0
+LoadWrote true s held holds = WroteCalls s held holds
+LoadWrote false s held holds = WroteLoad s held holds
+
+-- a load that is to write the history, or the two lines, ended by a fault
+abbrev pub LoadEnded : Bool → Settings → Option (List ℕ) → Option (List ℕ) → Type 0
+LoadEnded true s held holds =
+    NamedFault held holds ⊎ NamedAfter (WroteCallsInPart s held) holds
+LoadEnded false s held holds = LoadStopped s held holds

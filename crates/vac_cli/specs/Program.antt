@@ -1,5 +1,5 @@
 -- What the program does with a command line: its status, and what it reads and writes.
-use Rattle.std.specs.Prelude.{◌≡◌, ℕ, ◌≤◌, ◌⊎◌, true, false, Option, List, []}
+use Rattle.std.specs.Prelude.{◌≡◌, ℕ, ◌≤◌, ◌⊎◌, Bool, true, false, Option, List, []}
 use Rattle.std.specs.Prelude.{◌++◌, codes}
 use Rattle.std.specs.Io.KnownBytes.{Appends}
 use Rattle.clap.specs.Words.{IsAmong, Text, fault_of}
@@ -17,7 +17,7 @@ use Rattle.vac_script.specs.Dump.{Dumped, DumpStopped}
 use Rattle.vac_script.specs.Check.{Checked, CheckStopped}
 use Rattle.vac_judge.specs.Reading.{HasJudged, HasStopped}
 use Rattle.vac_worklist.specs.Worklist.{WroteTasks, WroteTasksPrefix}
-use Rattle.vac_cli.specs.Load.{WroteLoad, LoadStopped}
+use Rattle.vac_cli.specs.Load.{LoadWrote, LoadEnded}
 use Rattle.vac_cli.specs.Ending.{NamedAfter, fault_line, load_fault_line}
 use Rattle.vac_cli.specs.CommandLine.{vacation, AsksFor}
 
@@ -25,10 +25,12 @@ use Rattle.vac_cli.specs.CommandLine.{vacation, AsksFor}
 abbrev pub Ends : ℕ → Type 0 → Type 0 → Type 0
 Ends status done stopped = ((status ≡ 0) × done) ⊎ ((status ≡ 1) × stopped)
 
--- a load is run where its settings fit each other; where they do not, the command line is refused
-abbrev pub Loads : ℕ → Settings → Option (List ℕ) → Option (List ℕ) → Type 0
-Loads status s held holds =
-    ((is_settings s ≡ true) × Ends status (WroteLoad s held holds) (LoadStopped s held holds))
+-- a load is run where its settings fit each other, and writes its history or its two lines; where
+-- they do not fit, the command line is refused
+abbrev pub Loads : Bool → ℕ → Settings → Option (List ℕ) → Option (List ℕ) → Type 0
+Loads history status s held holds =
+    ((is_settings s ≡ true)
+    × Ends status (LoadWrote history s held holds) (LoadEnded history s held holds))
     ⊎ ((is_settings s ≡ false) × (status ≡ 2)
     × AppendsPrefix held holds (load_fault_line Arguments))
 
@@ -58,7 +60,7 @@ Does (Judge blocks) status unread left held holds =
     (HasJudged blocks false unread left held holds
     ⊎ NamedAfter (HasStopped blocks unread left held) holds)
 Does (Load settings how) status unread left held holds =
-    (left ≡ unread) × Loads status settings held holds
+    (left ≡ unread) × Loads how.history status settings held holds
 Does (Tasks settings) status unread left held holds =
     (left ≡ unread) × Lists status settings held holds
 

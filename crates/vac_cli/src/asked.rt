@@ -22,6 +22,8 @@ pub(crate) struct How {
     pub(crate) progress: bool,
     /// Whether to tell how long it took, and how often it tried.
     pub(crate) stats: bool,
+    /// Whether to write the history of its calls in place of its two lines, and to tell these.
+    pub(crate) history: bool,
 }
 
 /// What a command line asks for.
@@ -98,6 +100,7 @@ fn how_of(matches: &ArgMatches) -> How
     How {
         progress: flag_of(matches, "progress"),
         stats: flag_of(matches, "stats"),
+        history: flag_of(matches, "history"),
     }
 }
 

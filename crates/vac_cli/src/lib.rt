@@ -6,6 +6,7 @@
 mod asked;
 mod command_line;
 mod load;
+mod noting;
 mod options;
 mod stats;
 mod status;

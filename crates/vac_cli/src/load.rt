@@ -1,6 +1,6 @@
 //! A load from the command line, and the lines that it writes.
 
-ghost use Rattle.std.specs.Prelude.{◌≡◌, ◌≤◌, ◌++◌, ◌↔◌, ◌⊎◌, false, OnOk};
+ghost use Rattle.std.specs.Prelude.{◌≡◌, ◌≤◌, ◌++◌, ◌↔◌, ◌⊎◌, false, vec_len, IfOk, OnOk};
 ghost use Rattle.vac_draws.specs.Setting.{is_settings};
 ghost use Rattle.vac_load.specs.Streams.{LoadedBySeed};
 ghost use Rattle.vac_cli.specs.Load.{count_text, tried_text, wanting_text};
@@ -13,21 +13,23 @@ ghost use Rattle.vac_script.specs.Script.{AppendsPrefix};
 ghost use Rattle.vac_lines.specs.Text.{report_text};
 
 use crate::asked::How;
-use crate::stats::{Span, Unwatched, tell_stats};
+use crate::noting::{load_noted, run_told};
+use crate::stats::{Span, tell_stats};
 use crate::status::{DONE, FAULT, end_by, end_load_by};
-use crate::telling::run_load_told;
 use std::alloc::{AllocError, Global};
 use std::io::Write;
 use std::sync::Wait;
 use std::thread::Threads;
 use std::time::Clock;
 use vac_lines::print_reply;
-use vac_load::{LoadFault, LoadReport, Settings, Tally, run_load_counted};
+use vac_history::Unkept;
+use vac_load::{Keepers, LoadFault, LoadReport, Settings, Tally};
 use vac_model::{Reply, Report};
 use vac_script::{RunFault, write_and_flush};
 
-/// Runs a load, writes its two lines, and answers the status. Where that is asked for, tells on
-/// `errors` how far it is, and in the end how long its clients took and how often they tried.
+/// Runs a load, writes its two lines, or the history of its calls, and answers the status. Where
+/// that is asked for, tells on `errors` how far it is, and in the end how long its clients took and
+/// how often they tried. Where the history is written, the two lines go to `errors`.
 pub(crate) fn load<T: Threads + Wait + Clock + Sync + AllocGlobal, W: Write, E: Write + Send>(
     rt: &T,
     settings: &Settings,
@@ -35,16 +37,39 @@ pub(crate) fn load<T: Threads + Wait + Clock + Sync + AllocGlobal, W: Write, E: 
     output: &mut W,
     errors: &mut E,
 ) -> u8
-    ensures { Loads result settings.now (W.contents output.old) (W.contents output.new) }
+    ensures { Loads how.history result settings.now
+        (W.contents output.old) (W.contents output.new) }
 {
-    let mut span = Span::new(rt);
-    let loaded = if how.progress {
-        run_load_told(rt, settings, &mut span, errors)
+    if how.history {
+        load_noted(rt, settings, how, output, errors)
     } else {
-        run_load_counted(rt, settings, Unwatched, &mut span)
+        load_reported(rt, settings, how, output, errors)
+    }
+}
+
+/// Runs a load, writes its two lines, and answers the status.
+fn load_reported<T: Threads + Wait + Clock + Sync + AllocGlobal, W: Write, E: Write + Send>(
+    rt: &T,
+    settings: &Settings,
+    how: How,
+    output: &mut W,
+    errors: &mut E,
+) -> u8
+    ensures { Loads false result settings.now (W.contents output.old) (W.contents output.new) }
+{
+    if !settings.is_in_range() {
+        return end_load_by(LoadFault::Arguments, output);
+    }
+    let Ok(clients) = unkept(rt.alloc(), settings.clients) else {
+        return end_load_by(LoadFault::Memory, output);
     };
-    match loaded {
-        Ok((report, efforts)) => {
+    let keepers = Keepers {
+        opening: Unkept,
+        clients,
+    };
+    let mut span = Span::new(rt);
+    match run_told(rt, settings, how, keepers, &mut span, errors) {
+        Ok((report, efforts, _kept)) => {
             if how.stats {
                 let answered = report.tally.answered;
                 tell_stats(rt.alloc(), span.nanos(), answered, efforts, errors);
@@ -52,6 +77,26 @@ pub(crate) fn load<T: Threads + Wait + Clock + Sync + AllocGlobal, W: Write, E: 
             write_load(rt.alloc(), &report, output)
         }
         Err(fault) => end_load_by(fault, output),
+    }
+}
+
+/// So many keepers that keep nothing.
+fn unkept(alloc: Global, count: u32) -> Result<Vec<Unkept>, AllocError>
+    ensures { IfOk result (λ v. vec_len v ≡ count) }
+{
+    let mut keepers = Vec::new(alloc);
+    for number in 0..count {
+        keepers.push(Unkept)?;
+    }
+    Ok(keepers)
+}
+
+/// Tells the two lines of a load on `errors`. Where memory or the write is refused, nothing is lost
+/// but these lines.
+pub(crate) fn tell_load<E: Write>(alloc: Global, report: &LoadReport, errors: &mut E) {
+    let mut text = Vec::new(alloc);
+    if append_load(&mut text, report).is_ok() {
+        let _ = write_and_flush(errors, text.as_slice());
     }
 }
 

@@ -245,7 +245,12 @@ fn add_telling_options<'a>(
         "stats",
         "Tells on standard error how long the clients took, and how often they tried",
     );
-    add_option(add_option(command, progress), stats)
+    let history = flag(
+        alloc,
+        "history",
+        "Writes the history of all calls, for judge, and the two lines on standard error",
+    );
+    add_option(add_option(add_option(command, progress), stats), history)
 }
 
 /// A subcommand without options.

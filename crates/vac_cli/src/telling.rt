@@ -1,8 +1,8 @@
 //! Loads that tell how far they are while they run.
 
-ghost use Rattle.std.specs.Prelude.{◌≡◌, ◌↔◌, false, IfOk, IsErrOf};
-ghost use Rattle.vac_draws.specs.Setting.{is_settings};
-ghost use Rattle.vac_load.specs.Streams.{LoadedBySeed};
+ghost use Rattle.std.specs.Prelude.{◌≡◌, ◌↔◌, false, vec_len, IfOk, IsErrOf};
+ghost use Rattle.vac_load.specs.Load.{is_load};
+ghost use Rattle.vac_load.specs.Streams.{KeptBySeed};
 
 use crate::stats::Span;
 use std::alloc::Global;
@@ -13,7 +13,8 @@ use std::thread;
 use std::thread::{Parker, Threads};
 use std::time::{Clock, Duration, Instant};
 use stm_attempt::{Gate, Point};
-use vac_load::{Efforts, LoadFault, LoadReport, Settings, run_load_counted};
+use vac_history::Keep;
+use vac_load::{Efforts, Keepers, LoadFault, LoadReport, Settings, run_load_kept};
 
 /// The least time between two lines, in milliseconds.
 const PAUSE_MILLIS: u64 = 500;
@@ -50,18 +51,20 @@ impl Progress {
     }
 
     /// Runs the load, and then lets the teller end.
-    fn run<T: Threads + Wait + Clock + AllocGlobal>(
+    fn run<T: Threads + Wait + Clock + AllocGlobal, K: Keep + Send + Drop>(
         &self,
         rt: &T,
         settings: &Settings,
+        keepers: Keepers<K>,
         span: &mut Span<T>,
-    ) -> Result<(LoadReport, Efforts), LoadFault>
+    ) -> Result<(LoadReport, Efforts, Keepers<K>), LoadFault>
         ensures arguments { IsErrOf result LoadFault.Arguments
-            ↔ (is_settings settings.now ≡ false) }
-        ensures loaded { IfOk result (λ r. LoadedBySeed settings.now r.0.tally r.0.report) }
+            ↔ (is_load settings.now (vec_len keepers.clients) ≡ false) }
+        ensures kept { IfOk result (λ r.
+            KeptBySeed K.notes settings.now r.0.tally r.0.report keepers r.2) }
     {
         let answered = &self.answered;
-        let loaded = run_load_counted(rt, settings, Counter { answered }, span);
+        let loaded = run_load_kept(rt, settings, Counter { answered }, span, keepers);
         self.has_ended.store(true, Ordering::SeqCst);
         self.teller.unpark();
         loaded
@@ -118,30 +121,37 @@ fn all_tasks(settings: &Settings) -> u64 {
     of_one.saturating_mul(u64::from(settings.clients))
 }
 
-/// Runs the load of a seed as `run_load_counted` does. While it runs, tells on `errors`, at most
-/// twice a second, how many of its tasks were answered.
+/// Runs the load of a seed as `run_load_kept` does. While it runs, tells on `errors`, at most twice
+/// a second, how many of its tasks were answered.
 ///
 /// Where no thread can be started to tell that, the load is run and nothing is told: a join then
 /// makes its second call first.
-pub(crate) fn run_load_told<T: Threads + Wait + Clock + Sync + AllocGlobal, E: Write + Send>(
+pub(crate) fn run_load_told<
+    T: Threads + Wait + Clock + Sync + AllocGlobal,
+    K: Keep + Send + Drop,
+    E: Write + Send,
+>(
     rt: &T,
     settings: &Settings,
+    keepers: Keepers<K>,
     span: &mut Span<T>,
     errors: &mut E,
-) -> Result<(LoadReport, Efforts), LoadFault>
+) -> Result<(LoadReport, Efforts, Keepers<K>), LoadFault>
     ensures arguments { IsErrOf result LoadFault.Arguments
-        ↔ (is_settings settings.now ≡ false) }
-    ensures loaded { IfOk result (λ r. LoadedBySeed settings.now r.0.tally r.0.report) }
+        ↔ (is_load settings.now (vec_len keepers.clients) ≡ false) }
+    ensures kept { IfOk result (λ r.
+        KeptBySeed K.notes settings.now r.0.tally r.0.report keepers r.2) }
 {
     let progress = Progress::new();
     let (shared, settings) = (&progress, *settings);
     let all = all_tasks(&settings);
     let tell = || shared.tell(rt, all, errors);
-    let run = move || -> Result<(LoadReport, Efforts), LoadFault>
+    let run = move || -> Result<(LoadReport, Efforts, Keepers<K>), LoadFault>
         ensures arguments { IsErrOf result LoadFault.Arguments
-            ↔ (is_settings settings ≡ false) }
-        ensures loaded { IfOk result (λ r. LoadedBySeed settings r.0.tally r.0.report) }
-    { shared.run(rt, &settings, span) };
+            ↔ (is_load settings (vec_len keepers.clients) ≡ false) }
+        ensures kept { IfOk result (λ r.
+            KeptBySeed K.notes settings r.0.tally r.0.report keepers r.2) }
+    { shared.run(rt, &settings, keepers, span) };
     let ((), loaded) = thread::join(rt, tell, run);
     loaded
 }

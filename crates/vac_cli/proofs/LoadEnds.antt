@@ -1,0 +1,56 @@
+-- How a load ends.
+use Rattle.std.proofs.Common.{◌≡◌, ◌≤◌, ◌↔◌, ◌&&◌, inl, inr, refl, ℕ, Bool, true, false, List, Option, map, arith}
+use Rattle.std.proofs.lemmas.Bool.Decides.{nat_tests}
+use Rattle.vac_draws.specs.declared.settings.Settings.{Settings}
+use Rattle.vac_draws.specs.Setting.{is_settings, is_work, is_system}
+use Rattle.vac_history.specs.declared.journal.Journal.{Journal}
+use Rattle.vac_history.specs.History.{notes_of, kept_by, WroteHistory, WroteHistoryPrefix}
+use Rattle.vac_load.specs.declared.load.LoadFault.{LoadFault}
+use Rattle.vac_load.specs.declared.load.LoadFault.TheVariants as load
+use Rattle.vac_script.specs.declared.fault.RunFault.{RunFault}
+use Rattle.vac_script.specs.Script.{AppendsPrefix}
+use Rattle.vac_cli.specs.Ending.{load_fault_line, fault_line}
+use Rattle.vac_cli.specs.Load.{NamedFault, LoadEnded, HasNoted, WroteCalls, WroteCallsInPart}
+use Rattle.vac_cli.specs.Program.{Loads}
+
+both_first : (a b : Bool) → (a && b) ≡ true → a ≡ true
+both_first true b e = refl
+both_first false b e = e
+
+-- the line of a fault was written in part
+named : (history : Bool) (s : Settings) (held holds : Option (List ℕ)) → NamedFault held holds → LoadEnded history s held holds
+named true s held holds n = inl n
+named false s held holds n = inl n
+
+not_arguments : load.Memory ≡ load.Arguments → ⊥
+not_arguments e = absurd cc
+
+one_of : (status : ℕ) → 1 ≤ status → status ≤ 2 → (status ≡ 2 → ⊥) → status ≡ 1
+one_of status low high is_not = omega (arith, low, high, is_not)
+
+-- a load whose settings fit each other ended for want of memory
+pub ended_for_memory : (history : Bool) (s : Settings) (status : ℕ) (held holds : Option (List ℕ)) → is_settings s ≡ true → 1 ≤ status → status ≤ 2 → ((status ≡ 2) ↔ (load.Memory ≡ load.Arguments)) → AppendsPrefix held holds (load_fault_line load.Memory) → Loads history status s held holds
+ended_for_memory history s status held holds fits low high refused line =
+    inl (fits, inr (one_of status low high (λ two. not_arguments (refused.0 two)), named history s held holds (load.Memory, line)))
+
+-- the history was written whole
+pub wrote_calls : {C : Type 0} (s : Settings) (opening : Journal C) (clients : List (Journal C)) (held holds : Option (List ℕ)) → is_settings s ≡ true → HasNoted s (notes_of opening) (map notes_of clients) → WroteHistory (kept_by opening clients) held holds → Loads true 0 s held holds
+wrote_calls s opening clients held holds fits has wrote = inl (fits, inl (refl, record {
+  opening = notes_of opening;
+  clients = map notes_of clients;
+  noted = has;
+  written = wrote;
+}))
+
+-- a prefix of it was written, and then one of the line of a fault
+pub stopped_calls : {C : Type 0} (s : Settings) (opening : Journal C) (clients : List (Journal C)) (status : ℕ) (fault : RunFault) (held middle holds : Option (List ℕ)) → is_settings s ≡ true → status ≡ 1 → HasNoted s (notes_of opening) (map notes_of clients) → WroteHistoryPrefix (kept_by opening clients) held middle → AppendsPrefix middle holds (fault_line fault) → Loads true status s held holds
+stopped_calls s opening clients status fault held middle holds fits one has wrote line = inl (fits, inr (one, inr (middle, record {
+  opening = notes_of opening;
+  clients = map notes_of clients;
+  noted = has;
+  written = wrote;
+}, (fault, line))))
+
+-- there are few clients
+pub few_clients : (s : Settings) → is_settings s ≡ true → s.clients ≤ 64
+few_clients s e = let w : is_work s ≡ true = both_first (is_work s) (is_system s) e in grind (arith, nat_tests, w)

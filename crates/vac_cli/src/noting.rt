@@ -1,0 +1,111 @@
+//! Loads that write the history of their calls.
+
+ghost use Rattle.std.specs.Prelude.{◌≡◌, ◌↔◌, [], true, false, vec_len, All, IfOk, IsErrOf};
+ghost use Rattle.vac_load.specs.Load.{is_load};
+ghost use Rattle.vac_load.specs.Streams.{KeptBySeed};
+ghost use Rattle.vac_cli.specs.Program.{Loads};
+
+use crate::asked::How;
+use crate::load::tell_load;
+use crate::stats::{Span, Unwatched, tell_stats};
+use crate::status::{DONE, end_by, end_load_by};
+use crate::telling::run_load_told;
+use std::alloc::{AllocError, Global};
+use std::io::Write;
+use std::sync::Wait;
+use std::thread::Threads;
+use std::time::{Clock, Instant};
+use vac_history::{HistoryFault, Journal, Keep, write_history};
+use vac_load::{Efforts, Keepers, LoadFault, LoadReport, Settings, run_load_kept};
+use vac_script::RunFault;
+
+/// An empty journal for each client, with one clock and one start.
+fn journals<'a, T: Clock>(
+    alloc: Global,
+    clock: &'a T,
+    start: Option<Instant>,
+    count: u32,
+) -> Result<Vec<Journal<'a, T>>, AllocError>
+    ensures number { IfOk result (λ v. vec_len v ≡ count) }
+    ensures empty { IfOk result (λ v. All (λ j. j.notes.items ≡ []) v.items) }
+{
+    let mut journals = Vec::with_capacity(alloc, count as usize)?;
+    for number in 0..count {
+        journals.push(Journal::new(alloc, clock, start))?;
+    }
+    Ok(journals)
+}
+
+/// Whether all journals had room for each call.
+fn are_whole<T: Clock>(kept: &Keepers<Journal<'_, T>>) -> bool {
+    kept.opening.is_whole() && kept.clients.iter().all(|journal| journal.is_whole())
+}
+
+/// Runs a load with these keepers, and tells how far it is where that is asked for.
+pub(crate) fn run_told<
+    T: Threads + Wait + Clock + Sync + AllocGlobal,
+    K: Keep + Send + Drop,
+    E: Write + Send,
+>(
+    rt: &T,
+    settings: &Settings,
+    how: How,
+    keepers: Keepers<K>,
+    span: &mut Span<T>,
+    errors: &mut E,
+) -> Result<(LoadReport, Efforts, Keepers<K>), LoadFault>
+    ensures arguments { IsErrOf result LoadFault.Arguments
+        ↔ (is_load settings.now (vec_len keepers.clients) ≡ false) }
+    ensures kept { IfOk result (λ r.
+        KeptBySeed K.notes settings.now r.0.tally r.0.report keepers r.2) }
+{
+    if how.progress {
+        run_load_told(rt, settings, keepers, span, errors)
+    } else {
+        run_load_kept(rt, settings, Unwatched, span, keepers)
+    }
+}
+
+/// Runs a load, writes the history of its calls, tells its two lines on `errors`, and answers the
+/// status. A call for which a journal had no room was not made, and the load then ends for want of
+/// memory.
+pub(crate) fn load_noted<T: Threads + Wait + Clock + Sync + AllocGlobal, W: Write, E: Write + Send>(
+    rt: &T,
+    settings: &Settings,
+    how: How,
+    output: &mut W,
+    errors: &mut E,
+) -> u8
+    ensures { Loads true result settings.now (W.contents output.old) (W.contents output.new) }
+{
+    if !settings.is_in_range() {
+        return end_load_by(LoadFault::Arguments, output);
+    }
+    let alloc = rt.alloc();
+    let start = Instant::now(rt).ok();
+    let Ok(clients) = journals(alloc, rt, start, settings.clients) else {
+        return end_load_by(LoadFault::Memory, output);
+    };
+    let keepers = Keepers {
+        opening: Journal::new(alloc, rt, start),
+        clients,
+    };
+    let mut span = Span::new(rt);
+    let (report, efforts, kept) =
+        match run_told(rt, settings, how, keepers, &mut span, errors) {
+            Ok(loaded) => loaded,
+            Err(fault) => return end_load_by(fault, output),
+        };
+    if !are_whole(&kept) {
+        return end_load_by(LoadFault::Memory, output);
+    }
+    if how.stats {
+        tell_stats(alloc, span.nanos(), report.tally.answered, efforts, errors);
+    }
+    tell_load(alloc, &report, errors);
+    match write_history(alloc, &kept.opening, kept.clients.as_slice(), output) {
+        Ok(()) => DONE,
+        Err(HistoryFault::Memory) => end_by(RunFault::Memory, output),
+        Err(HistoryFault::Write) => end_by(RunFault::Write, output),
+    }
+}
