@@ -35,21 +35,37 @@ ended_for_memory history s status held holds fits low high refused line =
 
 -- the history was written whole
 pub wrote_calls : {C : Type 0} (s : Settings) (opening : Journal C) (clients : List (Journal C)) (held holds : Option (List ℕ)) → is_settings s ≡ true → HasNoted s (notes_of opening) (map notes_of clients) → WroteHistory (kept_by opening clients) held holds → Loads true 0 s held holds
-wrote_calls s opening clients held holds fits has wrote = inl (fits, inl (refl, record {
-  opening = notes_of opening;
-  clients = map notes_of clients;
-  noted = has;
-  written = wrote;
-}))
+wrote_calls s opening clients held holds fits has wrote = inl (
+  fits,
+  inl (
+    refl,
+    record {
+      opening = notes_of opening;
+      clients = map notes_of clients;
+      noted = has;
+      written = wrote;
+    },
+  ),
+)
 
 -- a prefix of it was written, and then one of the line of a fault
 pub stopped_calls : {C : Type 0} (s : Settings) (opening : Journal C) (clients : List (Journal C)) (status : ℕ) (fault : RunFault) (held middle holds : Option (List ℕ)) → is_settings s ≡ true → status ≡ 1 → HasNoted s (notes_of opening) (map notes_of clients) → WroteHistoryPrefix (kept_by opening clients) held middle → AppendsPrefix middle holds (fault_line fault) → Loads true status s held holds
-stopped_calls s opening clients status fault held middle holds fits one has wrote line = inl (fits, inr (one, inr (middle, record {
-  opening = notes_of opening;
-  clients = map notes_of clients;
-  noted = has;
-  written = wrote;
-}, (fault, line))))
+stopped_calls s opening clients status fault held middle holds fits one has wrote line = inl (
+  fits,
+  inr (
+    one,
+    inr (
+      middle,
+      record {
+        opening = notes_of opening;
+        clients = map notes_of clients;
+        noted = has;
+        written = wrote;
+      },
+      (fault, line),
+    ),
+  ),
+)
 
 -- there are few clients
 pub few_clients : (s : Settings) → is_settings s ≡ true → s.clients ≤ 64

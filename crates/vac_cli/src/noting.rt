@@ -91,11 +91,10 @@ pub(crate) fn load_noted<T: Threads + Wait + Clock + Sync + AllocGlobal, W: Writ
         clients,
     };
     let mut span = Span::new(rt);
-    let (report, efforts, kept) =
-        match run_told(rt, settings, how, keepers, &mut span, errors) {
-            Ok(loaded) => loaded,
-            Err(fault) => return end_load_by(fault, output),
-        };
+    let (report, efforts, kept) = match run_told(rt, settings, how, keepers, &mut span, errors) {
+        Ok(loaded) => loaded,
+        Err(fault) => return end_load_by(fault, output),
+    };
     if !are_whole(&kept) {
         return end_load_by(LoadFault::Memory, output);
     }

@@ -32,21 +32,21 @@ pub returns-in-Ok-write_history : goal.returns-in-Ok-write_history
 returns-in-Ok-write_history g c =
     let k = c.in-Ok-run_told.loaded.2 in
     wrote_calls c.args.settings.now k.opening k.clients.items (g.W.Write.contents c.args.output.now) (g.W.Write.contents c.write_history.new.output) (search rules)
-        (noted c.args.settings.now c.in-Ok-run_told.loaded.0 (record { opening = c.new.result; clients = c.in-Ok.clients }) k c.new.ensures.empty c.in-Ok.ensures.empty c.in-Ok-run_told.ensures.kept)
-        (search rules)
+    (noted c.args.settings.now c.in-Ok-run_told.loaded.0 (record { opening = c.new.result; clients = c.in-Ok.clients }) k c.new.ensures.empty c.in-Ok.ensures.empty c.in-Ok-run_told.ensures.kept)
+    (search rules)
 
 -- src/noting.rt:80:1
 pub returns-in-Err-Memory : goal.returns-in-Err-Memory
 returns-in-Err-Memory g c =
     let k = c.in-Ok-run_told.loaded.2 in
     stopped_calls c.args.settings.now k.opening k.clients.items c.end_by.result run.Memory (g.W.Write.contents c.args.output.now) (g.W.Write.contents c.write_history.new.output) (g.W.Write.contents c.end_by.new.output) (search rules) c.end_by.ensures.status
-        (noted c.args.settings.now c.in-Ok-run_told.loaded.0 (record { opening = c.new.result; clients = c.in-Ok.clients }) k c.new.ensures.empty c.in-Ok.ensures.empty c.in-Ok-run_told.ensures.kept)
-        (search rules) c.end_by.ensures.line
+    (noted c.args.settings.now c.in-Ok-run_told.loaded.0 (record { opening = c.new.result; clients = c.in-Ok.clients }) k c.new.ensures.empty c.in-Ok.ensures.empty c.in-Ok-run_told.ensures.kept)
+    (search rules) c.end_by.ensures.line
 
 -- src/noting.rt:72:1
 pub returns : goal.returns
 returns g c =
     let k = c.in-Ok-run_told.loaded.2 in
     stopped_calls c.args.settings.now k.opening k.clients.items c.end_by-in-Err-Write.result run.Write (g.W.Write.contents c.args.output.now) (g.W.Write.contents c.write_history.new.output) (g.W.Write.contents c.end_by-in-Err-Write.new.output) (search rules) c.end_by-in-Err-Write.ensures.status
-        (noted c.args.settings.now c.in-Ok-run_told.loaded.0 (record { opening = c.new.result; clients = c.in-Ok.clients }) k c.new.ensures.empty c.in-Ok.ensures.empty c.in-Ok-run_told.ensures.kept)
-        (search rules) c.end_by-in-Err-Write.ensures.line
+    (noted c.args.settings.now c.in-Ok-run_told.loaded.0 (record { opening = c.new.result; clients = c.in-Ok.clients }) k c.new.ensures.empty c.in-Ok.ensures.empty c.in-Ok-run_told.ensures.kept)
+    (search rules) c.end_by-in-Err-Write.ensures.line
