@@ -2,7 +2,6 @@
 use Rattle.std.proofs.Common.{◌≡◌, ◌≢◌, ℕ, ◌+◌, ◌<◌, ◌≤◌, ◌^◌, List, length, Option, Some, None, refl, sym, ◌∙◌, arith}
 use Rattle.std.specs.declared.cmp.Ordering.{Ordering}
 use Rattle.std.specs.declared.cmp.Ordering.TheVariants.{Less, Equal, Greater}
-use Rattle.std.specs.Prelude.{IfSome}
 use Rattle.stm_words.specs.Seen.{some_le}
 use Rattle.stm_words.specs.View.{View, Sees, Stands, Kept, Loaded}
 use Rattle.tx_alloc.specs.Pool.{IsBlock}
@@ -14,9 +13,9 @@ use Rattle.tx_list.specs.declared.place.TheConstants.{KIND, ID}
 use Rattle.tx_list.specs.declared.key.Key.{Key}
 use Rattle.tx_list.specs.declared.search.Spot.{Spot}
 use Rattle.tx_list.specs.Lists.{IsListAt, HasList}
-use Rattle.tx_list.specs.Search.{Compared, IsBefore, Sought, key_cmp, start_word}
+use Rattle.tx_list.specs.Search.{Compared, Sought, key_cmp}
 use Rattle.tx_list.proofs.Order.{less_code, equal_code, greater_code}
-use Rattle.tx_list.proofs.Trail.{Trail, Ended, trail_start, trail_opened, trail_end, trail_here, trail_past, trail_step, trail_lower, trail_behind}
+use Rattle.tx_list.proofs.Trail.{Trail, Ended, trail_start, trail_opened, trail_end, trail_here, trail_past, trail_step, trail_lower}
 use Rattle.tx_list.proofs.Reading.{Inside}
 
 pub record Seeking (s0 s : View) (head key link low : ℕ) : Type 0 where
@@ -34,22 +33,6 @@ seek_start s head key has = record {
   room = has.room;
   trail = λ image rs seen h. trail_start (mem s image) (length image) head key rs h.list.linked;
 }
-
--- or it starts behind a booking before the key
-pub start_room : (s : View) (head key : ℕ) (before : Option Block) → HasList s head → IfSome before (λ b. IsBefore s head key b.0.0) → IfSome before (λ b. b.0.0 + 8 ≤ 2 ^ 32)
-start_room s head key None has before = tt
-start_room s head key (Some b) has before = omega (arith, before.room, has.small)
-
-pub seek_start_behind : (s : View) (head key link : ℕ) (before : Option Block) → HasList s head → IfSome before (λ b. IsBefore s head key b.0.0) → link ≡ start_word head before →
-    Seeking s s head key link 0
-seek_start_behind s head key link None has before e = rw e (seek_start s head key has)
-seek_start_behind s head key link (Some b) has before e = rw e (record {
-  kept = kept_none s;
-  writes = refl;
-  lower = omega arith;
-  room = omega (arith, before.room);
-  trail = λ image rs seen h. trail_behind (mem s image) (length image) head 0 key before.earlier b.0.0 rs h.list.linked (before.at image rs seen h) before.some before.less;
-})
 
 -- what was read at the link is a block
 pub seek_in : (s0 s s' : View) (head key link low p : ℕ) → Seeking s0 s head key link low → HasList s0 head → Loaded s s' link p → p ≢ 0 → ∥ ((image : List ℕ) × Stands s' image) ∥₁ → Inside s' p

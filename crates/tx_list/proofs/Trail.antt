@@ -1,8 +1,6 @@
 -- A search that goes from link to link.
-use Rattle.std.proofs.Common.{◌≡◌, ◌≢◌, inl, inr, ℕ, ◌+◌, ◌<◌, ◌≤◌, [], ◌∷◌, refl, sym, ap, ◌∙◌, subst, arith}
+use Rattle.std.proofs.Common.{◌≡◌, ◌≢◌, ℕ, ◌+◌, ◌<◌, ◌≤◌, refl, sym, ap, ◌∙◌, arith}
 use Rattle.std.proofs.lemmas.Bool.Decides.{nat_tests}
-use Rattle.std.proofs.lemmas.Bool.{cases_lt}
-use Rattle.stm_words.specs.Seen.{same_or}
 use Rattle.tx_alloc.specs.Rows.{Rows, block_at}
 use Rattle.tx_list.specs.Bookings.{place_code, Linked, link_of}
 use Rattle.tx_list.proofs.Frame.{linked_lower}
@@ -75,29 +73,3 @@ trail_lower m n head link low lower key rs l t = record {
   same_link = t.same_link;
   same_entry = t.same_entry;
 }
-
--- a search that begins behind a row before the key
-pub trail_behind : (m : ℕ → ℕ) (n l lo key earlier b : ℕ) (rs : Rows) → Linked m n (m l) lo rs → block_at rs earlier ≡ b → b ≢ 0 → earlier < key → Trail m n l (b + 3) 0 key rs
-trail_behind m n l lo key earlier b [] h at some less = absurd (some (sym at))
-trail_behind m n l lo key earlier b ((j, a) ∷ rs) (r, h) at some less =
-    elim (same_or j earlier) [
-      | inl e ↦ (
-          let is : a ≡ b = grind (arith, nat_tests) in
-          let t : Trail m n l (a + 3) 0 key ((j, a) ∷ rs) = record {
-            rest = rs;
-            linked = linked_lower m n (m (a + 3)) (j + 1) 0 rs (omega arith) h;
-            same_link = grind (arith, nat_tests);
-            same_entry = grind (arith, nat_tests);
-          } in
-          subst (λ (x : ℕ). Trail m n l (x + 3) 0 key ((j, a) ∷ rs)) is t)
-      | inr ne ↦ (
-          let later : block_at rs earlier ≡ b = grind (arith, nat_tests) in
-          elim (cases_lt j key) [
-            | inl below ↦ (
-                let t = trail_behind m n (a + 3) (j + 1) key earlier b rs h later some less in
-                let link : link_of l ((j, a) ∷ rs) key ≡ link_of (a + 3) rs key = grind (arith, nat_tests) in
-                let entry : block_at ((j, a) ∷ rs) key ≡ block_at rs key = grind (arith, nat_tests) in
-                record { rest = t.rest; linked = t.linked; same_link = link ∙ t.same_link; same_entry = entry ∙ t.same_entry })
-            | inr above ↦ absurd (some (sym later ∙ none_below m n (m (a + 3)) (j + 1) rs h earlier (omega arith)))
-          ])
-    ]

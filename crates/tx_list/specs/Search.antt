@@ -1,9 +1,8 @@
 -- What the steps of a search say.
-use Rattle.std.specs.Prelude.{◌≡◌, ◌≢◌, ℕ, ◌+◌, ◌<◌, ◌≤◌, ◌^◌, List, length, Option, Some, None}
+use Rattle.std.specs.Prelude.{◌≡◌, ◌≢◌, ℕ, ◌+◌, ◌<◌, ◌≤◌, ◌^◌, List, length, Option}
 use Rattle.std.specs.declared.cmp.Ordering.{Ordering}
 use Rattle.std.specs.Ordering.{nat_cmp, ordering_then}
 use Rattle.stm_words.specs.View.{View, Sees, Kept}
-use Rattle.tx_alloc.specs.declared.place.TheConstants.{BLOCK_WORDS}
 use Rattle.tx_alloc.specs.declared.pool.Block.{Block}
 use Rattle.tx_alloc.specs.Pointer.{pointer, IsWithin}
 use Rattle.tx_alloc.specs.Pool.{IsBlock}
@@ -12,7 +11,7 @@ use Rattle.tx_alloc.specs.Steps.{mem}
 use Rattle.tx_list.specs.Bookings.{IsKey, code_of, link_of}
 use Rattle.tx_list.specs.Lists.{IsListAt, IsFresh, Inserted, Removed}
 use Rattle.tx_list.specs.declared.key.Key.{Key}
-use Rattle.tx_list.specs.declared.place.TheConstants.{KIND, ID, NEXT}
+use Rattle.tx_list.specs.declared.place.TheConstants.{KIND, ID}
 use Rattle.tx_list.specs.declared.search.Spot.{Spot}
 
 -- how one kind and id stand to another: by kind, and then by id
@@ -39,20 +38,6 @@ pub record Followed (s s' : View) (link : ℕ) (found : Option Block) : Type 0 w
   pub writes : s'.writes ≡ s.writes
   pub within : IsWithin s' found
   pub is : (image : List ℕ) → Sees s' image → mem s image link ≡ pointer found
-
--- the word at which a search begins: the one that leads on from a block, or the head
-abbrev pub start_word : ℕ → Option Block → ℕ
-start_word head None = head
-start_word head (Some b) = b.0.0 + NEXT
-
--- under each image the list at head has the block b, at a key before this one
-pub record IsBefore (s : View) (head key b : ℕ) : Type 0 where
-  pub some : b ≢ 0
-  pub room : b + BLOCK_WORDS ≤ s.size
-  pub earlier : ℕ
-  pub less : earlier < key
-  pub at : (image : List ℕ) (rs : Rows) → Sees s image →
-      IsListAt (mem s image) (length image) head rs → block_at rs earlier ≡ b
 
 -- only reads were made, and the search for the key came to this spot
 pub record Sought (s s' : View) (head key : ℕ) (spot : Spot) : Type 0 where

@@ -12,4 +12,4 @@ mod search;
 
 pub use change::{insert, insert_at, remove, remove_at};
 pub use key::Key;
-pub use search::{Spot, find, first, next, seek, seek_behind};
+pub use search::{Spot, find, first, next, seek};

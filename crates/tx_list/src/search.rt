@@ -1,16 +1,15 @@
 //! Finding bookings.
 
-ghost use Rattle.std.specs.Prelude.{◌≡◌, ◌+◌, ◌≤◌, ◌^◌, IfOk, IfErr, IfSome};
+ghost use Rattle.std.specs.Prelude.{◌≡◌, IfOk, IfErr};
 ghost use Rattle.tx_list.specs.Bookings.{IsKey, code_of};
 ghost use Rattle.tx_list.specs.Lists.{HasList, HasBooking, Found, First, Next};
-ghost use Rattle.tx_list.specs.Search.{Leads, Followed, IsBefore, start_word, Sought};
+ghost use Rattle.tx_list.specs.Search.{Leads, Followed, Sought};
 
 use crate::key::{Key, compare_key};
 use crate::place::NEXT;
 use std::cmp::Ordering;
 use stm_words::{Addr, TxRead, load};
 use tx_alloc::Block;
-use tx_alloc::place::BLOCK_WORDS;
 
 /// Where a key stands in a list, or would stand. It stays good until a word of the list that leads
 /// on is written.
@@ -84,40 +83,7 @@ pub fn seek<M: TxRead>(memory: &mut M, head: Addr, key: Key) -> Result<Spot, M::
     ensures answer { IfOk result (λ spot.
         Sought (M.view memory.old) (M.view memory.new) head.0 (code_of key) spot) }
 {
-    let spot = seek_behind(memory, head, None, key)?;
-    Ok(spot)
-}
-
-/// The word at which a walk begins: the one that leads on from the block, if there is one, or the
-/// head.
-#[inline]
-fn start_of(head: Addr, before: Option<Block>) -> Addr
-    requires room { IfSome before (λ b. b.0.0 + BLOCK_WORDS ≤ 2 ^ 32) }
-    ensures { result.0 ≡ start_word head.0 before }
-{
-    match before {
-        None => head,
-        Some(block) => Addr(block.0.0 + NEXT),
-    }
-}
-
-/// The same where the caller knows a booking of the list that is before the key: the walk goes on
-/// behind it, and passes over none of those before it.
-pub fn seek_behind<M: TxRead>(
-    memory: &mut M,
-    head: Addr,
-    before: Option<Block>,
-    key: Key,
-) -> Result<Spot, M::Stop>
-    requires list { HasList (M.view memory.old) head.0 }
-    requires key { IsKey key }
-    requires before { IfSome before (λ b.
-        IsBefore (M.view memory.old) head.0 (code_of key) b.0.0) }
-    ensures origin { M.origin memory.new ≡ M.origin memory.old }
-    ensures answer { IfOk result (λ spot.
-        Sought (M.view memory.old) (M.view memory.new) head.0 (code_of key) spot) }
-{
-    let mut link = start_of(head, before);
+    let mut link = head;
     // How many bookings were passed, for the proof alone: the walk ends since keys rise.
     let mut passed: u64 = 0;
     loop {

@@ -2,8 +2,8 @@
 use Rattle.std.proofs.Common.{◌≡◌, inl, inr, ℕ, ◌+◌, ◌<◌, ◌≤◌, ◌^◌, List, [], ◌∷◌, length, Option, Some, None, true, false, nat_le, nat_lt, IsTrue, refl, sym, ap, ◌∙◌, subst, arith}
 use Rattle.std.proofs.lemmas.Bool.Decides.{nat_tests}
 use Rattle.std.specs.FinMap.{get, insert}
-use Rattle.stm_words.specs.Seen.{same_or, some_le}
-use Rattle.stm_words.specs.View.{View, Sees, Stands}
+use Rattle.stm_words.specs.Seen.{same_or}
+use Rattle.stm_words.specs.View.{View, Sees}
 use Rattle.vac_model.specs.declared.items.Kind.{Kind}
 use Rattle.vac_model.specs.declared.items.Kind.TheVariants.{Car, Flight, Room}
 use Rattle.vac_model.specs.declared.items.Item.{Item}
@@ -16,7 +16,7 @@ use Rattle.vac_model.specs.State.{State, Bookings, Place, kind_number, item_of, 
 use Rattle.vac_model.specs.Step.{done, refused, step, taken, new_booking}
 use Rattle.vac_model.proofs.States.{item_of-with_bookings}
 use Rattle.tx_alloc.specs.Pool.{IsTaking, NoneFree, Taken}
-use Rattle.tx_alloc.specs.Rows.{Rows, block_at, put_row}
+use Rattle.tx_alloc.specs.Rows.{Rows, block_at}
 use Rattle.tx_list.specs.declared.search.Spot.{Spot}
 use Rattle.tx_list.specs.Lists.{IsListAt, HasList}
 use Rattle.tx_list.specs.Search.{IsSpot}
@@ -38,11 +38,9 @@ use Rattle.vac_records.proofs.Links.{list_one}
 use Rattle.vac_records.proofs.Single.{none_left, some_left}
 use Rattle.vac_commands.specs.declared.bookings.Offer.{Offer}
 use Rattle.vac_commands.specs.Entries.{HasItemAt, HasCustomerAt}
-use Rattle.vac_commands.specs.BookingSteps.{booking_block, LacksBooking, HasBookingAt, IsOffered, RanInPlace}
+use Rattle.vac_commands.specs.BookingSteps.{booking_block, LacksBooking, IsOffered, RanInPlace}
 use Rattle.vac_commands.proofs.Serving.{Lands, in_place, reads_in_place}
 use Rattle.vac_commands.proofs.Owners.{Here, here, owned, at_owner, at_item, its_item, not_booked, list_held}
-use Rattle.vac_model.specs.declared.replies.Reply.{Reply}
-use Rattle.vac_commands.proofs.Standing.{rows_after, put_here}
 use Rattle.vac_commands.proofs.InHand.{loose, outside, same_rows}
 use Rattle.vac_commands.proofs.Cancelling.{item_stays, item_words}
 use Rattle.vac_commands.proofs.Extending.{counts_fit}
@@ -285,26 +283,3 @@ module _ (s : View) (customer owner : ℕ) (kind : Kind) (id item num : ℕ) (of
             added_lands (mem s image) (length image) state h customer owner kind id item e (g.none image state i0 h) (mem s1 image) b start (its_taking image state i1 h)
             (mem s2 image) num offer.price (its_booking image state i2 i1 i0 h) (enough_at image i0) (o.price_is image i0) (mem s3 image) (made.changed image i);
       })
-
-      pub add_noted : (s3 : View) (r : Reply) → RanInPlace s s3 (command.Reserve customer kind id num) r → ItemChanged s2 s3 item (λ x. taken x num) → ∥ ((image : List ℕ) × Stands s3 image) ∥₁ → HasBookingAt s3 owner (kind, id) b
-      add_noted s3 r ran made ws =
-          let low : 16 ≤ b = some_le 16 b ws (λ v.
-          let i1 = w.kept.seen v.0 (made.kept.seen v.0 v.1.sees) in
-          let t0 = held.under v.0 (t.kept.seen v.0 i1) in
-          let bb = (its_taking v.0 t0.0 i1 t0.1).block in
-          omega (arith, bb.1.1)) in
-          record {
-            inside = (low, omega (arith, t.room, w.kept.size, made.kept.size));
-            at = λ image state3 i h3.
-                let i2 = made.kept.seen image i in
-                let i1 = w.kept.seen image i2 in
-                let i0 = t.kept.seen image i1 in
-                let t0 = held.under image i0 in
-                let e = here s customer owner kind id item c f small image t0.0 i0 t0.1 in
-                let rows = rows_now (mem s image) (length image) t0.0 t0.1 customer owner kind id item e (g.none image t0.0 i0 t0.1) (mem s1 image) b start (its_taking image t0.0 i1 t0.1) in
-                let k = its_booking image t0.0 i2 i1 i0 t0.1 in
-                ap (λ (z : Rows). block_at z (place_key (kind, id)))
-                (rows_after (mem s image) (length image) t0.0 t0.1 customer owner kind id item e (mem s2 image) (mem s3 image) state3 h3 (put_row rows (place_key (kind, id)) b)
-                (ran.customers.stay image t0.0 state3 i t0.1 h3 customer ∙ e.owner_is) k.list.list (made.changed image i).others)
-                ∙ put_here rows (place_key (kind, id)) b;
-          }

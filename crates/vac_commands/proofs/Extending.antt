@@ -17,8 +17,7 @@ use Rattle.vac_model.specs.Step.{done, refused, step, taken, extended, unit_limi
 use Rattle.vac_model.specs.Balanced.{IsBooking}
 use Rattle.vac_model.proofs.States.{item_of-with_bookings}
 use Rattle.vac_records.specs.Items.{mem, item_in, IsItemNow, CanMakeOf, ItemChanged}
-use Rattle.tx_alloc.specs.Rows.{Rows, block_at}
-use Rattle.vac_records.specs.Bookings.{booking_in, place_key}
+use Rattle.vac_records.specs.Bookings.{booking_in}
 use Rattle.vac_records.specs.Customers.{IsBookingNow, CanExtend, BookingChanged}
 use Rattle.vac_records.specs.Represents.{IsState}
 use Rattle.vac_records.specs.Holds.{HoldsState}
@@ -30,8 +29,6 @@ use Rattle.vac_commands.specs.declared.bookings.Offer.{Offer}
 use Rattle.vac_commands.specs.Entries.{HasItemAt, HasCustomerAt}
 use Rattle.vac_commands.specs.BookingSteps.{booking_block, HasBookingAt, IsOffered, RanInPlace}
 use Rattle.vac_commands.proofs.Serving.{Lands, in_place, reads_in_place}
-use Rattle.vac_model.specs.declared.replies.Reply.{Reply}
-use Rattle.vac_commands.proofs.Standing.{rows_after, list_extended}
 use Rattle.vac_commands.proofs.Held.{item_is}
 use Rattle.vac_commands.proofs.Owners.{Here, here, owned, at_owner, at_item, its_item, booked_at}
 use Rattle.vac_commands.proofs.Cancelling.{item_stays, item_words}
@@ -189,19 +186,3 @@ module _ (s : View) (customer owner : ℕ) (kind : Kind) (id item num : ℕ) (of
             (mem s2 image) num offer.price (enough_at image i0) (o.price_is image i0) (its_change image i2)
             (mem s3 image) (omega (arith, under, l.answer image i1)) (made.changed image i);
       })
-
-      pub extend_noted : (s3 : View) (r : Reply) → RanInPlace s s3 (command.Reserve customer kind id num) r → ItemChanged s2 s3 item (λ x. taken x num) → HasBookingAt s3 owner (kind, id) b
-      extend_noted s3 r ran made = record {
-        inside = (g.inside.0, omega (arith, g.inside.1, l.kept.size, w.kept.size, made.kept.size));
-        at = λ image state3 i h3.
-            let i2 = made.kept.seen image i in
-            let i0 = l.kept.seen image (w.kept.seen image i2) in
-            let t = held.under image i0 in
-            let e = here s customer owner kind id item c f small image t.0 i0 t.1 in
-            let is = g.at image t.0 i0 t.1 in
-            let list = list_extended (mem s image) (length image) t.0 t.1 customer owner kind id item e (mem s2 image) b is b_some (its_change image i2).others in
-            ap (λ (z : Rows). block_at z (place_key (kind, id)))
-            (rows_after (mem s image) (length image) t.0 t.1 customer owner kind id item e (mem s2 image) (mem s3 image) state3 h3 (t.1.represents.parts.lists owner)
-            (ran.customers.stay image t.0 state3 i t.1 h3 customer ∙ e.owner_is) list (made.changed image i).others)
-            ∙ is;
-      }

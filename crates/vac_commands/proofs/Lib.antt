@@ -10,7 +10,6 @@ pub mod Serving
 pub mod Owners
 pub mod Refusals
 pub mod Cancelling
-pub mod Standing
 pub mod Extending
 pub mod InHand
 pub mod AddingBookings

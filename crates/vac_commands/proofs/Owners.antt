@@ -73,7 +73,7 @@ module _ (m : ℕ → ℕ) (n : ℕ) (s : State) (h : IsState m n s) (customer o
       (row_times (place_key (kind, id)) b (p.lists owner) (row_at (place_key (kind, id)) b (p.lists owner) is some))
 
 -- the customer's list of bookings
-pub owner_list : (m : ℕ → ℕ) (n : ℕ) (s : State) (h : IsState m n s) (customer owner : ℕ) → customer_block h customer ≡ owner → owner ≢ 0 → IsListAt m n (head_of owner) (h.represents.parts.lists owner)
+owner_list : (m : ℕ → ℕ) (n : ℕ) (s : State) (h : IsState m n s) (customer owner : ℕ) → customer_block h customer ≡ owner → owner ≢ 0 → IsListAt m n (head_of owner) (h.represents.parts.lists owner)
 owner_list m n s h customer owner is some =
     let o = customer_found m n [] s h.represents customer owner is some in
     list_there m n [] s customer owner o.bookings h.represents (record { at = is; some = some; there = o.there })
@@ -88,7 +88,7 @@ list_held s customer owner has c = record {
 }
 
 -- what holds of a booking's block before reads holds after them
-pub booking_same : (s s' : View) (image : List ℕ) (state : State) (owner : ℕ) (place : Place) (b : ℕ) → s'.writes ≡ s.writes →
+booking_same : (s s' : View) (image : List ℕ) (state : State) (owner : ℕ) (place : Place) (b : ℕ) → s'.writes ≡ s.writes →
     ((h : IsState (mem s image) (length image) state) → booking_block h owner place ≡ b) →
     (h : IsState (mem s' image) (length image) state) → booking_block h owner place ≡ b
 booking_same s s' image state owner place b w f = subst (λ (ws : Words). (h : IsState (memory image ws) (length image) state) → booking_block h owner place ≡ b) (sym w) f

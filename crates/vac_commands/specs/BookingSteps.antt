@@ -1,10 +1,9 @@
 -- What the parts of a reservation need, and what a command on bookings does.
-use Rattle.std.specs.Prelude.{◌≡◌, ℕ, ◌+◌, ◌<◌, ◌≤◌, List, length, Option, Some, None}
+use Rattle.std.specs.Prelude.{◌≡◌, ℕ, ◌+◌, ◌≤◌, List, length}
 use Rattle.stm_words.specs.View.{View, Sees}
 use Rattle.vac_model.specs.declared.commands.Command.{Command}
 use Rattle.vac_model.specs.declared.replies.Reply.{Reply}
 use Rattle.vac_model.specs.State.{State, Place}
-use Rattle.tx_alloc.specs.declared.pool.Block.{Block}
 use Rattle.tx_alloc.specs.Rows.{block_at}
 use Rattle.tx_tree.specs.Table.{IsInside}
 use Rattle.vac_records.specs.Items.{mem}
@@ -28,17 +27,6 @@ pub record HasBookingAt (s : View) (owner : ℕ) (place : Place) (b : ℕ) : Typ
   pub inside : IsInside s.size b
   pub at : (image : List ℕ) (state : State) → Sees s image →
       (h : IsState (mem s image) (length image) state) → booking_block h owner place ≡ b
-
--- under each image b is the block of a booking of that customer's, before that of the place
-pub record IsEarlier (s : View) (owner : ℕ) (place : Place) (b : ℕ) : Type 0 where
-  pub earlier : Place
-  pub less : place_key earlier < place_key place
-  pub at : HasBookingAt s owner earlier b
-
--- where a block is noted, it is that of the place's booking now; where none is, nothing was written
-abbrev pub Noted : View → View → ℕ → Place → Option Block → Type 0
-Noted s s' owner place None = s'.writes ≡ s.writes
-Noted s s' owner place (Some b) = HasBookingAt s' owner place b.0.0
 
 -- under each image these are the item's free units, so many or more, and its price
 pub record IsOffered (s : View) (item num : ℕ) (offer : Offer) : Type 0 where

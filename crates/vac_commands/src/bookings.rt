@@ -1,6 +1,6 @@
 //! Commands on bookings.
 
-ghost use Rattle.std.specs.Prelude.{◌≡◌, ◌<◌, IfOk, IfSome, IsTrue};
+ghost use Rattle.std.specs.Prelude.{◌≡◌, ◌<◌, IfOk, IsTrue};
 ghost use Rattle.vac_model.specs.Ranges.{is_command};
 ghost use Rattle.tx_list.specs.Search.{IsSpot};
 ghost use Rattle.vac_records.specs.Bookings.{place_key};
@@ -8,7 +8,7 @@ ghost use Rattle.vac_records.specs.Customers.{head_of};
 ghost use Rattle.vac_records.specs.Holds.{HoldsState};
 ghost use Rattle.vac_commands.specs.Entries.{HasItemAt, HasCustomerAt, ItemsStay, CustomersStay};
 ghost use Rattle.vac_commands.specs.Ran.{Ran};
-ghost use Rattle.vac_commands.specs.BookingSteps.{LacksBooking, HasBookingAt, IsOffered, IsEarlier, RanInPlace, Noted};
+ghost use Rattle.vac_commands.specs.BookingSteps.{LacksBooking, HasBookingAt, IsOffered, RanInPlace};
 
 use crate::find::{find_customer, find_item};
 use stm_words::TxMem;
@@ -17,8 +17,8 @@ use tx_list::Spot;
 use vac_model::limits::MOST_UNITS;
 use vac_model::{Command, Kind, Reply, Why};
 use vac_records::{
-    book_at, book_more, cancel as give_units_back, free_at, make_of, price_at, spot_behind,
-    spot_of, unbook_at, units_at,
+    book_at, book_more, cancel as give_units_back, free_at, make_of, price_at, spot_of, unbook_at,
+    units_at,
 };
 
 /// What was read of an item.
@@ -28,13 +28,6 @@ struct Offer {
     free: u64,
     /// The price of one.
     price: u64,
-}
-
-/// What a reservation answers: the reply, and the block of the booking where units were booked.
-#[derive(Clone, Copy)]
-pub struct Reserved {
-    pub reply: Reply,
-    pub booking: Option<Block>,
 }
 
 /// Books units of an item for a customer, at the item's price of now. A booking that is there takes
@@ -85,46 +78,13 @@ pub fn reserve_at<M: TxMem>(
     ensures items { IfOk result (λ _. ItemsStay (M.view memory.old) (M.view memory.new)) }
     ensures customers { IfOk result (λ _. CustomersStay (M.view memory.old) (M.view memory.new)) }
 {
-    let reserved = reserve_behind(memory, customer, owner, None, kind, id, item, num, start)?;
-    Ok(reserved.reply)
-}
-
-/// The same where the caller may know a booking of the customer's that is before this one: the walk
-/// over the bookings goes on behind it. Answers the block of this booking, too.
-pub fn reserve_behind<M: TxMem>(
-    memory: &mut M,
-    customer: u32,
-    owner: Block,
-    before: Option<Block>,
-    kind: Kind,
-    id: u32,
-    item: Block,
-    num: u32,
-    start: u32,
-) -> Result<Reserved, M::Stop>
-    requires start { start < 8 }
-    requires state { HoldsState (M.view memory.old) }
-    requires customer { HasCustomerAt (M.view memory.old) customer owner.0.0 }
-    requires before { IfSome before (λ b.
-        IsEarlier (M.view memory.old) owner.0.0 (kind, id) b.0.0) }
-    requires item { HasItemAt (M.view memory.old) kind id item.0.0 }
-    requires range { IsTrue (is_command (Command.Reserve customer kind id num)) }
-    ensures origin { M.origin memory.new ≡ M.origin memory.old }
-    ensures answer { IfOk result (λ reserved. RanInPlace (M.view memory.old) (M.view memory.new)
-        (Command.Reserve customer kind id num) reserved.reply) }
-    ensures booking { IfOk result (λ reserved. Noted (M.view memory.old) (M.view memory.new)
-        owner.0.0 (kind, id) reserved.booking) }
-{
     let free = free_at(memory, item.0)?;
     if free < num as u64 {
-        return Ok(Reserved {
-            reply: Reply::No(Why::SoldOut),
-            booking: None,
-        });
+        return Ok(Reply::No(Why::SoldOut));
     }
     let price = price_at(memory, item.0)?;
     let offer = Offer { free, price };
-    let spot = spot_behind(memory, owner.0, before, kind, id)?;
+    let spot = spot_of(memory, owner.0, kind, id)?;
     match spot.entry {
         Some(booking) => {
             extend_booking(memory, customer, owner, kind, id, item, num, offer, booking)
@@ -147,7 +107,7 @@ fn extend_booking<M: TxMem>(
     num: u32,
     offer: Offer,
     booking: Block,
-) -> Result<Reserved, M::Stop>
+) -> Result<Reply, M::Stop>
     requires state { HoldsState (M.view memory.old) }
     requires customer { HasCustomerAt (M.view memory.old) customer owner.0.0 }
     requires item { HasItemAt (M.view memory.old) kind id item.0.0 }
@@ -155,23 +115,15 @@ fn extend_booking<M: TxMem>(
     requires booking { HasBookingAt (M.view memory.old) owner.0.0 (kind, id) booking.0.0 }
     requires range { IsTrue (is_command (Command.Reserve customer kind id num)) }
     ensures origin { M.origin memory.new ≡ M.origin memory.old }
-    ensures answer { IfOk result (λ reserved. RanInPlace (M.view memory.old) (M.view memory.new)
-        (Command.Reserve customer kind id num) reserved.reply) }
-    ensures booking { IfOk result (λ reserved. Noted (M.view memory.old) (M.view memory.new)
-        owner.0.0 (kind, id) reserved.booking) }
+    ensures answer { IfOk result (λ reply. RanInPlace (M.view memory.old) (M.view memory.new)
+        (Command.Reserve customer kind id num) reply) }
 {
     if units_at(memory, booking.0)? + num as u64 > MOST_UNITS {
-        return Ok(Reserved {
-            reply: Reply::No(Why::UnitLimit),
-            booking: None,
-        });
+        return Ok(Reply::No(Why::UnitLimit));
     }
     book_more(memory, booking.0, num, offer.price)?;
     make_of(memory, item.0, num, offer.free)?;
-    Ok(Reserved {
-        reply: Reply::Done,
-        booking: Some(booking),
-    })
+    Ok(Reply::Done)
 }
 
 /// Books units of an item that has so many, at its price, for a customer who has no booking of it,
@@ -187,7 +139,7 @@ fn add_booking<M: TxMem>(
     offer: Offer,
     spot: Spot,
     start: u32,
-) -> Result<Reserved, M::Stop>
+) -> Result<Reply, M::Stop>
     requires start { start < 8 }
     requires state { HoldsState (M.view memory.old) }
     requires customer { HasCustomerAt (M.view memory.old) customer owner.0.0 }
@@ -197,23 +149,15 @@ fn add_booking<M: TxMem>(
     requires spot { IsSpot (M.view memory.old) (head_of owner.0.0) (place_key (kind, id)) spot }
     requires range { IsTrue (is_command (Command.Reserve customer kind id num)) }
     ensures origin { M.origin memory.new ≡ M.origin memory.old }
-    ensures answer { IfOk result (λ reserved. RanInPlace (M.view memory.old) (M.view memory.new)
-        (Command.Reserve customer kind id num) reserved.reply) }
-    ensures booking { IfOk result (λ reserved. Noted (M.view memory.old) (M.view memory.new)
-        owner.0.0 (kind, id) reserved.booking) }
+    ensures answer { IfOk result (λ reply. RanInPlace (M.view memory.old) (M.view memory.new)
+        (Command.Reserve customer kind id num) reply) }
 {
     let Some(block) = take(memory, start)? else {
-        return Ok(Reserved {
-            reply: Reply::No(Why::Full),
-            booking: None,
-        });
+        return Ok(Reply::No(Why::Full));
     };
     book_at(memory, spot, block, kind, id, num, offer.price)?;
     make_of(memory, item.0, num, offer.free)?;
-    Ok(Reserved {
-        reply: Reply::Done,
-        booking: Some(block),
-    })
+    Ok(Reply::Done)
 }
 
 /// Gives all units of a booking back and removes the booking. Its block becomes the first of free

@@ -1,9 +1,9 @@
 //! Customers, their bookings and their bills.
 
-ghost use Rattle.std.specs.Prelude.{◌≡◌, ◌+◌, ◌*◌, ◌<◌, ◌≤◌, ◌^◌, IfOk, IfErr, IfSome};
+ghost use Rattle.std.specs.Prelude.{◌≡◌, ◌+◌, ◌*◌, ◌<◌, ◌≤◌, ◌^◌, IfOk, IfErr};
 ghost use Rattle.tx_alloc.specs.Pointer.{IsWithin};
 ghost use Rattle.tx_list.specs.Lists.{HasList, Found};
-ghost use Rattle.tx_list.specs.Search.{IsBefore, Sought};
+ghost use Rattle.tx_list.specs.Search.{Sought};
 ghost use Rattle.vac_records.specs.Bookings.{place_key};
 ghost use Rattle.vac_records.specs.Items.{IsNode};
 ghost use Rattle.vac_records.specs.Customers.{head_of, CustomerMade, CanBook, BookedAt, Booked, UnbookedAt, Unbooked, CanBill, Billed};
@@ -14,7 +14,7 @@ use crate::word::word_of;
 use stm_words::{Addr, TxMem, TxRead, store};
 use tx_alloc::Block;
 use tx_alloc::place::MOST_BLOCKS;
-use tx_list::{Spot, insert_at, remove_at, seek, seek_behind};
+use tx_list::{Spot, insert_at, remove_at, seek};
 use vac_model::Kind;
 
 /// Makes the block a customer with this key and without bookings. The words that link the block
@@ -64,28 +64,6 @@ pub fn spot_of<M: TxRead>(
         (head_of customer.0) (place_key (kind, id)) spot) }
 {
     let spot = seek(memory, word_of(customer, place::BOOKINGS), key_of(kind, id))?;
-    Ok(spot)
-}
-
-/// The same where the caller knows a booking of the customer's that is before this one: the walk
-/// goes on behind it.
-pub fn spot_behind<M: TxRead>(
-    memory: &mut M,
-    customer: Addr,
-    before: Option<Block>,
-    kind: Kind,
-    id: u32,
-) -> Result<Spot, M::Stop>
-    requires customer { IsNode (M.view memory.old) customer.0 }
-    requires list { HasList (M.view memory.old) (head_of customer.0) }
-    requires before { IfSome before (λ b.
-        IsBefore (M.view memory.old) (head_of customer.0) (place_key (kind, id)) b.0.0) }
-    ensures origin { M.origin memory.new ≡ M.origin memory.old }
-    ensures answer { IfOk result (λ spot. Sought (M.view memory.old) (M.view memory.new)
-        (head_of customer.0) (place_key (kind, id)) spot) }
-{
-    let head = word_of(customer, place::BOOKINGS);
-    let spot = seek_behind(memory, head, before, key_of(kind, id))?;
     Ok(spot)
 }
 

@@ -15,9 +15,7 @@ pub mod place;
 mod word;
 
 pub use booking::{book_more, booking_at, key_of, sum_at, units_at};
-pub use customer::{
-    bill, book, book_at, booking_of, init_customer, spot_behind, spot_of, unbook, unbook_at,
-};
+pub use customer::{bill, book, book_at, booking_of, init_customer, spot_of, unbook, unbook_at};
 pub use item::{
     add_total, cancel, free_at, init_item, item_at, make, make_of, price_at, set_price, sub_total,
     total_at, used_at,

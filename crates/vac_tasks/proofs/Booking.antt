@@ -1,8 +1,7 @@
 -- The customer of a trip, and the bookings.
-use Rattle.std.proofs.Common.{◌≡◌, ◌≢◌, ℕ, ◌<◌, ◌^◌, List, [], ◌∷◌, length, Option, Some, None, Bool, true, false, refl, sym, ap, ◌∙◌, subst, inl, inr, arith}
+use Rattle.std.proofs.Common.{◌≡◌, ◌≢◌, ℕ, List, [], ◌∷◌, length, Option, Some, None, Bool, true, false, refl, sym, ap, ◌∙◌, subst, inl, inr, arith}
 use Rattle.std.specs.Prelude.{IfSome, is_some, ◌||◌, if◌then◌else◌}
 use Rattle.std.proofs.lemmas.Bool.{cases_lt}
-use Rattle.std.specs.Option.{option_or}
 use Rattle.std.specs.FinMap.{empty}
 use Rattle.stm_words.specs.View.{View, Sees, Kept}
 use Rattle.tx_alloc.specs.declared.pool.Block.{Block}
@@ -16,10 +15,9 @@ use Rattle.vac_model.specs.declared.replies.Reply.TheVariants as reply
 use Rattle.vac_model.specs.declared.replies.Joined.TheVariants.{Added, Refused, NotAsked}
 use Rattle.vac_model.specs.declared.replies.Pick.{Pick}
 use Rattle.vac_model.specs.declared.tasks.Task.TheVariants as task
-use Rattle.vac_model.specs.State.{State, Place, Bookings, kind_number, bookings_of, with_bookings, is_full}
+use Rattle.vac_model.specs.State.{State, Place, Bookings, bookings_of, with_bookings, is_full}
 use Rattle.vac_model.specs.Step.{Outcome, step, when_found, refused, done}
 use Rattle.vac_model.specs.Run.{joined_of, refusal_of, choice_of, reserve_choice, book_choices, trip_with, trip}
-use Rattle.vac_model.proofs.Ids.{id_high}
 use Rattle.vac_model.proofs.Refused.{step_untouched}
 use Rattle.vac_records.specs.Items.{mem}
 use Rattle.vac_records.specs.Steps.{kept_both}
@@ -28,15 +26,13 @@ use Rattle.vac_records.specs.Holds.{HoldsState, OnlyRead}
 use Rattle.vac_records.proofs.Customers.{customer_found}
 use Rattle.vac_records.proofs.Single.{one_state}
 use Rattle.vac_commands.specs.Entries.{customer_block, LacksCustomer, HasCustomerAt, ItemsStay, CustomersStay}
-use Rattle.vac_commands.specs.BookingSteps.{HasBookingAt, IsEarlier, Noted}
 use Rattle.vac_commands.specs.Ran.{Ran, joining}
-use Rattle.vac_commands.proofs.Standing.{booking_at_on}
 use Rattle.vac_tasks.specs.declared.trip.Choice.{Choice}
 use Rattle.vac_tasks.specs.declared.trip.Choices.{Choices}
 use Rattle.vac_tasks.specs.declared.trip.Owner.{Owner}
 use Rattle.vac_tasks.specs.RanTask.{RanTask}
 use Rattle.vac_tasks.specs.Runs.{Runs}
-use Rattle.vac_tasks.specs.Trips.{priced, choice_in, any_chosen, IsKnown, AreKnown, Chosen, IsOwner, joined, HasJoined, IsPassedAt, IsPassed, LeavesBehind}
+use Rattle.vac_tasks.specs.Trips.{priced, choice_in, any_chosen, IsKnown, AreKnown, Chosen, IsOwner, joined, HasJoined}
 use Rattle.vac_commands.proofs.Held.{read_none, state_on, customer_is, customer_none, items_stay_reads, item_at_stays, customer_at_stays}
 use Rattle.vac_tasks.proofs.Parts.{outcome_is, held_runs}
 
@@ -128,57 +124,6 @@ joined_full s s1 s2 id reads held l ran stays = record {
 -- a booking for a customer who is missing
 no_customer : (state : State) (id : ℕ) (kind : Kind) (item : ℕ) → bookings_of state id ≡ None → step state (command.Reserve id kind item 1) ≡ (state, reply.No NoCustomer)
 no_customer state id kind item none = rw none refl
-
--- what is known of the customer's bookings
-pub passed_none : (s : View) (owner : Option Block) (kind : Kind) → IsPassed s owner kind None
-passed_none s None kind = record { passed = tt }
-passed_none s (Some o) kind = record { passed = tt }
-
-pub passes_none : (s : View) (owner : Option Block) (kind : Kind) → LeavesBehind s owner kind None
-passes_none s owner kind = record { leaves = λ k l. passed_none s owner k }
-
-later_at : (s : View) (owner : ℕ) (kind k : Kind) (b : ℕ) → kind_number kind < kind_number k → IsPassedAt s owner kind b → IsPassedAt s owner k b
-later_at s owner kind k b l p = record { place = p.place; kind_is = omega (arith, p.kind_is, l); id_is = p.id_is; at = p.at }
-
-passed_later : (s : View) (owner : Option Block) (kind k : Kind) (last : Option Block) → kind_number kind < kind_number k → IsPassed s owner kind last → IsPassed s owner k last
-passed_later s None kind k last l p = record { passed = tt }
-passed_later s (Some o) kind k None l p = record { passed = tt }
-passed_later s (Some o) kind k (Some b) l p = record { passed = later_at s o.0.0 kind k b.0.0 l p.passed }
-
-pub passes_on : (s : View) (owner : Option Block) (kind : Kind) (last : Option Block) → IsPassed s owner kind last → LeavesBehind s owner kind last
-passes_on s owner kind last p = record { leaves = λ k l. passed_later s owner kind k last l p }
-
--- a booking of an earlier kind is before each one of this kind
-pub earlier_of : (s : View) (owner : Option Block) (o : Block) (kind : Kind) (id : ℕ) (before : Option Block) → owner ≡ Some o → IsPassed s owner kind before →
-    IfSome before (λ b. IsEarlier s o.0.0 (kind, id) b.0.0)
-earlier_of s owner o kind id None e p = tt
-earlier_of s owner o kind id (Some b) e p = (
-    let q : IsPassed s (Some o) kind (Some b) = subst (λ (x : Option Block). IsPassed s x kind (Some b)) e p in
-    let r = q.passed in
-    let k = r.kind_is in
-    let i = r.id_is in
-    record { earlier = r.place; less = omega (arith, k, i); at = r.at })
-
-pub choice_id : (s : View) (kind : Kind) (o : Option Choice) (c : Choice) → o ≡ Some c → IfSome o (λ c. IsKnown s kind c) → c.id < 2 ^ 32
-choice_id s kind o c e known = (
-    let k : IsKnown s kind c = subst (λ (x : Option Choice). IfSome x (λ c. IsKnown s kind c)) e known in
-    id_high c.id k.id)
-
--- the last booking that is known after a reservation
-pub passes_noted : (s s' : View) (owner : Option Block) (o : Block) (kind : Kind) (id : ℕ) (booking before : Option Block) → owner ≡ Some o → id < 2 ^ 32 → Kept s s' →
-    IsPassed s owner kind before → Noted s s' o.0.0 (kind, id) booking → LeavesBehind s' owner kind (option_or booking before)
-passes_noted s s' owner o kind id None before e small kept p n = passes_on s' owner kind before (record {
-  passed = subst (λ (x : Option Block). IfSome x (λ o. IfSome before (λ b. IsPassedAt s' o.0.0 kind b.0.0))) (sym e)
-      (passed_kept before (subst (λ (x : Option Block). IfSome x (λ o. IfSome before (λ b. IsPassedAt s o.0.0 kind b.0.0))) e p.passed));
-}) where
-  passed_kept : (last : Option Block) → IfSome last (λ b. IsPassedAt s o.0.0 kind b.0.0) → IfSome last (λ b. IsPassedAt s' o.0.0 kind b.0.0)
-  passed_kept None q = tt
-  passed_kept (Some b) q = record { place = q.place; kind_is = q.kind_is; id_is = q.id_is; at = booking_at_on s s' o.0.0 q.place b.0.0 (record { kept = kept; writes = n }) q.at }
-passes_noted s s' owner o kind id (Some b) before e small kept p n = record {
-  leaves = λ k l. record {
-    passed = subst (λ (x : Option Block). IfSome x (λ o. IsPassedAt s' o.0.0 k b.0.0)) (sym e) (record { place = (kind, id); kind_is = l; id_is = small; at = n });
-  };
-}
 
 pub reserved_missing : (s : View) (id : ℕ) (kind : Kind) (o : Option Choice) (c : Choice) → o ≡ Some c → LacksCustomer s id →
     Runs s s (λ state. reserve_choice state id kind (priced o)) (Some (record { id = c.id; price = c.price; refused = Some NoCustomer }))

@@ -1,5 +1,5 @@
 -- What the parts of a trip do to a memory that holds a state, under every image.
-use Rattle.std.specs.Prelude.{◌≡◌, ℕ, ◌<◌, ◌^◌, List, Option, Some, None, IfSome, IsTrue, MatchOption, length, nat_lt, ◌||◌, Bool, is_some, if◌then◌else◌}
+use Rattle.std.specs.Prelude.{◌≡◌, ℕ, List, Option, Some, None, IfSome, IsTrue, MatchOption, length, nat_lt, ◌||◌, Bool, is_some, if◌then◌else◌}
 use Rattle.std.specs.Option.{option_map}
 use Rattle.stm_words.specs.View.{View, Sees}
 use Rattle.tx_alloc.specs.declared.pool.Block.{Block}
@@ -8,14 +8,13 @@ use Rattle.vac_model.specs.declared.items.Kind.TheVariants.{Car, Flight, Room}
 use Rattle.vac_model.specs.declared.commands.Command.TheVariants as command
 use Rattle.vac_model.specs.declared.replies.Joined.{Joined}
 use Rattle.vac_model.specs.Amounts.{is_id}
-use Rattle.vac_model.specs.State.{State, Place, kind_number}
+use Rattle.vac_model.specs.State.{State, Place}
 use Rattle.vac_model.specs.Step.{step, price_of}
 use Rattle.vac_model.specs.Run.{choice_of, joined_of}
 use Rattle.vac_records.specs.Items.{mem}
 use Rattle.vac_records.specs.Represents.{IsState}
 use Rattle.vac_records.specs.Holds.{OnlyRead}
 use Rattle.vac_commands.specs.Entries.{HasItemAt, LacksCustomer, HasCustomerAt, ItemsStay}
-use Rattle.vac_commands.specs.BookingSteps.{HasBookingAt}
 use Rattle.vac_tasks.specs.declared.trip.Choice.{Choice}
 use Rattle.vac_tasks.specs.declared.trip.Choices.{Choices}
 use Rattle.vac_tasks.specs.declared.trip.Owner.{Owner}
@@ -88,20 +87,3 @@ pub record HasJoined (s s' : View) (id : ℕ) (owner : Owner) : Type 0 where
   pub runs : Runs s s' (joined id) owner.joined
   pub block : IsOwner s' id owner.block
   pub items : ItemsStay s s'
-
--- under each image b is the block of a booking of the customer in block owner, of an earlier kind
-pub record IsPassedAt (s : View) (owner : ℕ) (kind : Kind) (b : ℕ) : Type 0 where
-  pub place : Place
-  pub kind_is : kind_number place.0 < kind_number kind
-  pub id_is : place.1 < 2 ^ 32
-  pub at : HasBookingAt s owner place b
-
--- so is the one that is noted, if there are a customer and a booking
-pub record IsPassed (s : View) (owner : Option Block) (kind : Kind)
-    (last : Option Block) : Type 0 where
-  pub passed : IfSome owner (λ o. IfSome last (λ b. IsPassedAt s o.0.0 kind b.0.0))
-
--- and it is for each kind behind this one
-pub record LeavesBehind (s : View) (owner : Option Block) (kind : Kind)
-    (last : Option Block) : Type 0 where
-  pub leaves : (k : Kind) → kind_number kind < kind_number k → IsPassed s owner k last

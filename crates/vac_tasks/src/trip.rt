@@ -10,12 +10,12 @@ ghost use Rattle.vac_commands.specs.Entries.{ItemsStay, CustomersStay};
 ghost use Rattle.vac_tasks.specs.RanTask.{RanTask};
 ghost use Rattle.vac_tasks.specs.Runs.{Runs};
 ghost use Rattle.vac_tasks.specs.Trips.{priced, any_chosen, dearer_of, with_found};
-ghost use Rattle.vac_tasks.specs.Trips.{IsKnown, AreKnown, LookedUp, Chosen, IsOwner, HasJoined, IsPassed, LeavesBehind};
+ghost use Rattle.vac_tasks.specs.Trips.{IsKnown, AreKnown, LookedUp, Chosen, IsOwner, HasJoined};
 
 use crate::commands::refusal;
 use stm_words::{TxMem, TxRead};
 use tx_alloc::Block;
-use vac_commands::{add_customer, find_customer, find_item, reserve_behind};
+use vac_commands::{add_customer, find_customer, find_item, reserve_at};
 use vac_model::{Joined, Kind, Pick, Reply, Task, TripReply, Why};
 use vac_records::price_at;
 
@@ -40,13 +40,6 @@ struct Choices {
 struct Owner {
     joined: Joined,
     block: Option<Block>,
-}
-
-/// What became of a pick, and the block of the last booking that is known, in the customer's order.
-#[derive(Clone, Copy)]
-struct Picked {
-    pick: Option<Pick>,
-    last: Option<Block>,
 }
 
 /// The dearer of two items; the first of two that cost the same.
@@ -148,57 +141,42 @@ fn join<M: TxMem>(memory: &mut M, customer: u32, start: u32) -> Result<Owner, M:
     }
 }
 
-/// Books one unit of what was chosen of a kind, and answers the last booking of the customer's that
-/// is known now: this one, or the one before it. Without a customer the pick is refused.
+/// Books one unit of what was chosen of a kind. Without a customer the pick is refused.
 fn reserve_choice<M: TxMem>(
     memory: &mut M,
     customer: u32,
     owner: Option<Block>,
-    before: Option<Block>,
     kind: Kind,
     choice: Option<Choice>,
     start: u32,
-) -> Result<Picked, M::Stop>
+) -> Result<Option<Pick>, M::Stop>
     requires start { start < 8 }
     requires state { HoldsState (M.view memory.old) }
     requires range { IsTrue (is_id customer) }
     requires owner { IsOwner (M.view memory.old) customer owner }
-    requires before { IsPassed (M.view memory.old) owner kind before }
     requires known { IfSome choice (λ c. IsKnown (M.view memory.old) kind c) }
     ensures origin { M.origin memory.new ≡ M.origin memory.old }
-    ensures answer { IfOk result (λ picked. Runs (M.view memory.old) (M.view memory.new)
-        (λ state. rules.reserve_choice state customer kind (priced choice)) picked.pick) }
-    ensures last { IfOk result (λ picked. LeavesBehind (M.view memory.new) owner kind
-        picked.last) }
+    ensures answer { IfOk result (λ pick. Runs (M.view memory.old) (M.view memory.new)
+        (λ state. rules.reserve_choice state customer kind (priced choice)) pick) }
     ensures items { IfOk result (λ _. ItemsStay (M.view memory.old) (M.view memory.new)) }
     ensures customers { IfOk result (λ _. CustomersStay (M.view memory.old) (M.view memory.new)) }
 {
     let Some(Choice { id, price, item }) = choice else {
-        return Ok(Picked {
-            pick: None,
-            last: before,
-        });
+        return Ok(None);
     };
     let Some(owner) = owner else {
-        return Ok(Picked {
-            pick: Some(Pick {
-                id,
-                price,
-                refused: Some(Why::NoCustomer),
-            }),
-            last: None,
-        });
+        return Ok(Some(Pick {
+            id,
+            price,
+            refused: Some(Why::NoCustomer),
+        }));
     };
-    let reserved = reserve_behind(memory, customer, owner, before, kind, id, item, 1, start)?;
-    let refused = refusal(&reserved.reply);
-    Ok(Picked {
-        pick: Some(Pick { id, price, refused }),
-        last: reserved.booking.or(before),
-    })
+    let reply = reserve_at(memory, customer, owner, kind, id, item, 1, start)?;
+    let refused = refusal(&reply);
+    Ok(Some(Pick { id, price, refused }))
 }
 
-/// Sees to the customer, and books what was chosen: a car, a flight, a room. Each walk over the
-/// customer's bookings begins behind the last that was booked.
+/// Sees to the customer, and books what was chosen: a car, a flight, a room.
 fn book_choices<M: TxMem>(
     memory: &mut M,
     customer: u32,
@@ -215,30 +193,13 @@ fn book_choices<M: TxMem>(
         (priced choices.now.flight) (priced choices.now.room)) reply) }
 {
     let owner = join(memory, customer, start)?;
-    let id = customer;
     let block = owner.block;
-    let car = reserve_choice(memory, id, block, None, Kind::Car, choices.car, start)?;
-    let flight = reserve_choice(
-        memory,
-        id,
-        block,
-        car.last,
-        Kind::Flight,
-        choices.flight,
-        start,
-    )?;
-    let room = reserve_choice(
-        memory,
-        id,
-        block,
-        flight.last,
-        Kind::Room,
-        choices.room,
-        start,
-    )?;
+    let car = reserve_choice(memory, customer, block, Kind::Car, choices.car, start)?;
+    let flight = reserve_choice(memory, customer, block, Kind::Flight, choices.flight, start)?;
+    let room = reserve_choice(memory, customer, block, Kind::Room, choices.room, start)?;
     Ok(Reply::Trip(TripReply {
         joined: owner.joined,
-        picks: [car.pick, flight.pick, room.pick],
+        picks: [car, flight, room],
     }))
 }
 

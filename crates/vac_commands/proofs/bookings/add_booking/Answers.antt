@@ -1,6 +1,6 @@
 use Rattle.vac_commands.proofs.Held.{pool_held}
 use Rattle.vac_commands.proofs.Extending.{price_small, sum_small}
-use Rattle.vac_commands.proofs.AddingBookings.{no_block, block_node, spot_room, its_booked, can_make, add_done, add_noted}
+use Rattle.vac_commands.proofs.AddingBookings.{no_block, block_node, spot_room, its_booked, can_make, add_done}
 use Rattle.vac_commands.proofs.bookings.add_booking.Goals as goal
 
 pub take-requires-clause-pool : goal.take-requires-clause-pool
@@ -31,14 +31,3 @@ pub returns-clause-answer : goal.returns-clause-answer
 returns-clause-answer g c =
     let w = its_booked _ _ _ _ _ _ _ _ c.requires.state c.requires.customer c.requires.item c.requires.offered c.requires.missing c.ranges.id.fits _ _ _ c.args.spot (rw c.in-Some.is at c.in_ok-block.ensures.answer) _ c.requires.spot c.in_ok-book_at.ensures.answer in
     add_done _ _ _ _ _ _ _ _ c.requires.state c.requires.customer c.requires.item c.requires.offered c.requires.missing c.ranges.id.fits _ _ _ c.args.spot (rw c.in-Some.is at c.in_ok-block.ensures.answer) _ w _ c.requires.range c.in_ok-make_of.ensures.answer
-
-pub returns-in_default-clause-booking : goal.returns-in_default-clause-booking
-returns-in_default-clause-booking g c = (rw c.in_default.is at c.in_ok-block.ensures.answer).writes
-
-pub returns-clause-booking : goal.returns-clause-booking
-returns-clause-booking g c =
-    let w = its_booked _ _ _ _ _ _ _ _ c.requires.state c.requires.customer c.requires.item c.requires.offered c.requires.missing c.ranges.id.fits _ _ _ c.args.spot (rw c.in-Some.is at c.in_ok-block.ensures.answer) _ c.requires.spot c.in_ok-book_at.ensures.answer in
-    let ran =
-    add_done _ _ _ _ _ _ _ _ c.requires.state c.requires.customer c.requires.item c.requires.offered c.requires.missing c.ranges.id.fits _ _ _ c.args.spot (rw c.in-Some.is at c.in_ok-block.ensures.answer) _ w _ c.requires.range c.in_ok-make_of.ensures.answer in
-    add_noted _ _ _ _ _ _ _ _ c.requires.state c.requires.customer c.requires.item c.requires.offered c.requires.missing c.ranges.id.fits _ _ _ c.args.spot (rw c.in-Some.is at c.in_ok-block.ensures.answer) _ w
-    _ _ ran c.in_ok-make_of.ensures.answer (g.met.M.TxRead.seen c.make_of.new.memory)

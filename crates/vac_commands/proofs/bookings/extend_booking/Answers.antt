@@ -1,5 +1,5 @@
 use Rattle.std.proofs.Common.{arith}
-use Rattle.vac_commands.proofs.Extending.{price_small, sum_small, units_small, too_many, can_extend, can_make, extend_done, extend_noted}
+use Rattle.vac_commands.proofs.Extending.{price_small, sum_small, units_small, too_many, can_extend, can_make, extend_done}
 use Rattle.vac_commands.proofs.bookings.extend_booking.Goals as goal
 
 pub overflow_add-branch : goal.overflow_add-branch
@@ -37,18 +37,3 @@ returns-clause-answer g c =
     (price_small _ _ _ _ _ _ c.requires.state c.requires.item c.requires.offered (g.met.M.TxRead.seen c.args.memory.now))
     _ _ c.in_ok-units_at.ensures.answer _ c.in_ok-book_more.ensures.answer
     _ c.requires.range c.if-branch-num-gt-MOST_UNITS.false c.in_ok-make_of.ensures.answer
-
-pub returns-then-branch-num-gt-MOST_UNITS-clause-booking : goal.returns-then-branch-num-gt-MOST_UNITS-clause-booking
-returns-then-branch-num-gt-MOST_UNITS-clause-booking g c = c.in_ok-units_at.ensures.answer.writes
-
-pub returns-clause-booking : goal.returns-clause-booking
-returns-clause-booking g c =
-    let ran =
-    extend_done _ _ _ _ _ _ _ _ _ c.requires.state c.requires.customer c.requires.item c.requires.offered c.requires.booking c.ranges.id.fits c.ranges.num.fits
-    (price_small _ _ _ _ _ _ c.requires.state c.requires.item c.requires.offered (g.met.M.TxRead.seen c.args.memory.now))
-    _ _ c.in_ok-units_at.ensures.answer _ c.in_ok-book_more.ensures.answer
-    _ c.requires.range c.if-branch-num-gt-MOST_UNITS.false c.in_ok-make_of.ensures.answer in
-    extend_noted _ _ _ _ _ _ _ _ _ c.requires.state c.requires.customer c.requires.item c.requires.offered c.requires.booking c.ranges.id.fits c.ranges.num.fits
-    (price_small _ _ _ _ _ _ c.requires.state c.requires.item c.requires.offered (g.met.M.TxRead.seen c.args.memory.now))
-    _ _ c.in_ok-units_at.ensures.answer _ c.in_ok-book_more.ensures.answer
-    _ _ ran c.in_ok-make_of.ensures.answer

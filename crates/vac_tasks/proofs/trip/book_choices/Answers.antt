@@ -1,6 +1,5 @@
-use Rattle.std.proofs.Common.{arith}
 use Rattle.vac_model.specs.declared.items.Kind.TheVariants.{Car, Flight, Room}
-use Rattle.vac_tasks.proofs.Booking.{ready_joined, ready_next, booked, passed_none}
+use Rattle.vac_tasks.proofs.Booking.{ready_joined, ready_next, booked}
 use Rattle.vac_tasks.proofs.trip.book_choices.Goals as goal
 
 pub reserve_choice-requires-clause-state : goal.reserve_choice-requires-clause-state
@@ -18,15 +17,6 @@ reserve_choice-requires-clause-known g c =
     let owner = c.in_ok-owner.owner in
     let ready = ready_joined _ _ customer owner choices c.requires.state c.requires.known c.in_ok-owner.ensures.answer in
     ready.known.known Car
-
-pub reserve_choice-requires-clause-before : goal.reserve_choice-requires-clause-before
-reserve_choice-requires-clause-before g c = passed_none _ _ Car
-
-pub reserve_choice-requires-2-clause-before : goal.reserve_choice-requires-2-clause-before
-reserve_choice-requires-2-clause-before g c = c.in_ok-car.ensures.last.leaves Flight (omega arith)
-
-pub reserve_choice-requires-3-clause-before : goal.reserve_choice-requires-3-clause-before
-reserve_choice-requires-3-clause-before g c = c.in_ok-flight.ensures.last.leaves Room (omega arith)
 
 pub reserve_choice-requires-2-clause-state : goal.reserve_choice-requires-2-clause-state
 reserve_choice-requires-2-clause-state g c =

@@ -1,9 +1,9 @@
 use Rattle.std.proofs.Common.{refl, ◌∙◌, arith}
-use Rattle.tx_list.proofs.Seeking.{start_room, seek_start_behind, seek_in, seek_below, seek_end, seek_here, seek_past, seek_step}
-use Rattle.tx_list.proofs.search.seek_behind.Goals as goal
+use Rattle.tx_list.proofs.Seeking.{seek_start, seek_in, seek_below, seek_end, seek_here, seek_past, seek_step}
+use Rattle.tx_list.proofs.search.seek.Goals as goal
 
 pub loop-word-init : goal.loop-word-init
-loop-word-init g c = record { origin = refl; seeking = seek_start_behind _ _ _ _ _ c.requires.list c.requires.before c.start_of-link.ensures }
+loop-word-init g c = record { origin = refl; seeking = seek_start _ _ _ c.requires.list }
 
 pub returns-then-word-eq0-clause-answer : goal.returns-then-word-eq0-clause-answer
 returns-then-word-eq0-clause-answer g c =
@@ -49,6 +49,3 @@ loop-word-preserved g c =
       origin = c.in_ok-order.ensures.origin ∙ (c.in_ok-word.ensures.origin ∙ c.loop-word.invariant.origin);
       seeking = seek_step _ _ _ _ _ _ _ _ _ _ c.loop-word.invariant.seeking c.in_ok-word.ensures.answer c.in_ok-order.ensures.answer c.if-word-eq0.false i c.in-Less.is b;
     }
-
-pub start_of-link-requires : goal.start_of-link-requires
-start_of-link-requires g c = record { room = start_room _ _ _ _ c.requires.list c.requires.before }

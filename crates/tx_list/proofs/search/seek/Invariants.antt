@@ -1,7 +1,7 @@
 use Rattle.std.proofs.Common.{◌≡◌, ◌-◌}
 use Rattle.tx_list.specs.Bookings.{code_of}
 use Rattle.tx_list.proofs.Seeking.{Seeking}
-use Rattle.tx_list.proofs.search.seek_behind.Given as goal
+use Rattle.tx_list.proofs.search.seek.Given as goal
 
 abbrev pub invariant-loop-word : goal.invariant-loop-word
 invariant-loop-word g l = record {
