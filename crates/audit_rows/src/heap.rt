@@ -7,7 +7,7 @@ use std::marker::Model;
 use stm_words::{Flat, TxMem};
 use tx_alloc::fresh_words;
 use tx_alloc::place::MOST_BLOCKS;
-use vac_check::{AuditFault, audit_words};
+use vac_audit::{AuditFault, audit_words};
 use vac_model::{Command, Kind, Reply, Report, Task};
 use vac_tasks::{only_reads, read_task, run_task};
 

@@ -2,7 +2,7 @@
 
 use std::alloc::Global;
 use std::test::Fail;
-use vac_check::{AuditFault, Flaw, audit_words};
+use vac_audit::{AuditFault, Flaw, audit_words};
 use vac_model::Report;
 
 /// Words of this number, all 0 but those that are listed with their addresses.

@@ -11,7 +11,7 @@ use Rattle.vac_model.specs.declared.replies.Report.{Report}
 use Rattle.vac_model.specs.State.{State, report}
 use Rattle.vac_records.specs.Items.{mem}
 use Rattle.vac_records.specs.Holds.{HoldsState}
-use Rattle.vac_audit.specs.Reported.{Reported}
+use Rattle.vac_report.specs.Reported.{Reported}
 use Rattle.vac_manager.specs.Law.{Shows, IsFitting, words_of}
 
 none_some : (o : Option ℕ) (v : ℕ) → o ≡ None → o ≡ Some v → ⊥

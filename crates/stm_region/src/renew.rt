@@ -1,5 +1,5 @@
 //! The renewal of a region's clock.
-ghost use Rattle.std.specs.Prelude.{◌≡◌, ◌+◌, ◌<◌, IfOk, IfErr, IfSome, None};
+ghost use Rattle.std.specs.Prelude.{◌≡◌, ◌+◌, ◌≤◌, [], vec_capacity, IfOk, IfErr};
 ghost use Rattle.stm_core.specs.Core.{IsFreeHanded};
 ghost use Rattle.stm_core.specs.Event.{renewing};
 ghost use Rattle.stm_region.specs.Refused.{MayRenew, RenewsNot};
@@ -35,23 +35,31 @@ impl<L: Law, A: Allocator> Names<Region<L, A>> for FirstWords {
 }
 
 impl<L: Law, A: Allocator> Region<L, A> {
-    /// The first reason against a renewal, beside memory.
-    fn renewal_fault(&self, client: &Client<L>, last: u64) -> Option<RegionFault>
-        ensures none { result ≡ None → MayRenew self.now.renewal last client.now.value.grants }
-        ensures some { IfSome result (λ fault.
+    /// Room for the words of a renewal, or the first reason against it.
+    fn room_to_renew(
+        &self,
+        alloc: A,
+        client: &Client<L>,
+        last: u64,
+    ) -> Result<Vec<u64, A>, RegionFault>
+        ensures room { IfOk result (λ words.
+            (words.items ≡ []) × (self.now.size ≤ vec_capacity words)) }
+        ensures ranges { IfOk result (λ _.
+            MayRenew self.now.renewal last client.now.value.grants) }
+        ensures refused { IfErr result (λ fault.
             RenewsNot self.now.renewal last client.now.value.grants fault) }
     {
         if last == 0 || last >= VERSION_LIMIT {
-            return Some(RegionFault::Last);
+            return Err(RegionFault::Last);
         }
         if self.renewal >= MOST_RENEWALS {
-            return Some(RegionFault::Renewals);
+            return Err(RegionFault::Renewals);
         }
         if client.grants != MOST_GRANTS {
             let out = MOST_GRANTS - client.grants;
-            return Some(RegionFault::StillOut { out });
+            return Err(RegionFault::StillOut { out });
         }
-        None
+        Ok(Vec::with_capacity(alloc, self.size)?)
     }
 }
 
@@ -81,16 +89,13 @@ impl<L: Law, A: Allocator + Copy> Region<L, A> {
         ensures refused { IfErr result (λ fault. NotRenewed L.lawful self client last fault) }
         ensures ranges { IfOk result (λ _. MayRenew self.renewal last client.value.grants) }
     {
-        if let Some(fault) = self.renewal_fault(&client, last) {
-            return Err(RenewFault::Kept(self, client, fault));
-        }
-        let Ok(mut words) = Vec::with_capacity(alloc, self.size) else {
-            return Err(RenewFault::Kept(self, client, RegionFault::Memory));
+        let mut words = match self.room_to_renew(alloc, &client, last) {
+            Ok(words) => words,
+            Err(fault) => return Err(RenewFault::Kept(self, client, fault)),
         };
         let first = Tag::of::<Region<L, A>, FirstWords>(&self);
         let start = Snapshot::of(&client.seat);
-        let stripes = self.stripes;
-        let renewal = self.renewal + 1;
+        let (stripes, renewal) = (self.stripes, self.renewal + 1);
         let version = self.take_out(client, &mut words);
         let Ok(laid) = lay(alloc, words.as_slice(), stripes) else {
             return Err(RenewFault::Closed(words, version));

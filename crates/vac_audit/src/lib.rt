@@ -1,13 +1,38 @@
-//! The report of a running state: how many entries each table has, and what their numbers add up
-//! to.
-//!
-//! A walk over a table goes from key to key, and one over a customer's bookings from block to
-//! block. No call recurses or allocates.
+//! The audit: of a running state the report, which `vac_report` makes, and of words from anywhere
+//! what is walked, in which order, and what the first flaw is.
 #![tactic(auto)]
 
-mod customers;
-mod items;
-mod reporting;
+mod audit;
+mod bookings;
+mod laws;
+mod lists;
+mod notes;
+mod pointers;
+mod tree;
 
-pub use reporting::report;
-pub use vac_model::Report;
+pub use audit::{AuditFault, audit_words};
+pub use laws::{
+    an_audit_finds_the_balanced_states, damaged_words_have_their_flaws, flaws_have_their_words,
+    levels_never_run_out,
+};
+pub use vac_report::{Report, report};
+
+/// What is wrong with the words of a heap. Each flaw has the word at which it was met.
+#[derive(Clone, Copy, Debug, PartialEq, Eq)]
+pub enum Flaw {
+    /// The word is neither 0 nor the first word of a block.
+    Pointer(u32),
+    /// The word leads to a block that was reached before.
+    Shared(u32),
+    /// Nothing leads to the block whose first word this is.
+    Lost(u32),
+    /// The key, or the kind and the id, are out of range or not above what is before them.
+    Order(u32),
+    /// The colour is no colour, or does not fit those of the nodes around it.
+    Colour(u32),
+    /// The item's numbers are out of range, or used and free units do not make the total.
+    Counts(u32),
+    /// The booking's units or sum are out of range, its item is not there, or of an item other
+    /// units are used than are booked.
+    Bookings(u32),
+}

@@ -21,9 +21,8 @@ use std::io::Write;
 use std::sync::Wait;
 use std::thread::Threads;
 use std::time::Clock;
-use vac_history::Unkept;
 use vac_lines::print_reply;
-use vac_load::{Keepers, LoadFault, LoadReport, Settings, Tally};
+use vac_load::{LoadFault, LoadReport, Settings, Tally, no_keepers};
 use vac_model::{Reply, Report};
 use vac_script::{RunFault, write_and_flush};
 
@@ -60,12 +59,8 @@ fn load_reported<T: Threads + Wait + Clock + Sync + AllocGlobal, W: Write, E: Wr
     if !settings.is_in_range() {
         return end_load_by(LoadFault::Arguments, output);
     }
-    let Ok(clients) = unkept(rt.alloc(), settings.clients) else {
+    let Ok(keepers) = no_keepers(rt.alloc(), settings.clients) else {
         return end_load_by(LoadFault::Memory, output);
-    };
-    let keepers = Keepers {
-        opening: Unkept,
-        clients,
     };
     let mut span = Span::new(rt);
     match run_told(rt, settings, how, keepers, &mut span, errors) {
@@ -78,17 +73,6 @@ fn load_reported<T: Threads + Wait + Clock + Sync + AllocGlobal, W: Write, E: Wr
         }
         Err(fault) => end_load_by(fault, output),
     }
-}
-
-/// So many keepers that keep nothing.
-fn unkept(alloc: Global, count: u32) -> Result<Vec<Unkept>, AllocError>
-    ensures { IfOk result (λ v. vec_len v ≡ count) }
-{
-    let mut keepers = Vec::new(alloc);
-    for number in 0..count {
-        keepers.push(Unkept)?;
-    }
-    Ok(keepers)
 }
 
 /// Tells the two lines of a load on `errors`. Where memory or the write is refused, nothing is lost

@@ -7,7 +7,7 @@ ghost use Rattle.vac_cli.specs.Program.{Loads};
 
 use crate::asked::How;
 use crate::load::tell_load;
-use crate::stats::{Span, Unwatched, tell_stats};
+use crate::stats::{Span, tell_stats};
 use crate::status::{DONE, end_by, end_load_by};
 use crate::telling::run_load_told;
 use std::alloc::{AllocError, Global};
@@ -15,8 +15,10 @@ use std::io::Write;
 use std::sync::Wait;
 use std::thread::Threads;
 use std::time::{Clock, Instant};
-use vac_history::{HistoryFault, Journal, Keep, write_history};
+use stm_attempt::NoGate;
+use vac_history::{HistoryFault, Journal, write_history};
 use vac_load::{Efforts, Keepers, LoadFault, LoadReport, Settings, run_load_kept};
+use vac_notes::Keep;
 use vac_script::RunFault;
 
 /// An empty journal for each client, with one clock and one start.
@@ -62,7 +64,7 @@ pub(crate) fn run_told<
     if how.progress {
         run_load_told(rt, settings, keepers, span, errors)
     } else {
-        run_load_kept(rt, settings, Unwatched, span, keepers)
+        run_load_kept(rt, settings, NoGate, span, keepers)
     }
 }
 

@@ -3,7 +3,6 @@
 use std::alloc::{AllocError, Global};
 use std::io::Write;
 use std::time::{Clock, Instant};
-use stm_attempt::{Gate, Point};
 use vac_load::{Efforts, Phases};
 
 /// The nanoseconds of a second.
@@ -11,15 +10,6 @@ const SECOND: u128 = 1_000_000_000;
 
 /// The nanoseconds of a microsecond.
 const MICROSECOND: u64 = 1_000;
-
-/// The gate of a client that nobody watches.
-#[derive(Clone, Copy, Drop)]
-pub(crate) struct Unwatched;
-
-impl Gate for Unwatched {
-    #[inline]
-    fn at(&mut self, _point: Point) {}
-}
 
 /// When the clients of a load began, and how long they took: 0 where the time cannot be read.
 #[derive(Drop)]

@@ -13,8 +13,8 @@ use std::thread;
 use std::thread::{Parker, Threads};
 use std::time::{Clock, Duration, Instant};
 use stm_attempt::{Gate, Point};
-use vac_history::Keep;
 use vac_load::{Efforts, Keepers, LoadFault, LoadReport, Settings, run_load_kept};
+use vac_notes::Keep;
 
 /// The least time between two lines, in milliseconds.
 const PAUSE_MILLIS: u64 = 500;

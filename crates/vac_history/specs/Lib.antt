@@ -1,4 +1,3 @@
-pub mod Keeping
 pub mod Turns
 pub mod Order
 pub mod Picking

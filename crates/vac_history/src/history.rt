@@ -14,12 +14,12 @@ ghost use Rattle.vac_history.specs.Sending.{SentMerged, MergedPrefix};
 use crate::fault::HistoryFault;
 use crate::journal::Journal;
 use crate::merging::{Picked, Rest, take_least};
-use crate::note::Note;
 use std::alloc::{AllocError, Global};
 use std::io::Write;
 use std::time::Clock;
 use vac_lines::{print_reply, print_task};
 use vac_model::Reply;
+use vac_notes::Note;
 use vac_worklist::{send_chunk, send_rest};
 
 /// The number of the client that runs the opening.

@@ -17,7 +17,7 @@ use Rattle.vac_records.specs.Represents.{IsState}
 use Rattle.vac_records.proofs.Fresh.{fresh_state}
 use Rattle.vac_commands.specs.Ran.{IsOutcome}
 use Rattle.vac_tasks.specs.RanTask.{RanTask}
-use Rattle.vac_audit.specs.Reported.{Reported}
+use Rattle.vac_report.specs.Reported.{Reported}
 use Rattle.vac_judge.specs.Holds.{Holds}
 
 -- the memory that plain memory means, over any image of its size

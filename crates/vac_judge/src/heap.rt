@@ -60,7 +60,7 @@ impl Heap {
     pub(crate) fn report(&mut self) -> Report
         ensures { (s : State) → Holds self.old s → report s ≡ result }
     {
-        let Ok(found) = vac_audit::report(&mut self.memory);
+        let Ok(found) = vac_report::report(&mut self.memory);
         found
     }
 }

@@ -22,7 +22,7 @@ pub use load::{LoadFault, LoadReport, run_load, run_load_counted, run_load_kept,
 pub use looping::client_loop;
 pub use opening::open;
 pub use phases::Phases;
-pub use seats::Keepers;
+pub use seats::{Keepers, no_keepers};
 pub use tally::Tally;
 pub use vac_draws::{
     Draws, FixedDraws, MOST_CLIENTS, MOST_ITEMS, MOST_ROUNDS, MOST_TASKS, PERCENT, PcgDraws,

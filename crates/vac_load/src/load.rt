@@ -13,21 +13,21 @@ ghost use Rattle.vac_load.specs.Attempted.{IsEffort};
 use crate::efforts::Efforts;
 use crate::gathering::Round;
 use crate::opening::open_kept;
-use crate::phases::{NoPhases, Phases, Ungated};
+use crate::phases::{NoPhases, Phases};
 use crate::report::report_of;
 use crate::rounds::{Progress, run_rounds};
-use crate::seats::{Keepers, Seat, keepers_of, keepers_unkept, seats_by_seed, seats_unkept};
+use crate::seats::{Keepers, Seat, keepers_of, no_keepers, seats_by_seed, seats_unkept};
 use crate::tally::Tally;
 use std::alloc::Global;
 use std::sync::Wait;
 use std::thread::Threads;
-use stm_attempt::Gate;
+use stm_attempt::{Gate, NoGate};
 use stm_region::RegionFault;
 use stm_words::Version;
 use thiserror::Error;
 use vac_draws::{Draws, PcgDraws, Settings};
-use vac_history::{Keep, Unkept};
 use vac_manager::{Client, Fault, Manager, Report};
+use vac_notes::{Keep, Unkept};
 
 /// What a load leaves: how its tasks ended, over all rounds, and the report of the words after all
 /// clients were gathered for the last time.
@@ -181,7 +181,7 @@ pub fn run_load<R: Threads + Wait + AllocGlobal>(
     ensures refused { IfErr result (λ fault.
         IsLoadFault gives settings.now (stream_of settings.now.seed 0) fault) }
 {
-    match run_load_counted(rt, settings, Ungated, &mut NoPhases) {
+    match run_load_counted(rt, settings, NoGate, &mut NoPhases) {
         Ok((report, _)) => Ok(report),
         Err(fault) => Err(fault),
     }
@@ -205,11 +205,10 @@ pub fn run_load_counted<R: Threads + Wait + AllocGlobal, G: Gate + Copy + Send +
     if !settings.is_in_range() {
         return Err(LoadFault::Arguments);
     }
-    let Ok(clients) = keepers_unkept(rt.alloc(), settings.clients) else {
+    let Ok(keepers) = no_keepers(rt.alloc(), settings.clients) else {
         return Err(LoadFault::Memory);
     };
-    let opening = Unkept;
-    match run_load_kept(rt, settings, gate, phases, Keepers { opening, clients }) {
+    match run_load_kept(rt, settings, gate, phases, keepers) {
         Ok((report, efforts, _kept)) => Ok((report, efforts)),
         Err(fault) => Err(fault),
     }

@@ -1,7 +1,5 @@
 //! What is told when the rounds of a load begin and end.
 
-use stm_attempt::{Gate, Point};
-
 /// What is called around the rounds of a load.
 pub trait Phases {
     /// Called once, right before the first round.
@@ -19,13 +17,4 @@ impl Phases for NoPhases {
     fn begin(&mut self) {}
 
     fn end(&mut self) {}
-}
-
-/// The gate that does nothing, as often as it is wanted.
-#[derive(Clone, Copy, Drop)]
-pub(crate) struct Ungated;
-
-impl Gate for Ungated {
-    #[inline]
-    fn at(&mut self, _point: Point) {}
 }

@@ -5,7 +5,7 @@ ghost use Rattle.vac_draws.specs.Streams.{streams_of};
 
 use std::alloc::{AllocError, Global};
 use vac_draws::PcgDraws;
-use vac_history::Unkept;
+use vac_notes::Unkept;
 
 /// What keeps the answered calls of a load: those of its opening, and those of each client, in the
 /// order of the clients.
@@ -24,15 +24,18 @@ pub(crate) struct Seat<D, G, K> {
     pub(crate) keep: K,
 }
 
-/// So many keepers that keep nothing.
-pub(crate) fn keepers_unkept(alloc: Global, clients: u32) -> Result<Vec<Unkept>, AllocError>
-    ensures { IfOk result (λ v. vec_len v ≡ clients) }
+/// The keepers of a load of so many clients whose calls nobody wants: each keeps nothing.
+pub fn no_keepers(alloc: Global, count: u32) -> Result<Keepers<Unkept>, AllocError>
+    ensures { IfOk result (λ keepers. vec_len keepers.clients ≡ count) }
 {
-    let mut keepers = Vec::new(alloc);
-    for number in 0..clients {
-        keepers.push(Unkept)?;
+    let mut clients = Vec::new(alloc);
+    for number in 0..count {
+        clients.push(Unkept)?;
     }
-    Ok(keepers)
+    Ok(Keepers {
+        opening: Unkept,
+        clients,
+    })
 }
 
 /// Seats whose keepers keep nothing.

@@ -8,7 +8,7 @@ use std::alloc::Global;
 use std::process::Abort;
 use std::thread;
 use std::thread::Threads;
-use vac_check::audit_words;
+use vac_audit::audit_words;
 use vac_manager::{Client, Manager, Session};
 use vac_model::{Command, Reply, Report, Task};
 

@@ -10,8 +10,7 @@ use std::process::Abort;
 use stm_words::Flat;
 use tx_alloc::fresh_words;
 use tx_alloc::place::MOST_BLOCKS;
-use vac_audit::report;
-use vac_check::audit_words;
+use vac_audit::{audit_words, report};
 use vac_model::{Reply, Report, Sequential, Task};
 use vac_tasks::{only_reads, read_task, run_task};
 

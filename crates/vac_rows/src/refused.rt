@@ -14,7 +14,7 @@ use crate::scripts::{
 use std::alloc::Global;
 use std::process::Abort;
 use stm_region::RegionFault;
-use vac_check::{AuditFault, audit_words};
+use vac_audit::{AuditFault, audit_words};
 use vac_manager::{Client, Fault, Manager, RenewFault, Session};
 use vac_model::Kind::{Car, Room};
 use vac_model::Reply::Done;

@@ -7,7 +7,7 @@ use crate::scripts::{add, cancel, free, new_customer, number, report, reserve, r
 use std::alloc::Global;
 use std::process::Abort;
 use stm_region::RegionFault;
-use vac_check::audit_words;
+use vac_audit::audit_words;
 use vac_manager::{Client, Manager, RenewFault, Session};
 use vac_model::Kind::Car;
 use vac_model::Reply::Done;

@@ -9,13 +9,13 @@ use Rattle.vac_model.specs.declared.replies.Report.{Report}
 use Rattle.vac_records.specs.Represents.{IsState}
 use Rattle.vac_lines.specs.Script.{as_line}
 use Rattle.vac_lines.specs.Memory.{memory_words}
-use Rattle.vac_check.specs.Walk.{audit}
-use Rattle.vac_check.specs.Ran.{IsHeapSize, Audited, answer}
-use Rattle.vac_check.specs.Represented.{Recognised}
-use Rattle.vac_check.specs.declared.Flaw.{Flaw}
-use Rattle.vac_check.specs.declared.audit.AuditFault.{AuditFault}
-use Rattle.vac_check.specs.declared.audit.AuditFault.TheVariants.{Size, Memory, Flaw as HasOne}
-use Rattle.vac_check.proofs.Whole.{heap_size}
+use Rattle.vac_audit.specs.Walk.{audit}
+use Rattle.vac_audit.specs.Ran.{IsHeapSize, Audited, answer}
+use Rattle.vac_audit.specs.Represented.{Recognised}
+use Rattle.vac_audit.specs.declared.Flaw.{Flaw}
+use Rattle.vac_audit.specs.declared.audit.AuditFault.{AuditFault}
+use Rattle.vac_audit.specs.declared.audit.AuditFault.TheVariants.{Size, Memory, Flaw as HasOne}
+use Rattle.vac_audit.proofs.Whole.{heap_size}
 use Rattle.vac_script.specs.declared.fault.RunFault.{RunFault}
 use Rattle.vac_script.specs.declared.check.Verdict.{Verdict}
 use Rattle.vac_script.specs.declared.check.Verdict.TheVariants.{Sound, Flawed, BadWords}

@@ -6,12 +6,12 @@ use Rattle.vac_records.specs.Represents.{IsState}
 use Rattle.vac_lines.specs.Script.{as_line}
 use Rattle.vac_lines.specs.Text.{report_text}
 use Rattle.vac_lines.specs.Memory.{memory_words}
-use Rattle.vac_check.specs.Walk.{audit}
-use Rattle.vac_check.specs.Laws.{word_of}
-use Rattle.vac_check.specs.Ran.{IsHeapSize}
-use Rattle.vac_check.specs.Represented.{StateOf}
-use Rattle.vac_check.specs.declared.Flaw.{Flaw}
-use Rattle.vac_check.specs.declared.Flaw.TheVariants.{Pointer, Shared, Lost, Order, Colour, Counts, Bookings}
+use Rattle.vac_audit.specs.Walk.{audit}
+use Rattle.vac_audit.specs.Laws.{word_of}
+use Rattle.vac_audit.specs.Ran.{IsHeapSize}
+use Rattle.vac_audit.specs.Represented.{StateOf}
+use Rattle.vac_audit.specs.declared.Flaw.{Flaw}
+use Rattle.vac_audit.specs.declared.Flaw.TheVariants.{Pointer, Shared, Lost, Order, Colour, Counts, Bookings}
 use Rattle.vac_script.specs.Script.{AppendsPrefix}
 use Rattle.vac_script.specs.declared.check.Verdict.{Verdict}
 use Rattle.vac_script.specs.declared.check.Verdict.TheVariants.{Sound, Flawed, BadWords}

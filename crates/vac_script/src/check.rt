@@ -4,7 +4,7 @@ ghost use Rattle.std.specs.Prelude.{◌≡◌, ◌≢◌, ◌++◌, OnOk, OnErr,
 ghost use Rattle.vac_script.specs.declared.fault.RunFault.TheVariants.{Busy, Spent};
 ghost use Rattle.vac_script.specs.Check.{flaw_name, flaw_text, verdict_text, is_sound};
 ghost use Rattle.vac_script.specs.Check.{Judged, IsVerdict, Checked, CheckStopped};
-ghost use Rattle.vac_check.specs.Laws.{word_of};
+ghost use Rattle.vac_audit.specs.Laws.{word_of};
 ghost use Rattle.vac_lines.specs.Script.{as_line};
 
 use crate::fault::RunFault;
@@ -12,7 +12,7 @@ use crate::memory::read_memory;
 use crate::writing::write_all;
 use std::alloc::{AllocError, Global};
 use std::io::{Read, Write};
-use vac_check::{AuditFault, Flaw, audit_words};
+use vac_audit::{AuditFault, Flaw, audit_words};
 use vac_lines::print_reply;
 use vac_model::{Reply, Report};
 

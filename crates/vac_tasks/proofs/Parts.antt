@@ -25,7 +25,7 @@ use Rattle.vac_records.specs.Represents.{IsState}
 use Rattle.vac_records.specs.Holds.{HoldsState, OnlyRead}
 use Rattle.vac_commands.specs.Entries.{LacksCustomer}
 use Rattle.vac_commands.specs.Ran.{IsOutcome, Ran, Asked}
-use Rattle.vac_audit.specs.Reported.{Reported}
+use Rattle.vac_report.specs.Reported.{Reported}
 use Rattle.vac_tasks.specs.RanTask.{RanTask}
 use Rattle.vac_tasks.specs.Runs.{Runs, changed}
 use Rattle.vac_commands.proofs.Held.{state_on, asked_reads, customer_none}

@@ -8,7 +8,7 @@ ghost use Rattle.vac_commands.specs.Ran.{Ran, Asked};
 ghost use Rattle.vac_tasks.specs.Reading.{is_question};
 
 use stm_words::{TxMem, TxRead};
-use vac_audit::report;
+use vac_report::report;
 use vac_commands::{
     add, bill, cancel, delete, drop_customer, drop_flight, free, new_customer, price, reserve,
 };

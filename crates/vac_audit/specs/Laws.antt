@@ -1,0 +1,51 @@
+-- The audit of words is right: it meets no flaw exactly where the words are those of a balanced
+-- state, and then its report is the state's.
+use Rattle.std.specs.Prelude.{◌≡◌, ℕ, ◌+◌, ◌*◌, ◌<◌, ◌≤◌, Ok, Err}
+use Rattle.vac_model.specs.declared.limits.TheConstants.{MOST_BLOCKS}
+use Rattle.vac_model.specs.declared.replies.Report.{Report}
+use Rattle.vac_model.specs.State.{State, report}
+use Rattle.vac_records.specs.Represents.{IsState}
+use Rattle.vac_audit.specs.Walk.{walk_by, walk, audit}
+use Rattle.vac_audit.specs.declared.Flaw.{Flaw}
+use Rattle.vac_audit.specs.declared.Flaw.TheVariants.{Pointer, Shared, Lost, Order, Colour, Counts, Bookings}
+
+-- the memory represents a balanced state with this report
+pub record StateWith (m : ℕ → ℕ) (blocks : ℕ) (found : Report) : Type 0 where
+  pub state : State
+  pub represented : IsState m (16 + 8 * blocks) state
+  pub report_is : report state ≡ found
+
+-- words without a flaw are those of a balanced state
+abbrev pub StateFound : Type 0
+StateFound = (m : ℕ → ℕ) (blocks : ℕ) (found : Report) → blocks ≤ MOST_BLOCKS →
+    audit m blocks ≡ Ok found → StateWith m blocks found
+
+-- the words of a balanced state have no flaw
+abbrev pub StateClean : Type 0
+StateClean = (m : ℕ → ℕ) (blocks : ℕ) (state : State) → IsState m (16 + 8 * blocks) state →
+    audit m blocks ≡ Ok (report state)
+
+-- words with a flaw are those of no balanced state
+abbrev pub FlawedIsNone : Type 0
+FlawedIsNone = (m : ℕ → ℕ) (blocks : ℕ) (flaw : Flaw) → audit m blocks ≡ Err flaw →
+    (state : State) → IsState m (16 + 8 * blocks) state → ⊥
+
+-- a walk never runs out of levels: with more of them it answers the same
+abbrev pub EnoughLevels : Type 0
+EnoughLevels = (m : ℕ → ℕ) (blocks levels : ℕ) → blocks < levels →
+    walk_by m blocks levels ≡ walk m blocks
+
+-- the word at which a flaw was met
+abbrev pub word_of : Flaw → ℕ
+word_of (Pointer a) = a
+word_of (Shared a) = a
+word_of (Lost a) = a
+word_of (Order a) = a
+word_of (Colour a) = a
+word_of (Counts a) = a
+word_of (Bookings a) = a
+
+-- that is a word of the heap
+abbrev pub FlawInside : Type 0
+FlawInside = (m : ℕ → ℕ) (blocks : ℕ) (flaw : Flaw) → audit m blocks ≡ Err flaw →
+    word_of flaw < 16 + 8 * blocks

@@ -1,0 +1,140 @@
+-- What the running walk knows: a mark for each block that was reached.
+use Rattle.std.specs.Prelude.{◌≡◌, ℕ, ◌+◌, ◌*◌, ◌<◌, ◌≤◌, ◌^◌, ◌≢◌, Bool, false, not, cond, List, [], ◌∷◌, length, nat_eq, slice_index, slice_index_or, Result, Ok, Err, MatchResult, MatchOption, Option, suc, sum_by, ⊤}
+use Rattle.tx_alloc.specs.Pool.{held, IsBlock}
+use Rattle.vac_audit.specs.Walk.{then, wants, is_in_order, is_booking, walk_bookings, units_in, follow, walk_free, walk_lists, check_reached}
+use Rattle.tx_alloc.specs.Rows.{Rows, block_at}
+use Rattle.vac_audit.specs.declared.Flaw.{Flaw}
+use Rattle.vac_audit.specs.declared.notes.Notes.{Notes}
+use Rattle.vac_audit.specs.declared.Flaw.TheVariants.{Order, Bookings}
+
+pub record Marks (marks : List Bool) (seen : List ℕ) : Type 0 where
+  pub is : (b : ℕ) → b < length marks →
+      slice_index_or marks b false ≡ not (nat_eq (held (16 + 8 * b) seen) 0)
+
+-- marks for words: one for each block
+pub record IsMarked (words : List ℕ) (marks : List Bool) : Type 0 where
+  pub size : length words ≡ 16 + 8 * length marks
+  pub few : length marks ≤ 262144
+
+-- the pointer was followed
+abbrev pub Followed : List ℕ → List Bool → List Bool → ℕ → Result (Option ℕ) Flaw → Type 0
+Followed words marks marks' at result = (seen : List ℕ) → Marks marks seen → MatchResult result
+    (λ found. MatchOption found
+    ((follow (slice_index words) (length words) at seen ≡ Ok 0) × Marks marks' seen)
+    (λ p. (follow (slice_index words) (length words) at seen ≡ Ok p)
+    × IsBlock (length words) p × Marks marks' (p ∷ seen)))
+    (λ flaw. follow (slice_index words) (length words) at seen ≡ Err flaw)
+
+-- a pointer that was followed leads to a block
+abbrev pub Lands : List ℕ → Result (Option ℕ) Flaw → Type 0
+Lands words result = MatchResult result
+    (λ found. MatchOption found (Unit {0}) (λ p. IsBlock (length words) p))
+    (λ flaw. Unit {0})
+
+-- how many blocks have no mark
+abbrev pub unmarked : List Bool → ℕ
+unmarked [] = 0
+unmarked (b ∷ bs) = cond b 0 1 + unmarked bs
+
+-- a block that was reached has a mark from then on
+abbrev pub Fewer : List Bool → List Bool → Result (Option ℕ) Flaw → Type 0
+Fewer marks marks' result = MatchResult result
+    (λ found. MatchOption found
+    (unmarked marks' ≡ unmarked marks)
+    (λ p. unmarked marks' + 1 ≡ unmarked marks))
+    (λ flaw. Unit {0})
+
+-- the definition's walks of these words, with a level for each block and one more
+abbrev pub free_list : List ℕ → ℕ → ℕ → List ℕ → Result (List ℕ × List ℕ) Flaw
+free_list words blocks head seen =
+    walk_free (slice_index words) (length words) (suc blocks) head seen
+
+abbrev pub free_lists : List ℕ → ℕ → List ℕ → Result ((ℕ → List ℕ) × List ℕ) Flaw
+free_lists words blocks seen =
+    walk_lists (slice_index words) (length words) (suc blocks) 8 seen
+
+abbrev pub booking_list : List ℕ → ℕ → (ℕ → Rows) → ℕ → List ℕ → Result (Rows × List ℕ) Flaw
+booking_list words blocks tables head seen =
+    walk_bookings (slice_index words) (length words) tables (suc blocks) head 0 seen
+
+-- a free list was walked
+abbrev pub FreeListRan : List ℕ → List Bool → List Bool → ℕ → Result ⊤ Flaw → Type 0
+FreeListRan words marks marks' head result =
+    (seen : List ℕ) → Marks marks seen → MatchResult result
+    (λ _. (x : List ℕ × List ℕ) × ((free_list words (length marks) head seen ≡ Ok x)
+    × Marks marks' x.1))
+    (λ flaw. free_list words (length marks) head seen ≡ Err flaw)
+
+-- all eight were
+abbrev pub ListsRan : List ℕ → List Bool → List Bool → Result ⊤ Flaw → Type 0
+ListsRan words marks marks' result =
+    (seen : List ℕ) → Marks marks seen → MatchResult result
+    (λ _. (x : (ℕ → List ℕ) × List ℕ) × ((free_lists words (length marks) seen ≡ Ok x)
+    × Marks marks' x.1))
+    (λ flaw. free_lists words (length marks) seen ≡ Err flaw)
+
+-- each block was reached, or the first that was not is the flaw
+abbrev pub ReachedRan : List Bool → Result ⊤ Flaw → Type 0
+ReachedRan marks result = (seen : List ℕ) → Marks marks seen → MatchResult result
+    (λ _. check_reached (length marks) seen ≡ Ok tt)
+    (λ flaw. check_reached (length marks) seen ≡ Err flaw)
+
+-- numbers that rise
+abbrev pub Rising : List ℕ → Type 0
+Rising xs =
+    (i j : ℕ) → i < j → j < length xs → slice_index xs i < slice_index xs j
+
+-- the kinds and ids of the items of these tables, as one number each
+pub record IsIndex (places : List ℕ) (tables : ℕ → Rows) : Type 0 where
+  pub there : (kind id : ℕ) → kind < 3 → id < 2 ^ 32 → block_at (tables kind) id ≢ 0 →
+      (i : ℕ) × ((i < length places) × (slice_index places i ≡ kind * 2 ^ 32 + id))
+  pub back : (kind id i : ℕ) → kind < 3 → id < 2 ^ 32 → i < length places →
+      slice_index places i ≡ kind * 2 ^ 32 + id → block_at (tables kind) id ≢ 0
+
+-- what the definition looks at in a booking
+abbrev pub look_at_booking : (ℕ → ℕ) → (ℕ → Rows) → ℕ → ℕ → Result (Unit {0}) Flaw
+look_at_booking m tables p lo =
+    then (wants (is_in_order m p lo) (Order p)) (λ _.
+    wants (is_booking m tables p) (Bookings p))
+
+-- a booking was looked at
+abbrev pub BookingLooked : List ℕ → List ℕ → ℕ → ℕ → Result ℕ Flaw → Type 0
+BookingLooked words places p lo result =
+    (tables : ℕ → Rows) → IsIndex places tables → MatchResult result
+    (λ i. (look_at_booking (slice_index words) tables p lo ≡ Ok tt))
+    (λ flaw. look_at_booking (slice_index words) tables p lo ≡ Err flaw)
+
+-- what was written down allows to count the bookings of this many further blocks
+pub record Counting (notes : Notes) (left : ℕ) : Type 0 where
+  pub rising : Rising notes.places.items
+  pub counters : length notes.booked.items ≡ length notes.places.items
+  pub booked : (i : ℕ) → slice_index notes.booked.items i + 10000 * left ≤ 10000 * 262144
+  pub bookings : notes.tally.bookings + 10000 * left ≤ 10000 * 262144
+  pub billed : notes.tally.billed + 10000000000 * left ≤ 10000000000 * 262144
+
+-- the same items
+pub record SameItems (notes notes' : Notes) : Type 0 where
+  pub places : notes'.places.items ≡ notes.places.items
+  pub blocks : notes'.blocks.items ≡ notes.blocks.items
+  pub used : notes'.tally.used ≡ notes.tally.used
+  pub free : notes'.tally.free ≡ notes.tally.free
+  pub total : notes'.tally.total ≡ notes.tally.total
+
+-- these bookings were counted
+pub record Booked (m : ℕ → ℕ) (notes notes' : Notes) (rs : Rows) : Type 0 where
+  pub items : SameItems notes notes'
+  pub booked : (i : ℕ) → i < length notes.places.items →
+      slice_index notes'.booked.items i
+      ≡ slice_index notes.booked.items i + units_in m (slice_index notes.places.items i) rs
+  pub bookings : notes'.tally.bookings ≡ notes.tally.bookings + sum_by (λ r. m (r.1 + 4)) rs
+  pub billed : notes'.tally.billed ≡ notes.tally.billed + sum_by (λ r. m (r.1 + 2)) rs
+
+-- a list of bookings was walked, and its units were added up
+abbrev pub BookingsRan : List ℕ → List Bool → List Bool → Notes → Notes → ℕ →
+    Result ⊤ Flaw → Type 0
+BookingsRan words marks marks' notes notes' head result =
+    (tables : ℕ → Rows) → IsIndex notes.places.items tables →
+    (seen : List ℕ) → Marks marks seen → MatchResult result
+    (λ _. (x : Rows × List ℕ) × ((booking_list words (length marks) tables head seen ≡ Ok x)
+    × Marks marks' x.1 × Booked (slice_index words) notes notes' x.0))
+    (λ flaw. booking_list words (length marks) tables head seen ≡ Err flaw)

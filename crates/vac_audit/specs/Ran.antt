@@ -1,0 +1,145 @@
+-- What the running audit does.
+use Rattle.std.specs.Prelude.{◌≡◌, ◌⊎◌, ℕ, ◌+◌, ◌*◌, ◌<◌, ◌≤◌, Bool, List, [], ◌++◌, length, suc, Result, Ok, Err, MatchResult, slice_index, sum_by, ⊤}
+use Rattle.tx_alloc.specs.Rows.{Rows}
+use Rattle.vac_model.specs.declared.replies.Report.{Report}
+use Rattle.vac_records.specs.Heap.{over}
+use Rattle.vac_audit.specs.Walk.{Seen, look_at_item, look_at_customer, walk_table, walk_items, units_in, audit}
+use Rattle.vac_audit.specs.Marks.{Marks, IsIndex, SameItems}
+use Rattle.vac_audit.specs.TreeRan.{Faulted, places_of, blocks_of}
+use Rattle.vac_audit.specs.declared.Flaw.{Flaw}
+use Rattle.vac_audit.specs.declared.Flaw.TheVariants.{Bookings}
+use Rattle.vac_audit.specs.declared.notes.Notes.{Notes}
+use Rattle.vac_audit.specs.declared.tree.Fault.{Fault}
+use Rattle.vac_audit.specs.declared.audit.AuditFault.{AuditFault}
+use Rattle.vac_audit.specs.declared.audit.AuditFault.TheVariants.{Memory, Flaw as Flawed}
+use Rattle.vac_audit.specs.declared.audit.Kinds.{Kinds}
+
+-- nothing was written down yet
+pub record Blank (notes : Notes) : Type 0 where
+  pub places : notes.places.items ≡ []
+  pub blocks : notes.blocks.items ≡ []
+  pub used : notes.tally.used ≡ 0
+  pub free : notes.tally.free ≡ 0
+  pub total : notes.tally.total ≡ 0
+  pub bookings : notes.tally.bookings ≡ 0
+  pub billed : notes.tally.billed ≡ 0
+
+-- the sum of a word over the items of three tables
+abbrev pub three : (ℕ → ℕ) → ℕ → Rows → Rows → Rows → ℕ
+three m word a b c =
+    sum_by (λ r. m (r.1 + word)) a + sum_by (λ r. m (r.1 + word)) b
+    + sum_by (λ r. m (r.1 + word)) c
+
+-- the definition's walks of these words, with a level for each block and one more
+abbrev pub item_table : List ℕ → ℕ → ℕ → Seen → Result (Rows × Seen) Flaw
+item_table words blocks root s =
+    walk_table (slice_index words) (length words) (look_at_item (slice_index words)) (suc blocks)
+    root s
+
+abbrev pub all_items : List ℕ → ℕ → Seen → Result ((ℕ → Rows) × Seen) Flaw
+all_items words blocks s = walk_items (slice_index words) (length words) (suc blocks) 3 s
+
+abbrev pub customer_table : List ℕ → ℕ → (ℕ → Rows) → Seen → Result (Rows × Seen) Flaw
+customer_table words blocks tables s =
+    walk_table (slice_index words) (length words)
+    (look_at_customer (slice_index words) (length words) tables (suc blocks)) (suc blocks) 4 s
+
+-- the three tables of items were walked, and their items written down
+pub record ItemsWalked (words : List ℕ) (marks marks' : List Bool) (notes' : Notes)
+    (kinds : Kinds) (s : Seen) : Type 0 where
+  pub a : Rows
+  pub b : Rows
+  pub c : Rows
+  pub s1 : Seen
+  pub s2 : Seen
+  pub s3 : Seen
+  pub is_a : item_table words (length marks) 1 s ≡ Ok (a, s1)
+  pub is_b : item_table words (length marks) 2 s1 ≡ Ok (b, s2)
+  pub is_c : item_table words (length marks) 3 s2 ≡ Ok (c, s3)
+  pub are : Marks marks' s3.blocks
+  pub places : notes'.places.items ≡ (places_of 0 a ++ places_of 1 b) ++ places_of 2 c
+  pub blocks : notes'.blocks.items ≡ (blocks_of a ++ blocks_of b) ++ blocks_of c
+  pub used : notes'.tally.used ≡ three (slice_index words) 4 a b c
+  pub free : notes'.tally.free ≡ three (slice_index words) 5 a b c
+  pub total : notes'.tally.total ≡ three (slice_index words) 6 a b c
+  pub bookings : notes'.tally.bookings ≡ 0
+  pub billed : notes'.tally.billed ≡ 0
+  pub cars : kinds.cars ≡ length a
+  pub flights : kinds.flights ≡ length b
+  pub rooms : kinds.rooms ≡ length c
+
+abbrev pub ItemsRan : List ℕ → List Bool → List Bool → Notes → Result Kinds Fault → Type 0
+ItemsRan words marks marks' notes' result =
+    (s : Seen) → Marks marks s.blocks → MatchResult result
+    (λ kinds. ItemsWalked words marks marks' notes' kinds s)
+    (λ fault. Faulted fault (λ flaw. all_items words (length marks) s ≡ Err flaw))
+
+pub record Uncounted (notes : Notes) : Type 0 where
+  pub bookings : notes.tally.bookings ≡ 0
+  pub billed : notes.tally.billed ≡ 0
+
+-- the customers were walked, and their bookings counted
+pub record CustomersWalked (words : List ℕ) (marks marks' : List Bool) (notes notes' : Notes)
+    (tables : ℕ → Rows) (customers : ℕ) (s : Seen) : Type 0 where
+  pub rows : Rows
+  pub s' : Seen
+  pub is : customer_table words (length marks) tables s ≡ Ok (rows, s')
+  pub are : Marks marks' s'.blocks
+  pub many : customers ≡ length rows
+  pub items : SameItems notes notes'
+  pub counters : length notes'.booked.items ≡ length notes.places.items
+  pub booked : (i : ℕ) → i < length notes.places.items → slice_index notes'.booked.items i
+      ≡ over (units_in (slice_index words) (slice_index notes.places.items i)) rows s'.lists
+  pub bookings :
+      notes'.tally.bookings ≡ over (sum_by (λ r. slice_index words (r.1 + 4))) rows s'.lists
+  pub billed :
+      notes'.tally.billed ≡ over (sum_by (λ r. slice_index words (r.1 + 2))) rows s'.lists
+
+abbrev pub CustomersRan : List ℕ → List Bool → List Bool → Notes → Notes → Result ℕ Fault →
+    Type 0
+CustomersRan words marks marks' notes notes' result =
+    (tables : ℕ → Rows) → IsIndex notes.places.items tables →
+    (s : Seen) → Marks marks s.blocks → MatchResult result
+    (λ customers. CustomersWalked words marks marks' notes notes' tables customers s)
+    (λ fault. Faulted fault (λ flaw. customer_table words (length marks) tables s ≡ Err flaw))
+
+-- these blocks are inside of the words
+abbrev pub Inside : List ℕ → List ℕ → Type 0
+Inside words blocks = (i : ℕ) → i < length blocks → slice_index blocks i + 8 ≤ length words
+
+-- as many units are used of an item as are booked
+abbrev pub IsUsed : List ℕ → List ℕ → List ℕ → ℕ → Type 0
+IsUsed words blocks booked i =
+    slice_index words (slice_index blocks i + 4) ≡ slice_index booked i
+
+-- the first item that has others
+pub record FirstUnused (words blocks booked : List ℕ) (flaw : Flaw) : Type 0 where
+  pub i : ℕ
+  pub inside : i < length blocks
+  pub is : flaw ≡ Bookings (slice_index blocks i + 4)
+  pub other : IsUsed words blocks booked i → ⊥
+  pub earlier : (j : ℕ) → j < i → IsUsed words blocks booked j
+
+abbrev pub UsedRan : List ℕ → List ℕ → List ℕ → Result ⊤ Flaw → Type 0
+UsedRan words blocks booked result = MatchResult result
+    (λ _. (i : ℕ) → i < length blocks → IsUsed words blocks booked i)
+    (λ flaw. FirstUnused words blocks booked flaw)
+
+-- the words of a heap of this many blocks were audited
+abbrev pub HeapRan : List ℕ → ℕ → Result Report Fault → Type 0
+HeapRan words blocks result = MatchResult result
+    (λ report. audit (slice_index words) blocks ≡ Ok report)
+    (λ fault. Faulted fault (λ flaw. audit (slice_index words) blocks ≡ Err flaw))
+
+-- so many words are those of a heap of 1 to 262144 blocks
+abbrev pub IsHeapSize : ℕ → Type 0
+IsHeapSize n = (blocks : ℕ) × ((n ≡ 16 + 8 * blocks) × (1 ≤ blocks) × (blocks ≤ 262144))
+
+-- what the audit says, as the call answers it
+abbrev pub answer : Result Report Flaw → Result Report AuditFault
+answer (Ok report) = Ok report
+answer (Err flaw) = Err (Flawed flaw)
+
+-- the answer is that of the audit, unless there was no memory
+abbrev pub Audited : (ℕ → ℕ) → ℕ → Result Report AuditFault → Type 0
+Audited m blocks result = (result ≡ Err Memory) ⊎ (result ≡ answer (audit m blocks))

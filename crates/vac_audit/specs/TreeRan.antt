@@ -1,0 +1,152 @@
+-- What the running walk of a table does.
+use Rattle.std.specs.Prelude.{◌≡◌, ℕ, ◌+◌, ◌*◌, ◌≤◌, ◌<◌, Bool, true, false, cond, List, [], ◌∷◌, ◌++◌, length, suc, Result, Ok, Err, MatchResult, slice_index, nat_eq, sum_by, ⊤}
+use Rattle.tx_alloc.specs.Pool.{held}
+use Rattle.tx_alloc.specs.Rows.{Rows}
+use Rattle.tx_list.specs.Bookings.{key_code}
+use Rattle.vac_records.specs.Heap.{over}
+use Rattle.vac_audit.specs.Tree.{Tree, blacks, is_red}
+use Rattle.vac_audit.specs.Walk.{Seen, Look, is_item, is_coloured, look_at_item, look_at_customer, walk_table, units_in}
+use Rattle.vac_audit.specs.Marks.{Marks, IsIndex, Counting, SameItems}
+use Rattle.vac_audit.specs.declared.Flaw.{Flaw}
+use Rattle.vac_audit.specs.declared.Flaw.TheVariants.{Counts, Colour}
+use Rattle.vac_audit.specs.declared.notes.Notes.{Notes}
+use Rattle.vac_audit.specs.declared.notes.Tally.{Tally}
+use Rattle.vac_audit.specs.declared.tree.Fault.{Fault}
+use Rattle.vac_audit.specs.declared.tree.Fault.TheVariants.{Memory, Found}
+use Rattle.vac_audit.specs.declared.tree.Side.{Side}
+use Rattle.vac_audit.specs.declared.tree.Table.{Table}
+use Rattle.vac_audit.specs.declared.tree.Table.TheVariants.{Items, Customers}
+
+abbrev pub ItemLooked : List ℕ → ℕ → Result ⊤ Flaw → Type 0
+ItemLooked words p result = MatchResult result
+    (λ _. is_item (slice_index words) p ≡ true)
+    (λ flaw. (is_item (slice_index words) p ≡ false) × (flaw ≡ Counts (p + 4)))
+
+-- a side as the code knows it
+pub record IsSide (side : Side) (t : Tree) : Type 0 where
+  pub blacks : side.blacks ≡ blacks t
+  pub red : side.red ≡ is_red t
+
+-- the colour of a node with these sides was looked at
+abbrev pub ColourLooked : List ℕ → ℕ → Side → Side → Result Side Flaw → Type 0
+ColourLooked words p left right result =
+    (l t : Tree) → IsSide left l → IsSide right t → MatchResult result
+    (λ side. (is_coloured (slice_index words (p + 3)) l t ≡ true)
+    × (side.blacks ≡ blacks l + cond (nat_eq (slice_index words (p + 3)) 1) 0 1)
+    × (side.red ≡ nat_eq (slice_index words (p + 3)) 1))
+    (λ flaw. (is_coloured (slice_index words (p + 3)) l t ≡ false) × (flaw ≡ Colour (p + 3)))
+
+-- memory may be wanting at any time
+abbrev pub Faulted : Fault → (Flaw → Type 0) → Type 0
+Faulted Memory P = Unit {0}
+Faulted (Found flaw) P = P flaw
+
+-- what is looked at in a node of such a table, where these are the tables of items
+abbrev pub look_of : (ℕ → ℕ) → ℕ → (ℕ → Rows) → ℕ → Table → Look
+look_of m n tables levels (Items kind) = look_at_item m
+look_of m n tables levels Customers = look_at_customer m n tables levels
+
+abbrev pub Indexed : Table → Notes → (ℕ → Rows) → Type 0
+Indexed (Items kind) notes tables = Unit {0}
+Indexed Customers notes tables = IsIndex notes.places.items tables
+
+abbrev pub places_of : ℕ → Rows → List ℕ
+places_of kind [] = []
+places_of kind (r ∷ rs) = key_code kind r.0 ∷ places_of kind rs
+
+abbrev pub blocks_of : Rows → List ℕ
+blocks_of [] = []
+blocks_of (r ∷ rs) = r.1 ∷ blocks_of rs
+
+-- these items were written down
+pub record ItemsNoted (m : ℕ → ℕ) (kind : ℕ) (notes notes' : Notes) (rs : Rows) : Type 0 where
+  pub places : notes'.places.items ≡ notes.places.items ++ places_of kind rs
+  pub blocks : notes'.blocks.items ≡ notes.blocks.items ++ blocks_of rs
+  pub used : notes'.tally.used ≡ notes.tally.used + sum_by (λ r. m (r.1 + 4)) rs
+  pub free : notes'.tally.free ≡ notes.tally.free + sum_by (λ r. m (r.1 + 5)) rs
+  pub total : notes'.tally.total ≡ notes.tally.total + sum_by (λ r. m (r.1 + 6)) rs
+  pub booked : notes'.booked.items ≡ notes.booked.items
+  pub bookings : notes'.tally.bookings ≡ notes.tally.bookings
+  pub billed : notes'.tally.billed ≡ notes.tally.billed
+
+-- the bookings of these customers were counted
+pub record CustomersNoted (m : ℕ → ℕ) (notes notes' : Notes) (rs : Rows) (lists : ℕ → Rows) :
+    Type 0 where
+  pub items : SameItems notes notes'
+  pub booked : (i : ℕ) → i < length notes.places.items →
+      slice_index notes'.booked.items i ≡ slice_index notes.booked.items i
+      + over (units_in m (slice_index notes.places.items i)) rs lists
+  pub bookings :
+      notes'.tally.bookings ≡ notes.tally.bookings + over (sum_by (λ r. m (r.1 + 4))) rs lists
+  pub billed :
+      notes'.tally.billed ≡ notes.tally.billed + over (sum_by (λ r. m (r.1 + 2))) rs lists
+
+abbrev pub Noted : Table → (ℕ → ℕ) → Notes → Notes → Rows → (ℕ → Rows) → Type 0
+Noted (Items kind) m notes notes' rs lists = ItemsNoted m kind notes notes' rs
+Noted Customers m notes notes' rs lists = CustomersNoted m notes notes' rs lists
+
+-- the sums of as many items
+pub record Summed (tally : Tally) (items : ℕ) : Type 0 where
+  pub used : tally.used ≤ 1000000000 * items
+  pub free : tally.free ≤ 1000000000 * items
+  pub total : tally.total ≤ 1000000000 * items
+
+-- what was written down allows a walk of such a table that reaches this many blocks more
+abbrev pub Ready : Table → Notes → ℕ → Type 0
+Ready (Items kind) notes left = (kind < 3) × Summed notes.tally (length notes.places.items)
+Ready Customers notes left = Counting notes left
+
+-- there is room for this many items more
+abbrev pub HasRoom : Table → Notes → ℕ → Type 0
+HasRoom (Items kind) notes left = length notes.places.items + left ≤ 262144
+HasRoom Customers notes left = Unit {0}
+
+-- as many items are written down as nodes were looked at
+abbrev pub Pushed : Table → Notes → Notes → Type 0
+Pushed (Items kind) notes notes' = length notes'.places.items ≡ length notes.places.items + 1
+Pushed Customers notes notes' = Unit {0}
+
+-- what the definition looks at in a node of these words, with a level for each block and one more
+abbrev pub node_look : List ℕ → ℕ → (ℕ → Rows) → Table → Look
+node_look words blocks tables table =
+    look_of (slice_index words) (length words) tables (suc blocks) table
+
+-- the definition's walk of such a table of these words
+abbrev pub table_walk : List ℕ → ℕ → (ℕ → Rows) → Table → ℕ → Seen → Result (Rows × Seen) Flaw
+table_walk words blocks tables table root s =
+    walk_table (slice_index words) (length words) (node_look words blocks tables table)
+    (suc blocks) root s
+
+-- a node was looked at
+pub record NodeLooked (words : List ℕ) (marks marks' : List Bool) (notes notes' : Notes)
+    (table : Table) (p : ℕ) (look : Look) (s : Seen) : Type 0 where
+  pub s' : Seen
+  pub is : look p s ≡ Ok s'
+  pub are : Marks marks' s'.blocks
+  pub noted :
+      Noted table (slice_index words) notes notes' ((slice_index words p, p) ∷ []) s'.lists
+  pub kept : (q : ℕ) → (q ≡ p → ⊥) → s'.lists q ≡ s.lists q
+  pub more : (q : ℕ) → held q s.blocks ≤ held q s'.blocks
+
+abbrev pub LookRan : List ℕ → List Bool → List Bool → Notes → Notes → Table → ℕ →
+    Result ⊤ Fault → Type 0
+LookRan words marks marks' notes notes' table p result =
+    (tables : ℕ → Rows) → Indexed table notes tables →
+    (s : Seen) → Marks marks s.blocks → MatchResult result
+    (λ _. NodeLooked words marks marks' notes notes' table p
+    (node_look words (length marks) tables table) s)
+    (λ fault. Faulted fault (λ flaw.
+    node_look words (length marks) tables table p s ≡ Err flaw))
+
+-- a table was walked
+abbrev pub TableRan : List ℕ → List Bool → List Bool → Notes → Notes → Table → ℕ →
+    Result ℕ Fault → Type 0
+TableRan words marks marks' notes notes' table root result =
+    (tables : ℕ → Rows) → Indexed table notes tables →
+    (s : Seen) → Marks marks s.blocks → MatchResult result
+    (λ nodes. (x : Rows × Seen)
+    × ((table_walk words (length marks) tables table root s ≡ Ok x)
+    × Marks marks' x.1.blocks × (nodes ≡ length x.0)
+    × Noted table (slice_index words) notes notes' x.0 x.1.lists))
+    (λ fault. Faulted fault (λ flaw.
+    table_walk words (length marks) tables table root s ≡ Err flaw))

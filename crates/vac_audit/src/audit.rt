@@ -1,0 +1,160 @@
+//! The whole audit.
+
+ghost use Rattle.std.specs.Prelude.{◌≡◌, ◌+◌, ◌*◌, ◌≤◌, IfOk, Err, length, slice_index};
+ghost use Rattle.vac_audit.specs.Marks.{IsMarked, Rising, unmarked};
+ghost use Rattle.vac_audit.specs.Ran.{Blank, ItemsRan, Uncounted, CustomersRan};
+ghost use Rattle.vac_audit.specs.Ran.{Inside, UsedRan, HeapRan, IsHeapSize, Audited};
+ghost use Rattle.vac_audit.specs.Represented.{StateOf, Recognised};
+ghost use Rattle.vac_audit.specs.TreeRan.{Summed};
+ghost use Rattle.vac_audit.specs.declared.audit.AuditFault.TheVariants.{Size};
+
+use crate::Flaw;
+use crate::lists::{check_reached, walk_lists};
+use crate::notes::{Notes, Tally};
+use crate::pointers::{BLOCK_WORDS, FIRST_BLOCK};
+use crate::tree::{Fault, Table, USED, walk_table};
+use std::alloc::{AllocError, Global};
+use tx_alloc::place::MOST_BLOCKS;
+use vac_model::Report;
+
+/// Why words have no report.
+#[derive(Clone, Copy, Debug, PartialEq, Eq)]
+pub enum AuditFault {
+    /// The length is not that of a heap of 1 to 262,144 blocks.
+    Size,
+    /// There was no memory.
+    Memory,
+    /// The words have a flaw.
+    Flaw(Flaw),
+}
+
+/// How many items of each kind there are.
+#[derive(Clone, Copy)]
+struct Kinds {
+    cars: u64,
+    flights: u64,
+    rooms: u64,
+}
+
+/// Walks the three tables of items.
+fn walk_items(
+    alloc: Global,
+    words: &[u64],
+    reached: &mut Vec<bool>,
+    notes: &mut Notes,
+) -> Result<Kinds, Fault>
+    requires marked { IsMarked words.now reached.old.items }
+    requires some { 1 ≤ length reached.old.items }
+    requires blank { Blank notes.old }
+    ensures size { length reached.new.items ≡ length reached.old.items }
+    ensures ran { ItemsRan words.now reached.old.items reached.new.items notes.new result }
+{
+    let cars = walk_table(alloc, words, reached, notes, Table::Items { kind: 0 }, 1)?;
+    let flights = walk_table(alloc, words, reached, notes, Table::Items { kind: 1 }, 2)?;
+    let rooms = walk_table(alloc, words, reached, notes, Table::Items { kind: 2 }, 3)?;
+    Ok(Kinds {
+        cars,
+        flights,
+        rooms,
+    })
+}
+
+/// Walks the customers with their bookings, and answers how many customers there are.
+fn walk_customers(
+    alloc: Global,
+    words: &[u64],
+    reached: &mut Vec<bool>,
+    notes: &mut Notes,
+) -> Result<u64, Fault>
+    requires marked { IsMarked words.now reached.old.items }
+    requires some { 1 ≤ length reached.old.items }
+    requires rising { Rising notes.old.places.items }
+    requires uncounted { Uncounted notes.old }
+    ensures size { length reached.new.items ≡ length reached.old.items }
+    ensures ran { CustomersRan words.now reached.old.items reached.new.items
+        notes.old notes.new result }
+{
+    notes.booked = Vec::from_elem(alloc, 0u64, notes.places.len())?;
+    walk_table(alloc, words, reached, notes, Table::Customers, 4)
+}
+
+/// Looks for an item that has another number of units used than are booked.
+fn check_used(words: &[u64], notes: &Notes) -> Result<(), Flaw>
+    requires few { length words.now ≤ 2097168 }
+    requires inside { Inside words.now notes.now.blocks.items }
+    requires counters { length notes.now.booked.items ≡ length notes.now.blocks.items }
+    ensures ran { UsedRan words.now notes.now.blocks.items notes.now.booked.items result }
+{
+    for item in 0..notes.blocks.len() {
+        let at = notes.blocks[item] + USED;
+        if words[at] != notes.booked[item] {
+            return Err(Flaw::Bookings(at as u32));
+        }
+    }
+    Ok(())
+}
+
+/// The audit of a heap of so many blocks.
+fn audit_heap(alloc: Global, words: &[u64], blocks: usize) -> Result<Report, Fault>
+    requires some { 1 ≤ blocks }
+    requires few { blocks ≤ 262144 }
+    requires size { length words.now ≡ 16 + 8 * blocks }
+    ensures ran { HeapRan words.now blocks result }
+{
+    let mut reached = Vec::from_elem(alloc, false, blocks)?;
+    let mut notes = Notes {
+        places: Vec::new(alloc),
+        blocks: Vec::new(alloc),
+        booked: Vec::new(alloc),
+        tally: Tally {
+            used: 0,
+            free: 0,
+            total: 0,
+            bookings: 0,
+            billed: 0,
+        },
+    };
+    let kinds = walk_items(alloc, words, &mut reached, &mut notes)?;
+    let customers = walk_customers(alloc, words, &mut reached, &mut notes)?;
+    check_used(words, &notes)?;
+    walk_lists(words, &mut reached)?;
+    check_reached(&reached)?;
+    Ok(Report {
+        cars: kinds.cars,
+        flights: kinds.flights,
+        rooms: kinds.rooms,
+        customers,
+        bookings: notes.tally.bookings,
+        used: notes.tally.used,
+        free: notes.tally.free,
+        total: notes.tally.total,
+        billed: notes.tally.billed,
+    })
+}
+
+/// The report of the balanced state that the words of a heap represent, or their first flaw: the
+/// first that the walk over the tables, the customers' bookings and the free lists meets.
+///
+/// # Errors
+///
+/// `Size` where the length is not that of a heap of 1 to 262,144 blocks, `Memory` where there was
+/// none for the walk, and `Flaw` with the first flaw that the walk met.
+pub fn audit_words(alloc: Global, words: &[u64]) -> Result<Report, AuditFault>
+    ensures size { (IsHeapSize (length words.now) → ⊥) → result ≡ Err Size }
+    ensures audited { (heap : IsHeapSize (length words.now)) →
+        Audited (slice_index words.now) heap.0 result }
+    ensures found { IfOk result (λ found. StateOf words.now found) }
+    ensures recognised { Recognised words.now result }
+{
+    if words.len() < FIRST_BLOCK + BLOCK_WORDS
+        || words.len() > FIRST_BLOCK + BLOCK_WORDS * MOST_BLOCKS
+        || words.len() % BLOCK_WORDS != 0
+    {
+        return Err(AuditFault::Size);
+    }
+    match audit_heap(alloc, words, (words.len() - FIRST_BLOCK) / BLOCK_WORDS) {
+        Err(Fault::Memory) => Err(AuditFault::Memory),
+        Err(Fault::Found(flaw)) => Err(AuditFault::Flaw(flaw)),
+        Ok(report) => Ok(report),
+    }
+}

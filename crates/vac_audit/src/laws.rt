@@ -1,0 +1,32 @@
+//! Laws on the audit of words. Each is the contract of a function that does nothing.
+
+ghost use Rattle.vac_audit.specs.Laws.{StateFound, StateClean, FlawedIsNone, FlawInside, EnoughLevels};
+ghost use Rattle.vac_audit.specs.Examples.{SoundHeaps, OneFlaw, TwoFlaws};
+
+/// Words in which the audit meets no flaw represent a balanced state, and what was found is that
+/// state's report. The words of a balanced state have no flaw, so words with a flaw are those of
+/// no balanced state.
+pub fn an_audit_finds_the_balanced_states()
+    ensures found { StateFound }
+    ensures clean { StateClean }
+    ensures flawed { FlawedIsNone }
+{}
+
+/// Worked heaps: two without a flaw, one for each way in which words may be damaged, and one for
+/// each pair of flaws whose order counts.
+pub fn damaged_words_have_their_flaws()
+    ensures sound { SoundHeaps }
+    ensures one { OneFlaw }
+    ensures two { TwoFlaws }
+{}
+
+/// A flaw is met at a word of the heap.
+pub fn flaws_have_their_words()
+    ensures { FlawInside }
+{}
+
+/// The levels that the definition of the audit counts down never run out: each of them reaches one
+/// more block, and no block is reached twice.
+pub fn levels_never_run_out()
+    ensures { EnoughLevels }
+{}

@@ -1,0 +1,55 @@
+//! Free lists, and blocks that were not reached.
+
+ghost use Rattle.std.specs.Prelude.{◌≡◌, ◌<◌, length};
+ghost use Rattle.vac_audit.specs.Marks.{IsMarked, FreeListRan, ListsRan, ReachedRan};
+
+use crate::Flaw;
+use crate::pointers::{BLOCK_WORDS, FIRST_BLOCK, follow};
+
+/// How many free lists there are.
+const LISTS: usize = tx_alloc::place::LISTS as usize;
+
+/// The head of the first of them.
+const FIRST_HEAD: usize = tx_alloc::place::FIRST_HEAD as usize;
+
+/// Walks one list of free blocks.
+fn walk_free(words: &[u64], reached: &mut Vec<bool>, head: usize) -> Result<(), Flaw>
+    requires marked { IsMarked words.now reached.old.items }
+    requires inside { head < 16 }
+    ensures size { length reached.new.items ≡ length reached.old.items }
+    ensures ran { FreeListRan words.now reached.old.items reached.new.items head result }
+{
+    let mut at = head;
+    for _level in 0..reached.len() + 1 {
+        match follow(words, reached, at)? {
+            None => return Ok(()),
+            Some(place) => at = place,
+        }
+    }
+    Err(Flaw::Shared(at as u32))
+}
+
+/// Walks the eight lists of free blocks.
+pub fn walk_lists(words: &[u64], reached: &mut Vec<bool>) -> Result<(), Flaw>
+    requires marked { IsMarked words.now reached.old.items }
+    ensures size { length reached.new.items ≡ length reached.old.items }
+    ensures ran { ListsRan words.now reached.old.items reached.new.items result }
+{
+    for list in 0..LISTS {
+        walk_free(words, reached, FIRST_HEAD + list)?;
+    }
+    Ok(())
+}
+
+/// Looks for a block that was not reached.
+pub fn check_reached(reached: &Vec<bool>) -> Result<(), Flaw>
+    requires few { length reached.now.items < 262145 }
+    ensures ran { ReachedRan reached.now.items result }
+{
+    for (block, is_reached) in reached.iter().enumerate() {
+        if !*is_reached {
+            return Err(Flaw::Lost((FIRST_BLOCK + BLOCK_WORDS * block) as u32));
+        }
+    }
+    Ok(())
+}

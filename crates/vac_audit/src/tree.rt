@@ -1,0 +1,252 @@
+//! Tables: red-black trees by key.
+
+ghost use Rattle.std.specs.Prelude.{◌≡◌, ◌+◌, ◌<◌, ◌≤◌, [], ◌∷◌, ◌++◌, IfErr, IfOk, OnOk, length, slice_index};
+ghost use Rattle.vac_audit.specs.declared.tree.Fault.TheVariants.{Memory, Found};
+ghost use Rattle.vac_audit.specs.Marks.{IsMarked, unmarked};
+ghost use Rattle.vac_audit.specs.TreeRan.{ItemLooked, ColourLooked, LookRan, TableRan};
+ghost use Rattle.vac_audit.specs.TreeRan.{Ready, HasRoom, Pushed};
+
+use crate::Flaw;
+use crate::bookings::{KIND, walk_bookings};
+use crate::notes::Notes;
+use crate::pointers::follow;
+use std::alloc::{AllocError, AllocFailed, Global};
+use vac_model::limits::{MOST_AMOUNT, MOST_TOTAL};
+use vac_records::place;
+
+const LEFT: usize = tx_tree::place::LEFT as usize;
+
+const RIGHT: usize = tx_tree::place::RIGHT as usize;
+
+const COLOUR: usize = tx_tree::place::COLOUR as usize;
+
+pub const USED: usize = place::USED as usize;
+
+const FREE: usize = place::FREE as usize;
+
+const TOTAL: usize = place::TOTAL as usize;
+
+const PRICE: usize = place::PRICE as usize;
+
+/// The word of a customer that leads to its bookings.
+const BOOKINGS: usize = place::BOOKINGS as usize;
+
+/// The greatest key.
+const LAST_KEY: u64 = 4_294_967_295;
+
+/// Why a walk ended.
+#[derive(Clone, Copy, Debug, PartialEq, Eq)]
+pub enum Fault {
+    Memory,
+    Found(Flaw),
+}
+
+impl From<AllocError> for Fault {
+    ghost from_gives = { λ _ fault. fault ≡ Memory };
+
+    fn from(_error: AllocError) -> Fault {
+        Fault::Memory
+    }
+}
+
+impl<T: Drop> From<AllocFailed<T>> for Fault {
+    ghost from_gives = { λ _ fault. fault ≡ Memory };
+
+    fn from(_failed: AllocFailed<T>) -> Fault {
+        Fault::Memory
+    }
+}
+
+impl From<Flaw> for Fault {
+    ghost from_gives = { λ flaw fault. fault ≡ Found flaw };
+
+    fn from(flaw: Flaw) -> Fault {
+        Fault::Found(flaw)
+    }
+}
+
+/// What a table has: items of one kind, or customers.
+#[derive(Clone, Copy)]
+pub enum Table {
+    Items { kind: u64 },
+    Customers,
+}
+
+/// What is known of a tree that was walked: the black nodes on each path, and its root's colour.
+#[derive(Clone, Copy)]
+pub struct Side {
+    pub blacks: u32,
+    pub red: bool,
+}
+
+/// What is known of an empty tree.
+const LEAF: Side = Side {
+    blacks: 0,
+    red: false,
+};
+
+/// A node on the path from the root, and where the walk of it stands: in its left tree, or, its
+/// left tree and itself done, in its right one.
+#[derive(Clone, Copy)]
+pub enum Step {
+    Left { node: usize },
+    Right { node: usize, left: Side },
+}
+
+/// Where the walk goes next: down a pointer, or back up from a tree that is done.
+#[derive(Clone, Copy)]
+pub enum Turn {
+    Down { at: usize },
+    Up { done: Side },
+}
+
+/// Looks at the counts of an item.
+fn look_at_item(words: &[u64], node: usize) -> Result<(), Flaw>
+    requires inside { node + 8 ≤ length words.now }
+    requires few { length words.now ≤ 2097168 }
+    ensures looked { ItemLooked words.now node result }
+{
+    let used = words[node + USED];
+    let free = words[node + FREE];
+    let total = words[node + TOTAL];
+    if total == 0
+        || total > MOST_TOTAL
+        || used > total
+        || free != total - used
+        || words[node + PRICE] > MOST_AMOUNT as u64
+    {
+        return Err(Flaw::Counts((node + USED) as u32));
+    }
+    Ok(())
+}
+
+/// Looks at a node beside its key, and writes down what it has.
+fn look_at_node(
+    words: &[u64],
+    reached: &mut Vec<bool>,
+    notes: &mut Notes,
+    table: Table,
+    node: usize,
+) -> Result<(), Fault>
+    requires marked { IsMarked words.now reached.old.items }
+    requires inside { node + 8 ≤ length words.now }
+    requires key { slice_index words.now node < 4294967296 }
+    requires ready { Ready table notes.old (unmarked reached.old.items) }
+    requires room { HasRoom table notes.old 1 }
+    ensures size { length reached.new.items ≡ length reached.old.items }
+    ensures fewer { OnOk result (unmarked reached.new.items ≤ unmarked reached.old.items) }
+    ensures ready { OnOk result (Ready table notes.new (unmarked reached.new.items)) }
+    ensures pushed { OnOk result (Pushed table notes.old notes.new) }
+    ensures ran { LookRan words.now reached.old.items reached.new.items notes.old notes.new
+        table node result }
+{
+    match table {
+        Table::Items { kind } => {
+            look_at_item(words, node)?;
+            notes.tally.used += words[node + USED];
+            notes.tally.free += words[node + FREE];
+            notes.tally.total += words[node + TOTAL];
+            notes.places.push(kind * KIND + words[node])?;
+            notes.blocks.push(node)?;
+        }
+        Table::Customers => walk_bookings(words, reached, notes, node + BOOKINGS)?,
+    }
+    Ok(())
+}
+
+/// The colour of a node between two trees.
+fn look_at_colour(words: &[u64], node: usize, left: Side, right: Side) -> Result<Side, Flaw>
+    requires inside { node + 8 ≤ length words.now }
+    requires few { length words.now ≤ 2097168 }
+    requires low { right.blacks < 262145 }
+    ensures low { IfOk result (λ side. side.blacks ≤ right.blacks + 1) }
+    ensures looked { ColourLooked words.now node left right result }
+{
+    let colour = words[node + COLOUR];
+    let red = colour == 1;
+    if colour > 1 {
+        return Err(Flaw::Colour((node + COLOUR) as u32));
+    }
+    if red && (left.red || right.red) {
+        return Err(Flaw::Colour((node + COLOUR) as u32));
+    }
+    if left.blacks != right.blacks {
+        return Err(Flaw::Colour((node + COLOUR) as u32));
+    }
+    let blacks = if red { right.blacks } else { right.blacks + 1 };
+    Ok(Side { blacks, red })
+}
+
+/// Goes one step down from the end of a path.
+fn go_down(path: &mut Vec<Step>, step: Step) -> Result<(), Fault>
+    ensures down { OnOk result (path.new.items ≡ path.old.items ++ step ∷ []) }
+    ensures memory { IfErr result (λ fault. fault ≡ Memory) }
+{
+    path.push(step)?;
+    Ok(())
+}
+
+/// Walks a table, and answers how many nodes it has.
+pub fn walk_table(
+    alloc: Global,
+    words: &[u64],
+    reached: &mut Vec<bool>,
+    notes: &mut Notes,
+    table: Table,
+    root: usize,
+) -> Result<u64, Fault>
+    requires marked { IsMarked words.now reached.old.items }
+    requires inside { root < 16 }
+    requires ready { Ready table notes.old (unmarked reached.old.items) }
+    requires room { HasRoom table notes.old (unmarked reached.old.items) }
+    ensures size { length reached.new.items ≡ length reached.old.items }
+    ensures ready { OnOk result (Ready table notes.new (unmarked reached.new.items)) }
+    ensures room { OnOk result (HasRoom table notes.new (unmarked reached.new.items)) }
+    ensures ran { TableRan words.now reached.old.items reached.new.items notes.old notes.new
+        table root result }
+{
+    let mut path: Vec<Step> = Vec::new(alloc);
+    let mut turn = Turn::Down { at: root };
+    let mut above: u64 = 1;
+    let mut nodes: u64 = 0;
+    'walk: loop {
+        match turn {
+            Turn::Down { at } => {
+                if path.len() > reached.len() {
+                    return Err(Fault::Found(Flaw::Shared(at as u32)));
+                }
+                match follow(words, reached, at)? {
+                    None => turn = Turn::Up { done: LEAF },
+                    Some(node) => {
+                        go_down(&mut path, Step::Left { node })?;
+                        turn = Turn::Down { at: node + LEFT };
+                    }
+                }
+            }
+            Turn::Up { done } => match path.pop() {
+                None => {
+                    if done.red {
+                        let top = (words[root] % 4_294_967_296) as u32;
+                        return Err(Fault::Found(Flaw::Colour(top.wrapping_add(3))));
+                    }
+                    return Ok(nodes);
+                }
+                Some(Step::Left { node }) => {
+                    let key = words[node];
+                    if key < above || key > LAST_KEY {
+                        return Err(Fault::Found(Flaw::Order(node as u32)));
+                    }
+                    look_at_node(words, reached, notes, table, node)?;
+                    above = key + 1;
+                    nodes += 1;
+                    go_down(&mut path, Step::Right { node, left: done })?;
+                    turn = Turn::Down { at: node + RIGHT };
+                }
+                Some(Step::Right { node, left }) => {
+                    let side = look_at_colour(words, node, left, done)?;
+                    turn = Turn::Up { done: side };
+                }
+            },
+        }
+    }
+}

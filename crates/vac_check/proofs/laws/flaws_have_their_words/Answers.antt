@@ -1,5 +1,0 @@
-use Rattle.vac_check.proofs.Inside.{flaw_inside}
-use Rattle.vac_check.proofs.laws.flaws_have_their_words.Goals as goal
-
-pub returns : goal.returns
-returns c = flaw_inside

@@ -1,5 +1,0 @@
-use Rattle.vac_check.proofs.Levels.{enough_levels}
-use Rattle.vac_check.proofs.laws.levels_never_run_out.Goals as goal
-
-pub returns : goal.returns
-returns c = enough_levels

@@ -1,5 +1,0 @@
-use Rattle.vac_check.proofs.Running.{ListsGo}
-use Rattle.vac_check.proofs.lists.walk_lists.Given as goal
-
-abbrev pub invariant-loop-list : goal.invariant-loop-list
-invariant-loop-list l = ListsGo l.words l.initial.reached.items l.reached.items l.list

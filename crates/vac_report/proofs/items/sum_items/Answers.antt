@@ -1,0 +1,27 @@
+use Rattle.std.proofs.Common.{◌∙◌, refl, arith}
+use Rattle.vac_report.proofs.Held.{next_at}
+use Rattle.vac_report.proofs.ItemWalk.{item_start, items_fit, item_step, item_none, item_all}
+use Rattle.vac_report.proofs.items.sum_items.Goals as goal
+
+pub loop-init : goal.loop-init
+loop-init g c = record { origin = refl; walk = item_start _ c.args.kind }
+
+pub returns-in-None-clause-answer : goal.returns-in-None-clause-answer
+returns-in-None-clause-answer g c =
+    item_none _ _ _ _ _ _ _ _ c.requires c.root_of-root.ensures c.loop.invariant.walk
+    (next_at _ _ _ _ _ _ c.in-None.is c.in_ok-least_above.ensures.answer) (g.met.M.TxRead.seen c.least_above.new.memory)
+
+pub plus-sums-requires : goal.plus-sums-requires
+plus-sums-requires g c =
+    items_fit _ _ _ _ _ _ _ _ _ _ _ _ c.requires c.root_of-root.ensures c.loop.invariant.walk
+    (next_at _ _ _ _ _ _ c.in-Some.is c.in_ok-least_above.ensures.answer) c.in_ok-sums_of_item-in-Some.ensures.answer
+    (g.met.M.TxRead.seen c.sums_of_item.new.memory)
+
+pub loop-preserved : goal.loop-preserved
+loop-preserved g c = record {
+  origin = c.in_ok-sums_of_item-in-Some.ensures.origin ∙ (c.in_ok-least_above.ensures.origin ∙ c.loop.invariant.origin);
+  walk = item_step _ _ _ _ _ _ _ _ _ _ _ _ _ c.plus-sums.ensures c.root_of-root.ensures c.loop.invariant.walk (next_at _ _ _ _ _ _ c.in-Some.is c.in_ok-least_above.ensures.answer) c.in_ok-sums_of_item-in-Some.ensures.answer;
+}
+
+pub returns-clause-answer : goal.returns-clause-answer
+returns-clause-answer g c = item_all _ _ _ _ _ _ (omega (arith, c.loop-test.false)) c.requires c.loop.invariant.walk (g.met.M.TxRead.seen c.loop.memory)

@@ -1,0 +1,89 @@
+//! Customers and their bookings, added up.
+
+ghost use Rattle.std.specs.Prelude.{◌≡◌, IfOk, IfErr};
+ghost use Rattle.vac_records.specs.Holds.{HoldsState};
+ghost use Rattle.vac_report.specs.Sums.{CustomersFit, customers_together, CanCount, CustomerCounted, CustomersSummed};
+
+use stm_words::{Addr, TxRead};
+use tx_alloc::place::MOST_BLOCKS;
+use vac_records::place::BOOKINGS;
+use vac_records::{sum_at, units_at};
+
+/// The root word of the table of customers.
+const CUSTOMERS: Addr = Addr(4);
+
+/// How many customers there are, and the units and the sums of their bookings added up.
+#[derive(Clone, Copy)]
+pub(crate) struct CustomerSums {
+    pub count: u64,
+    pub units: u64,
+    pub billed: u64,
+}
+
+impl CustomerSums {
+    /// The sums over both.
+    fn plus(self, other: CustomerSums) -> CustomerSums
+        requires { CustomersFit self other }
+        ensures { result ≡ customers_together self other }
+    {
+        CustomerSums {
+            count: self.count + other.count,
+            units: self.units + other.units,
+            billed: self.billed + other.billed,
+        }
+    }
+}
+
+/// The one customer of a block, with all bookings.
+fn sums_of_customer<M: TxRead>(memory: &mut M, customer: Addr) -> Result<CustomerSums, M::Stop>
+    requires { CanCount (M.view memory.old) customer.0 }
+    ensures origin { M.origin memory.new ≡ M.origin memory.old }
+    ensures answer { IfOk result (λ sums.
+        CustomerCounted (M.view memory.old) (M.view memory.new) customer.0 sums) }
+    ensures stopped { IfErr result (λ stop. M.stopped_for memory.new stop) }
+{
+    let mut next = tx_list::first(memory, Addr(customer.0 + BOOKINGS))?;
+    let mut units = 0;
+    let mut billed = 0;
+    for _ in 0..MOST_BLOCKS {
+        match next {
+            None => break,
+            Some(block) => {
+                units += units_at(memory, block.0)?;
+                billed += sum_at(memory, block.0)?;
+                next = tx_list::next(memory, block)?;
+            }
+        }
+    }
+    Ok(CustomerSums {
+        count: 1,
+        units,
+        billed,
+    })
+}
+
+/// All customers.
+pub(crate) fn sum_customers<M: TxRead>(memory: &mut M) -> Result<CustomerSums, M::Stop>
+    requires { HoldsState (M.view memory.old) }
+    ensures origin { M.origin memory.new ≡ M.origin memory.old }
+    ensures answer { IfOk result (λ sums.
+        CustomersSummed (M.view memory.old) (M.view memory.new) sums) }
+    ensures stopped { IfErr result (λ stop. M.stopped_for memory.new stop) }
+{
+    let mut sums = CustomerSums {
+        count: 0,
+        units: 0,
+        billed: 0,
+    };
+    let mut key = 0;
+    for _ in 0..MOST_BLOCKS {
+        match tx_tree::least_above(memory, CUSTOMERS, key)? {
+            None => return Ok(sums),
+            Some(entry) => {
+                sums = sums.plus(sums_of_customer(memory, entry.block.0)?);
+                key = entry.key;
+            }
+        }
+    }
+    Ok(sums)
+}

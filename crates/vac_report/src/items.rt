@@ -1,0 +1,94 @@
+//! Items, added up.
+
+ghost use Rattle.std.specs.Prelude.{◌≡◌, ◌+◌, IfOk, IfErr};
+ghost use Rattle.vac_model.specs.State.{kind_number};
+ghost use Rattle.vac_records.specs.Items.{IsNode};
+ghost use Rattle.vac_records.specs.Holds.{HoldsState};
+ghost use Rattle.vac_report.specs.Sums.{ItemsFit, items_together, ItemCounted, ItemsSummed};
+
+use stm_words::{Addr, TxRead};
+use tx_alloc::place::MOST_BLOCKS;
+use vac_model::Kind;
+use vac_records::{free_at, total_at, used_at};
+
+/// How many items there are, and their numbers added up.
+#[derive(Clone, Copy)]
+pub(crate) struct ItemSums {
+    pub count: u64,
+    pub used: u64,
+    pub free: u64,
+    pub total: u64,
+}
+
+impl ItemSums {
+    /// The sums over both.
+    pub(crate) fn plus(self, other: ItemSums) -> ItemSums
+        requires { ItemsFit self other }
+        ensures { result ≡ items_together self other }
+    {
+        ItemSums {
+            count: self.count + other.count,
+            used: self.used + other.used,
+            free: self.free + other.free,
+            total: self.total + other.total,
+        }
+    }
+}
+
+/// The root word of the table of a kind.
+fn root_of(kind: Kind) -> Addr
+    ensures { result.0 ≡ 1 + kind_number kind }
+{
+    match kind {
+        Kind::Car => Addr(1),
+        Kind::Flight => Addr(2),
+        Kind::Room => Addr(3),
+    }
+}
+
+/// The one item of a block.
+fn sums_of_item<M: TxRead>(memory: &mut M, node: Addr) -> Result<ItemSums, M::Stop>
+    requires { IsNode (M.view memory.old) node.0 }
+    ensures origin { M.origin memory.new ≡ M.origin memory.old }
+    ensures answer { IfOk result (λ sums.
+        ItemCounted (M.view memory.old) (M.view memory.new) node.0 sums) }
+    ensures stopped { IfErr result (λ stop. M.stopped_for memory.new stop) }
+{
+    let used = used_at(memory, node)?;
+    let free = free_at(memory, node)?;
+    let total = total_at(memory, node)?;
+    Ok(ItemSums {
+        count: 1,
+        used,
+        free,
+        total,
+    })
+}
+
+/// All items of a kind.
+pub(crate) fn sum_items<M: TxRead>(memory: &mut M, kind: Kind) -> Result<ItemSums, M::Stop>
+    requires { HoldsState (M.view memory.old) }
+    ensures origin { M.origin memory.new ≡ M.origin memory.old }
+    ensures answer { IfOk result (λ sums.
+        ItemsSummed (M.view memory.old) (M.view memory.new) kind sums) }
+    ensures stopped { IfErr result (λ stop. M.stopped_for memory.new stop) }
+{
+    let root = root_of(kind);
+    let mut sums = ItemSums {
+        count: 0,
+        used: 0,
+        free: 0,
+        total: 0,
+    };
+    let mut key = 0;
+    for _ in 0..MOST_BLOCKS {
+        match tx_tree::least_above(memory, root, key)? {
+            None => return Ok(sums),
+            Some(entry) => {
+                sums = sums.plus(sums_of_item(memory, entry.block.0)?);
+                key = entry.key;
+            }
+        }
+    }
+    Ok(sums)
+}
