@@ -7,4 +7,5 @@ pub mod Given
 pub mod Stops
 pub mod Naming
 pub mod Journals
+pub mod Turning
 pub mod LoadEnds

@@ -12,6 +12,7 @@ use Rattle.vac_script.specs.Script.{AppendsPrefix}
 use Rattle.vac_cli.specs.Ending.{load_fault_line, fault_line}
 use Rattle.vac_cli.specs.Load.{NamedFault, LoadEnded, HasNoted, WroteCalls, WroteCallsInPart}
 use Rattle.vac_cli.specs.Program.{Loads}
+use Rattle.vac_cli.proofs.Turning.{each_ordered, each_in_turn}
 
 both_first : (a b : Bool) → (a && b) ≡ true → a ≡ true
 both_first true b e = refl
@@ -43,7 +44,9 @@ wrote_calls s opening clients held holds fits has wrote = inl (
       opening = notes_of opening;
       clients = map notes_of clients;
       noted = has;
+      in_turn = each_in_turn opening clients;
       written = wrote;
+      in_order = wrote.merged.ordered (each_ordered s opening clients has);
     },
   ),
 )
@@ -60,7 +63,9 @@ stopped_calls s opening clients status fault held middle holds fits one has wrot
         opening = notes_of opening;
         clients = map notes_of clients;
         noted = has;
+        in_turn = each_in_turn opening clients;
         written = wrote;
+        in_order = wrote.merged.ordered (each_ordered s opening clients has);
       },
       (fault, line),
     ),

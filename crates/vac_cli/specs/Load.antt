@@ -1,5 +1,5 @@
 -- The lines that a load writes.
-use Rattle.std.specs.Prelude.{◌≡◌, ℕ, ◌⊎◌, true, false, Bool, List, ◌∷◌, ◌++◌, Option, codes, decimal}
+use Rattle.std.specs.Prelude.{◌≡◌, ℕ, ◌⊎◌, true, false, Bool, List, ◌∷◌, ◌++◌, map, Option, codes, decimal}
 use Rattle.std.specs.Io.KnownBytes.{Appends}
 use Rattle.vac_lines.specs.Script.{as_line}
 use Rattle.vac_lines.specs.Text.{report_text}
@@ -9,6 +9,8 @@ use Rattle.vac_load.specs.declared.load.LoadFault.{LoadFault}
 use Rattle.vac_draws.specs.declared.settings.Settings.{Settings}
 use Rattle.vac_notes.specs.declared.note.Note.{Note}
 use Rattle.vac_notes.specs.Keeping.{IsNoted}
+use Rattle.vac_history.specs.Turns.{TakeTime, AreInTurn}
+use Rattle.vac_history.specs.Order.{list_at, AreOrdered}
 use Rattle.vac_history.specs.History.{WroteHistory, WroteHistoryPrefix}
 use Rattle.vac_load.specs.Lists.{Paired}
 use Rattle.vac_load.specs.Streams.{LoadedBySeed}
@@ -65,19 +67,28 @@ pub record HasNoted (s : Settings) (opening : List Note) (clients : List (List N
   pub of_opening : Paired IsNoted opening loaded.opened
   pub of_clients : Paired (λ notes x. Paired IsNoted notes x.records) clients loaded.shares
 
--- the load was run to its end, and the history of its answered calls was written and nothing else
+-- no call of a client ends before it begins, and each begins when those before it are over
+abbrev pub EachInTurn : List (List Note) → Type 0
+EachInTurn kept = (place : ℕ) → TakeTime (list_at kept place) × AreInTurn (list_at kept place)
+
+-- the load was run to its end, and the history of its answered calls was written and nothing else:
+-- all in the order of their records, and readers of one version in that in which they began
 pub record WroteCalls (s : Settings) (held holds : Option (List ℕ)) : Type 0 where
   pub opening : List Note
   pub clients : List (List Note)
   pub noted : HasNoted s opening clients
+  pub in_turn : EachInTurn (opening ∷ clients)
   pub written : WroteHistory (opening ∷ clients) held holds
+  pub in_order : AreOrdered (map (λ e. e.note) written.all)
 
 -- the load was run to its end, and a prefix of that was written
 pub record WroteCallsInPart (s : Settings) (held holds : Option (List ℕ)) : Type 0 where
   pub opening : List Note
   pub clients : List (List Note)
   pub noted : HasNoted s opening clients
+  pub in_turn : EachInTurn (opening ∷ clients)
   pub written : WroteHistoryPrefix (opening ∷ clients) held holds
+  pub in_order : AreOrdered (map (λ e. e.note) written.all)
 
 -- the same where the history is written, or the two lines are
 abbrev pub LoadWrote : Bool → Settings → Option (List ℕ) → Option (List ℕ) → Type 0

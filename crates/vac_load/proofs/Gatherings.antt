@@ -1,21 +1,9 @@
 -- Clients are gathered one by one.
-use Rattle.std.proofs.Common.{◌≡◌, ◌∙◌, ℕ, suc, ◌+◌, Bool, true, false, cond, List, [], ◌∷◌, ◌++◌, length, refl, sym, ap, arith}
-use Rattle.stm_core.specs.Client.{Client, Record, before, inserted, merged}
+use Rattle.std.proofs.Common.{◌≡◌, ◌∙◌, ℕ, ◌+◌, List, [], ◌∷◌, ◌++◌, refl, sym, ap, arith}
+use Rattle.stm_core.specs.Client.{Client, Record, merged}
 use Rattle.vac_load.specs.declared.tally.Tally.{Tally}
 use Rattle.vac_load.specs.Sums.{sum_of, plus, added_up}
 use Rattle.vac_load.specs.Load.{all_merged, Gathered}
-
-length_cond : (b : Bool) (r : Record) (xs ys : List Record) (n : ℕ) → length xs ≡ n → length ys ≡ n → length (cond b xs ys) ≡ n
-length_cond true r xs ys n e f = e
-length_cond false r xs ys n e f = f
-
-length_inserted : (r : Record) (xs : List Record) → length (inserted r xs) ≡ suc (length xs)
-length_inserted r [] = refl
-length_inserted r (x ∷ xs) = length_cond (before r x) r (r ∷ x ∷ xs) (x ∷ inserted r xs) (suc (suc (length xs))) refl (ap suc (length_inserted r xs))
-
-pub length_merged : (xs ys : List Record) → length (merged xs ys) ≡ length xs + length ys
-length_merged xs [] = omega arith
-length_merged xs (y ∷ ys) = let e = length_merged (inserted y xs) ys in let f = length_inserted y xs in omega (arith, e, f)
 
 sum_more : {X : Type 0} (f : X → ℕ) (xs : List X) (x : X) → sum_of f (xs ++ (x ∷ [])) ≡ sum_of f xs + f x
 sum_more f [] x = omega arith

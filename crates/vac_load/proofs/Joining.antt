@@ -15,9 +15,10 @@ use Rattle.vac_load.specs.Looping.{total}
 use Rattle.vac_load.specs.Sums.{sum_of, plus, added_up}
 use Rattle.vac_load.specs.Lists.{Paired, none, both}
 use Rattle.vac_load.specs.Keeping.{SeatShown}
-use Rattle.vac_load.specs.Load.{SubEach, AreKnown, Share, drawn_share, HasShare, HasKeptShare, RanAll, RanMore}
+use Rattle.vac_load.specs.Load.{InterleavedAll, AreKnown, Share, drawn_share, HasShare, HasKeptShare, RanAll, RanMore}
 use Rattle.vac_draws.proofs.Drawing.{drawn_both}
 use Rattle.vac_load.proofs.Answering.{are_of_both}
+use Rattle.vac_load.proofs.Merging.{interleaved_both}
 use Rattle.vac_load.proofs.Notes.{are_kept_both}
 use Rattle.vac_load.proofs.Pairs.{paired_through, paired_length}
 
@@ -75,12 +76,12 @@ module _ {D P : Type 0} (leads : D → ℕ → D → Type 0) (s : Settings) (sho
   zip_left [] [] (p ∷ ps) hs ks = elim ks [ ]
   zip_left (x ∷ xs) (y ∷ ys) [] hs ks = elim ks [ ]
 
-  zip_among : (xs ys : List (Share (SeatShown D))) (k l : List Record) → Paired (λ x y. HasKeptShare leads s m x.left y) xs ys → SubEach (λ (x : Share (SeatShown D)). x.records) xs k → SubEach (λ (x : Share (SeatShown D)). x.records) ys l →
-      SubEach (λ (x : Share (SeatShown D)). x.records) (zipped xs ys) (k ++ l)
-  zip_among [] [] k l none a b = tt
-  zip_among (x ∷ xs) (y ∷ ys) k l (both h hs) a b = (sub_both y.records l a.0 b.0, zip_among xs ys k l hs a.1 b.1)
-  zip_among [] (y ∷ ys) k l hs a b = elim hs [ ]
-  zip_among (x ∷ xs) [] k l hs a b = elim hs [ ]
+  zip_once : (xs ys : List (Share (SeatShown D))) (k l : List Record) → Paired (λ x y. HasKeptShare leads s m x.left y) xs ys → InterleavedAll (λ (x : Share (SeatShown D)). x.records) xs k → InterleavedAll (λ (x : Share (SeatShown D)). x.records) ys l →
+      InterleavedAll (λ (x : Share (SeatShown D)). x.records) (zipped xs ys) (k ++ l)
+  zip_once [] [] k l none a b = ap (λ (r : List Record). r ++ l) a ∙ b
+  zip_once (x ∷ xs) (y ∷ ys) k l (both h hs) a b = (a.0 ++ b.0, interleaved_both a.1 b.1, zip_once xs ys a.0 b.0 hs a.2 b.2)
+  zip_once [] (y ∷ ys) k l hs a b = elim hs [ ]
+  zip_once (x ∷ xs) [] k l hs a b = elim hs [ ]
 
   -- sums over shares of what adds up
   zip_sum : (f : Share (SeatShown D) → ℕ) → ((x y : Share (SeatShown D)) → f (joined_share x y) ≡ f x + f y) → (xs ys : List (Share (SeatShown D))) → Paired (λ x y. HasKeptShare leads s m x.left y) xs ys → sum_of f (zipped xs ys) ≡ sum_of f xs + sum_of f ys
@@ -103,16 +104,13 @@ module _ {D P : Type 0} (leads : D → ℕ → D → Type 0) (s : Settings) (sho
       let goes : Paired (λ x y. HasKeptShare leads s m x.left y) h.shares k.shares =
       paired_through (λ (x : Share (SeatShown D)) p. shown_of p ≡ x.left) (λ p (y : Share (SeatShown D)). HasKeptShare leads s m (shown_of p) y) (λ (x : Share (SeatShown D)) y. HasKeptShare leads s m x.left y)
       (λ x p y e f. subst (λ (d : SeatShown D). HasKeptShare leads s m d y) e f) h.shares between k.shares h.left_are k.each in
-      let long = length-append h.rest k.rest in
-      let sums = zip_sum (λ (x : Share (SeatShown D)). length x.records) (λ x y. length-append x.records y.records) h.shares k.shares goes in
       record {
         shares = zipped h.shares k.shares;
         each = zip_each pairs h.shares k.shares h.each goes;
         left_are = zip_left h.shares k.shares left goes k.left_are;
         rest = h.rest ++ k.rest;
         behind = k.behind ∙ (ap (λ (l : List Record). l ++ k.rest) h.behind ∙ append_assoc before h.rest k.rest);
-        among = zip_among h.shares k.shares h.rest k.rest goes h.among k.among;
-        number = omega (arith, long, sums, h.number, k.number);
+        each_once = zip_once h.shares k.shares h.rest k.rest goes h.each_once k.each_once;
         tallies = ap (λ (x : Tally). plus x u) h.tallies ∙ (ap (λ (x : Tally). plus (added_up (λ (y : Share (SeatShown D)). y.tally) h.shares) x) k.tallies ∙ sym (zip_tallies h.shares k.shares goes));
         alone = λ one. (
             let same : length between ≡ length pairs = paired_length _ h.shares between h.left_are ∙ paired_length _ pairs h.shares h.each in

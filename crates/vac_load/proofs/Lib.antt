@@ -7,6 +7,7 @@ mod Pairs
 mod Notes
 mod Words
 mod Gatherings
+pub mod Merging
 mod Shares
 mod Joining
 pub mod Loads

@@ -27,7 +27,7 @@ use Rattle.vac_load.specs.Streams.{KeptBySeed}
 use Rattle.vac_load.specs.Lists.{Paired, none, both}
 use Rattle.vac_load.specs.Keeping.{Kept, AreKept, HasKeptAdded, AllKept, none_kept, one_kept, SeatShown}
 use Rattle.vac_load.specs.Sums.{sum_of, added_up}
-use Rattle.vac_load.specs.Load.{SubEach, AreKnown, Share, drawn_share, HasShare, HasKeptShare, RanAll, is_load, LoadedKept, WasOpened, WasStopped, IsTooShort, IsStopOfLoad, IsLoadFault}
+use Rattle.vac_load.specs.Load.{InterleavedAll, AreKnown, Share, drawn_share, HasShare, HasKeptShare, RanAll, is_load, LoadedKept, WasOpened, WasStopped, IsTooShort, IsStopOfLoad, IsLoadFault}
 use Rattle.vac_load.proofs.Order.{added_known}
 use Rattle.vac_load.proofs.Notes.{kept_added}
 use Rattle.vac_load.proofs.Joining.{ran_total}
@@ -42,9 +42,9 @@ opened_known leads renewal reader v v' state last empty ran = λ r i.
 
 -- shares without what was kept
 module _ {D : Type 0} where
-  among_drawn : (xs : List (Share (SeatShown D))) (l : List Record) → SubEach (λ (x : Share (SeatShown D)). x.records) xs l → SubEach (λ (x : Share D). x.records) (map drawn_share xs) l
-  among_drawn [] l h = tt
-  among_drawn (x ∷ xs) l h = (h.0, among_drawn xs l h.1)
+  once_drawn : (xs : List (Share (SeatShown D))) (l : List Record) → InterleavedAll (λ (x : Share (SeatShown D)). x.records) xs l → InterleavedAll (λ (x : Share D). x.records) (map drawn_share xs) l
+  once_drawn [] l h = h
+  once_drawn (x ∷ xs) l h = (h.0, h.1, once_drawn xs h.0 h.2)
 
   sum_drawn : (f : Share D → ℕ) (xs : List (Share (SeatShown D))) → sum_of f (map drawn_share xs) ≡ sum_of (λ x. f (drawn_share x)) xs
   sum_drawn f [] = refl
@@ -106,8 +106,7 @@ loaded_kept leads s shown_of state last seats left stripes region region' opener
         opened_are = ran.answered.are_of;
         shares = map drawn_share all.shares;
         each = each_drawn leads s shown_of (s.rounds * s.tasks) seats all.shares all.each;
-        among = among_drawn all.shares all.rest all.among;
-        number = all.number ∙ sym (sum_drawn (λ x. length x.records) all.shares);
+        each_once = once_drawn all.shares all.rest all.each_once;
         tallies = all.tallies ∙ sym (tallies_drawn all.shares);
         all = ran_total leads s shown_of (s.rounds * s.tasks) ready.records after.records seats left t all ∙ (ap (λ (k : ℕ). k * (s.rounds * s.tasks)) n ∙ count);
         alone = λ one. all.alone (n ∙ one);
@@ -149,8 +148,7 @@ kept_on leads s draws_of drawing state ps qs t r before after befores afters e h
     shares = h.loaded.shares;
     each = paired_unmap drawing (λ d x. HasShare leads s (s.rounds * s.tasks) d x) qs h.loaded.shares
         (subst (λ ds. Paired (λ d x. HasShare leads s (s.rounds * s.tasks) d x) ds h.loaded.shares) e (paired_map draws_of (λ d x. HasShare leads s (s.rounds * s.tasks) d x) ps h.loaded.shares h.loaded.each));
-    among = h.loaded.among;
-    number = h.loaded.number;
+    each_once = h.loaded.each_once;
     tallies = h.loaded.tallies;
     all = h.loaded.all;
     alone = h.loaded.alone;

@@ -3,11 +3,9 @@ use Rattle.std.proofs.Common.{◌≡◌, ◌∙◌, ℕ, suc, ◌+◌, ◌-◌, 
 use Rattle.atomic_table.specs.Seated.{TableId}
 use Rattle.stm_words.specs.Image.{In}
 use Rattle.stm_core.specs.Client.{Client, Record, merged}
-use Rattle.stm_core.specs.History.{Sub}
 use Rattle.stm_core.specs.declared.limits.TheConstants.{MOST_GRANTS}
 use Rattle.stm_core.specs.Invariant.{Sorted}
-use Rattle.stm_core.proofs.Merging.{sub_same, sub_trans, sub_left}
-use Rattle.stm_core.proofs.Whole.{merged_sorted, sorted_right}
+use Rattle.stm_core.proofs.Whole.{merged_sorted}
 use Rattle.vac_manager.specs.Called.{CallerShown, Splits}
 use Rattle.vac_draws.specs.declared.settings.Settings.{Settings}
 use Rattle.vac_load.specs.declared.tally.Tally.{Tally}
@@ -16,10 +14,10 @@ use Rattle.vac_draws.specs.Draws.{Drawn, times}
 use Rattle.vac_draws.specs.Tasks.{task_of}
 use Rattle.vac_load.specs.Keeping.{AreKept, SeatShown}
 use Rattle.vac_load.specs.Sums.{sum_of, plus, added_up}
-use Rattle.vac_load.specs.Lists.{Paired, none, both}
-use Rattle.vac_load.specs.Load.{SubEach, all_merged, Gathered, HasWorked, IsHired, Hired, AreKnown, Share, HasKeptShare, RanAll}
+use Rattle.vac_load.specs.Lists.{Paired, none, both, Interleaved}
+use Rattle.vac_load.specs.Load.{InterleavedAll, all_merged, Gathered, HasWorked, IsHired, Hired, AreKnown, Share, HasKeptShare, RanAll}
 use Rattle.vac_load.proofs.Order.{IsLater, added_later, known_first, merged_behind}
-use Rattle.vac_load.proofs.Gatherings.{length_merged}
+use Rattle.vac_load.proofs.Merging.{interleaved_alone, regrouped, merged_interleaved}
 use Rattle.vac_load.proofs.Notes.{kept_added}
 use Rattle.vac_load.proofs.Pairs.{paired_through, paired_length, all_cons}
 
@@ -107,22 +105,14 @@ merged_front {D} renewal floor o l (x ∷ xs) k h =
     ap (λ (m : List Record). all_merged (λ (y : Share D). y.records) m xs) (merged_behind o l x.records (λ a b i j. known_first renewal floor a b (k a i) (h.0.1 b j)))
     ∙ merged_front renewal floor o (merged l x.records) xs k h.1
 
--- merged lists stand in the merge in their order, and it has no others
-record Within {D : Type 0} (l : List Record) (xs : List (Share D)) : Type 0 where
-  first : Sub l (all_merged (λ (x : Share D). x.records) l xs)
-  each : SubEach (λ (x : Share D). x.records) xs (all_merged (λ (x : Share D). x.records) l xs)
-  number : length (all_merged (λ (x : Share D). x.records) l xs) ≡ length l + sum_of (λ (x : Share D). length x.records) xs
-
-within : {D : Type 0} (renewal floor : ℕ) (l : List Record) (xs : List (Share D)) → Sorted l → AreLater renewal floor xs → Within l xs
-within renewal floor l [] s h = record { first = sub_same l; each = tt; number = omega arith }
+-- merged lists stand in the merge, each in its order, and it has no others
+within : {D : Type 0} (renewal floor : ℕ) (l : List Record) (xs : List (Share D)) → Sorted l → AreLater renewal floor xs →
+    (others : List Record) × Interleaved l others (all_merged (λ (x : Share D). x.records) l xs) × InterleavedAll (λ (x : Share D). x.records) xs others
+within renewal floor l [] s h = ([], interleaved_alone l, refl)
 within renewal floor l (x ∷ xs) s h =
     let m = within renewal floor (merged l x.records) xs (merged_sorted l x.records s) h.1 in
-    let long = length_merged l x.records in
-    record {
-      first = sub_trans (sub_left l x.records) m.first;
-      each = (sub_trans (sorted_right l x.records s h.0.0) m.first, m.each);
-      number = omega (arith, long, m.number);
-    }
+    let r = regrouped (merged_interleaved l x.records s h.0.0) m.1 in
+    (r.later, r.whole, (m.0, r.lasts, m.2))
 
 no_sum : {X : Type 0} (f : X → ℕ) (xs : List X) → length xs ≡ 0 → sum_of f xs ≡ 0
 no_sum f [] e = refl
@@ -183,8 +173,7 @@ module _ {D P W R : Type 0} (leads : D → ℕ → D → Type 0) (s : Settings) 
             ∙ (ap (λ (m : List Record). all_merged (λ r. (after_of r).value.records) m others') d.records_are
             ∙ (more.merges (opener.value.records ++ d.added)
             ∙ merged_front renewal floor opener.value.records d.added more.shares known more.later));
-        among = (inside.first, inside.each);
-        number = inside.number;
+        each_once = inside;
         tallies = g.tallies ∙ ap (λ (u : Tally). plus (tally_of first') u) more.tallies;
         alone = λ one. (
             let long : length pairs ≡ suc (length h.rest) = ap (λ (l : List P). length l) h.pairs_are in

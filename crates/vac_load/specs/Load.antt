@@ -16,7 +16,7 @@ use Rattle.vac_load.specs.declared.tally.Tally.{Tally}
 use Rattle.vac_load.specs.declared.workers.WorkOf.{WorkOf}
 use Rattle.vac_load.specs.declared.seats.Seat.{Seat}
 use Rattle.vac_load.specs.Looping.{Looped, AreOf, total}
-use Rattle.vac_load.specs.Lists.{Paired}
+use Rattle.vac_load.specs.Lists.{Paired, Interleaved}
 use Rattle.vac_load.specs.Keeping.{Kept, AreKept, AllKept, HasKeptAdded, SeatShown}
 use Rattle.vac_load.specs.Opening.{as_tasks, Ran, Stopped}
 use Rattle.vac_draws.specs.Setting.{is_settings}
@@ -28,7 +28,7 @@ use Rattle.vac_model.specs.State.{State, empty_state, report}
 use Rattle.vac_manager.specs.Legal.{IsLegal}
 use Rattle.vac_draws.specs.Draws.{Drawn, times}
 use Rattle.vac_draws.specs.Tasks.{task_of, opening}
-use Rattle.vac_load.specs.Sums.{sum_of, plus, added_up}
+use Rattle.vac_load.specs.Sums.{plus, added_up}
 
 -- a client of some manager ran its tasks of a round, in this renewal: it is the client that it
 -- was, its value has what its loop made of it, and its keeper kept its answered calls
@@ -47,10 +47,12 @@ pub record IsPromise {D G K : Type 0} (s : Settings) (renewal : ℕ) (c : Caller
   pub client_is : p.client.value ≡ c
   pub seat_is : p.seat.value ≡ seat
 
--- each of the lists is a part of this one, in its order
-abbrev pub SubEach : {X : Type 0} → (X → List Record) → List X → List Record → Type 0
-SubEach records_of [] all = Unit {0}
-SubEach records_of (x ∷ xs) all = Sub (records_of x) all × SubEach records_of xs all
+-- the list has the records of all these and no others, each once, those of each in their order
+abbrev pub InterleavedAll : {X : Type 0} → (X → List Record) → List X → List Record → Type 0
+InterleavedAll records_of [] all = all ≡ []
+InterleavedAll records_of (x ∷ xs) all =
+    (others : List Record) × Interleaved (records_of x) others all
+    × InterleavedAll records_of xs others
 
 -- the records of all these merged into the first ones, one after the other
 abbrev pub all_merged : {X : Type 0} → (X → List Record) → List Record → List X → List Record
@@ -135,8 +137,7 @@ pub record RanAll {D P : Type 0} (leads : D → ℕ → D → Type 0) (s : Setti
   pub left_are : Paired (λ x p. shown_of p ≡ x.left) shares left
   pub rest : List Record
   pub behind : after ≡ before ++ rest
-  pub among : SubEach (λ x. x.records) shares rest
-  pub number : length rest ≡ sum_of (λ x. length x.records) shares
+  pub each_once : InterleavedAll (λ x. x.records) shares rest
   pub tallies : t ≡ added_up (λ x. x.tally) shares
   pub alone : length seats ≡ 1 → t.busy ≡ 0
 
@@ -220,8 +221,7 @@ pub record Loaded {D P : Type 0} (leads : D → ℕ → D → Type 0) (s : Setti
   pub opened_are : AreOf (as_tasks commands) opened
   pub shares : List (Share D)
   pub each : Paired (λ p x. HasShare leads s (s.rounds * s.tasks) (draws_of p) x) pairs shares
-  pub among : SubEach (λ x. x.records) shares rest
-  pub number : length rest ≡ sum_of (λ x. length x.records) shares
+  pub each_once : InterleavedAll (λ x. x.records) shares rest
   pub tallies : t ≡ added_up (λ x. x.tally) shares
   pub all : total t ≡ s.rounds * s.clients * s.tasks
   pub alone : s.clients ≡ 1 → t.busy ≡ 0
