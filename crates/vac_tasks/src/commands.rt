@@ -8,11 +8,11 @@ ghost use Rattle.vac_commands.specs.Ran.{Ran, Asked};
 ghost use Rattle.vac_tasks.specs.Reading.{is_question};
 
 use stm_words::{TxMem, TxRead};
-use vac_report::report;
 use vac_commands::{
     add, bill, cancel, delete, drop_customer, drop_flight, free, new_customer, price, reserve,
 };
 use vac_model::{Command, Reply, Why};
+use vac_report::report;
 
 /// Whether the command only asks.
 pub(crate) fn asks_only(command: &Command) -> bool
