@@ -44,15 +44,15 @@ class Proving:
             kit.stop_on_links(crate.folder)
             kit.stop_on_text(crate, "check")
         left = [crate for crate in below if not crate.is_built()]
-        chains = self.chains(left)
+        self.lines = {crate: crate.count(rb"\n") for crate in left}
+        chains = self.chains(left, self.lines)
         self.left = sorted(left, key=lambda crate: -chains[crate])
         self.done, self.all = 0, len(left)
         self.running, self.failed = {}, False
 
     @staticmethod
-    def chains(crates):
+    def chains(crates, lines):
         """The lines of the longest chain that waits for each crate, its own among them."""
-        lines = {crate: crate.count(rb"\n") for crate in crates}
         chains = dict(lines)
         for crate in reversed(crates):
             for below in crate.below():
@@ -73,14 +73,16 @@ class Proving:
         return True
 
     def start(self, pool):
-        """Starts what may be proved now, with the processors that are free shared out among it."""
+        """Starts what may be proved now, those with the longest chain first, with the processors that
+        are free shared out among it by the lines of each: the long one gets more of them."""
         waits = set(self.left) | {crate for crate, _ in self.running.values()}
         ready = [crate for crate in self.left if not waits & set(crate.below())]
         for place, crate in enumerate(ready):
             free = self.processors - sum(jobs for _, jobs in self.running.values())
             if free <= 0:
                 return
-            jobs = max(1, min(MOST_JOBS, free // (len(ready) - place)))
+            lines = [self.lines[it] for it in ready[place:]]
+            jobs = max(1, min(MOST_JOBS, free, round(free * lines[0] / sum(lines))))
             self.left.remove(crate)
             crate.out = tempfile.TemporaryFile("w+", errors="replace")
             self.running[pool.submit(self.build, crate, jobs)] = crate, jobs

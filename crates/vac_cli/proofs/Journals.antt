@@ -5,9 +5,9 @@ use Rattle.std.proofs.lemmas.List.{length-map}
 use Rattle.std.proofs.lemmas.List.Elements.{All-head, All-tail}
 use Rattle.stm_core.specs.Client.{Record}
 use Rattle.vac_draws.specs.declared.settings.Settings.{Settings}
-use Rattle.vac_notes.specs.declared.note.Note.{Note}
+use Rattle.vac_manager.specs.declared.note.Note.{Note}
 use Rattle.vac_history.specs.declared.journal.Journal.{Journal}
-use Rattle.vac_notes.specs.Keeping.{behind, IsNoted}
+use Rattle.vac_manager.specs.Keeping.{behind, IsNoted}
 use Rattle.vac_history.specs.History.{notes_of}
 use Rattle.vac_load.specs.declared.seats.Keepers.{Keepers}
 use Rattle.vac_load.specs.declared.load.LoadReport.{LoadReport}

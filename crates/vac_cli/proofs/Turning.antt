@@ -9,8 +9,8 @@ use Rattle.stm_core.proofs.Merging.{in_sub}
 use Rattle.vac_draws.specs.declared.settings.Settings.{Settings}
 use Rattle.vac_manager.specs.declared.placed.Place.{Place}
 use Rattle.vac_manager.specs.Placed.{place_of}
-use Rattle.vac_notes.specs.declared.note.Note.{Note}
-use Rattle.vac_notes.specs.Keeping.{IsNoted}
+use Rattle.vac_manager.specs.declared.note.Note.{Note}
+use Rattle.vac_manager.specs.Keeping.{IsNoted}
 use Rattle.vac_history.specs.declared.journal.Journal.{Journal}
 use Rattle.vac_history.specs.Turns.{TakeTime, AreInTurn}
 use Rattle.vac_history.specs.Order.{precedes, rank_of, list_at, AreOrdered, EachOrdered}

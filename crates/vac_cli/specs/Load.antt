@@ -7,8 +7,8 @@ use Rattle.vac_load.specs.declared.tally.Tally.{Tally}
 use Rattle.vac_load.specs.declared.load.LoadReport.{LoadReport}
 use Rattle.vac_load.specs.declared.load.LoadFault.{LoadFault}
 use Rattle.vac_draws.specs.declared.settings.Settings.{Settings}
-use Rattle.vac_notes.specs.declared.note.Note.{Note}
-use Rattle.vac_notes.specs.Keeping.{IsNoted}
+use Rattle.vac_manager.specs.declared.note.Note.{Note}
+use Rattle.vac_manager.specs.Keeping.{IsNoted}
 use Rattle.vac_history.specs.Turns.{TakeTime, AreInTurn}
 use Rattle.vac_history.specs.Order.{list_at, AreOrdered}
 use Rattle.vac_history.specs.History.{WroteHistory, WroteHistoryPrefix}

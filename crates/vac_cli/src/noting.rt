@@ -18,7 +18,7 @@ use std::time::{Clock, Instant};
 use stm_attempt::NoGate;
 use vac_history::{HistoryFault, Journal, write_history};
 use vac_load::{Efforts, Keepers, LoadFault, LoadReport, Settings, run_load_kept};
-use vac_notes::Keep;
+use vac_manager::Keep;
 use vac_script::RunFault;
 
 /// An empty journal for each client, with one clock and one start.

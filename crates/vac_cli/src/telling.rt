@@ -14,7 +14,7 @@ use std::thread::{Parker, Threads};
 use std::time::{Clock, Duration, Instant};
 use stm_attempt::{Gate, Point};
 use vac_load::{Efforts, Keepers, LoadFault, LoadReport, Settings, run_load_kept};
-use vac_notes::Keep;
+use vac_manager::Keep;
 
 /// The least time between two lines, in milliseconds.
 const PAUSE_MILLIS: u64 = 500;

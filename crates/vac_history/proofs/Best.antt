@@ -2,7 +2,7 @@
 use Rattle.std.proofs.Common.{◌≡◌, ◌∙◌, ◌+◌, inl, inr, refl, sym, ap, subst, arith, ℕ, true, false, List, [], ◌∷◌, Option, Some, None, slice_get}
 use Rattle.std.specs.Borrow.{Bor}
 use Rattle.std.proofs.lemmas.Bool.{cases_lt}
-use Rattle.vac_notes.specs.declared.note.Note.{Note}
+use Rattle.vac_manager.specs.declared.note.Note.{Note}
 use Rattle.vac_history.specs.Order.{Entry, entries_of, list_at, precedes}
 use Rattle.vac_history.specs.Rests.{BeginsWith, IsLeast, IsBest}
 use Rattle.vac_history.proofs.Ordering.{precedes_chain, precedes_turns, precedes_self}

@@ -2,7 +2,7 @@
 use Rattle.std.proofs.Common.{◌≡◌, ◌∙◌, ◌<◌, ◌≤◌, inl, inr, refl, sym, ap, subst, arith, ℕ, false, List, [], ◌∷◌, get_or, set, take, drop, length, ◌-◌, length-drop}
 use Rattle.std.proofs.lemmas.List.{get_or-map, length-map, map-set, get_or_past, take_all}
 use Rattle.std.proofs.lemmas.Bool.{cases_lt}
-use Rattle.vac_notes.specs.declared.note.Note.{Note}
+use Rattle.vac_manager.specs.declared.note.Note.{Note}
 use Rattle.vac_history.specs.declared.merging.Rest.{Rest}
 use Rattle.vac_history.specs.Order.{Entry, entries_of, list_at, precedes}
 use Rattle.vac_history.specs.Picking.{Picks}

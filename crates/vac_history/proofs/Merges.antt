@@ -6,7 +6,7 @@ use Rattle.std.proofs.lemmas.List.Sums.{sum_by-set}
 use Rattle.std.proofs.lemmas.List.Kept.{AllPairs-cons}
 use Rattle.std.proofs.lemmas.List.Elements.{All-nil, All-cons, All-head, All-tail, All-weaker}
 use Rattle.std.proofs.lemmas.Bool.{cases_lt, cases_eq}
-use Rattle.vac_notes.specs.declared.note.Note.{Note}
+use Rattle.vac_manager.specs.declared.note.Note.{Note}
 use Rattle.vac_history.specs.Order.{Entry, entries_of, entries_from, list_at, Takes, Interleaves, precedes, AreOrdered, EachOrdered, IsMerged}
 use Rattle.vac_history.specs.Picking.{Picks, PicksAll, IsSpent, Merges}
 use Rattle.vac_history.proofs.Ordering.{precedes_chain, precedes_turns, precedes_self}

@@ -1,7 +1,7 @@
 -- The order of calls is one of three numbers, one after the other.
 use Rattle.std.proofs.Common.{◌≡◌, ◌&&◌, ◌||◌, arith, Bool, true, false, eqb, ltb, ℕ}
 use Rattle.std.proofs.lemmas.Bool.Decides.{nat_tests}
-use Rattle.vac_notes.specs.declared.note.Note.{Note}
+use Rattle.vac_manager.specs.declared.note.Note.{Note}
 use Rattle.vac_history.specs.Order.{precedes, rank_of}
 
 -- by the first numbers, then by the second ones, then by the third ones

@@ -1,7 +1,7 @@
 -- What is left before the first call is written.
 use Rattle.std.proofs.Common.{◌≡◌, ◌∙◌, ◌+◌, ◌<◌, sym, ap, arith, ℕ, suc, List, [], ◌∷◌, ◌++◌, get_or, take, length, map}
 use Rattle.std.proofs.lemmas.List.{map-append, take_more, length-map, length-take-le, take_all}
-use Rattle.vac_notes.specs.declared.note.Note.{Note}
+use Rattle.vac_manager.specs.declared.note.Note.{Note}
 use Rattle.vac_history.specs.declared.journal.Journal.{Journal}
 use Rattle.vac_history.specs.declared.merging.Rest.{Rest}
 use Rattle.vac_history.specs.Order.{Entry, entries_of, entries_from}

@@ -9,7 +9,7 @@ use Rattle.vac_judge.specs.CallText.{call_text, history_text}
 use Rattle.vac_worklist.specs.Worklist.{AppendsPrefix}
 use Rattle.vac_worklist.specs.Sending.{Sent}
 use Rattle.vac_worklist.proofs.Texts.{sent_both, part_second, prefix_longer, prefix_is, none_written, sent_end, sent_end_in_part}
-use Rattle.vac_notes.specs.declared.note.Note.{Note}
+use Rattle.vac_manager.specs.declared.note.Note.{Note}
 use Rattle.vac_history.specs.Order.{Entry, entries_from}
 use Rattle.vac_history.specs.Picking.{Picks, IsSpent, Merges}
 use Rattle.vac_history.specs.History.{call_of, entries_text, WroteHistory, WroteHistoryPrefix}

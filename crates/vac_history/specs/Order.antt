@@ -3,7 +3,7 @@ use Rattle.std.specs.Prelude.{◌≡◌, ℕ, suc, ◌+◌, ◌*◌, ◌||◌, �
 use Rattle.std.specs.Prelude.{List, [], ◌∷◌, map, slice_index_or, slice_set}
 use Rattle.std.specs.List.{AllPairs}
 use Rattle.vac_manager.specs.declared.placed.Place.{Place}
-use Rattle.vac_notes.specs.declared.note.Note.{Note}
+use Rattle.vac_manager.specs.declared.note.Note.{Note}
 
 -- a call that was kept, and the number of its client
 pub record Entry : Type 0 where

@@ -1,7 +1,7 @@
 -- What is left of the clients' calls, as lists, and which is to be written next.
 use Rattle.std.specs.Prelude.{◌≡◌, ◌<◌, ℕ, false, Option, Some, None, List, [], ◌∷◌, map}
 use Rattle.std.specs.Borrow.{Bor}
-use Rattle.vac_notes.specs.declared.note.Note.{Note}
+use Rattle.vac_manager.specs.declared.note.Note.{Note}
 use Rattle.vac_history.specs.declared.merging.Rest.{Rest}
 use Rattle.vac_history.specs.declared.merging.Picked.{Picked}
 use Rattle.vac_history.specs.Order.{Entry, entries_of, list_at, precedes}

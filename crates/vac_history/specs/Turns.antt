@@ -1,7 +1,7 @@
 -- The times of a client's calls.
 use Rattle.std.specs.Prelude.{◌≤◌, List}
 use Rattle.std.specs.List.{All, AllPairs}
-use Rattle.vac_notes.specs.declared.note.Note.{Note}
+use Rattle.vac_manager.specs.declared.note.Note.{Note}
 
 -- no call ends before it begins
 abbrev pub TakeTime : List Note → Type 0

@@ -6,9 +6,8 @@ ghost use Rattle.vac_history.specs.Turns.{TakeTime, AreInTurn};
 
 use std::alloc::{AllocError, Global};
 use std::time::{Clock, Instant};
-use vac_manager::{Place, Placed};
+use vac_manager::{Keep, Note, Place, Placed};
 use vac_model::Task;
-use vac_notes::{Keep, Note};
 
 /// Keeps the answered calls of a client, with readings of a clock before each of them and after it.
 #[derive(Drop)]

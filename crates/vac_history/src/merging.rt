@@ -5,8 +5,7 @@ ghost use Rattle.vac_history.specs.Order.{Entry, entries_of, list_at, precedes, 
 ghost use Rattle.vac_history.specs.Picking.{Picks, IsSpent};
 ghost use Rattle.vac_history.specs.Rests.{left_of, entry_of, IsBest};
 
-use vac_manager::Place;
-use vac_notes::Note;
+use vac_manager::{Note, Place};
 
 /// What is left of a client's calls.
 #[derive(Clone, Copy, Drop)]

@@ -7,8 +7,8 @@ use Rattle.vac_manager.specs.declared.placed.Placed.{Placed}
 use Rattle.vac_manager.specs.Placed.{AddsAt, IsPlaced}
 use Rattle.vac_manager.specs.declared.fault.Fault.{Fault}
 use Rattle.stm_region.specs.Shown.{RegionShown}
-use Rattle.vac_notes.specs.declared.note.Note.{Note}
-use Rattle.vac_notes.specs.Keeping.{behind, HasKept, IsNoted}
+use Rattle.vac_manager.specs.declared.note.Note.{Note}
+use Rattle.vac_manager.specs.Keeping.{behind, HasKept, IsNoted}
 use Rattle.vac_load.specs.Lists.{Paired, none, both}
 use Rattle.vac_load.specs.Keeping.{Kept, AreKept, HasKeptAdded}
 

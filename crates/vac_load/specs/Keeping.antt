@@ -1,8 +1,8 @@
 -- What the keepers of a load keep.
 use Rattle.std.specs.Prelude.{◌≡◌, List, [], ◌∷◌, ◌++◌, map, Option}
 use Rattle.stm_core.specs.Client.{Client, Record}
-use Rattle.vac_notes.specs.declared.note.Note.{Note}
-use Rattle.vac_notes.specs.Keeping.{behind, IsNoted}
+use Rattle.vac_manager.specs.declared.note.Note.{Note}
+use Rattle.vac_manager.specs.Keeping.{behind, IsNoted}
 use Rattle.vac_load.specs.declared.seats.Seat.{Seat}
 use Rattle.vac_load.specs.Lists.{Paired}
 

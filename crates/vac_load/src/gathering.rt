@@ -19,8 +19,7 @@ use std::sync::Wait;
 use std::thread::Threads;
 use stm_attempt::Gate;
 use vac_draws::{Draws, Settings};
-use vac_manager::{Client, Manager};
-use vac_notes::Keep;
+use vac_manager::{Client, Keep, Manager};
 
 /// What a round leaves: the client that took in all others, the seats of the clients in their
 /// order, and how the tasks ended.

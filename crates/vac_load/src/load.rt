@@ -26,8 +26,7 @@ use stm_region::RegionFault;
 use stm_words::Version;
 use thiserror::Error;
 use vac_draws::{Draws, PcgDraws, Settings};
-use vac_manager::{Client, Fault, Manager, Report};
-use vac_notes::{Keep, Unkept};
+use vac_manager::{Client, Fault, Keep, Manager, Report, Unkept};
 
 /// What a load leaves: how its tasks ended, over all rounds, and the report of the words after all
 /// clients were gathered for the last time.

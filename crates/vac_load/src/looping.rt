@@ -14,9 +14,8 @@ use crate::tally::Tally;
 use std::alloc::{AllocError, Global};
 use stm_attempt::{Gate, Point};
 use vac_draws::{Draws, Settings, draw_task};
-use vac_manager::{Client, Effort, Fault, Manager};
+use vac_manager::{Client, Effort, Fault, Keep, Manager, Unkept};
 use vac_model::Task;
-use vac_notes::{Keep, Unkept};
 
 /// What no call took.
 fn no_call() -> Effort

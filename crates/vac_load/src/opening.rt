@@ -12,9 +12,8 @@ ghost use Rattle.vac_load.specs.Opening.{Ran, Stopped, IsOpeningFault};
 
 use stm_attempt::NoGate;
 use vac_draws::{Draws, Settings, draw_stock};
-use vac_manager::{Client, Fault, Manager};
+use vac_manager::{Client, Fault, Keep, Manager, Unkept};
 use vac_model::{Command, Kind, Task};
-use vac_notes::{Keep, Unkept};
 
 /// How many tries a command of the opening gets.
 const TRIES: u32 = 1;

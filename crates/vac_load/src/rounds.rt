@@ -19,8 +19,7 @@ use std::thread::Threads;
 use stm_attempt::Gate;
 use stm_region::RegionFault;
 use vac_draws::{Draws, Settings};
-use vac_manager::{Client, Manager, RenewFault};
-use vac_notes::Keep;
+use vac_manager::{Client, Keep, Manager, RenewFault};
 
 /// A load after some of its rounds: its manager, and what the last round left, with the tasks of
 /// all rounds counted.

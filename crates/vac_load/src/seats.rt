@@ -5,7 +5,7 @@ ghost use Rattle.vac_draws.specs.Streams.{streams_of};
 
 use std::alloc::{AllocError, Global};
 use vac_draws::PcgDraws;
-use vac_notes::Unkept;
+use vac_manager::Unkept;
 
 /// What keeps the answered calls of a load: those of its opening, and those of each client, in the
 /// order of the clients.

@@ -17,8 +17,7 @@ use std::thread;
 use std::thread::{Promise, PromisedHandle, Scope, Threads};
 use stm_attempt::Gate;
 use vac_draws::{Draws, Settings};
-use vac_manager::{Client, Manager};
-use vac_notes::Keep;
+use vac_manager::{Client, Keep, Manager};
 
 /// A client with its seat.
 #[derive(Drop)]

@@ -2,6 +2,7 @@ pub mod Law
 pub mod Legal
 pub mod Called
 pub mod Placed
+pub mod Keeping
 pub mod Faults
 pub mod Opening
 pub mod Renewed

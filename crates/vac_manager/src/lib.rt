@@ -8,8 +8,10 @@
 mod attempts;
 mod client;
 mod fault;
+mod keep;
 mod law;
 mod manager;
+mod note;
 mod placed;
 mod renew;
 mod session;
@@ -17,8 +19,10 @@ mod told;
 
 pub use client::Client;
 pub use fault::Fault;
+pub use keep::{Keep, Unkept};
 pub use law::{ManagerLaw, serial_records_are_legal};
 pub use manager::Manager;
+pub use note::Note;
 pub use placed::{Effort, Place, Placed};
 pub use renew::RenewFault;
 pub use session::Session;

@@ -1,5 +1,5 @@
 use Rattle.std.proofs.Common.{refl}
-use Rattle.vac_notes.proofs.keep.UnkeptKeep.keep.Goals as goal
+use Rattle.vac_manager.proofs.keep.UnkeptKeep.keep.Goals as goal
 
 -- src/keep.rt:45:5
 pub returns : goal.returns

@@ -5,7 +5,7 @@ use Rattle.vac_model.specs.declared.tasks.Task.{Task}
 use Rattle.vac_model.specs.Code.{code}
 use Rattle.vac_manager.specs.declared.placed.Placed.{Placed}
 use Rattle.vac_manager.specs.Placed.{place_of}
-use Rattle.vac_notes.specs.declared.note.Note.{Note}
+use Rattle.vac_manager.specs.declared.note.Note.{Note}
 
 -- these calls behind those that are kept; nothing where nothing is kept
 abbrev pub behind : Option (List Note) → List Note → Option (List Note)

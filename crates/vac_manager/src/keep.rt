@@ -1,11 +1,11 @@
 //! What keeps the answered calls of a client.
 
 ghost use Rattle.std.specs.Prelude.{◌≡◌, List, Option, None, OnOk};
-ghost use Rattle.vac_notes.specs.declared.note.Note.{Note};
-ghost use Rattle.vac_notes.specs.Keeping.{HasKept};
+ghost use Rattle.vac_manager.specs.declared.note.Note.{Note};
+ghost use Rattle.vac_manager.specs.Keeping.{HasKept};
 
+use crate::placed::Placed;
 use std::alloc::AllocError;
-use vac_manager::Placed;
 use vac_model::Task;
 
 /// What keeps the answered calls of a client, or does not.

@@ -1,6 +1,6 @@
 //! A call that was answered.
 
-use vac_manager::Place;
+use crate::placed::Place;
 use vac_model::{Reply, Task};
 
 /// A call that was answered.
