@@ -36,11 +36,11 @@ module _ {A : Type 0} where
     pub lasts : Interleaved second third later
     pub whole : Interleaved first later all
 
-  pub regrouped : {xs ys both third all : List A} → Interleaved xs ys both → Interleaved both third all → Regrouped xs ys third all
+  pub regrouped : {both third all : List A} → Interleaved both third all → {xs ys : List A} → Interleaved xs ys both → Regrouped xs ys third all
   regrouped no_more no_more = record { later = []; lasts = no_more; whole = no_more }
-  regrouped p (of_second z q) = let r = regrouped p q in record { later = z ∷ r.later; lasts = of_second z r.lasts; whole = of_second z r.whole }
-  regrouped (of_first x p) (of_first y q) = let r = regrouped p q in record { later = r.later; lasts = r.lasts; whole = of_first x r.whole }
-  regrouped (of_second x p) (of_first y q) = let r = regrouped p q in record { later = x ∷ r.later; lasts = of_first x r.lasts; whole = of_second x r.whole }
+  regrouped (of_second z q) p = let r = regrouped q p in record { later = z ∷ r.later; lasts = of_second z r.lasts; whole = of_second z r.whole }
+  regrouped (of_first y q) (of_first x p) = let r = regrouped q p in record { later = r.later; lasts = r.lasts; whole = of_first x r.whole }
+  regrouped (of_first y q) (of_second x p) = let r = regrouped q p in record { later = x ∷ r.later; lasts = of_first x r.lasts; whole = of_second x r.whole }
 
 -- what comes last among some records comes after them where it is put in
 interleaved_last : {a p l : List Record} (y : Record) → Interleaved a p l → Sorted l → ((x : Record) → In x p → before y x ≡ false) → Interleaved a (p ++ y ∷ []) (inserted y l)

@@ -111,7 +111,7 @@ within : {D : Type 0} (renewal floor : ℕ) (l : List Record) (xs : List (Share 
 within renewal floor l [] s h = ([], interleaved_alone l, refl)
 within renewal floor l (x ∷ xs) s h =
     let m = within renewal floor (merged l x.records) xs (merged_sorted l x.records s) h.1 in
-    let r = regrouped (merged_interleaved l x.records s h.0.0) m.1 in
+    let r = regrouped m.1 (merged_interleaved l x.records s h.0.0) in
     (r.later, r.whole, (m.0, r.lasts, m.2))
 
 no_sum : {X : Type 0} (f : X → ℕ) (xs : List X) → length xs ≡ 0 → sum_of f xs ≡ 0
