@@ -98,21 +98,16 @@ pub fn walk_bookings(
     let mut at = head;
     let mut above: u64 = 0;
     for _level in 0..reached.len() + 1 {
-        match follow(words, reached, at) {
-            Err(flaw) => return Err(flaw),
-            Ok(None) => return Ok(()),
-            Ok(Some(booking)) => {
-                match look_at_booking(words, notes.places.as_slice(), booking, above) {
-                    Err(flaw) => return Err(flaw),
-                    Ok(item) => {
-                        let so_far = notes.booked[item];
-                        notes.booked[item] = so_far + words[booking + UNITS];
-                        notes.tally.bookings += words[booking + UNITS];
-                        notes.tally.billed += words[booking + SUM];
-                        above = notes.places[item] + 1;
-                        at = booking + NEXT;
-                    }
-                }
+        match follow(words, reached, at)? {
+            None => return Ok(()),
+            Some(booking) => {
+                let item = look_at_booking(words, notes.places.as_slice(), booking, above)?;
+                let so_far = notes.booked[item];
+                notes.booked[item] = so_far + words[booking + UNITS];
+                notes.tally.bookings += words[booking + UNITS];
+                notes.tally.billed += words[booking + SUM];
+                above = notes.places[item] + 1;
+                at = booking + NEXT;
             }
         }
     }
