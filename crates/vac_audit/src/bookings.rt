@@ -30,21 +30,7 @@ fn find(places: &[u64], place: u64) -> Option<usize>
         ((i : ℕ) → i < length places.now → slice_index places.now i ≢ place)
         (λ i. (i < length places.now) × (slice_index places.now i ≡ place)) }
 {
-    let mut low = 0;
-    let mut high = places.len();
-    while low < high {
-        let middle = low + (high - low) / 2;
-        if places[middle] < place {
-            low = middle + 1;
-        } else {
-            high = middle;
-        }
-    }
-    if low < places.len() && places[low] == place {
-        Some(low)
-    } else {
-        None
-    }
+    places.binary_search(&place).ok()
 }
 
 /// Looks at a booking, whose kind and id are to be `above` or more. The answer is the index of its
