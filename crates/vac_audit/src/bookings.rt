@@ -59,10 +59,7 @@ fn look_at_booking(words: &[u64], places: &[u64], booking: usize, above: u64) ->
     if units == 0 || units > MOST_UNITS || words[booking + SUM] > units * MOST_AMOUNT as u64 {
         return Err(Flaw::Bookings(booking as u32));
     }
-    match find(places, place) {
-        None => Err(Flaw::Bookings(booking as u32)),
-        Some(item) => Ok(item),
-    }
+    find(places, place).ok_or(Flaw::Bookings(booking as u32))
 }
 
 /// Walks a list of bookings, and adds up the units of each item.
