@@ -1,15 +1,15 @@
 -- From what the walk says of words to the states that they represent.
-use Rattle.std.proofs.Common.{◌≡◌, inr, ℕ, ◌+◌, ◌-◌, ◌/◌, ◌%◌, ◌*◌, ◌≤◌, List, length, sym, ap, ◌∙◌, subst, arith}
+use Rattle.std.proofs.Common.{◌≡◌, inl, inr, refl, ℕ, ◌+◌, ◌-◌, ◌/◌, ◌%◌, ◌*◌, ◌≤◌, List, length, sym, ap, ◌∙◌, subst, arith}
 use Rattle.std.specs.Prelude.{Ok, Err, slice_index}
 use Rattle.vac_model.specs.declared.replies.Report.{Report}
 use Rattle.vac_model.specs.State.{State}
 use Rattle.vac_records.specs.Represents.{IsState}
 use Rattle.vac_audit.specs.Walk.{audit}
-use Rattle.vac_audit.specs.Ran.{HeapRan, answer}
+use Rattle.vac_audit.specs.Ran.{HeapRan, answer, fault_answer}
 use Rattle.vac_audit.specs.Represented.{StateOf, Recognised}
 use Rattle.vac_audit.specs.declared.Flaw.{Flaw}
 use Rattle.vac_audit.specs.declared.tree.Fault.{Fault}
-use Rattle.vac_audit.specs.declared.tree.Fault.TheVariants.{Found}
+use Rattle.vac_audit.specs.declared.tree.Fault.TheVariants.{Memory, Found}
 use Rattle.vac_audit.specs.declared.audit.AuditFault.TheVariants.{Flaw as Flawed}
 use Rattle.vac_audit.proofs.Clean.{state_found}
 use Rattle.vac_audit.proofs.Stated.{state_clean, flawed_is_none}
@@ -42,3 +42,7 @@ recognised_flaw words fault flaw same h s some is =
     let g : HeapRan words ((length words - 16) / 8) (Err (Found flaw)) = subst (λ (z : Fault). HeapRan words ((length words - 16) / 8) (Err z)) same h in
     let q : audit (slice_index words) s.capacity ≡ Err flaw = subst (λ (z : ℕ). audit (slice_index words) z ≡ Err flaw) e g in
     absurd (flawed_is_none (slice_index words) s.capacity flaw q s (sized words s is))
+
+pub recognised_fault : (words : List ℕ) (fault : Fault) → HeapRan words ((length words - 16) / 8) (Err fault) → Recognised words (Err (fault_answer fault))
+recognised_fault words Memory h s some is = inl refl
+recognised_fault words (Found flaw) h s some is = recognised_flaw words (Found flaw) flaw refl h s some is

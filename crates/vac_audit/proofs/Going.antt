@@ -1,7 +1,7 @@
 -- The code's walk of a table, beside the definition's.
-use Rattle.std.proofs.Common.{◌≡◌, ◌≢◌, ◌⊎◌, inl, inr, ℕ, ◌+◌, ◌%◌, ◌<◌, ◌≤◌, Bool, true, false, cond, List, [], ◌∷◌, ◌++◌, length, zero, suc, refl, sym, ap, ◌∙◌, subst, arith, nat_eq, length-append}
+use Rattle.std.proofs.Common.{◌≡◌, ◌≢◌, ◌⊎◌, inl, inr, ℕ, ◌+◌, ◌*◌, ◌%◌, ◌<◌, ◌≤◌, Bool, true, false, cond, List, [], ◌∷◌, ◌++◌, length, zero, suc, refl, sym, ap, ◌∙◌, subst, arith, nat_eq, length-append}
 use Rattle.std.specs.Result.{IsErrAnd}
-use Rattle.std.specs.Prelude.{Result, Ok, Err, Some, None, slice_index, not}
+use Rattle.std.specs.Prelude.{Result, Ok, Err, Some, None, IfErr, IfOk, OnOk, slice_index, not}
 use Rattle.std.proofs.lemmas.List.{append_assoc}
 use Rattle.std.proofs.lemmas.Bool.Decides.{nat_tests}
 use Rattle.stm_words.specs.Seen.{same_or}
@@ -10,7 +10,7 @@ use Rattle.tx_alloc.specs.Rows.{Rows, times}
 use Rattle.vac_audit.specs.Tree.{Tree, leaf, node, rows, is_red}
 use Rattle.vac_audit.specs.Walk.{Seen, Look, wants, follow, above, is_key, walk_tree, walk_table}
 use Rattle.vac_audit.specs.Marks.{Marks, Followed, IsIndex, unmarked}
-use Rattle.vac_audit.specs.TreeRan.{IsSide, TableRan, ColourLooked, LookRan, NodeLooked, Noted, Indexed, Ready, HasRoom, Pushed, look_of}
+use Rattle.vac_audit.specs.TreeRan.{IsSide, TableRan, KeyLooked, RootLooked, WentDown, DownFlaw, DownRan, ColourLooked, LookRan, NodeLooked, Noted, Indexed, Ready, HasRoom, Pushed, look_of}
 use Rattle.vac_audit.specs.declared.Flaw.{Flaw}
 use Rattle.vac_audit.specs.declared.Flaw.TheVariants.{Shared, Order, Colour}
 use Rattle.vac_audit.specs.declared.notes.Notes.{Notes}
@@ -219,12 +219,15 @@ lefts_append (Right p side ∷ ss) s = omega (arith, lefts_append ss s)
 table_flaw : (words : List ℕ) (blocks root : ℕ) (look : Look) (s0 : Seen) (f : Flaw) → whole words blocks root look s0 ≡ Err f → walk_table (slice_index words) (length words) look (suc blocks) root s0 ≡ Err f
 table_flaw words blocks root look s0 f e = then_err (walk_tree (slice_index words) (length words) look (suc blocks) root 1 s0) _ f e
 
-key_fails : (m : ℕ → ℕ) (p lo : ℕ) → ((m p < lo) ⊎ (4294967295 < m p)) → is_key m p lo ≡ false
+pub key_fails : (m : ℕ → ℕ) (p lo : ℕ) → ((m p < lo) ⊎ (4294967295 < m p)) → is_key m p lo ≡ false
 key_fails m p lo (inl l) = grind (arith, nat_tests)
 key_fails m p lo (inr l) = grind (arith, nat_tests)
 
-key_holds : (m : ℕ → ℕ) (p lo : ℕ) → lo ≤ m p → m p ≤ 4294967295 → is_key m p lo ≡ true
+pub key_holds : (m : ℕ → ℕ) (p lo : ℕ) → lo ≤ m p → m p ≤ 4294967295 → is_key m p lo ≡ true
 key_holds m p lo a b = grind (arith, nat_tests)
+
+key_as : (m : ℕ → ℕ) (p lo lo' : ℕ) (b : Bool) → lo ≡ lo' → is_key m p lo ≡ b → is_key m p lo' ≡ b
+key_as m p lo lo' b e h = subst (λ (z : ℕ). is_key m p z ≡ b) e h
 
 fresh_block : (m : ℕ → ℕ) (n a : ℕ) (seen : List ℕ) (p : ℕ) → follow m n a seen ≡ Ok p → IsBlock n p → held p seen ≡ 0
 fresh_block m n a seen p e b = elim (follow_ok m n a seen p e) [
@@ -412,26 +415,26 @@ module _ (words : List ℕ) (marks0 : List Bool) (notes0 : Notes) (table : Table
   looked_flaw marks marks' notes notes' p tables s flaw e f ix a = subst (λ (z : ℕ). look_of (slice_index words) (length words) tables (suc z) table p s ≡ Err flaw) e (f tables ix s a)
 
   -- the right side of a node whose left side is done
-  pub goes_right : (marks marks' : List Bool) (notes notes' : Notes) (path : List Step) (p from nodes : ℕ) (side : Side) → Goes marks notes (path ++ (Left p ∷ [])) (Up side) from nodes
-      → IsBlock (length words) p → AllBlocks (length words) path → from ≤ slice_index words p → slice_index words p ≤ 4294967295 → length marks' ≡ length marks → unmarked marks' ≤ unmarked marks
+  pub goes_right : (marks marks' : List Bool) (notes notes' : Notes) (path : List Step) (p from next nodes : ℕ) (side : Side) → Goes marks notes (path ++ (Left p ∷ [])) (Up side) from nodes
+      → IsBlock (length words) p → AllBlocks (length words) path → slice_index words p < 4294967296 → KeyLooked words p from (Ok next) → length marks' ≡ length marks → unmarked marks' ≤ unmarked marks
       → Ready table notes' (unmarked marks') → Pushed table notes notes' → LookRan words marks marks' notes notes' table p (Ok tt)
-      → Goes marks' notes' (path ++ (Right p side ∷ [])) (Down (p + 2)) (slice_index words p + 1) (nodes + 1)
-  goes_right marks marks' notes notes' path p from nodes side h b all low high size fewer ready pushed f = record {
+      → Goes marks' notes' (path ++ (Right p side ∷ [])) (Down (p + 2)) next (nodes + 1)
+  goes_right marks marks' notes notes' path p from next nodes side h b all small looked size fewer ready pushed f = record {
     size = size ∙ h.size;
     in_blocks = blocks_pushed (length words) path (Right p side) all b;
     turn_in = omega (arith, b.1.0);
-    key = omega arith;
+    key = omega (arith, small, looked.1);
     ready = ready;
     room = room_next table notes notes' (unmarked marks + lefts (path ++ (Left p ∷ []))) (unmarked marks' + lefts (path ++ (Right p side ∷ []))) (omega (arith, fewer, lefts_append path (Left p), lefts_append path (Right p side))) pushed h.room;
     few = omega (arith, h.few, fewer, lefts_append path (Left p), lefts_append path (Right p side));
     rest = λ tables ix s0 s. go tables ix s0 (left_rest (look_of (slice_index words) (length words) tables (suc (length marks0)) table) s0 marks notes path p from nodes side (h.rest tables ix s0 s));
   } where
     go : (tables : ℕ → Rows) → Indexed table notes0 tables → (s0 : Seen) → LeftRest (look_of (slice_index words) (length words) tables (suc (length marks0)) table) s0 marks notes path p from nodes side
-        → Rest (look_of (slice_index words) (length words) tables (suc (length marks0)) table) s0 marks' notes' (path ++ (Right p side ∷ [])) (Down (p + 2)) (slice_index words p + 1) (nodes + 1)
+        → Rest (look_of (slice_index words) (length words) tables (suc (length marks0)) table) s0 marks' notes' (path ++ (Right p side ∷ [])) (Down (p + 2)) next (nodes + 1)
     go tables ix s0 r =
         let look = look_of (slice_index words) (length words) tables (suc (length marks0)) table in
         let g = looked_node marks marks' notes notes' p tables r.seen h.size f (indexed_as table (slice_index words) notes0 notes r.done r.seen.lists tables r.noted ix) r.are in
-        let key : is_key (slice_index words) p (above (least (slice_index words) r.frames) (rows r.t)) ≡ true = key_holds (slice_index words) p _ (omega (arith, r.low)) high in
+        let key : is_key (slice_index words) p (above (least (slice_index words) r.frames) (rows r.t)) ≡ true = key_as (slice_index words) p from _ true r.low looked.0 in
         record {
           frames = in_right p r.t ∷ r.frames;
           levels = r.levels;
@@ -444,33 +447,34 @@ module _ (words : List ℕ) (marks0 : List Bool) (notes0 : Notes) (table : Table
           many = omega (arith, r.many, length-append r.done ((slice_index words p, p) ∷ []));
           noted = noted_more (slice_index words) notes0 notes notes' r.done (slice_index words p) p r.seen.lists g.s'.lists (λ q o. g.kept q (once_other r.frames r.done r.seen.blocks p q r.once o)) table r.noted g.noted;
           stands = (
-            refl,
+            looked.1,
             left_done (slice_index words) (length words) look r.frames r.levels p r.t r.seen g.s' (whole words (length marks0) root look s0) key g.is r.stands,
             ap (λ (z : Rows). z ++ ((slice_index words p, p) ∷ [])) r.rows_are ∙ append_assoc (rows_above (slice_index words) r.frames) (rows r.t) ((slice_index words p, p) ∷ []),
           );
         }
 
-  pub goes_order : (marks : List Bool) (notes : Notes) (path : List Step) (p from nodes : ℕ) (side : Side) → Goes marks notes (path ++ (Left p ∷ [])) (Up side) from nodes
-      → ((slice_index words p < from) ⊎ (4294967295 < slice_index words p)) → Flawed (Order p)
-  goes_order marks notes path p from nodes side h bad tables ix s0 s =
+  pub goes_order : (marks : List Bool) (notes : Notes) (path : List Step) (p from nodes : ℕ) (side : Side) (flaw : Flaw) → Goes marks notes (path ++ (Left p ∷ [])) (Up side) from nodes
+      → KeyLooked words p from (Err flaw) → Flawed flaw
+  goes_order marks notes path p from nodes side flaw h bad tables ix s0 s =
       let look = look_of (slice_index words) (length words) tables (suc (length marks0)) table in
       let r = left_rest look s0 marks notes path p from nodes side (h.rest tables ix s0 s) in
-      table_flaw words (length marks0) root look s0 (Order p) (left_order (slice_index words) (length words) look r.frames r.levels p r.t r.seen (whole words (length marks0) root look s0)
-      (key_fails (slice_index words) p _ (subst (λ (z : ℕ). (slice_index words p < z) ⊎ (4294967295 < slice_index words p)) r.low bad)) r.stands)
+      subst (λ (z : Flaw). walk_table (slice_index words) (length words) look (suc (length marks0)) root s0 ≡ Err z) (sym bad.1)
+      (table_flaw words (length marks0) root look s0 (Order p) (left_order (slice_index words) (length words) look r.frames r.levels p r.t r.seen (whole words (length marks0) root look s0)
+      (key_as (slice_index words) p from _ false r.low bad.0) r.stands))
 
   pub goes_looked : (marks marks' : List Bool) (notes notes' : Notes) (path : List Step) (p from nodes : ℕ) (side : Side) (flaw : Flaw) → Goes marks notes (path ++ (Left p ∷ [])) (Up side) from nodes
-      → from ≤ slice_index words p → slice_index words p ≤ 4294967295 → LookRan words marks marks' notes notes' table p (Err (Found flaw)) → Flawed flaw
-  goes_looked marks marks' notes notes' path p from nodes side flaw h low high f tables ix s0 s =
+      → is_key (slice_index words) p from ≡ true → LookRan words marks marks' notes notes' table p (Err (Found flaw)) → Flawed flaw
+  goes_looked marks marks' notes notes' path p from nodes side flaw h holds f tables ix s0 s =
       let look = look_of (slice_index words) (length words) tables (suc (length marks0)) table in
       let r = left_rest look s0 marks notes path p from nodes side (h.rest tables ix s0 s) in
-      let key : is_key (slice_index words) p (above (least (slice_index words) r.frames) (rows r.t)) ≡ true = key_holds (slice_index words) p _ (omega (arith, r.low)) high in
+      let key : is_key (slice_index words) p (above (least (slice_index words) r.frames) (rows r.t)) ≡ true = key_as (slice_index words) p from _ true r.low holds in
       let e = looked_flaw marks marks' notes notes' p tables r.seen flaw h.size f (indexed_as table (slice_index words) notes0 notes r.done r.seen.lists tables r.noted ix) r.are in
       table_flaw words (length marks0) root look s0 flaw (left_flaw (slice_index words) (length words) look r.frames r.levels p r.t r.seen (whole words (length marks0) root look s0) flaw key e r.stands)
 
   pub goes_fault : (marks marks' : List Bool) (notes notes' : Notes) (path : List Step) (p from nodes : ℕ) (side : Side) (fault : Fault) → Goes marks notes (path ++ (Left p ∷ [])) (Up side) from nodes
-      → from ≤ slice_index words p → slice_index words p ≤ 4294967295 → LookRan words marks marks' notes notes' table p (Err fault) → TableRan words marks0 marks' notes0 notes' table root (Err fault)
-  goes_fault marks marks' notes notes' path p from nodes side Memory h low high f tables ix s0 s = tt
-  goes_fault marks marks' notes notes' path p from nodes side (Found flaw) h low high f tables ix s0 s = goes_looked marks marks' notes notes' path p from nodes side flaw h low high f tables ix s0 s
+      → is_key (slice_index words) p from ≡ true → LookRan words marks marks' notes notes' table p (Err fault) → TableRan words marks0 marks' notes0 notes' table root (Err fault)
+  goes_fault marks marks' notes notes' path p from nodes side Memory h holds f tables ix s0 s = tt
+  goes_fault marks marks' notes notes' path p from nodes side (Found flaw) h holds f tables ix s0 s = goes_looked marks marks' notes notes' path p from nodes side flaw h holds f tables ix s0 s
 
   -- a node whose right side is done
   pub record RightRest (look : Look) (s0 : Seen) (marks : List Bool) (notes : Notes) (path : List Step) (p from nodes : ℕ) (left right : Side) : Type 0 where
@@ -601,15 +605,15 @@ module _ (words : List ℕ) (marks0 : List Bool) (notes0 : Notes) (table : Table
       let b : not (is_red r.t) ≡ true = ap (λ (z : Bool). not z) (sym r.is.red ∙ black) in
       ((rows r.t, r.seen), (then_with (whole words (length marks0) root look s0) _ (r.t, r.seen) _ r.done (test_with (not (is_red r.t)) (Colour (slice_index words root + 3)) _ _ b refl), r.are, r.many, r.noted))
 
-  pub goes_red : (marks : List Bool) (notes : Notes) (from top nodes : ℕ) (side : Side) → Goes marks notes [] (Up side) from nodes → side.red ≡ true → (slice_index words root + 8 ≤ length words → top ≡ slice_index words root + 3) → Flawed (Colour top)
-  goes_red marks notes from top nodes side h red at_top tables ix s0 s =
+  pub goes_red : (marks : List Bool) (notes : Notes) (from nodes : ℕ) (side : Side) (flaw : Flaw) → Goes marks notes [] (Up side) from nodes → RootLooked words root side (Err flaw) → Flawed flaw
+  goes_red marks notes from nodes side flaw h looked tables ix s0 s =
       let look = look_of (slice_index words) (length words) tables (suc (length marks0)) table in
       let r = all_done look s0 marks notes from nodes side (h.rest tables ix s0 s) in
-      let e : is_red r.t ≡ true = sym r.is.red ∙ red in
+      let e : is_red r.t ≡ true = sym r.is.red ∙ looked.0 in
       let b : not (is_red r.t) ≡ false = ap (λ (z : Bool). not z) e in
       let bx = red_block (slice_index words) (length words) look (length marks0) root 1 s0 (r.t, r.seen) r.done e in
-      then_with (whole words (length marks0) root look s0) _ (r.t, r.seen) _ r.done (then_err (wants (not (is_red r.t)) (Colour (slice_index words root + 3))) _ (Colour top)
-      (ap (λ (z : Bool). wants z (Colour (slice_index words root + 3))) b ∙ ap (λ (z : ℕ). Err (Colour z)) (sym (at_top bx.1.0))))
+      then_with (whole words (length marks0) root look s0) _ (r.t, r.seen) _ r.done (then_err (wants (not (is_red r.t)) (Colour (slice_index words root + 3))) _ flaw
+      (ap (λ (z : Bool). wants z (Colour (slice_index words root + 3))) b ∙ ap (λ (z : Flaw). Err z) (sym (looked.1 bx.1.0))))
 
   -- the same path and the same turn, as the code has them
   pub as_pushed : (marks : List Bool) (notes : Notes) (path path' : List Step) (turn : Turn) (from nodes : ℕ) → path' ≡ path → Goes marks notes path turn from nodes → Goes marks notes path' turn from nodes
@@ -624,8 +628,33 @@ module _ (words : List ℕ) (marks0 : List Bool) (notes0 : Notes) (table : Table
   popped marks notes path rest found s turn side from nodes e f g h =
       turn_as marks notes (rest ++ (s ∷ [])) turn (Up side) from nodes g (as_pushed marks notes path (rest ++ (s ∷ [])) turn from nodes (ap (λ (z : Step). rest ++ (z ∷ [])) (sym f) ∙ sym e) h)
 
+  -- one pointer down
+  pub goes_down : (marks marks' : List Bool) (notes : Notes) (path path' : List Step) (at from nodes : ℕ) (turn : Turn) → Goes marks notes path (Down at) from nodes → length marks' ≡ length marks
+      → length path ≤ length marks → WentDown words marks marks' path path' at turn → Goes marks' notes path' turn from nodes
+  goes_down marks marks' notes path path' at from nodes (Down next) h size few w =
+      turn_as marks' notes path' (Down (w.node + 1)) (Down next) from nodes (ap (λ (z : ℕ). Down z) (sym w.left)) (as_pushed marks' notes (path ++ (Left w.node ∷ [])) path' (Down (w.node + 1)) from nodes w.longer
+      (goes_block marks marks' notes path at w.node from nodes h few size w.fewer w.followed w.block))
+  goes_down marks marks' notes path path' at from nodes (Up side) h size few w =
+      as_pushed marks' notes path path' (Up side) from nodes w.same (goes_end marks marks' notes path at from nodes side h few size w.as_many w.followed w.empty.blacks w.empty.red)
+
+  goes_bad : (marks marks' : List Bool) (notes : Notes) (path : List Step) (at from nodes : ℕ) (flaw : Flaw) → Goes marks notes path (Down at) from nodes → DownFlaw words marks marks' path at flaw → Flawed flaw
+  goes_bad marks marks' notes path at from nodes flaw h (inl deep) tables ix s0 s =
+      subst (λ (z : Flaw). walk_table (slice_index words) (length words) (look_of (slice_index words) (length words) tables (suc (length marks0)) table) (suc (length marks0)) root s0 ≡ Err z) (sym deep.1)
+      (goes_out marks notes path at from nodes h deep.0 tables ix s0 s)
+  goes_bad marks marks' notes path at from nodes flaw h (inr bad) tables ix s0 s = goes_flaw marks marks' notes path at from nodes flaw h bad.0 bad.1 tables ix s0 s
+
+  pub goes_not_down : (marks marks' : List Bool) (notes : Notes) (path path' : List Step) (at from nodes : ℕ) (fault : Fault) → Goes marks notes path (Down at) from nodes → DownRan words marks marks' path path' at (Err fault)
+      → TableRan words marks0 marks' notes0 notes table root (Err fault)
+  goes_not_down marks marks' notes path path' at from nodes Memory h f tables ix s0 s = tt
+  goes_not_down marks marks' notes path path' at from nodes (Found flaw) h f tables ix s0 s = goes_bad marks marks' notes path at from nodes flaw h f tables ix s0 s
+
 pub weight_pushed : (ss : List Step) (s : Step) (path : List Step) → path ≡ ss ++ (s ∷ []) → weight path ≡ weight ss + weight (s ∷ [])
 weight_pushed ss s path e = ap weight e ∙ weight_append ss s
+
+pub weight_down : (words : List ℕ) (marks marks' : List Bool) (path path' : List Step) (at : ℕ) (turn : Turn) → WentDown words marks marks' path path' at turn
+    → 4 * unmarked marks' + weight path' + turn_weight turn < 4 * unmarked marks + weight path + 1
+weight_down words marks marks' path path' at (Down next) w = omega (arith, w.fewer, weight_pushed path (Left w.node) path' w.longer)
+weight_down words marks marks' path path' at (Up side) w = omega (arith, w.as_many, ap weight w.same)
 
 pub blocks_split : (n : ℕ) (ss : List Step) (s : Step) → AllBlocks n (ss ++ (s ∷ [])) → AllBlocks n ss × IsBlock n (node_of s)
 blocks_split n [] s h = (tt, h.0)
@@ -648,3 +677,10 @@ pub handed_table : (words : List ℕ) (marks marks' : List Bool) (notes notes' :
     → TableRan words marks marks' notes notes' table root (Err fault) → TableRan words marks marks' notes notes' table root r
 handed_table words marks marks' notes notes' table root (Ok n) fault h ran = absurd h
 handed_table words marks marks' notes notes' table root (Err f) fault h ran = subst (λ (e : Fault). TableRan words marks marks' notes notes' table root (Err e)) (sym h) ran
+
+-- a node was reached, and the step to it is written down, unless there was no memory
+pub entered : (words : List ℕ) (marks marks' : List Bool) (path path' : List Step) (at p : ℕ) (result : Result Turn Fault) → length path ≤ length marks → IsBlock (length words) p → unmarked marks' + 1 ≡ unmarked marks
+    → Followed words marks marks' at (Ok (Some p)) → OnOk result (path' ≡ path ++ (Left p ∷ [])) → IfOk result (λ turn. turn ≡ Down (p + 1)) → IfErr result (λ fault. fault ≡ Memory) → DownRan words marks marks' path path' at result
+entered words marks marks' path path' at p (Ok turn) few b fewer f longer on memory =
+    subst (λ (z : Turn). DownRan words marks marks' path path' at (Ok z)) (sym on) (few, record { node = p; block = b; left = refl; longer = longer; fewer = fewer; followed = f })
+entered words marks marks' path path' at p (Err fault) few b fewer f longer on memory = subst (λ (z : Fault). DownRan words marks marks' path path' at (Err z)) (sym memory) tt

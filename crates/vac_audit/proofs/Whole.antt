@@ -1,5 +1,5 @@
 -- The whole audit, stage by stage.
-use Rattle.std.proofs.Common.{◌≡◌, inr, ℕ, ◌+◌, ◌-◌, ◌/◌, ◌%◌, ◌*◌, ◌≤◌, Bool, false, List, [], length, get_or, suc, refl, sym, ap, ◌∙◌, subst, arith, nat_eq, replicate}
+use Rattle.std.proofs.Common.{◌≡◌, inl, inr, ℕ, ◌+◌, ◌-◌, ◌/◌, ◌%◌, ◌*◌, ◌≤◌, Bool, false, List, [], length, get_or, suc, refl, sym, ap, ◌∙◌, subst, arith, nat_eq, replicate}
 use Rattle.std.specs.Prelude.{Result, Ok, Err, slice_index, sum_by, not}
 use Rattle.std.proofs.lemmas.List.{get_or-replicate, length-replicate}
 use Rattle.tx_alloc.specs.Pool.{with_at}
@@ -9,7 +9,7 @@ use Rattle.vac_model.specs.declared.replies.Report.{Report}
 use Rattle.vac_records.specs.Heap.{Parts, over}
 use Rattle.vac_audit.specs.Walk.{Seen, then, look_at_item, look_at_customer, walk_table, walk_items, walk_lists, check_all_used, check_reached, report_of, audit}
 use Rattle.vac_audit.specs.Marks.{Marks, IsIndex, Rising, ListsRan, ReachedRan}
-use Rattle.vac_audit.specs.Ran.{ItemsRan, ItemsWalked, CustomersRan, CustomersWalked, Inside, UsedRan, HeapRan, IsHeapSize, Audited, answer}
+use Rattle.vac_audit.specs.Ran.{ItemsRan, ItemsWalked, CustomersRan, CustomersWalked, Inside, UsedRan, HeapRan, IsHeapSize, Audited, answer, fault_answer}
 use Rattle.vac_audit.specs.declared.Flaw.{Flaw}
 use Rattle.vac_audit.specs.declared.notes.Notes.{Notes}
 use Rattle.vac_audit.specs.declared.tree.Fault.{Fault}
@@ -204,3 +204,7 @@ audited_flaw words fault flaw is h heap =
     let g : HeapRan words ((length words - 16) / 8) (Err (Found flaw)) = subst (λ (z : Fault). HeapRan words ((length words - 16) / 8) (Err z)) is h in
     let q : audit (slice_index words) heap.0 ≡ Err flaw = subst (λ (z : ℕ). audit (slice_index words) z ≡ Err flaw) e g in
     inr (sym (ap answer q))
+
+pub audited_fault : (words : List ℕ) (fault : Fault) → HeapRan words ((length words - 16) / 8) (Err fault) → (heap : IsHeapSize (length words)) → Audited (slice_index words) heap.0 (Err (fault_answer fault))
+audited_fault words Memory h heap = inl refl
+audited_fault words (Found flaw) h heap = audited_flaw words (Found flaw) flaw refl h heap

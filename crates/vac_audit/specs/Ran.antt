@@ -10,6 +10,7 @@ use Rattle.vac_audit.specs.declared.Flaw.{Flaw}
 use Rattle.vac_audit.specs.declared.Flaw.TheVariants.{Bookings}
 use Rattle.vac_audit.specs.declared.notes.Notes.{Notes}
 use Rattle.vac_audit.specs.declared.tree.Fault.{Fault}
+use Rattle.vac_audit.specs.declared.tree.Fault.TheVariants.{Memory as Refused, Found}
 use Rattle.vac_audit.specs.declared.audit.AuditFault.{AuditFault}
 use Rattle.vac_audit.specs.declared.audit.AuditFault.TheVariants.{Memory, Flaw as Flawed}
 use Rattle.vac_audit.specs.declared.audit.Kinds.{Kinds}
@@ -139,6 +140,11 @@ IsHeapSize n = (blocks : ℕ) × ((n ≡ 16 + 8 * blocks) × (1 ≤ blocks) × (
 abbrev pub answer : Result Report Flaw → Result Report AuditFault
 answer (Ok report) = Ok report
 answer (Err flaw) = Err (Flawed flaw)
+
+-- why a walk ended, as the call answers it
+abbrev pub fault_answer : Fault → AuditFault
+fault_answer Refused = Memory
+fault_answer (Found flaw) = Flawed flaw
 
 -- the answer is that of the audit, unless there was no memory
 abbrev pub Audited : (ℕ → ℕ) → ℕ → Result Report AuditFault → Type 0

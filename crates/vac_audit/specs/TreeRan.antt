@@ -1,21 +1,25 @@
 -- What the running walk of a table does.
-use Rattle.std.specs.Prelude.{◌≡◌, ℕ, ◌+◌, ◌*◌, ◌≤◌, ◌<◌, Bool, true, false, cond, List, [], ◌∷◌, ◌++◌, length, suc, Result, Ok, Err, MatchResult, slice_index, nat_eq, sum_by, ⊤}
-use Rattle.tx_alloc.specs.Pool.{held}
+use Rattle.std.specs.Prelude.{◌≡◌, ℕ, ◌+◌, ◌*◌, ◌≤◌, ◌<◌, ◌⊎◌, Bool, true, false, cond, List, [], ◌∷◌, ◌++◌, length, suc, Some, None, Result, Ok, Err, MatchResult, slice_index, nat_eq, sum_by, ⊤}
+use Rattle.tx_alloc.specs.Pool.{held, IsBlock}
 use Rattle.tx_alloc.specs.Rows.{Rows}
 use Rattle.tx_list.specs.Bookings.{key_code}
 use Rattle.vac_records.specs.Heap.{over}
-use Rattle.vac_audit.specs.Tree.{Tree, blacks, is_red}
-use Rattle.vac_audit.specs.Walk.{Seen, Look, is_item, is_coloured, look_at_item, look_at_customer, walk_table, units_in}
-use Rattle.vac_audit.specs.Marks.{Marks, IsIndex, Counting, SameItems}
+use Rattle.vac_audit.specs.Tree.{Tree, leaf, blacks, is_red}
+use Rattle.vac_audit.specs.Walk.{Seen, Look, is_item, is_key, is_coloured, look_at_item, look_at_customer, walk_table, units_in}
+use Rattle.vac_audit.specs.Marks.{Marks, Followed, IsIndex, Counting, SameItems, unmarked}
 use Rattle.vac_audit.specs.declared.Flaw.{Flaw}
-use Rattle.vac_audit.specs.declared.Flaw.TheVariants.{Counts, Colour}
+use Rattle.vac_audit.specs.declared.Flaw.TheVariants.{Shared, Counts, Order, Colour}
 use Rattle.vac_audit.specs.declared.notes.Notes.{Notes}
 use Rattle.vac_audit.specs.declared.notes.Tally.{Tally}
 use Rattle.vac_audit.specs.declared.tree.Fault.{Fault}
 use Rattle.vac_audit.specs.declared.tree.Fault.TheVariants.{Memory, Found}
 use Rattle.vac_audit.specs.declared.tree.Side.{Side}
+use Rattle.vac_audit.specs.declared.tree.Step.{Step}
+use Rattle.vac_audit.specs.declared.tree.Step.TheVariants.{Left}
 use Rattle.vac_audit.specs.declared.tree.Table.{Table}
 use Rattle.vac_audit.specs.declared.tree.Table.TheVariants.{Items, Customers}
+use Rattle.vac_audit.specs.declared.tree.Turn.{Turn}
+use Rattle.vac_audit.specs.declared.tree.Turn.TheVariants.{Down, Up}
 
 abbrev pub ItemLooked : List ℕ → ℕ → Result ⊤ Flaw → Type 0
 ItemLooked words p result = MatchResult result
@@ -36,10 +40,62 @@ ColourLooked words p left right result =
     × (side.red ≡ nat_eq (slice_index words (p + 3)) 1))
     (λ flaw. (is_coloured (slice_index words (p + 3)) l t ≡ false) × (flaw ≡ Colour (p + 3)))
 
+-- the key of a node was looked at, behind the keys below lo; the answer is the least that may
+-- follow it
+abbrev pub KeyLooked : List ℕ → ℕ → ℕ → Result ℕ Flaw → Type 0
+KeyLooked words p lo result = MatchResult result
+    (λ next. (is_key (slice_index words) p lo ≡ true) × (next ≡ slice_index words p + 1))
+    (λ flaw. (is_key (slice_index words) p lo ≡ false) × (flaw ≡ Order p))
+
+-- the root of this tree was looked at. Where it is red, it stands in the block that the root word
+-- leads to
+abbrev pub RootLooked : List ℕ → ℕ → Side → Result ⊤ Flaw → Type 0
+RootLooked words root side result = MatchResult result
+    (λ _. side.red ≡ false)
+    (λ flaw. (side.red ≡ true) × (slice_index words root + 8 ≤ length words →
+    flaw ≡ Colour (slice_index words root + 3)))
+
 -- memory may be wanting at any time
 abbrev pub Faulted : Fault → (Flaw → Type 0) → Type 0
 Faulted Memory P = Unit {0}
 Faulted (Found flaw) P = P flaw
+
+-- the pointer in word `at` ends, and its tree is done
+pub record Ended (words : List ℕ) (marks marks' : List Bool) (path path' : List Step) (at : ℕ)
+    (side : Side) : Type 0 where
+  pub empty : IsSide side leaf
+  pub same : path' ≡ path
+  pub as_many : unmarked marks' ≡ unmarked marks
+  pub followed : Followed words marks marks' at (Ok None)
+
+-- it leads to a node, now the last of the path, whose left side hangs at word `next`
+pub record Entered (words : List ℕ) (marks marks' : List Bool) (path path' : List Step)
+    (at next : ℕ) : Type 0 where
+  pub node : ℕ
+  pub block : IsBlock (length words) node
+  pub left : next ≡ node + 1
+  pub longer : path' ≡ path ++ (Left node ∷ [])
+  pub fewer : unmarked marks' + 1 ≡ unmarked marks
+  pub followed : Followed words marks marks' at (Ok (Some node))
+
+abbrev pub WentDown : List ℕ → List Bool → List Bool → List Step → List Step → ℕ → Turn → Type 0
+WentDown words marks marks' path path' at (Down next) =
+    Entered words marks marks' path path' at next
+WentDown words marks marks' path path' at (Up side) =
+    Ended words marks marks' path path' at side
+
+-- the path has more nodes than there are blocks, or the pointer has this flaw
+abbrev pub DownFlaw : List ℕ → List Bool → List Bool → List Step → ℕ → Flaw → Type 0
+DownFlaw words marks marks' path at flaw =
+    ((length marks < length path) × (flaw ≡ Shared at))
+    ⊎ ((length path ≤ length marks) × Followed words marks marks' at (Err flaw))
+
+-- the walk went down this pointer
+abbrev pub DownRan : List ℕ → List Bool → List Bool → List Step → List Step → ℕ →
+    Result Turn Fault → Type 0
+DownRan words marks marks' path path' at result = MatchResult result
+    (λ turn. (length path ≤ length marks) × WentDown words marks marks' path path' at turn)
+    (λ fault. Faulted fault (λ flaw. DownFlaw words marks marks' path at flaw))
 
 -- what is looked at in a node of such a table, where these are the tables of items
 abbrev pub look_of : (ℕ → ℕ) → ℕ → (ℕ → Rows) → ℕ → Table → Look

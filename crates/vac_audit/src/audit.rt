@@ -3,7 +3,7 @@
 ghost use Rattle.std.specs.Prelude.{◌≡◌, ◌+◌, ◌*◌, ◌≤◌, IfOk, Err, length, slice_index};
 ghost use Rattle.vac_audit.specs.Marks.{IsMarked, Rising, unmarked};
 ghost use Rattle.vac_audit.specs.Ran.{Blank, ItemsRan, Uncounted, CustomersRan};
-ghost use Rattle.vac_audit.specs.Ran.{Inside, UsedRan, HeapRan, IsHeapSize, Audited};
+ghost use Rattle.vac_audit.specs.Ran.{Inside, UsedRan, HeapRan, IsHeapSize, Audited, fault_answer};
 ghost use Rattle.vac_audit.specs.Represented.{StateOf, Recognised};
 ghost use Rattle.vac_audit.specs.TreeRan.{Summed};
 ghost use Rattle.vac_audit.specs.declared.audit.AuditFault.TheVariants.{Size};
@@ -26,6 +26,17 @@ pub enum AuditFault {
     Memory,
     /// The words have a flaw.
     Flaw(Flaw),
+}
+
+impl From<Fault> for AuditFault {
+    ghost from_gives = { λ fault answer. answer ≡ fault_answer fault };
+
+    fn from(fault: Fault) -> AuditFault {
+        match fault {
+            Fault::Memory => AuditFault::Memory,
+            Fault::Found(flaw) => AuditFault::Flaw(flaw),
+        }
+    }
 }
 
 /// How many items of each kind there are.
@@ -152,9 +163,6 @@ pub fn audit_words(alloc: Global, words: &[u64]) -> Result<Report, AuditFault>
     {
         return Err(AuditFault::Size);
     }
-    match audit_heap(alloc, words, (words.len() - FIRST_BLOCK) / BLOCK_WORDS) {
-        Err(Fault::Memory) => Err(AuditFault::Memory),
-        Err(Fault::Found(flaw)) => Err(AuditFault::Flaw(flaw)),
-        Ok(report) => Ok(report),
-    }
+    let report = audit_heap(alloc, words, (words.len() - FIRST_BLOCK) / BLOCK_WORDS)?;
+    Ok(report)
 }

@@ -30,21 +30,7 @@ fn find(places: &[u64], place: u64) -> Option<usize>
         ((i : ℕ) → i < length places.now → slice_index places.now i ≢ place)
         (λ i. (i < length places.now) × (slice_index places.now i ≡ place)) }
 {
-    let mut low = 0;
-    let mut high = places.len();
-    while low < high {
-        let middle = low + (high - low) / 2;
-        if places[middle] < place {
-            low = middle + 1;
-        } else {
-            high = middle;
-        }
-    }
-    if low < places.len() && places[low] == place {
-        Some(low)
-    } else {
-        None
-    }
+    places.binary_search(&place).ok()
 }
 
 /// Looks at a booking, whose kind and id are to be `above` or more. The answer is the index of its
@@ -73,10 +59,7 @@ fn look_at_booking(words: &[u64], places: &[u64], booking: usize, above: u64) ->
     if units == 0 || units > MOST_UNITS || words[booking + SUM] > units * MOST_AMOUNT as u64 {
         return Err(Flaw::Bookings(booking as u32));
     }
-    match find(places, place) {
-        None => Err(Flaw::Bookings(booking as u32)),
-        Some(item) => Ok(item),
-    }
+    find(places, place).ok_or(Flaw::Bookings(booking as u32))
 }
 
 /// Walks a list of bookings, and adds up the units of each item.
@@ -98,21 +81,16 @@ pub fn walk_bookings(
     let mut at = head;
     let mut above: u64 = 0;
     for _level in 0..reached.len() + 1 {
-        match follow(words, reached, at) {
-            Err(flaw) => return Err(flaw),
-            Ok(None) => return Ok(()),
-            Ok(Some(booking)) => {
-                match look_at_booking(words, notes.places.as_slice(), booking, above) {
-                    Err(flaw) => return Err(flaw),
-                    Ok(item) => {
-                        let so_far = notes.booked[item];
-                        notes.booked[item] = so_far + words[booking + UNITS];
-                        notes.tally.bookings += words[booking + UNITS];
-                        notes.tally.billed += words[booking + SUM];
-                        above = notes.places[item] + 1;
-                        at = booking + NEXT;
-                    }
-                }
+        match follow(words, reached, at)? {
+            None => return Ok(()),
+            Some(booking) => {
+                let item = look_at_booking(words, notes.places.as_slice(), booking, above)?;
+                let so_far = notes.booked[item];
+                notes.booked[item] = so_far + words[booking + UNITS];
+                notes.tally.bookings += words[booking + UNITS];
+                notes.tally.billed += words[booking + SUM];
+                above = notes.places[item] + 1;
+                at = booking + NEXT;
             }
         }
     }

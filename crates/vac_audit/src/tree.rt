@@ -2,9 +2,10 @@
 
 ghost use Rattle.std.specs.Prelude.{◌≡◌, ◌+◌, ◌<◌, ◌≤◌, [], ◌∷◌, ◌++◌, IfErr, IfOk, OnOk, length, slice_index};
 ghost use Rattle.vac_audit.specs.declared.tree.Fault.TheVariants.{Memory, Found};
+ghost use Rattle.vac_audit.specs.declared.tree.Turn.TheVariants.{Down};
 ghost use Rattle.vac_audit.specs.Marks.{IsMarked, unmarked};
 ghost use Rattle.vac_audit.specs.TreeRan.{ItemLooked, ColourLooked, LookRan, TableRan};
-ghost use Rattle.vac_audit.specs.TreeRan.{Ready, HasRoom, Pushed};
+ghost use Rattle.vac_audit.specs.TreeRan.{Ready, HasRoom, Pushed, DownRan, KeyLooked, RootLooked};
 
 use crate::Flaw;
 use crate::bookings::{KIND, walk_bookings};
@@ -177,12 +178,63 @@ fn look_at_colour(words: &[u64], node: usize, left: Side, right: Side) -> Result
     Ok(Side { blacks, red })
 }
 
-/// Goes one step down from the end of a path.
-fn go_down(path: &mut Vec<Step>, step: Step) -> Result<(), Fault>
+/// Goes one step down from the end of a path, and on at the pointer in a word.
+fn go_down(path: &mut Vec<Step>, step: Step, at: usize) -> Result<Turn, Fault>
     ensures down { OnOk result (path.new.items ≡ path.old.items ++ step ∷ []) }
+    ensures on { IfOk result (λ turn. turn ≡ Down at) }
     ensures memory { IfErr result (λ fault. fault ≡ Memory) }
 {
     path.push(step)?;
+    Ok(Turn::Down { at })
+}
+
+/// Follows a pointer of a tree: to its end, an empty tree, or to a node, whose left tree is next.
+fn follow_down(
+    words: &[u64],
+    reached: &mut Vec<bool>,
+    path: &mut Vec<Step>,
+    at: usize,
+) -> Result<Turn, Fault>
+    requires marked { IsMarked words.now reached.old.items }
+    requires inside { at < length words.now }
+    ensures size { length reached.new.items ≡ length reached.old.items }
+    ensures ran { DownRan words.now reached.old.items reached.new.items path.old.items
+        path.new.items at result }
+{
+    if path.len() > reached.len() {
+        return Err(Fault::Found(Flaw::Shared(at as u32)));
+    }
+    match follow(words, reached, at)? {
+        None => Ok(Turn::Up { done: LEAF }),
+        Some(node) => go_down(path, Step::Left { node }, node + LEFT),
+    }
+}
+
+/// Looks at the key of a node, which is to be `above` or more. The answer is the least key that
+/// may follow it.
+fn look_at_key(words: &[u64], node: usize, above: u64) -> Result<u64, Flaw>
+    requires inside { node + 8 ≤ length words.now }
+    requires few { length words.now ≤ 2097168 }
+    ensures key { OnOk result (slice_index words.now node < 4294967296) }
+    ensures looked { KeyLooked words.now node above result }
+{
+    let key = words[node];
+    if key < above || key > LAST_KEY {
+        return Err(Flaw::Order(node as u32));
+    }
+    Ok(key + 1)
+}
+
+/// Looks at the root of a tree that is done: it is to be black.
+fn look_at_root(words: &[u64], root: usize, tree: Side) -> Result<(), Flaw>
+    requires inside { root < length words.now }
+    requires few { length words.now ≤ 2097168 }
+    ensures looked { RootLooked words.now root tree result }
+{
+    if tree.red {
+        let top = (words[root] % 4_294_967_296) as u32;
+        return Err(Flaw::Colour(top.wrapping_add(3)));
+    }
     Ok(())
 }
 
@@ -211,36 +263,17 @@ pub fn walk_table(
     let mut nodes: u64 = 0;
     'walk: loop {
         match turn {
-            Turn::Down { at } => {
-                if path.len() > reached.len() {
-                    return Err(Fault::Found(Flaw::Shared(at as u32)));
-                }
-                match follow(words, reached, at)? {
-                    None => turn = Turn::Up { done: LEAF },
-                    Some(node) => {
-                        go_down(&mut path, Step::Left { node })?;
-                        turn = Turn::Down { at: node + LEFT };
-                    }
-                }
-            }
+            Turn::Down { at } => turn = follow_down(words, reached, &mut path, at)?,
             Turn::Up { done } => match path.pop() {
                 None => {
-                    if done.red {
-                        let top = (words[root] % 4_294_967_296) as u32;
-                        return Err(Fault::Found(Flaw::Colour(top.wrapping_add(3))));
-                    }
+                    look_at_root(words, root, done)?;
                     return Ok(nodes);
                 }
                 Some(Step::Left { node }) => {
-                    let key = words[node];
-                    if key < above || key > LAST_KEY {
-                        return Err(Fault::Found(Flaw::Order(node as u32)));
-                    }
+                    above = look_at_key(words, node, above)?;
                     look_at_node(words, reached, notes, table, node)?;
-                    above = key + 1;
                     nodes += 1;
-                    go_down(&mut path, Step::Right { node, left: done })?;
-                    turn = Turn::Down { at: node + RIGHT };
+                    turn = go_down(&mut path, Step::Right { node, left: done }, node + RIGHT)?;
                 }
                 Some(Step::Right { node, left }) => {
                     let side = look_at_colour(words, node, left, done)?;
