@@ -21,7 +21,7 @@ use Rattle.vac_load.proofs.Merging.{first_sub, second_sub}
 use Rattle.vac_cli.specs.Load.{EachInTurn, HasNoted}
 
 -- what stands first by three numbers, the last of which do not go back, stands first by the first two
-below : ℕ → ℕ → ℕ → ℕ → ℕ → ℕ → Bool
+abbrev below : ℕ → ℕ → ℕ → ℕ → ℕ → ℕ → Bool
 below a b c x y z = ltb a x || (eqb a x && (ltb b y || (eqb b y && ltb c z)))
 
 never_back : (a b c d x y z w : ℕ) → below a b c x y z ≡ false → w ≤ d → below a b d x y w ≡ false
