@@ -18,8 +18,8 @@ use std::alloc::{AllocError, Global};
 use std::io::Write;
 use std::time::Clock;
 use vac_lines::{print_reply, print_task};
-use vac_model::Reply;
 use vac_manager::Note;
+use vac_model::Reply;
 use vac_worklist::{send_chunk, send_rest};
 
 /// The number of the client that runs the opening.
