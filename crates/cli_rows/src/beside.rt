@@ -1,0 +1,303 @@
+//! Loops of a load's clients in threads, while one client more asks for reports.
+ghost use Rattle.std.specs.Prelude.{◌≡◌, ◌*◌};
+
+use crate::small_load::SETTINGS;
+use std::alloc::Global;
+use std::process::Abort;
+use std::sync::atomic::{AtomicU32, Ordering};
+use std::test::Fail;
+use std::thread;
+use std::thread::Threads;
+use stm_attempt::{Gate, Point};
+use vac_audit::audit_words;
+use vac_load::{FixedDraws, PcgDraws, Settings, Tally, client_loop, open};
+use vac_manager::{Client, Manager, Session};
+use vac_model::{Command, Reply, Report, Task};
+
+/// How many loops there are.
+const LOOPS: u32 = 4;
+
+/// Each task is a trip with one ask, for an item with more units than there are asks for it. So
+/// each that is answered books one unit.
+const TRIPS: Settings = Settings {
+    clients: LOOPS,
+    tasks: 1_000,
+    items: 4,
+    asks: 1,
+    user: 100,
+    tries: 10_000,
+    ..SETTINGS
+};
+
+/// The word of the opening: by it each item gets 500 units, at 90 each.
+const STOCK: u32 = 4;
+
+/// The most reports that are asked for.
+const MOST_REPORTS: u32 = 1_000_000;
+
+/// By how many tries each report is asked for.
+const TRIES: u32 = 1_000;
+
+/// The report of the opening after so many trips.
+fn after(trips: u64) -> Report {
+    Report {
+        cars: 4,
+        flights: 4,
+        rooms: 4,
+        customers: 4,
+        bookings: trips,
+        used: trips,
+        free: 6_000u64.wrapping_sub(trips),
+        total: 6_000,
+        billed: trips.wrapping_mul(90),
+    }
+}
+
+/// What the threads show each other.
+#[derive(Drop)]
+struct Shown {
+    /// How many reports were answered.
+    reports: AtomicU32,
+    /// How many loops are over.
+    over: AtomicU32,
+}
+
+impl Shown {
+    /// Waits until one report more was answered.
+    fn wait_for_a_report(&self) {
+        let seen = self.reports.load(Ordering::SeqCst);
+        for _ in 0..1_000_000u32 {
+            if self.reports.load(Ordering::SeqCst) != seen {
+                return;
+            }
+            thread::yield_now();
+        }
+    }
+}
+
+/// A gate that waits for a report at each sixteenth answer that it is told of.
+#[derive(Drop)]
+struct Paced<'a> {
+    shown: &'a Shown,
+    answers: u32,
+}
+
+impl<'a> Gate for Paced<'a> {
+    fn at(&mut self, point: Point) {
+        if point != Point::Answered {
+            return;
+        }
+        self.answers = self.answers.wrapping_add(1);
+        if self.answers % 16 == 0 {
+            self.shown.wait_for_a_report();
+        }
+    }
+}
+
+/// A client whose loop is over, and how its tasks ended.
+type Looped = (Client, Tally);
+
+/// Runs the loop of a client.
+fn run_loop(alloc: Global, manager: &Manager, client: Client, shown: &Shown, stream: u64) -> Looped
+    requires { client.table ≡ manager.now.table }
+    ensures { result.0.table ≡ manager.now.table }
+{
+    let mut client = client;
+    let mut draws = PcgDraws::new(TRIPS.seed, stream);
+    let mut gate = Paced { shown, answers: 0 };
+    let tally = client_loop(alloc, manager, &mut client, &mut draws, &TRIPS, &mut gate);
+    shown.over.fetch_add(1, Ordering::SeqCst);
+    (client, tally)
+}
+
+/// The reports that were answered.
+#[derive(Clone, Copy, Debug, PartialEq, Eq)]
+struct Reports {
+    /// Those of the opening after some trips, no fewer than in the report before.
+    sound: u32,
+    others: u32,
+    /// How many trips there were in the last one.
+    trips: u64,
+}
+
+impl Reports {
+    fn count(&mut self, report: &Report) {
+        if *report == after(report.used) && self.trips <= report.used {
+            self.sound = self.sound.wrapping_add(1);
+        } else {
+            self.others = self.others.wrapping_add(1);
+        }
+        self.trips = report.used;
+    }
+}
+
+/// Asks for reports until all loops are over.
+fn ask_for_reports(manager: &Manager, client: Client, shown: &Shown) -> (Client, Reports)
+    requires { client.table ≡ manager.now.table }
+    ensures { result.0.table ≡ manager.now.table }
+{
+    let mut session = Session::of(manager, client);
+    let mut reports = Reports {
+        sound: 0,
+        others: 0,
+        trips: 0,
+    };
+    for _ in 0..MOST_REPORTS {
+        if shown.over.load(Ordering::SeqCst) == LOOPS {
+            break;
+        }
+        if let Ok(Reply::Report(report)) = session.call(&Task::One(Command::Audit), TRIES) {
+            reports.count(&report);
+            shown.reports.fetch_add(1, Ordering::SeqCst);
+        }
+    }
+    (session.into_client(), reports)
+}
+
+/// Two clients run their loops.
+fn two_loops<R: Threads + Sync>(
+    rt: &R,
+    alloc: Global,
+    manager: &Manager,
+    first: Client,
+    second: Client,
+    shown: &Shown,
+    stream: u64,
+) -> (Looped, Looped)
+    requires { (first.table ≡ manager.now.table) × (second.table ≡ manager.now.table) }
+    ensures { (result.0.0.table ≡ manager.now.table) × (result.1.0.table ≡ manager.now.table) }
+{
+    let next = stream.wrapping_add(1);
+    thread::join(
+        rt,
+        move || -> Looped
+            requires { first.table ≡ manager.now.table }
+            ensures { result.0.table ≡ manager.entry.now.table }
+        { run_loop(alloc, manager, first, shown, stream) },
+        move || -> Looped
+            requires { second.table ≡ manager.now.table }
+            ensures { result.0.table ≡ manager.entry.now.table }
+        { run_loop(alloc, manager, second, shown, next) },
+    )
+}
+
+/// Two clients run their loops, while another one asks for reports.
+fn two_loops_and_reports<R: Threads + Sync>(
+    rt: &R,
+    alloc: Global,
+    manager: &Manager,
+    clients: (Client, Client),
+    other: Client,
+    shown: &Shown,
+) -> ((Looped, Looped), (Client, Reports))
+    requires clients { (clients.0.table ≡ manager.now.table)
+        × (clients.1.table ≡ manager.now.table) }
+    requires other { other.table ≡ manager.now.table }
+    ensures clients { (result.0.0.0.table ≡ manager.now.table)
+        × (result.0.1.0.table ≡ manager.now.table) }
+    ensures other { result.1.0.table ≡ manager.now.table }
+{
+    let (first, second) = clients;
+    thread::join(
+        rt,
+        move || -> (Looped, Looped)
+            requires { (first.table ≡ manager.now.table) × (second.table ≡ manager.now.table) }
+            ensures { (result.0.0.table ≡ manager.entry.now.table)
+                × (result.1.0.table ≡ manager.entry.now.table) }
+        { two_loops(rt, alloc, manager, first, second, shown, 3) },
+        move || -> (Client, Reports)
+            requires { other.table ≡ manager.now.table }
+            ensures { result.0.table ≡ manager.entry.now.table }
+        { ask_for_reports(manager, other, shown) },
+    )
+}
+
+/// What all threads leave: the client that took in the others, how the tasks of each loop ended,
+/// and the reports.
+#[derive(Drop)]
+struct Left {
+    client: Client,
+    tallies: [Tally; 4],
+    reports: Reports,
+}
+
+/// Four clients run their loops, while a fifth one asks for reports.
+fn four_loops_and_reports<R: Threads + Sync + Abort>(
+    rt: &R,
+    alloc: Global,
+    manager: &Manager,
+    a: Client,
+    shown: &Shown,
+) -> Left
+    requires { a.table ≡ manager.now.table }
+    ensures { result.client.table ≡ manager.now.table }
+{
+    let mut a = a;
+    let b = manager.split(&mut a).expect(rt, "there are grants");
+    let c = manager.split(&mut a).expect(rt, "there are grants");
+    let d = manager.split(&mut a).expect(rt, "there are grants");
+    let e = manager.split(&mut a).expect(rt, "there are grants");
+    let ((first, second), ((third, fourth), (e, reports))) = thread::join(
+        rt,
+        move || -> (Looped, Looped)
+            requires { (a.table ≡ manager.now.table) × (b.table ≡ manager.now.table) }
+            ensures { (result.0.0.table ≡ manager.entry.now.table)
+                × (result.1.0.table ≡ manager.entry.now.table) }
+        { two_loops(rt, alloc, manager, a, b, shown, 1) },
+        move || -> ((Looped, Looped), (Client, Reports))
+            requires { (c.table ≡ manager.now.table) × (d.table ≡ manager.now.table)
+                × (e.table ≡ manager.now.table) }
+            ensures { (result.0.0.0.table ≡ manager.entry.now.table)
+                × (result.0.1.0.table ≡ manager.entry.now.table)
+                × (result.1.0.table ≡ manager.entry.now.table) }
+        { two_loops_and_reports(rt, alloc, manager, (c, d), e, shown) },
+    );
+    let (mut client, tally) = first;
+    manager.gather(&mut client, second.0);
+    manager.gather(&mut client, third.0);
+    manager.gather(&mut client, fourth.0);
+    manager.gather(&mut client, e);
+    Left {
+        client,
+        tallies: [tally, second.1, third.1, fourth.1],
+        reports,
+    }
+}
+
+/// How many tasks ended.
+fn ended(tally: Tally) -> u64 {
+    tally
+        .answered
+        .wrapping_add(tally.busy)
+        .wrapping_add(tally.memory)
+        .wrapping_add(tally.spent)
+}
+
+/// A report with one number from before a trip and another from after it would not be that of the
+/// opening after any number of trips.
+#[test]
+fn loops_beside_reports(rt: HostRuntime) -> Result<(), Fail> {
+    let alloc = rt.alloc();
+    let shown = Shown {
+        reports: AtomicU32::new(0),
+        over: AtomicU32::new(0),
+    };
+    let (tallies, reports, audited) = {
+        let (manager, mut client) = Manager::new(alloc, TRIPS.blocks, TRIPS.last)?;
+        open(&manager, &mut client, &mut FixedDraws(STOCK), &TRIPS)?;
+        let left = four_loops_and_reports(&rt, alloc, &manager, client, &shown);
+        let Ok((words, _)) = manager.close(left.client) else {
+            panic!(rt; "it stayed open")
+        };
+        let tallies = left.tallies;
+        let audited = audit_words(alloc, words.as_slice());
+        (tallies, left.reports, audited)
+    };
+    let [a, b, c, d] = tallies.map(|tally| tally.answered);
+    let answered = a.wrapping_add(b).wrapping_add(c).wrapping_add(d);
+    assert_eq!(rt; tallies.map(ended), [u64::from(TRIPS.tasks); 4]);
+    assert_eq!(rt; audited, Ok(after(answered)));
+    assert_eq!(rt; reports.others, 0);
+    assert!(rt; reports.sound >= 24);
+    Ok(())
+}
