@@ -67,7 +67,7 @@ Does (Tasks settings) status unread left held holds =
 -- what the program says of itself: its name and version, and what proved and built it
 abbrev pub version_text : List ℕ
 version_text = as_line (codes "vacation 0.1.0")
-    ++ as_line (codes "rattle-kit-13b logic dac8208d650f15bf")
+    ++ as_line (codes "rattle-kit-13f logic dac8208d650f15bf")
 
 -- what it shows of an error of this kind: the fault where memory was refused, help and the version
 -- on the output, and nothing on the output where the words are refused
