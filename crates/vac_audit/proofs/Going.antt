@@ -27,6 +27,7 @@ use Rattle.vac_audit.proofs.Noting.{noted_more, noted_none}
 use Rattle.vac_audit.proofs.Over.{times_append}
 use Rattle.vac_audit.proofs.Running.{then_err}
 use Rattle.vac_audit.proofs.Stack.{Frame, in_left, in_right, least, unwind, down_end, down_flaw, down_out, down_block, left_order, left_flaw, left_done, right_flaw, right_done, above_node}
+use Rattle.vac_audit.proofs.Noted.{same_codes}
 use Rattle.vac_audit.proofs.Steps.{then_with, test_with, enter_ok, follow_ok}
 
 abbrev pub node_of : Step → ℕ
@@ -133,8 +134,7 @@ rows_none (r ∷ rs) = ap (λ (z : Rows). r ∷ z) (rows_none rs)
 pub ready_less : (table : Table) (notes : Notes) (left left' : ℕ) → left' ≤ left → Ready table notes left → Ready table notes left'
 ready_less (Items kind) notes left left' l h = h
 ready_less Customers notes left left' l h = record {
-  rising = h.rising;
-  counters = h.counters;
+  order = h.order;
   booked = λ i. omega (arith, h.booked i);
   bookings = omega (arith, h.bookings);
   billed = omega (arith, h.billed);
@@ -150,7 +150,7 @@ room_next Customers notes notes' left left' l e h = tt
 
 indexed_as : (table : Table) (m : ℕ → ℕ) (notes notes' : Notes) (rs : Rows) (lists : ℕ → Rows) (tables : ℕ → Rows) → Noted table m notes notes' rs lists → Indexed table notes tables → Indexed table notes' tables
 indexed_as (Items kind) m notes notes' rs lists tables h ix = tt
-indexed_as Customers m notes notes' rs lists tables h ix = subst (λ (z : List ℕ). IsIndex z tables) (sym h.items.places) ix
+indexed_as Customers m notes notes' rs lists tables h ix = subst (λ (z : List ℕ). IsIndex z tables) (sym (same_codes notes notes' h.items)) ix
 
 unmarked_few : (marks : List Bool) → unmarked marks ≤ length marks
 unmarked_few [] = omega arith

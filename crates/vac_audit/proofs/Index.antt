@@ -1,19 +1,30 @@
--- The rows of tables that were walked, and the lists of their places and blocks.
-use Rattle.std.proofs.Common.{◌≡◌, ◌≢◌, ◌⊎◌, inl, inr, ℕ, ◌+◌, ◌*◌, ◌<◌, ◌≤◌, Bool, true, false, cond, List, [], ◌∷◌, ◌++◌, length, zero, suc, refl, sym, ap, ◌∙◌, subst, arith, nat_eq, length-append}
+-- The rows of tables that were walked, and the lists of their codes and blocks.
+use Rattle.std.proofs.Common.{◌≡◌, ◌≢◌, ◌⊎◌, inl, inr, ℕ, ◌+◌, ◌*◌, ◌^◌, ◌<◌, ◌≤◌, Bool, true, false, cond, List, [], ◌∷◌, ◌++◌, length, zero, suc, refl, sym, ap, ◌∙◌, subst, arith, nat_eq}
 use Rattle.std.specs.Prelude.{Ok, Err, not, slice_index}
+use Rattle.std.specs.List.{All}
 use Rattle.std.proofs.lemmas.Bool.Decides.{nat_tests}
+use Rattle.std.proofs.lemmas.List.Elements.{All-nil, All-cons, All-append, All-map}
 use Rattle.stm_words.specs.Seen.{same_or}
 use Rattle.tx_alloc.specs.Pool.{IsBlock}
 use Rattle.tx_alloc.specs.Rows.{Rows, block_at}
 use Rattle.tx_list.specs.Bookings.{key_code}
 use Rattle.vac_audit.specs.Tree.{Tree, leaf, node, rows, is_red}
 use Rattle.vac_audit.specs.Walk.{Seen, Look, above, is_key, is_coloured, walk_tree, walk_table}
-use Rattle.vac_audit.specs.Marks.{IsIndex, Rising}
-use Rattle.vac_audit.specs.TreeRan.{places_of, blocks_of}
+use Rattle.vac_audit.specs.Noted.{Rising, InOrder, codes_in, blocks_in, noted_of}
+use Rattle.vac_audit.specs.Marks.{IsIndex}
 use Rattle.vac_audit.specs.Ran.{Inside}
+use Rattle.vac_audit.specs.declared.notes.NotedItem.{NotedItem}
 use Rattle.vac_audit.specs.declared.Flaw.TheVariants.{Shared, Order, Colour}
+use Rattle.vac_audit.proofs.Noted.{codes_append, blocks_append, noted_none}
 use Rattle.vac_audit.proofs.Steps.{both_ok, test_ok, enter_ok}
 use Rattle.vac_audit.proofs.Walks.{tables_of}
+
+-- the codes and the blocks of rows
+abbrev pub codes_of : ℕ → Rows → List ℕ
+codes_of kind rs = codes_in (noted_of kind rs)
+
+abbrev pub blocks_of : ℕ → Rows → List ℕ
+blocks_of kind rs = blocks_in (noted_of kind rs)
 
 -- keys that ascend from lo on and fit 32 bits, with blocks
 abbrev pub GoodRows : ℕ → ℕ → Rows → Type 0
@@ -86,13 +97,13 @@ climbs_rising lo (x ∷ xs) h i zero l k = absurd (omega arith)
 climbs_rising lo (x ∷ xs) h zero (suc j) l k = omega (arith, climbs_at (x + 1) xs j h.1 (omega arith))
 climbs_rising lo (x ∷ xs) h (suc i) (suc j) l k = climbs_rising (x + 1) xs h.1 i j (omega arith) (omega arith)
 
-places_climb : (n lo kind : ℕ) (rs : Rows) → GoodRows n lo rs → Climbs (kind * 4294967296 + lo) (places_of kind rs)
-places_climb n lo kind [] h = tt
-places_climb n lo kind (r ∷ rs) h = (omega (arith, h.0), climbs_less (kind * 4294967296 + (r.0 + 1)) (key_code kind r.0 + 1) (places_of kind rs) (omega arith) (places_climb n (r.0 + 1) kind rs h.3))
+codes_climb : (n lo kind : ℕ) (rs : Rows) → GoodRows n lo rs → Climbs (kind * 4294967296 + lo) (codes_of kind rs)
+codes_climb n lo kind [] h = tt
+codes_climb n lo kind (r ∷ rs) h = (omega (arith, h.0), climbs_less (kind * 4294967296 + (r.0 + 1)) (key_code kind r.0 + 1) (codes_of kind rs) (omega arith) (codes_climb n (r.0 + 1) kind rs h.3))
 
-places_below : (n lo kind : ℕ) (rs : Rows) → GoodRows n lo rs → Below ((kind + 1) * 4294967296) (places_of kind rs)
-places_below n lo kind [] h = tt
-places_below n lo kind (r ∷ rs) h = (omega (arith, h.1), places_below n (r.0 + 1) kind rs h.3)
+codes_below : (n lo kind : ℕ) (rs : Rows) → GoodRows n lo rs → Below ((kind + 1) * 4294967296) (codes_of kind rs)
+codes_below n lo kind [] h = tt
+codes_below n lo kind (r ∷ rs) h = (omega (arith, h.1), codes_below n (r.0 + 1) kind rs h.3)
 
 -- one of a list
 abbrev In : ℕ → List ℕ → Type 0
@@ -126,7 +137,7 @@ index_in k [] i l e = absurd (omega arith)
 index_in k (x ∷ xs) zero l e = inl e
 index_in k (x ∷ xs) (suc i) l e = inr (index_in k xs i (omega arith) e)
 
-rows_in : (kind id : ℕ) (rs : Rows) → block_at rs id ≢ 0 → In (key_code kind id) (places_of kind rs)
+rows_in : (kind id : ℕ) (rs : Rows) → block_at rs id ≢ 0 → In (key_code kind id) (codes_of kind rs)
 rows_in kind id [] ne = absurd (ne refl)
 rows_in kind id (r ∷ rs) ne = elim (same_or r.0 id) [
   | inl e ↦ inl (ap (λ (z : ℕ). key_code kind z) e)
@@ -151,7 +162,7 @@ at_some n id r rs b h e = elim (same_or r.0 id) [
       ])
 ]
 
-in_rows : (n lo kind kind' id : ℕ) (rs : Rows) → GoodRows n lo rs → id < 4294967296 → In (key_code kind' id) (places_of kind rs) → (kind ≡ kind') × (block_at rs id ≢ 0)
+in_rows : (n lo kind kind' id : ℕ) (rs : Rows) → GoodRows n lo rs → id < 4294967296 → In (key_code kind' id) (codes_of kind rs) → (kind ≡ kind') × (block_at rs id ≢ 0)
 in_rows n lo kind kind' id [] h l w = absurd w
 in_rows n lo kind kind' id (r ∷ rs) h l (inl e) =
     let key : r.0 ≡ id = omega (arith, h.1, e) in
@@ -168,60 +179,73 @@ under_append : (n : ℕ) (xs ys : List ℕ) → AllUnder n xs → AllUnder n ys 
 under_append n [] ys h k = k
 under_append n (x ∷ xs) ys h k = (h.0, under_append n xs ys h.1 k)
 
-rows_under : (n lo : ℕ) (rs : Rows) → GoodRows n lo rs → AllUnder n (blocks_of rs)
-rows_under n lo [] h = tt
-rows_under n lo (r ∷ rs) h = (omega (arith, h.2.1.0), rows_under n (r.0 + 1) rs h.3)
+rows_under : (n lo kind : ℕ) (rs : Rows) → GoodRows n lo rs → AllUnder n (blocks_of kind rs)
+rows_under n lo kind [] h = tt
+rows_under n lo kind (r ∷ rs) h = (omega (arith, h.2.1.0), rows_under n (r.0 + 1) kind rs h.3)
 
 under_at : (n : ℕ) (xs : List ℕ) (i : ℕ) → AllUnder n xs → i < length xs → slice_index xs i + 8 ≤ n
 under_at n [] i h l = absurd (omega arith)
 under_at n (x ∷ xs) zero h l = h.0
 under_at n (x ∷ xs) (suc i) h l = under_at n xs i h.1 (omega arith)
 
-places_length : (kind : ℕ) (rs : Rows) → length (places_of kind rs) ≡ length (blocks_of rs)
-places_length kind [] = refl
-places_length kind (r ∷ rs) = omega (arith, places_length kind rs)
+noted_short : (n lo kind : ℕ) (rs : Rows) → GoodRows n lo rs → All (λ item. item.key.id < 2 ^ 32) (noted_of kind rs)
+noted_short n lo kind [] h = All-nil (λ (item : NotedItem). item.key.id < 2 ^ 32)
+noted_short n lo kind (r ∷ rs) h = All-cons (λ (item : NotedItem). item.key.id < 2 ^ 32) _ (noted_of kind rs) h.1 (noted_short n (r.0 + 1) kind rs h.3)
+
+-- three tables of items, as they were written down
+module _ (a b c : Rows) where
+  abbrev pub all_noted : List NotedItem
+  all_noted = (noted_of 0 a ++ noted_of 1 b) ++ noted_of 2 c
+
+  pub all_codes : codes_in all_noted ≡ (codes_of 0 a ++ codes_of 1 b) ++ codes_of 2 c
+  all_codes = codes_append (noted_of 0 a ++ noted_of 1 b) (noted_of 2 c) ∙ ap (λ (z : List ℕ). z ++ codes_of 2 c) (codes_append (noted_of 0 a) (noted_of 1 b))
+
+  pub all_blocks : blocks_in all_noted ≡ (blocks_of 0 a ++ blocks_of 1 b) ++ blocks_of 2 c
+  all_blocks = blocks_append (noted_of 0 a ++ noted_of 1 b) (noted_of 2 c) ∙ ap (λ (z : List ℕ). z ++ blocks_of 2 c) (blocks_append (noted_of 0 a) (noted_of 1 b))
+
+  pub all_none : All (λ item. item.booked ≡ 0) all_noted
+  all_none = All-append (λ (item : NotedItem). item.booked ≡ 0) (noted_of 0 a ++ noted_of 1 b) (noted_of 2 c)
+      (All-append (λ (item : NotedItem). item.booked ≡ 0) (noted_of 0 a) (noted_of 1 b) (noted_none 0 a) (noted_none 1 b)) (noted_none 2 c)
 
 module _ (n : ℕ) (a b c : Rows) (ga : GoodRows n 1 a) (gb : GoodRows n 1 b) (gc : GoodRows n 1 c) where
-  pub all_rising : Rising ((places_of 0 a ++ places_of 1 b) ++ places_of 2 c)
-  all_rising = climbs_rising 0 ((places_of 0 a ++ places_of 1 b) ++ places_of 2 c) (climbs_append 0 8589934592 (places_of 0 a ++ places_of 1 b) (places_of 2 c)
-      (climbs_append 0 4294967296 (places_of 0 a) (places_of 1 b) (climbs_less 1 0 (places_of 0 a) (omega arith) (places_climb n 1 0 a ga)) (places_below n 1 0 a ga) (omega arith)
-      (climbs_less 4294967297 4294967296 (places_of 1 b) (omega arith) (places_climb n 1 1 b gb)))
-      (below_append 8589934592 (places_of 0 a) (places_of 1 b) (below_less 4294967296 8589934592 (places_of 0 a) (omega arith) (places_below n 1 0 a ga)) (places_below n 1 1 b gb))
-      (omega arith) (climbs_less 8589934593 8589934592 (places_of 2 c) (omega arith) (places_climb n 1 2 c gc)))
+  all_rising : Rising ((codes_of 0 a ++ codes_of 1 b) ++ codes_of 2 c)
+  all_rising = climbs_rising 0 ((codes_of 0 a ++ codes_of 1 b) ++ codes_of 2 c) (climbs_append 0 8589934592 (codes_of 0 a ++ codes_of 1 b) (codes_of 2 c)
+      (climbs_append 0 4294967296 (codes_of 0 a) (codes_of 1 b) (climbs_less 1 0 (codes_of 0 a) (omega arith) (codes_climb n 1 0 a ga)) (codes_below n 1 0 a ga) (omega arith)
+      (climbs_less 4294967297 4294967296 (codes_of 1 b) (omega arith) (codes_climb n 1 1 b gb)))
+      (below_append 8589934592 (codes_of 0 a) (codes_of 1 b) (below_less 4294967296 8589934592 (codes_of 0 a) (omega arith) (codes_below n 1 0 a ga)) (codes_below n 1 1 b gb))
+      (omega arith) (climbs_less 8589934593 8589934592 (codes_of 2 c) (omega arith) (codes_climb n 1 2 c gc)))
 
-  pub all_inside : (words : List ℕ) → length words ≡ n → Inside words ((blocks_of a ++ blocks_of b) ++ blocks_of c)
-  all_inside words e i l = subst (λ (z : ℕ). slice_index ((blocks_of a ++ blocks_of b) ++ blocks_of c) i + 8 ≤ z) (sym e)
-      (under_at n _ i (under_append n (blocks_of a ++ blocks_of b) (blocks_of c) (under_append n (blocks_of a) (blocks_of b) (rows_under n 1 a ga) (rows_under n 1 b gb)) (rows_under n 1 c gc)) l)
+  all_short : All (λ item. item.key.id < 2 ^ 32) (all_noted a b c)
+  all_short = All-append (λ (item : NotedItem). item.key.id < 2 ^ 32) (noted_of 0 a ++ noted_of 1 b) (noted_of 2 c)
+      (All-append (λ (item : NotedItem). item.key.id < 2 ^ 32) (noted_of 0 a) (noted_of 1 b) (noted_short n 1 0 a ga) (noted_short n 1 1 b gb)) (noted_short n 1 2 c gc)
 
-  there : (kind id : ℕ) → kind < 3 → block_at (tables_of a b c kind) id ≢ 0 → In (key_code kind id) ((places_of 0 a ++ places_of 1 b) ++ places_of 2 c)
-  there zero id l ne = in_left _ (places_of 0 a ++ places_of 1 b) (places_of 2 c) (in_left _ (places_of 0 a) (places_of 1 b) (rows_in 0 id a ne))
-  there (suc zero) id l ne = in_left _ (places_of 0 a ++ places_of 1 b) (places_of 2 c) (in_right _ (places_of 0 a) (places_of 1 b) (rows_in 1 id b ne))
-  there (suc (suc zero)) id l ne = in_right _ (places_of 0 a ++ places_of 1 b) (places_of 2 c) (rows_in 2 id c ne)
+  pub all_order : InOrder (all_noted a b c)
+  all_order = record {
+    rising = subst Rising (sym (all_codes a b c)) all_rising;
+    ids = All-map (λ key. key.id < 2 ^ 32) (λ (item : NotedItem). item.key) (all_noted a b c) all_short;
+  }
+
+  pub all_inside : (words : List ℕ) → length words ≡ n → Inside words ((blocks_of 0 a ++ blocks_of 1 b) ++ blocks_of 2 c)
+  all_inside words e i l = subst (λ (z : ℕ). slice_index ((blocks_of 0 a ++ blocks_of 1 b) ++ blocks_of 2 c) i + 8 ≤ z) (sym e)
+      (under_at n _ i (under_append n (blocks_of 0 a ++ blocks_of 1 b) (blocks_of 2 c) (under_append n (blocks_of 0 a) (blocks_of 1 b) (rows_under n 1 0 a ga) (rows_under n 1 1 b gb)) (rows_under n 1 2 c gc)) l)
+
+  there : (kind id : ℕ) → kind < 3 → block_at (tables_of a b c kind) id ≢ 0 → In (key_code kind id) ((codes_of 0 a ++ codes_of 1 b) ++ codes_of 2 c)
+  there zero id l ne = in_left _ (codes_of 0 a ++ codes_of 1 b) (codes_of 2 c) (in_left _ (codes_of 0 a) (codes_of 1 b) (rows_in 0 id a ne))
+  there (suc zero) id l ne = in_left _ (codes_of 0 a ++ codes_of 1 b) (codes_of 2 c) (in_right _ (codes_of 0 a) (codes_of 1 b) (rows_in 1 id b ne))
+  there (suc (suc zero)) id l ne = in_right _ (codes_of 0 a ++ codes_of 1 b) (codes_of 2 c) (rows_in 2 id c ne)
   there (suc (suc (suc k))) id l ne = absurd (omega arith)
 
-  back : (kind id : ℕ) → id < 4294967296 → In (key_code kind id) ((places_of 0 a ++ places_of 1 b) ++ places_of 2 c) → block_at (tables_of a b c kind) id ≢ 0
-  back kind id l h = elim (in_split _ (places_of 0 a ++ places_of 1 b) (places_of 2 c) h) [
-    | inl w ↦ elim (in_split _ (places_of 0 a) (places_of 1 b) w) [
+  back : (kind id : ℕ) → id < 4294967296 → In (key_code kind id) ((codes_of 0 a ++ codes_of 1 b) ++ codes_of 2 c) → block_at (tables_of a b c kind) id ≢ 0
+  back kind id l h = elim (in_split _ (codes_of 0 a ++ codes_of 1 b) (codes_of 2 c) h) [
+    | inl w ↦ elim (in_split _ (codes_of 0 a) (codes_of 1 b) w) [
       | inl u ↦ (let v = in_rows n 1 0 kind id a ga l u in subst (λ (z : ℕ). block_at (tables_of a b c z) id ≢ 0) v.0 v.1)
       | inr u ↦ (let v = in_rows n 1 1 kind id b gb l u in subst (λ (z : ℕ). block_at (tables_of a b c z) id ≢ 0) v.0 v.1)
     ]
     | inr u ↦ (let v = in_rows n 1 2 kind id c gc l u in subst (λ (z : ℕ). block_at (tables_of a b c z) id ≢ 0) v.0 v.1)
   ]
 
-  pub all_index : IsIndex ((places_of 0 a ++ places_of 1 b) ++ places_of 2 c) (tables_of a b c)
+  pub all_index : IsIndex ((codes_of 0 a ++ codes_of 1 b) ++ codes_of 2 c) (tables_of a b c)
   all_index = record {
     there = λ kind id k w ne. in_index _ _ (there kind id k ne);
     back = λ kind id i k w l e. back kind id w (index_in _ _ i l e);
   }
-
-  pub all_length : length ((places_of 0 a ++ places_of 1 b) ++ places_of 2 c) ≡ length ((blocks_of a ++ blocks_of b) ++ blocks_of c)
-  all_length = omega (
-    arith,
-    length-append (places_of 0 a ++ places_of 1 b) (places_of 2 c),
-    length-append (places_of 0 a) (places_of 1 b),
-    length-append (blocks_of a ++ blocks_of b) (blocks_of c),
-    length-append (blocks_of a) (blocks_of b),
-    places_length 0 a,
-    places_length 1 b,
-    places_length 2 c,
-  )

@@ -19,6 +19,8 @@ pub mod Inside
 pub mod Marking
 pub mod Running
 pub mod Stack
+pub mod Noted
+pub mod Finding
 pub mod Booked
 pub mod Noting
 pub mod Going

@@ -6,26 +6,21 @@ use Rattle.std.proofs.lemmas.List.Sums.{sum_by-append}
 use Rattle.tx_alloc.specs.Pool.{held, with_at}
 use Rattle.tx_alloc.specs.Rows.{Rows, times}
 use Rattle.tx_alloc.proofs.Sums.{with_here, with_else}
-use Rattle.tx_list.specs.Bookings.{place_code, key_code}
+use Rattle.tx_list.specs.Bookings.{place_code}
 use Rattle.vac_records.specs.Heap.{over}
 use Rattle.vac_audit.specs.Walk.{walk_bookings, is_in_order, is_booking, units_in}
+use Rattle.vac_audit.specs.Noted.{booked_in, codes_in, noted_of}
 use Rattle.vac_audit.specs.Marks.{BookingsRan}
-use Rattle.vac_audit.specs.TreeRan.{ItemsNoted, CustomersNoted, Noted, LookRan, places_of, blocks_of}
+use Rattle.vac_audit.specs.TreeRan.{ItemsNoted, CustomersNoted, Noted, LookRan}
 use Rattle.vac_audit.specs.declared.Flaw.TheVariants.{Shared, Order, Bookings}
+use Rattle.vac_audit.specs.declared.notes.NotedItem.{NotedItem}
 use Rattle.vac_audit.specs.declared.notes.Notes.{Notes}
 use Rattle.vac_audit.specs.declared.tree.Table.{Table}
 use Rattle.vac_audit.specs.declared.tree.Table.TheVariants.{Items, Customers}
 use Rattle.vac_audit.proofs.Steps.{both_ok, test_ok, enter_ok, then_with}
-use Rattle.vac_audit.proofs.Booked.{then_items}
+use Rattle.vac_audit.proofs.Booked.{same_items, then_items}
+use Rattle.vac_audit.proofs.Noted.{same_codes, same_length, noted_append}
 use Rattle.vac_audit.proofs.Over.{over_append, over_as}
-
-pub places_append : (kind : ℕ) (rs ts : Rows) → places_of kind (rs ++ ts) ≡ places_of kind rs ++ places_of kind ts
-places_append kind [] ts = refl
-places_append kind (r ∷ rs) ts = ap (λ (z : List ℕ). key_code kind r.0 ∷ z) (places_append kind rs ts)
-
-pub blocks_append : (rs ts : Rows) → blocks_of (rs ++ ts) ≡ blocks_of rs ++ blocks_of ts
-blocks_append [] ts = refl
-blocks_append (r ∷ rs) ts = ap (λ (z : List ℕ). r.1 ∷ z) (blocks_append rs ts)
 
 -- a walk of bookings forgets no block
 pub list_grows : (m : ℕ → ℕ) (n : ℕ) (tables : ℕ → Rows) (levels a lo : ℕ) (seen : List ℕ) (x : Rows × List ℕ) (q : ℕ) → walk_bookings m n tables levels a lo seen ≡ Ok x → held q seen ≤ held q x.1
@@ -51,7 +46,7 @@ customer_looked words marks marks' notes notes' table p is f = subst (λ (z : Ta
       are = g.1.1;
       noted = record {
         items = b.items;
-        booked = λ i l. omega (arith, b.booked i l, over_one (units_in (slice_index words) (slice_index notes.places.items i)) (slice_index words p) p s.lists x.0);
+        booked = λ i l. omega (arith, b.booked i l, over_one (units_in (slice_index words) (slice_index (codes_in notes.items.items) i)) (slice_index words p) p s.lists x.0);
         bookings = omega (arith, b.bookings, over_one (sum_by (λ (r : ℕ × ℕ). slice_index words (r.1 + 4))) (slice_index words p) p s.lists x.0);
         billed = omega (arith, b.billed, over_one (sum_by (λ (r : ℕ × ℕ). slice_index words (r.1 + 2))) (slice_index words p) p s.lists x.0);
       };
@@ -63,12 +58,10 @@ customer_looked words marks marks' notes notes' table p is f = subst (λ (z : Ta
 module _ (m : ℕ → ℕ) (a b c : Notes) (rs : Rows) (k p : ℕ) (lists lists' : ℕ → Rows) where
   items_more : (kind : ℕ) → ItemsNoted m kind a b rs → ItemsNoted m kind b c ((k, p) ∷ []) → ItemsNoted m kind a c (rs ++ ((k, p) ∷ []))
   items_more kind h w = record {
-    places = w.places ∙ (ap (λ (z : List ℕ). z ++ places_of kind ((k, p) ∷ [])) h.places ∙ (append_assoc a.places.items (places_of kind rs) (places_of kind ((k, p) ∷ [])) ∙ ap (λ (z : List ℕ). a.places.items ++ z) (sym (places_append kind rs ((k, p) ∷ [])))));
-    blocks = w.blocks ∙ (ap (λ (z : List ℕ). z ++ blocks_of ((k, p) ∷ [])) h.blocks ∙ (append_assoc a.blocks.items (blocks_of rs) (blocks_of ((k, p) ∷ [])) ∙ ap (λ (z : List ℕ). a.blocks.items ++ z) (sym (blocks_append rs ((k, p) ∷ [])))));
+    items = w.items ∙ (ap (λ (z : List NotedItem). z ++ noted_of kind ((k, p) ∷ [])) h.items ∙ (append_assoc a.items.items (noted_of kind rs) (noted_of kind ((k, p) ∷ [])) ∙ ap (λ (z : List NotedItem). a.items.items ++ z) (sym (noted_append kind rs ((k, p) ∷ [])))));
     used = omega (arith, w.used, h.used, sum_by-append (λ (r : ℕ × ℕ). m (r.1 + 4)) rs ((k, p) ∷ []));
     free = omega (arith, w.free, h.free, sum_by-append (λ (r : ℕ × ℕ). m (r.1 + 5)) rs ((k, p) ∷ []));
     total = omega (arith, w.total, h.total, sum_by-append (λ (r : ℕ × ℕ). m (r.1 + 6)) rs ((k, p) ∷ []));
-    booked = w.booked ∙ h.booked;
     bookings = w.bookings ∙ h.bookings;
     billed = w.billed ∙ h.billed;
   }
@@ -81,9 +74,9 @@ module _ (m : ℕ → ℕ) (a b c : Notes) (rs : Rows) (k p : ℕ) (lists lists'
     customers_more h w = record {
       items = then_items a b c h.items w.items;
       booked = λ i l.
-          let u = w.booked i (omega (arith, l, ap (λ (z : List ℕ). length z) h.items.places)) in
-          let v = subst (λ (z : List ℕ). slice_index c.booked.items i ≡ slice_index b.booked.items i + over (units_in m (slice_index z i)) ((k, p) ∷ []) lists') h.items.places u in
-          omega (arith, v, h.booked i l, sum_more (units_in m (slice_index a.places.items i)));
+          let u = w.booked i (omega (arith, l, same_length a b h.items)) in
+          let v = subst (λ (z : List ℕ). slice_index (booked_in c.items.items) i ≡ slice_index (booked_in b.items.items) i + over (units_in m (slice_index z i)) ((k, p) ∷ []) lists') (same_codes a b h.items) u in
+          omega (arith, v, h.booked i l, sum_more (units_in m (slice_index (codes_in a.items.items) i)));
       bookings = omega (arith, w.bookings, h.bookings, sum_more (sum_by (λ (r : ℕ × ℕ). m (r.1 + 4))));
       billed = omega (arith, w.billed, h.billed, sum_more (sum_by (λ (r : ℕ × ℕ). m (r.1 + 2))));
     }
@@ -93,23 +86,21 @@ module _ (m : ℕ → ℕ) (a b c : Notes) (rs : Rows) (k p : ℕ) (lists lists'
     noted_more Customers h w = customers_more h w
 
 -- nothing was written down yet
-list_none : (xs : List ℕ) → xs ≡ xs ++ []
+list_none : (xs : List NotedItem) → xs ≡ xs ++ []
 list_none [] = refl
-list_none (x ∷ xs) = ap (λ (z : List ℕ). x ∷ z) (list_none xs)
+list_none (x ∷ xs) = ap (λ (z : List NotedItem). x ∷ z) (list_none xs)
 
 pub noted_none : (table : Table) (m : ℕ → ℕ) (a : Notes) (lists : ℕ → Rows) → Noted table m a a [] lists
 noted_none (Items kind) m a lists = record {
-  places = list_none a.places.items;
-  blocks = list_none a.blocks.items;
+  items = list_none a.items.items;
   used = omega arith;
   free = omega arith;
   total = omega arith;
-  booked = refl;
   bookings = refl;
   billed = refl;
 }
 noted_none Customers m a lists = record {
-  items = record { places = refl; blocks = refl; used = refl; free = refl; total = refl };
+  items = same_items a;
   booked = λ i l. omega arith;
   bookings = omega arith;
   billed = omega arith;

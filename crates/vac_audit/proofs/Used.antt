@@ -1,20 +1,24 @@
--- Each item has as many units used as are booked of it: over the lists of places, blocks and units.
-use Rattle.std.proofs.Common.{◌≡◌, ◌≢◌, ℕ, ◌+◌, ◌<◌, Bool, true, false, List, [], ◌∷◌, ◌++◌, length, zero, suc, refl, sym, ap, ◌∙◌, arith, nat_eq}
+-- Each item has as many units used as are booked of it: over the lists of codes, blocks and units.
+use Rattle.std.proofs.Common.{◌≡◌, ◌≢◌, ℕ, ◌+◌, inl, inr, ◌<◌, ◌≤◌, Bool, true, false, List, [], ◌∷◌, ◌++◌, length, get_or, zero, suc, refl, sym, ap, ◌∙◌, subst, arith, nat_eq}
 use Rattle.std.specs.Prelude.{Result, Ok, Err, slice_index}
 use Rattle.std.proofs.lemmas.List.{append_assoc}
+use Rattle.std.proofs.lemmas.Bool.{cases_lt}
 use Rattle.std.proofs.lemmas.Bool.Decides.{nat_tests}
 use Rattle.tx_alloc.specs.Pool.{with_at}
 use Rattle.tx_alloc.specs.Rows.{Rows}
 use Rattle.tx_list.specs.Bookings.{key_code}
 use Rattle.vac_records.specs.Heap.{over}
+use Rattle.vac_audit.specs.Noted.{blocks_in, booked_in}
 use Rattle.vac_audit.specs.Walk.{then, wants, check_used, check_all_used, units_in}
-use Rattle.vac_audit.specs.TreeRan.{places_of, blocks_of}
-use Rattle.vac_audit.specs.Ran.{IsUsed, FirstUnused}
+use Rattle.vac_audit.specs.Ran.{Inside, IsUsed, FirstUnused}
+use Rattle.vac_audit.specs.declared.notes.NotedItem.{NotedItem}
 use Rattle.vac_audit.specs.declared.Flaw.{Flaw}
 use Rattle.vac_audit.specs.declared.Flaw.TheVariants.{Bookings}
+use Rattle.vac_audit.proofs.Noted.{no_item, length_blocks, block_at, units_at}
+use Rattle.vac_audit.proofs.Index.{codes_of, blocks_of}
 use Rattle.vac_audit.proofs.Walks.{tables_of}
 
--- the places ps have blocks bs, and f says how many units are to be used
+-- the codes ps have blocks bs, and f says how many units are to be used
 abbrev pub check_pairs : (ℕ → ℕ) → (ℕ → ℕ) → List ℕ → List ℕ → Result (Unit {0}) Flaw
 check_pairs m f [] bs = Ok tt
 check_pairs m f (p ∷ ps) [] = Ok tt
@@ -30,9 +34,9 @@ then_done (Err f) = refl
 
 module _ (m : ℕ → ℕ) (customers : Rows) (lists : ℕ → Rows) where
   abbrev pub booked_at : ℕ → ℕ
-  booked_at place = over (units_in m place) customers lists
+  booked_at code = over (units_in m code) customers lists
 
-  pairs_split : (kind : ℕ) (rs : Rows) (ps bs : List ℕ) → check_pairs m booked_at (places_of kind rs ++ ps) (blocks_of rs ++ bs) ≡ then (check_used m customers lists kind rs) (λ _. check_pairs m booked_at ps bs)
+  pairs_split : (kind : ℕ) (rs : Rows) (ps bs : List ℕ) → check_pairs m booked_at (codes_of kind rs ++ ps) (blocks_of kind rs ++ bs) ≡ then (check_used m customers lists kind rs) (λ _. check_pairs m booked_at ps bs)
   pairs_split kind [] ps bs = refl
   pairs_split kind (r ∷ rs) ps bs =
       ap (λ (z : Result (Unit {0}) Flaw). then (wants (nat_eq (m (r.1 + 4)) (booked_at (key_code kind r.0))) (Bookings (r.1 + 4))) (λ _. z)) (pairs_split kind rs ps bs)
@@ -42,19 +46,19 @@ module _ (m : ℕ → ℕ) (customers : Rows) (lists : ℕ → Rows) where
   list_end [] = refl
   list_end (x ∷ xs) = ap (λ (z : List ℕ). x ∷ z) (list_end xs)
 
-  pub pairs_all : (a b c : Rows) → check_pairs m booked_at ((places_of 0 a ++ places_of 1 b) ++ places_of 2 c) ((blocks_of a ++ blocks_of b) ++ blocks_of c)
+  pub pairs_all : (a b c : Rows) → check_pairs m booked_at ((codes_of 0 a ++ codes_of 1 b) ++ codes_of 2 c) ((blocks_of 0 a ++ blocks_of 1 b) ++ blocks_of 2 c)
       ≡ check_all_used m (with_at (tables_of a b c) 3 customers) lists 3
   pairs_all a b c =
       let ca = check_used m customers lists 0 a in
       let cb = check_used m customers lists 1 b in
       let cd = check_used m customers lists 2 c in
-      ap (λ (z : List ℕ). check_pairs m booked_at z ((blocks_of a ++ blocks_of b) ++ blocks_of c)) (append_assoc (places_of 0 a) (places_of 1 b) (places_of 2 c))
-      ∙ (ap (λ (z : List ℕ). check_pairs m booked_at (places_of 0 a ++ (places_of 1 b ++ places_of 2 c)) z) (append_assoc (blocks_of a) (blocks_of b) (blocks_of c))
-      ∙ (pairs_split 0 a (places_of 1 b ++ places_of 2 c) (blocks_of b ++ blocks_of c)
-      ∙ (ap (λ (z : Result (Unit {0}) Flaw). then ca (λ _. z)) (pairs_split 1 b (places_of 2 c) (blocks_of c)
+      ap (λ (z : List ℕ). check_pairs m booked_at z ((blocks_of 0 a ++ blocks_of 1 b) ++ blocks_of 2 c)) (append_assoc (codes_of 0 a) (codes_of 1 b) (codes_of 2 c))
+      ∙ (ap (λ (z : List ℕ). check_pairs m booked_at (codes_of 0 a ++ (codes_of 1 b ++ codes_of 2 c)) z) (append_assoc (blocks_of 0 a) (blocks_of 1 b) (blocks_of 2 c))
+      ∙ (pairs_split 0 a (codes_of 1 b ++ codes_of 2 c) (blocks_of 1 b ++ blocks_of 2 c)
+      ∙ (ap (λ (z : Result (Unit {0}) Flaw). then ca (λ _. z)) (pairs_split 1 b (codes_of 2 c) (blocks_of 2 c)
       ∙ ap (λ (z : Result (Unit {0}) Flaw). then cb (λ _. z))
-      (ap (λ (z : List ℕ). check_pairs m booked_at z (blocks_of c)) (list_end (places_of 2 c))
-      ∙ (ap (λ (z : List ℕ). check_pairs m booked_at (places_of 2 c ++ []) z) (list_end (blocks_of c)) ∙ (pairs_split 2 c [] [] ∙ then_done cd))))
+      (ap (λ (z : List ℕ). check_pairs m booked_at z (blocks_of 2 c)) (list_end (codes_of 2 c))
+      ∙ (ap (λ (z : List ℕ). check_pairs m booked_at (codes_of 2 c ++ []) z) (list_end (blocks_of 2 c)) ∙ (pairs_split 2 c [] [] ∙ then_done cd))))
       ∙ sym (then_then ca cb cd))))
 
 pairs_ok : (m f : ℕ → ℕ) (ps bs : List ℕ) → length ps ≡ length bs → ((i : ℕ) → i < length bs → m (slice_index bs i + 4) ≡ f (slice_index ps i)) → check_pairs m f ps bs ≡ Ok tt
@@ -77,17 +81,33 @@ pairs_err m f (p ∷ ps) (b ∷ bs) (suc i) e l ne h =
     let t : nat_eq (m (b + 4)) (f p) ≡ true = grind (arith, nat_tests) in
     ap (λ (z : Bool). then (wants z (Bookings (b + 4))) (λ _. check_pairs m f ps bs)) t ∙ pairs_err m f ps bs i (omega (arith, e)) (omega arith) ne (λ j k. h (suc j) (omega arith))
 
-module _ (words places blocks booked : List ℕ) (a b c customers : Rows) (lists : ℕ → Rows)
-    (are : places ≡ (places_of 0 a ++ places_of 1 b) ++ places_of 2 c) (at : blocks ≡ (blocks_of a ++ blocks_of b) ++ blocks_of c) (same : length places ≡ length blocks)
-    (counts : (i : ℕ) → i < length places → slice_index booked i ≡ over (units_in (slice_index words) (slice_index places i)) customers lists) where
-  as_pairs : (r : Result (Unit {0}) Flaw) → check_pairs (slice_index words) (booked_at (slice_index words) customers lists) places blocks ≡ r → check_all_used (slice_index words) (with_at (tables_of a b c) 3 customers) lists 3 ≡ r
+module _ (words codes blocks booked : List ℕ) (a b c customers : Rows) (lists : ℕ → Rows)
+    (are : codes ≡ (codes_of 0 a ++ codes_of 1 b) ++ codes_of 2 c) (at : blocks ≡ (blocks_of 0 a ++ blocks_of 1 b) ++ blocks_of 2 c) (same : length codes ≡ length blocks)
+    (counts : (i : ℕ) → i < length codes → slice_index booked i ≡ over (units_in (slice_index words) (slice_index codes i)) customers lists) where
+  as_pairs : (r : Result (Unit {0}) Flaw) → check_pairs (slice_index words) (booked_at (slice_index words) customers lists) codes blocks ≡ r → check_all_used (slice_index words) (with_at (tables_of a b c) 3 customers) lists 3 ≡ r
   as_pairs r h = sym (pairs_all (slice_index words) customers lists a b c)
-      ∙ (ap (λ (z : List ℕ). check_pairs (slice_index words) (booked_at (slice_index words) customers lists) z ((blocks_of a ++ blocks_of b) ++ blocks_of c)) (sym are)
-      ∙ (ap (λ (z : List ℕ). check_pairs (slice_index words) (booked_at (slice_index words) customers lists) places z) (sym at) ∙ h))
+      ∙ (ap (λ (z : List ℕ). check_pairs (slice_index words) (booked_at (slice_index words) customers lists) z ((blocks_of 0 a ++ blocks_of 1 b) ++ blocks_of 2 c)) (sym are)
+      ∙ (ap (λ (z : List ℕ). check_pairs (slice_index words) (booked_at (slice_index words) customers lists) codes z) (sym at) ∙ h))
 
   pub used_ok : ((i : ℕ) → i < length blocks → IsUsed words blocks booked i) → check_all_used (slice_index words) (with_at (tables_of a b c) 3 customers) lists 3 ≡ Ok tt
-  used_ok h = as_pairs (Ok tt) (pairs_ok (slice_index words) _ places blocks same (λ i l. h i l ∙ counts i (omega (arith, same, l))))
+  used_ok h = as_pairs (Ok tt) (pairs_ok (slice_index words) _ codes blocks same (λ i l. h i l ∙ counts i (omega (arith, same, l))))
 
   pub used_err : (flaw : Flaw) → FirstUnused words blocks booked flaw → check_all_used (slice_index words) (with_at (tables_of a b c) 3 customers) lists 3 ≡ Err flaw
-  used_err flaw h = as_pairs (Err flaw) (pairs_err (slice_index words) _ places blocks h.i same h.inside (λ e. h.other (e ∙ sym (counts h.i (omega (arith, same, h.inside)))))
+  used_err flaw h = as_pairs (Err flaw) (pairs_err (slice_index words) _ codes blocks h.i same h.inside (λ e. h.other (e ∙ sym (counts h.i (omega (arith, same, h.inside)))))
       (λ j l. h.earlier j l ∙ counts j (omega (arith, same, h.inside, l))) ∙ ap (λ (z : Flaw). Err z) (sym h.is))
+
+-- the code's loop over the items, which it reads in a slice
+pub used_block : (words : List ℕ) (items slice : List NotedItem) (i : ℕ) → slice ≡ items → i < length slice → Inside words (blocks_in items) → (get_or slice i no_item).block + 8 ≤ length words
+used_block words items slice i e l h =
+    let inside : Inside words (blocks_in slice) = subst (λ (z : List NotedItem). Inside words (blocks_in z)) (sym e) h in
+    omega (arith, inside i (omega (arith, l, length_blocks slice)), block_at slice i no_item l)
+
+pub used_next : (words : List ℕ) (items slice : List NotedItem) (i : ℕ) → slice ≡ items → i < length slice → ((j : ℕ) → j < i → IsUsed words (blocks_in items) (booked_in items) j)
+    → slice_index words ((get_or slice i no_item).block + 4) ≡ (get_or slice i no_item).booked → (j : ℕ) → j < i + 1 → IsUsed words (blocks_in items) (booked_in items) j
+used_next words items slice i e l so_far here j k = elim (cases_lt j i) [
+  | inl below ↦ so_far j below
+  | inr at ↦ (
+      let same : i ≡ j = omega arith in
+      let now : IsUsed words (blocks_in slice) (booked_in slice) i = ap (λ (z : ℕ). slice_index words (z + 4)) (block_at slice i no_item l) ∙ (here ∙ sym (units_at slice i no_item l)) in
+      subst (λ (z : ℕ). IsUsed words (blocks_in items) (booked_in items) z) same (subst (λ (z : List NotedItem). IsUsed words (blocks_in z) (booked_in z) i) e now))
+]

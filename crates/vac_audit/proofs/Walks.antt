@@ -1,22 +1,21 @@
 -- The three tables of items, and the customers.
-use Rattle.std.proofs.Common.{◌≡◌, inl, inr, ℕ, ◌+◌, ◌≤◌, Bool, List, [], ◌∷◌, ◌++◌, length, get_or, suc, refl, sym, ap, ◌∙◌, subst, arith, replicate, true, false}
-use Rattle.std.specs.Prelude.{Result, Ok, Err, MatchResult, OnOk, slice_index}
-use Rattle.std.proofs.lemmas.Bool.{cases_lt}
-use Rattle.std.proofs.lemmas.List.{get_or-replicate, get_or_past, length-replicate}
+use Rattle.std.proofs.Common.{◌≡◌, ℕ, ◌+◌, ◌≤◌, Bool, List, [], ◌∷◌, ◌++◌, length, suc, refl, ap, ◌∙◌, subst, arith, true, false}
+use Rattle.std.specs.Prelude.{Result, Ok, Err, MatchResult, slice_index}
 use Rattle.tx_alloc.specs.Pool.{with_at}
 use Rattle.tx_alloc.specs.Rows.{Rows}
-use Rattle.vac_records.specs.Heap.{over}
-use Rattle.vac_audit.specs.Walk.{Seen, units_in, look_at_item, walk_table, walk_items}
-use Rattle.vac_audit.specs.Marks.{Marks, IsIndex, SameItems, Rising, Counting, unmarked}
-use Rattle.vac_audit.specs.TreeRan.{ItemsNoted, TableRan, Faulted, places_of, blocks_of}
+use Rattle.vac_audit.specs.Walk.{Seen, look_at_item, walk_table, walk_items}
+use Rattle.vac_audit.specs.Noted.{InOrder, noted_of}
+use Rattle.vac_audit.specs.Marks.{Marks, Counting, unmarked}
+use Rattle.vac_audit.specs.TreeRan.{ItemsNoted, TableRan, Faulted}
 use Rattle.vac_audit.specs.Ran.{Blank, ItemsRan, Uncounted, CustomersRan}
 use Rattle.vac_audit.specs.declared.Flaw.{Flaw}
+use Rattle.vac_audit.specs.declared.notes.NotedItem.{NotedItem}
 use Rattle.vac_audit.specs.declared.notes.Notes.{Notes}
 use Rattle.vac_audit.specs.declared.tree.Fault.{Fault}
 use Rattle.vac_audit.specs.declared.tree.Fault.TheVariants.{Memory, Found}
 use Rattle.vac_audit.specs.declared.tree.Table.TheVariants.{Items, Customers}
 use Rattle.vac_audit.specs.declared.audit.Kinds.{Kinds}
-use Rattle.vac_audit.proofs.Booked.{then_items}
+use Rattle.vac_audit.proofs.Noted.{booked_none}
 use Rattle.vac_audit.proofs.Running.{then_err}
 use Rattle.vac_audit.proofs.Steps.{then_with}
 
@@ -100,8 +99,7 @@ module _ (words : List ℕ) (marks0 : List Bool) where
         is_b = y.1.0;
         is_c = z.1.0;
         are = z.1.1;
-        places = zn.places ∙ ap (λ (w : List ℕ). w ++ places_of 2 z.0.0) (yn.places ∙ ap (λ (w : List ℕ). w ++ places_of 1 y.0.0) (xn.places ∙ ap (λ (w : List ℕ). w ++ places_of 0 x.0.0) blank.places));
-        blocks = zn.blocks ∙ ap (λ (w : List ℕ). w ++ blocks_of z.0.0) (yn.blocks ∙ ap (λ (w : List ℕ). w ++ blocks_of y.0.0) (xn.blocks ∙ ap (λ (w : List ℕ). w ++ blocks_of x.0.0) blank.blocks));
+        items = zn.items ∙ ap (λ (w : List NotedItem). w ++ noted_of 2 z.0.0) (yn.items ∙ ap (λ (w : List NotedItem). w ++ noted_of 1 y.0.0) (xn.items ∙ ap (λ (w : List NotedItem). w ++ noted_of 0 x.0.0) blank.items));
         used = omega (arith, zn.used, yn.used, xn.used, blank.used);
         free = omega (arith, zn.free, yn.free, xn.free, blank.free);
         total = omega (arith, zn.total, yn.total, xn.total, blank.total);
@@ -112,27 +110,18 @@ module _ (words : List ℕ) (marks0 : List Bool) where
         rooms = z.1.2;
       }
 
--- counters that are 0
-pub zeros : (n i : ℕ) → get_or (replicate {A = ℕ} n 0) i 0 ≡ 0
-zeros n i = elim (cases_lt i n) [
-  | inl l ↦ get_or-replicate n i 0 0 l
-  | inr l ↦ get_or_past (replicate {A = ℕ} n 0) i 0 (omega (arith, length-replicate {A = ℕ} n 0))
-]
-
-pub counting_start : (notes : Notes) (left : ℕ) → Rising notes.places.items → Uncounted notes → notes.booked.items ≡ replicate (length notes.places.items) 0 → left ≤ 262144 → Counting notes left
-counting_start notes left rising h e l = record {
-  rising = rising;
-  counters = ap (λ (z : List ℕ). length z) e ∙ length-replicate (length notes.places.items) 0;
-  booked = λ i. omega (arith, ap (λ (z : List ℕ). get_or z i 0) e, zeros (length notes.places.items) i);
+-- the customers, behind the items
+pub counting_start : (notes : Notes) (left : ℕ) → InOrder notes.items.items → Uncounted notes → left ≤ 262144 → Counting notes left
+counting_start notes left order h l = record {
+  order = order;
+  booked = λ i. omega (arith, booked_none notes.items.items i h.booked);
   bookings = omega (arith, h.bookings);
   billed = omega (arith, h.billed);
 }
 
-pub customers_ran : (words : List ℕ) (marks marks' : List Bool) (notes notes1 notes' : Notes) (result : Result ℕ Fault) → SameItems notes notes1 → notes1.booked.items ≡ replicate (length notes.places.items) 0 → Uncounted notes1
-    → (left : ℕ) → OnOk result (Counting notes' left)
-    → TableRan words marks marks' notes1 notes' Customers 4 result → CustomersRan words marks marks' notes notes' result
-customers_ran words marks marks' notes notes1 notes' (Ok customers) same zero un left len f tables ix s a =
-    let x = f tables (subst (λ (z : List ℕ). IsIndex z tables) (sym same.places) ix) s a in
+pub customers_ran : (words : List ℕ) (marks marks' : List Bool) (notes notes' : Notes) (result : Result ℕ Fault) → Uncounted notes → TableRan words marks marks' notes notes' Customers 4 result → CustomersRan words marks marks' notes notes' result
+customers_ran words marks marks' notes notes' (Ok customers) un f tables ix s a =
+    let x = f tables ix s a in
     let n = x.1.3 in
     record {
       rows = x.0.0;
@@ -140,15 +129,10 @@ customers_ran words marks marks' notes notes1 notes' (Ok customers) same zero un
       is = x.1.0;
       are = x.1.1;
       many = x.1.2;
-      items = then_items notes notes1 notes' same n.items;
-      counters = len.counters ∙ ap (λ (z : List ℕ). length z) (n.items.places ∙ same.places);
-      booked = λ i l.
-          let u = n.booked i (omega (arith, l, ap (λ (z : List ℕ). length z) same.places)) in
-          let v = subst (λ (z : List ℕ). slice_index notes'.booked.items i ≡ slice_index notes1.booked.items i + over (units_in (slice_index words) (slice_index z i)) x.0.0 x.0.1.lists) same.places u in
-          omega (arith, v, ap (λ (z : List ℕ). get_or z i 0) zero, zeros (length notes.places.items) i);
+      items = n.items;
+      booked = λ i l. omega (arith, n.booked i l, booked_none notes.items.items i un.booked);
       bookings = omega (arith, n.bookings, un.bookings);
       billed = omega (arith, n.billed, un.billed);
     }
-customers_ran words marks marks' notes notes1 notes' (Err Memory) same zero un left len f tables ix s a = tt
-customers_ran words marks marks' notes notes1 notes' (Err (Found flaw)) same zero un left len f tables ix s a =
-    f tables (subst (λ (z : List ℕ). IsIndex z tables) (sym same.places) ix) s a
+customers_ran words marks marks' notes notes' (Err Memory) un f tables ix s a = tt
+customers_ran words marks marks' notes notes' (Err (Found flaw)) un f tables ix s a = f tables ix s a

@@ -1,22 +1,26 @@
 -- The whole audit, stage by stage.
-use Rattle.std.proofs.Common.{◌≡◌, inl, inr, ℕ, ◌+◌, ◌-◌, ◌/◌, ◌%◌, ◌*◌, ◌≤◌, Bool, false, List, [], length, get_or, suc, refl, sym, ap, ◌∙◌, subst, arith, nat_eq, replicate}
+use Rattle.std.proofs.Common.{◌≡◌, inl, inr, ℕ, ◌+◌, ◌-◌, ◌/◌, ◌%◌, ◌*◌, ◌≤◌, ◌<◌, ◌++◌, Bool, false, List, [], length, get_or, suc, refl, sym, ap, ◌∙◌, subst, arith, nat_eq, replicate}
 use Rattle.std.specs.Prelude.{Result, Ok, Err, slice_index, sum_by, not}
+use Rattle.std.specs.List.{All}
 use Rattle.std.proofs.lemmas.List.{get_or-replicate, length-replicate}
 use Rattle.tx_alloc.specs.Pool.{with_at}
 use Rattle.tx_alloc.specs.Rows.{Rows}
 use Rattle.tx_alloc.specs.declared.place.TheConstants.{LISTS}
 use Rattle.vac_model.specs.declared.replies.Report.{Report}
 use Rattle.vac_records.specs.Heap.{Parts, over}
-use Rattle.vac_audit.specs.Walk.{Seen, then, look_at_item, look_at_customer, walk_table, walk_items, walk_lists, check_all_used, check_reached, report_of, audit}
-use Rattle.vac_audit.specs.Marks.{Marks, IsIndex, Rising, ListsRan, ReachedRan}
-use Rattle.vac_audit.specs.Ran.{ItemsRan, ItemsWalked, CustomersRan, CustomersWalked, Inside, UsedRan, HeapRan, IsHeapSize, Audited, answer, fault_answer}
+use Rattle.vac_audit.specs.Walk.{Seen, then, look_at_item, look_at_customer, walk_table, walk_items, walk_lists, check_all_used, check_reached, units_in, report_of, audit}
+use Rattle.vac_audit.specs.Noted.{InOrder, codes_in, blocks_in, booked_in}
+use Rattle.vac_audit.specs.Marks.{Marks, IsIndex, ListsRan, ReachedRan}
+use Rattle.vac_audit.specs.Ran.{ItemsRan, ItemsWalked, Uncounted, CustomersRan, CustomersWalked, Inside, UsedRan, HeapRan, IsHeapSize, Audited, answer, fault_answer}
 use Rattle.vac_audit.specs.declared.Flaw.{Flaw}
+use Rattle.vac_audit.specs.declared.notes.NotedItem.{NotedItem}
 use Rattle.vac_audit.specs.declared.notes.Notes.{Notes}
 use Rattle.vac_audit.specs.declared.tree.Fault.{Fault}
 use Rattle.vac_audit.specs.declared.tree.Fault.TheVariants.{Memory, Found}
 use Rattle.vac_audit.specs.declared.audit.AuditFault.TheVariants.{Flaw as Flawed}
 use Rattle.vac_audit.specs.declared.audit.Kinds.{Kinds}
-use Rattle.vac_audit.proofs.Index.{GoodRows, table_good, all_rising, all_inside, all_index, all_length}
+use Rattle.vac_audit.proofs.Index.{GoodRows, codes_of, blocks_of, table_good, all_codes, all_blocks, all_none, all_order, all_inside, all_index}
+use Rattle.vac_audit.proofs.Noted.{length_codes, length_blocks}
 use Rattle.vac_audit.proofs.Running.{then_err}
 use Rattle.vac_audit.proofs.Steps.{then_with}
 use Rattle.vac_audit.proofs.Used.{used_ok, used_err}
@@ -106,17 +110,27 @@ module _ (words : List ℕ) (blocks : ℕ) (marks0 : List Bool) (size : length w
     gc : GoodRows (length words) 1 w.c
     gc = table_good (slice_index words) (length words) (look_at_item (slice_index words)) (suc (length marks0)) 3 w.s2 _ w.is_c
 
-    pub rising_of : Rising notes1.places.items
-    rising_of = subst (λ (z : List ℕ). Rising z) (sym w.places) (all_rising (length words) w.a w.b w.c ga gb gc)
+    codes_are : codes_in notes1.items.items ≡ (codes_of 0 w.a ++ codes_of 1 w.b) ++ codes_of 2 w.c
+    codes_are = ap (λ (z : List NotedItem). codes_in z) w.items ∙ all_codes w.a w.b w.c
 
-    pub index_of : IsIndex notes1.places.items (tables_of w.a w.b w.c)
-    index_of = subst (λ (z : List ℕ). IsIndex z (tables_of w.a w.b w.c)) (sym w.places) (all_index (length words) w.a w.b w.c ga gb gc)
+    blocks_are : blocks_in notes1.items.items ≡ (blocks_of 0 w.a ++ blocks_of 1 w.b) ++ blocks_of 2 w.c
+    blocks_are = ap (λ (z : List NotedItem). blocks_in z) w.items ∙ all_blocks w.a w.b w.c
 
-    inside_of : Inside words notes1.blocks.items
-    inside_of = subst (λ (z : List ℕ). Inside words z) (sym w.blocks) (all_inside (length words) w.a w.b w.c ga gb gc words refl)
+    pub order_of : InOrder notes1.items.items
+    order_of = subst (λ (z : List NotedItem). InOrder z) (sym w.items) (all_order (length words) w.a w.b w.c ga gb gc)
 
-    length_of : length notes1.places.items ≡ length notes1.blocks.items
-    length_of = omega (arith, ap (λ (z : List ℕ). length z) w.places, ap (λ (z : List ℕ). length z) w.blocks, all_length (length words) w.a w.b w.c ga gb gc)
+    pub uncounted_of : Uncounted notes1
+    uncounted_of = record {
+      booked = subst (λ (z : List NotedItem). All (λ item. item.booked ≡ 0) z) (sym w.items) (all_none w.a w.b w.c);
+      bookings = w.bookings;
+      billed = w.billed;
+    }
+
+    pub index_of : IsIndex (codes_in notes1.items.items) (tables_of w.a w.b w.c)
+    index_of = subst (λ (z : List ℕ). IsIndex z (tables_of w.a w.b w.c)) (sym codes_are) (all_index (length words) w.a w.b w.c ga gb gc)
+
+    inside_of : Inside words (blocks_in notes1.items.items)
+    inside_of = subst (λ (z : List ℕ). Inside words z) (sym blocks_are) (all_inside (length words) w.a w.b w.c ga gb gc words refl)
 
     items_is : walk_items (slice_index words) (length words) (suc (length marks0)) 3 start ≡ Ok (tables_of w.a w.b w.c, w.s3)
     items_is = next_ok (slice_index words) (length words) (suc (length marks0)) start 2 _ (next_ok (slice_index words) (length words) (suc (length marks0)) start 1 _ (first_ok (slice_index words) (length words) (suc (length marks0)) start w.a w.s1 w.is_a) w.b w.s2 w.is_b) w.c w.s3 w.is_c
@@ -133,22 +147,22 @@ module _ (words : List ℕ) (blocks : ℕ) (marks0 : List Bool) (size : length w
       customers_is : walk_table (slice_index words) (length words) (look_at_customer (slice_index words) (length words) (tables_of w.a w.b w.c) (suc (length marks0))) (suc (length marks0)) 4 w.s3 ≡ Ok (v.rows, v.s')
       customers_is = subst (λ (z : ℕ). walk_table (slice_index words) (length words) (look_at_customer (slice_index words) (length words) (tables_of w.a w.b w.c) (suc z)) (suc z) 4 w.s3 ≡ Ok (v.rows, v.s')) size1 v.is
 
-      pub inside_still : Inside words notes2.blocks.items
+      pub inside_still : Inside words (blocks_in notes2.items.items)
       inside_still = subst (λ (z : List ℕ). Inside words z) (sym v.items.blocks) inside_of
 
-      pub counters_still : length notes2.booked.items ≡ length notes2.blocks.items
-      counters_still = v.counters ∙ (length_of ∙ ap (λ (z : List ℕ). length z) (sym v.items.blocks))
+      same_long : length (codes_in notes1.items.items) ≡ length (blocks_in notes2.items.items)
+      same_long = length_codes notes1.items.items ∙ (sym (length_blocks notes1.items.items) ∙ ap (λ (z : List ℕ). length z) (sym v.items.blocks))
 
-      same_length : length notes1.places.items ≡ length notes2.blocks.items
-      same_length = length_of ∙ ap (λ (z : List ℕ). length z) (sym v.items.blocks)
+      counts : (i : ℕ) → i < length (codes_in notes1.items.items) → slice_index (booked_in notes2.items.items) i ≡ over (units_in (slice_index words) (slice_index (codes_in notes1.items.items) i)) v.rows v.s'.lists
+      counts i l = v.booked i (omega (arith, l, length_codes notes1.items.items))
 
-      pub heap_used : (flaw : Flaw) → UsedRan words notes2.blocks.items notes2.booked.items (Err flaw) → HeapRan words blocks (Err (Found flaw))
+      pub heap_used : (flaw : Flaw) → UsedRan words (blocks_in notes2.items.items) (booked_in notes2.items.items) (Err flaw) → HeapRan words blocks (Err (Found flaw))
       heap_used flaw g = as_audit (Err flaw) (used_bad (slice_index words) (length words) (suc (length marks0)) blocks (tables_of w.a w.b w.c, w.s3) items_is (v.rows, v.s') customers_is flaw
-          (used_err words notes1.places.items notes2.blocks.items notes2.booked.items w.a w.b w.c v.rows v.s'.lists w.places (v.items.blocks ∙ w.blocks) same_length v.booked flaw g))
+          (used_err words (codes_in notes1.items.items) (blocks_in notes2.items.items) (booked_in notes2.items.items) w.a w.b w.c v.rows v.s'.lists codes_are (v.items.blocks ∙ blocks_are) same_long counts flaw g))
 
-      module _ (g : UsedRan words notes2.blocks.items notes2.booked.items (Ok tt)) where
+      module _ (g : UsedRan words (blocks_in notes2.items.items) (booked_in notes2.items.items) (Ok tt)) where
         used_is : check_all_used (slice_index words) (with_at (tables_of w.a w.b w.c) 3 v.rows) v.s'.lists 3 ≡ Ok tt
-        used_is = used_ok words notes1.places.items notes2.blocks.items notes2.booked.items w.a w.b w.c v.rows v.s'.lists w.places (v.items.blocks ∙ w.blocks) same_length v.booked g
+        used_is = used_ok words (codes_in notes1.items.items) (blocks_in notes2.items.items) (booked_in notes2.items.items) w.a w.b w.c v.rows v.s'.lists codes_are (v.items.blocks ∙ blocks_are) same_long counts g
 
         pub heap_lists : (marks3 : List Bool) (flaw : Flaw) → ListsRan words marks2 marks3 (Err flaw) → HeapRan words blocks (Err (Found flaw))
         heap_lists marks3 flaw h = as_audit (Err flaw) (lists_bad (slice_index words) (length words) (suc (length marks0)) blocks (tables_of w.a w.b w.c, w.s3) items_is (v.rows, v.s') customers_is used_is flaw

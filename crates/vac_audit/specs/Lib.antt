@@ -2,6 +2,7 @@ pub mod Tree
 pub mod Walk
 pub mod Laws
 pub mod Examples
+pub mod Noted
 pub mod Marks
 pub mod TreeRan
 pub mod Ran

@@ -1,6 +1,7 @@
 -- What the running walk knows: a mark for each block that was reached.
 use Rattle.std.specs.Prelude.{◌≡◌, ℕ, ◌+◌, ◌*◌, ◌<◌, ◌≤◌, ◌^◌, ◌≢◌, Bool, false, not, cond, List, [], ◌∷◌, length, nat_eq, slice_index, slice_index_or, Result, Ok, Err, MatchResult, MatchOption, Option, suc, sum_by, ⊤}
 use Rattle.tx_alloc.specs.Pool.{held, IsBlock}
+use Rattle.vac_audit.specs.Noted.{InOrder, keys_in, blocks_in, booked_in, codes_in}
 use Rattle.vac_audit.specs.Walk.{then, wants, is_in_order, is_booking, walk_bookings, units_in, follow, walk_free, walk_lists, check_reached}
 use Rattle.tx_alloc.specs.Rows.{Rows, block_at}
 use Rattle.vac_audit.specs.declared.Flaw.{Flaw}
@@ -79,17 +80,12 @@ ReachedRan marks result = (seen : List ℕ) → Marks marks seen → MatchResult
     (λ _. check_reached (length marks) seen ≡ Ok tt)
     (λ flaw. check_reached (length marks) seen ≡ Err flaw)
 
--- numbers that rise
-abbrev pub Rising : List ℕ → Type 0
-Rising xs =
-    (i j : ℕ) → i < j → j < length xs → slice_index xs i < slice_index xs j
-
--- the kinds and ids of the items of these tables, as one number each
-pub record IsIndex (places : List ℕ) (tables : ℕ → Rows) : Type 0 where
+-- the keys of the items of these tables, as one number each
+pub record IsIndex (codes : List ℕ) (tables : ℕ → Rows) : Type 0 where
   pub there : (kind id : ℕ) → kind < 3 → id < 2 ^ 32 → block_at (tables kind) id ≢ 0 →
-      (i : ℕ) × ((i < length places) × (slice_index places i ≡ kind * 2 ^ 32 + id))
-  pub back : (kind id i : ℕ) → kind < 3 → id < 2 ^ 32 → i < length places →
-      slice_index places i ≡ kind * 2 ^ 32 + id → block_at (tables kind) id ≢ 0
+      (i : ℕ) × ((i < length codes) × (slice_index codes i ≡ kind * 2 ^ 32 + id))
+  pub back : (kind id i : ℕ) → kind < 3 → id < 2 ^ 32 → i < length codes →
+      slice_index codes i ≡ kind * 2 ^ 32 + id → block_at (tables kind) id ≢ 0
 
 -- what the definition looks at in a booking
 abbrev pub look_at_booking : (ℕ → ℕ) → (ℕ → Rows) → ℕ → ℕ → Result (Unit {0}) Flaw
@@ -99,23 +95,23 @@ look_at_booking m tables p lo =
 
 -- a booking was looked at
 abbrev pub BookingLooked : List ℕ → List ℕ → ℕ → ℕ → Result ℕ Flaw → Type 0
-BookingLooked words places p lo result =
-    (tables : ℕ → Rows) → IsIndex places tables → MatchResult result
+BookingLooked words codes p lo result =
+    (tables : ℕ → Rows) → IsIndex codes tables → MatchResult result
     (λ i. (look_at_booking (slice_index words) tables p lo ≡ Ok tt))
     (λ flaw. look_at_booking (slice_index words) tables p lo ≡ Err flaw)
 
 -- what was written down allows to count the bookings of this many further blocks
 pub record Counting (notes : Notes) (left : ℕ) : Type 0 where
-  pub rising : Rising notes.places.items
-  pub counters : length notes.booked.items ≡ length notes.places.items
-  pub booked : (i : ℕ) → slice_index notes.booked.items i + 10000 * left ≤ 10000 * 262144
+  pub order : InOrder notes.items.items
+  pub booked : (i : ℕ) →
+      slice_index (booked_in notes.items.items) i + 10000 * left ≤ 10000 * 262144
   pub bookings : notes.tally.bookings + 10000 * left ≤ 10000 * 262144
   pub billed : notes.tally.billed + 10000000000 * left ≤ 10000000000 * 262144
 
 -- the same items
 pub record SameItems (notes notes' : Notes) : Type 0 where
-  pub places : notes'.places.items ≡ notes.places.items
-  pub blocks : notes'.blocks.items ≡ notes.blocks.items
+  pub keys : keys_in notes'.items.items ≡ keys_in notes.items.items
+  pub blocks : blocks_in notes'.items.items ≡ blocks_in notes.items.items
   pub used : notes'.tally.used ≡ notes.tally.used
   pub free : notes'.tally.free ≡ notes.tally.free
   pub total : notes'.tally.total ≡ notes.tally.total
@@ -123,9 +119,9 @@ pub record SameItems (notes notes' : Notes) : Type 0 where
 -- these bookings were counted
 pub record Booked (m : ℕ → ℕ) (notes notes' : Notes) (rs : Rows) : Type 0 where
   pub items : SameItems notes notes'
-  pub booked : (i : ℕ) → i < length notes.places.items →
-      slice_index notes'.booked.items i
-      ≡ slice_index notes.booked.items i + units_in m (slice_index notes.places.items i) rs
+  pub booked : (i : ℕ) → i < length notes.items.items →
+      slice_index (booked_in notes'.items.items) i ≡ slice_index (booked_in notes.items.items) i
+      + units_in m (slice_index (codes_in notes.items.items) i) rs
   pub bookings : notes'.tally.bookings ≡ notes.tally.bookings + sum_by (λ r. m (r.1 + 4)) rs
   pub billed : notes'.tally.billed ≡ notes.tally.billed + sum_by (λ r. m (r.1 + 2)) rs
 
@@ -133,7 +129,7 @@ pub record Booked (m : ℕ → ℕ) (notes notes' : Notes) (rs : Rows) : Type 0 
 abbrev pub BookingsRan : List ℕ → List Bool → List Bool → Notes → Notes → ℕ →
     Result ⊤ Flaw → Type 0
 BookingsRan words marks marks' notes notes' head result =
-    (tables : ℕ → Rows) → IsIndex notes.places.items tables →
+    (tables : ℕ → Rows) → IsIndex (codes_in notes.items.items) tables →
     (seen : List ℕ) → Marks marks seen → MatchResult result
     (λ _. (x : Rows × List ℕ) × ((booking_list words (length marks) tables head seen ≡ Ok x)
     × Marks marks' x.1 × Booked (slice_index words) notes notes' x.0))

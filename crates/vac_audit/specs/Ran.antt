@@ -1,11 +1,13 @@
 -- What the running audit does.
 use Rattle.std.specs.Prelude.{◌≡◌, ◌⊎◌, ℕ, ◌+◌, ◌*◌, ◌<◌, ◌≤◌, Bool, List, [], ◌++◌, length, suc, Result, Ok, Err, MatchResult, slice_index, sum_by, ⊤}
+use Rattle.std.specs.List.{All}
 use Rattle.tx_alloc.specs.Rows.{Rows}
 use Rattle.vac_model.specs.declared.replies.Report.{Report}
 use Rattle.vac_records.specs.Heap.{over}
 use Rattle.vac_audit.specs.Walk.{Seen, look_at_item, look_at_customer, walk_table, walk_items, units_in, audit}
 use Rattle.vac_audit.specs.Marks.{Marks, IsIndex, SameItems}
-use Rattle.vac_audit.specs.TreeRan.{Faulted, places_of, blocks_of}
+use Rattle.vac_audit.specs.Noted.{booked_in, codes_in, noted_of}
+use Rattle.vac_audit.specs.TreeRan.{Faulted}
 use Rattle.vac_audit.specs.declared.Flaw.{Flaw}
 use Rattle.vac_audit.specs.declared.Flaw.TheVariants.{Bookings}
 use Rattle.vac_audit.specs.declared.notes.Notes.{Notes}
@@ -17,8 +19,7 @@ use Rattle.vac_audit.specs.declared.audit.Kinds.{Kinds}
 
 -- nothing was written down yet
 pub record Blank (notes : Notes) : Type 0 where
-  pub places : notes.places.items ≡ []
-  pub blocks : notes.blocks.items ≡ []
+  pub items : notes.items.items ≡ []
   pub used : notes.tally.used ≡ 0
   pub free : notes.tally.free ≡ 0
   pub total : notes.tally.total ≡ 0
@@ -58,8 +59,7 @@ pub record ItemsWalked (words : List ℕ) (marks marks' : List Bool) (notes' : N
   pub is_b : item_table words (length marks) 2 s1 ≡ Ok (b, s2)
   pub is_c : item_table words (length marks) 3 s2 ≡ Ok (c, s3)
   pub are : Marks marks' s3.blocks
-  pub places : notes'.places.items ≡ (places_of 0 a ++ places_of 1 b) ++ places_of 2 c
-  pub blocks : notes'.blocks.items ≡ (blocks_of a ++ blocks_of b) ++ blocks_of c
+  pub items : notes'.items.items ≡ (noted_of 0 a ++ noted_of 1 b) ++ noted_of 2 c
   pub used : notes'.tally.used ≡ three (slice_index words) 4 a b c
   pub free : notes'.tally.free ≡ three (slice_index words) 5 a b c
   pub total : notes'.tally.total ≡ three (slice_index words) 6 a b c
@@ -75,7 +75,9 @@ ItemsRan words marks marks' notes' result =
     (λ kinds. ItemsWalked words marks marks' notes' kinds s)
     (λ fault. Faulted fault (λ flaw. all_items words (length marks) s ≡ Err flaw))
 
+-- no booking was counted yet
 pub record Uncounted (notes : Notes) : Type 0 where
+  pub booked : All (λ item. item.booked ≡ 0) notes.items.items
   pub bookings : notes.tally.bookings ≡ 0
   pub billed : notes.tally.billed ≡ 0
 
@@ -88,9 +90,9 @@ pub record CustomersWalked (words : List ℕ) (marks marks' : List Bool) (notes 
   pub are : Marks marks' s'.blocks
   pub many : customers ≡ length rows
   pub items : SameItems notes notes'
-  pub counters : length notes'.booked.items ≡ length notes.places.items
-  pub booked : (i : ℕ) → i < length notes.places.items → slice_index notes'.booked.items i
-      ≡ over (units_in (slice_index words) (slice_index notes.places.items i)) rows s'.lists
+  pub booked : (i : ℕ) → i < length notes.items.items →
+      slice_index (booked_in notes'.items.items) i ≡ over (units_in (slice_index words)
+      (slice_index (codes_in notes.items.items) i)) rows s'.lists
   pub bookings :
       notes'.tally.bookings ≡ over (sum_by (λ r. slice_index words (r.1 + 4))) rows s'.lists
   pub billed :
@@ -99,7 +101,7 @@ pub record CustomersWalked (words : List ℕ) (marks marks' : List Bool) (notes 
 abbrev pub CustomersRan : List ℕ → List Bool → List Bool → Notes → Notes → Result ℕ Fault →
     Type 0
 CustomersRan words marks marks' notes notes' result =
-    (tables : ℕ → Rows) → IsIndex notes.places.items tables →
+    (tables : ℕ → Rows) → IsIndex (codes_in notes.items.items) tables →
     (s : Seen) → Marks marks s.blocks → MatchResult result
     (λ customers. CustomersWalked words marks marks' notes notes' tables customers s)
     (λ fault. Faulted fault (λ flaw. customer_table words (length marks) tables s ≡ Err flaw))

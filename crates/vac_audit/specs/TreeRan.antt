@@ -2,10 +2,10 @@
 use Rattle.std.specs.Prelude.{◌≡◌, ℕ, ◌+◌, ◌*◌, ◌≤◌, ◌<◌, ◌⊎◌, Bool, true, false, cond, List, [], ◌∷◌, ◌++◌, length, suc, Some, None, Result, Ok, Err, MatchResult, slice_index, nat_eq, sum_by, ⊤}
 use Rattle.tx_alloc.specs.Pool.{held, IsBlock}
 use Rattle.tx_alloc.specs.Rows.{Rows}
-use Rattle.tx_list.specs.Bookings.{key_code}
 use Rattle.vac_records.specs.Heap.{over}
 use Rattle.vac_audit.specs.Tree.{Tree, leaf, blacks, is_red}
 use Rattle.vac_audit.specs.Walk.{Seen, Look, is_item, is_key, is_coloured, look_at_item, look_at_customer, walk_table, units_in}
+use Rattle.vac_audit.specs.Noted.{booked_in, codes_in, noted_of}
 use Rattle.vac_audit.specs.Marks.{Marks, Followed, IsIndex, Counting, SameItems, unmarked}
 use Rattle.vac_audit.specs.declared.Flaw.{Flaw}
 use Rattle.vac_audit.specs.declared.Flaw.TheVariants.{Shared, Counts, Order, Colour}
@@ -104,24 +104,14 @@ look_of m n tables levels Customers = look_at_customer m n tables levels
 
 abbrev pub Indexed : Table → Notes → (ℕ → Rows) → Type 0
 Indexed (Items kind) notes tables = Unit {0}
-Indexed Customers notes tables = IsIndex notes.places.items tables
-
-abbrev pub places_of : ℕ → Rows → List ℕ
-places_of kind [] = []
-places_of kind (r ∷ rs) = key_code kind r.0 ∷ places_of kind rs
-
-abbrev pub blocks_of : Rows → List ℕ
-blocks_of [] = []
-blocks_of (r ∷ rs) = r.1 ∷ blocks_of rs
+Indexed Customers notes tables = IsIndex (codes_in notes.items.items) tables
 
 -- these items were written down
 pub record ItemsNoted (m : ℕ → ℕ) (kind : ℕ) (notes notes' : Notes) (rs : Rows) : Type 0 where
-  pub places : notes'.places.items ≡ notes.places.items ++ places_of kind rs
-  pub blocks : notes'.blocks.items ≡ notes.blocks.items ++ blocks_of rs
+  pub items : notes'.items.items ≡ notes.items.items ++ noted_of kind rs
   pub used : notes'.tally.used ≡ notes.tally.used + sum_by (λ r. m (r.1 + 4)) rs
   pub free : notes'.tally.free ≡ notes.tally.free + sum_by (λ r. m (r.1 + 5)) rs
   pub total : notes'.tally.total ≡ notes.tally.total + sum_by (λ r. m (r.1 + 6)) rs
-  pub booked : notes'.booked.items ≡ notes.booked.items
   pub bookings : notes'.tally.bookings ≡ notes.tally.bookings
   pub billed : notes'.tally.billed ≡ notes.tally.billed
 
@@ -129,9 +119,9 @@ pub record ItemsNoted (m : ℕ → ℕ) (kind : ℕ) (notes notes' : Notes) (rs 
 pub record CustomersNoted (m : ℕ → ℕ) (notes notes' : Notes) (rs : Rows) (lists : ℕ → Rows) :
     Type 0 where
   pub items : SameItems notes notes'
-  pub booked : (i : ℕ) → i < length notes.places.items →
-      slice_index notes'.booked.items i ≡ slice_index notes.booked.items i
-      + over (units_in m (slice_index notes.places.items i)) rs lists
+  pub booked : (i : ℕ) → i < length notes.items.items →
+      slice_index (booked_in notes'.items.items) i ≡ slice_index (booked_in notes.items.items) i
+      + over (units_in m (slice_index (codes_in notes.items.items) i)) rs lists
   pub bookings :
       notes'.tally.bookings ≡ notes.tally.bookings + over (sum_by (λ r. m (r.1 + 4))) rs lists
   pub billed :
@@ -149,17 +139,17 @@ pub record Summed (tally : Tally) (items : ℕ) : Type 0 where
 
 -- what was written down allows a walk of such a table that reaches this many blocks more
 abbrev pub Ready : Table → Notes → ℕ → Type 0
-Ready (Items kind) notes left = (kind < 3) × Summed notes.tally (length notes.places.items)
+Ready (Items kind) notes left = (kind < 3) × Summed notes.tally (length notes.items.items)
 Ready Customers notes left = Counting notes left
 
 -- there is room for this many items more
 abbrev pub HasRoom : Table → Notes → ℕ → Type 0
-HasRoom (Items kind) notes left = length notes.places.items + left ≤ 262144
+HasRoom (Items kind) notes left = length notes.items.items + left ≤ 262144
 HasRoom Customers notes left = Unit {0}
 
 -- as many items are written down as nodes were looked at
 abbrev pub Pushed : Table → Notes → Notes → Type 0
-Pushed (Items kind) notes notes' = length notes'.places.items ≡ length notes.places.items + 1
+Pushed (Items kind) notes notes' = length notes'.items.items ≡ length notes.items.items + 1
 Pushed Customers notes notes' = Unit {0}
 
 -- what the definition looks at in a node of these words, with a level for each block and one more

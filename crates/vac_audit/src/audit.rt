@@ -1,7 +1,8 @@
 //! The whole audit.
 
 ghost use Rattle.std.specs.Prelude.{◌≡◌, ◌+◌, ◌*◌, ◌≤◌, IfOk, Err, length, slice_index};
-ghost use Rattle.vac_audit.specs.Marks.{IsMarked, Rising, unmarked};
+ghost use Rattle.vac_audit.specs.Marks.{IsMarked, unmarked};
+ghost use Rattle.vac_audit.specs.Noted.{InOrder, blocks_in, booked_in};
 ghost use Rattle.vac_audit.specs.Ran.{Blank, ItemsRan, Uncounted, CustomersRan};
 ghost use Rattle.vac_audit.specs.Ran.{Inside, UsedRan, HeapRan, IsHeapSize, Audited, fault_answer};
 ghost use Rattle.vac_audit.specs.Represented.{StateOf, Recognised};
@@ -79,26 +80,25 @@ fn walk_customers(
 ) -> Result<u64, Fault>
     requires marked { IsMarked words.now reached.old.items }
     requires some { 1 ≤ length reached.old.items }
-    requires rising { Rising notes.old.places.items }
+    requires order { InOrder notes.old.items.items }
     requires uncounted { Uncounted notes.old }
     ensures size { length reached.new.items ≡ length reached.old.items }
     ensures ran { CustomersRan words.now reached.old.items reached.new.items
         notes.old notes.new result }
 {
-    notes.booked = Vec::from_elem(alloc, 0u64, notes.places.len())?;
     walk_table(alloc, words, reached, notes, Table::Customers, 4)
 }
 
 /// Looks for an item that has another number of units used than are booked.
 fn check_used(words: &[u64], notes: &Notes) -> Result<(), Flaw>
     requires few { length words.now ≤ 2097168 }
-    requires inside { Inside words.now notes.now.blocks.items }
-    requires counters { length notes.now.booked.items ≡ length notes.now.blocks.items }
-    ensures ran { UsedRan words.now notes.now.blocks.items notes.now.booked.items result }
+    requires inside { Inside words.now (blocks_in notes.now.items.items) }
+    ensures ran { UsedRan words.now (blocks_in notes.now.items.items)
+        (booked_in notes.now.items.items) result }
 {
-    for item in 0..notes.blocks.len() {
-        let at = notes.blocks[item] + USED;
-        if words[at] != notes.booked[item] {
+    for item in &notes.items {
+        let at = item.block + USED;
+        if words[at] != item.booked {
             return Err(Flaw::Bookings(at as u32));
         }
     }
@@ -114,9 +114,7 @@ fn audit_heap(alloc: Global, words: &[u64], blocks: usize) -> Result<Report, Fau
 {
     let mut reached = Vec::from_elem(alloc, false, blocks)?;
     let mut notes = Notes {
-        places: Vec::new(alloc),
-        blocks: Vec::new(alloc),
-        booked: Vec::new(alloc),
+        items: Vec::new(alloc),
         tally: Tally {
             used: 0,
             free: 0,

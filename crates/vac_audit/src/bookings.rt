@@ -1,15 +1,17 @@
 //! Lists of bookings.
 
 ghost use Rattle.std.specs.Prelude.{◌≡◌, ◌+◌, ◌<◌, ◌≤◌, ◌≢◌, ℕ, IfOk, OnOk};
-ghost use Rattle.std.specs.Prelude.{MatchOption, length, slice_index};
-ghost use Rattle.tx_list.specs.Bookings.{place_code};
-ghost use Rattle.vac_audit.specs.Marks.{IsMarked, Rising, BookingLooked, Counting, BookingsRan};
+ghost use Rattle.std.specs.Prelude.{MatchOption, length, nat_le, slice_index};
+ghost use Rattle.tx_list.specs.Bookings.{IsKey, code_of, place_code};
+ghost use Rattle.vac_audit.specs.Marks.{IsMarked, BookingLooked, Counting, BookingsRan};
 ghost use Rattle.vac_audit.specs.Marks.{unmarked};
+ghost use Rattle.vac_audit.specs.Noted.{codes_in, InOrder, HasShortId, after};
 
 use crate::Flaw;
-use crate::notes::Notes;
+use crate::notes::{NotedItem, Notes};
 use crate::pointers::follow;
-use tx_list::place;
+use crate::tree::LAST_ID;
+use tx_list::{Key, place};
 use vac_model::limits::{MOST_AMOUNT, MOST_UNITS};
 
 const ID: usize = place::ID as usize;
@@ -20,46 +22,58 @@ const NEXT: usize = place::NEXT as usize;
 
 const UNITS: usize = place::UNITS as usize;
 
-/// The place of kinds in a number that stands for a kind and an id.
-pub const KIND: u64 = 4_294_967_296;
-
-/// The index of a number among numbers that rise.
-fn find(places: &[u64], place: u64) -> Option<usize>
-    requires rising { Rising places.now }
+/// The index of the item with this key.
+fn find(items: &[NotedItem], key: Key) -> Option<usize>
+    requires order { InOrder items.now }
+    requires key { IsKey key }
     ensures found { MatchOption result
-        ((i : ℕ) → i < length places.now → slice_index places.now i ≢ place)
-        (λ i. (i < length places.now) × (slice_index places.now i ≡ place)) }
+        ((i : ℕ) → i < length items.now → slice_index (codes_in items.now) i ≢ code_of key)
+        (λ i. (i < length items.now) × (slice_index (codes_in items.now) i ≡ code_of key)) }
 {
-    places.binary_search(&place).ok()
+    items.binary_search_by_key(&key, |item| item.key).ok()
 }
 
-/// Looks at a booking, whose kind and id are to be `above` or more. The answer is the index of its
-/// item.
-fn look_at_booking(words: &[u64], places: &[u64], booking: usize, above: u64) -> Result<usize, Flaw>
+/// Whether a key may follow the last one.
+fn may_follow(key: Key, last: Option<Key>) -> bool
+    requires key { IsKey key }
+    requires last { HasShortId last }
+    ensures follows { result ≡ nat_le (after last) (code_of key) }
+{
+    match last {
+        None => true,
+        Some(last) => last < key,
+    }
+}
+
+/// Looks at a booking, whose key is to be above the last one. The answer is the index of its item.
+fn look_at_booking(
+    words: &[u64],
+    items: &[NotedItem],
+    booking: usize,
+    last: Option<Key>,
+) -> Result<usize, Flaw>
     requires inside { booking + 8 ≤ length words.now }
     requires few { length words.now ≤ 2097168 }
-    requires rising { Rising places.now }
-    ensures item { IfOk result (λ i. (i < length places.now)
-        × (slice_index places.now i ≡ place_code (slice_index words.now) booking)) }
+    requires order { InOrder items.now }
+    requires last { HasShortId last }
+    ensures item { IfOk result (λ i. (i < length items.now)
+        × (slice_index (codes_in items.now) i ≡ place_code (slice_index words.now) booking)) }
     ensures units { OnOk result (slice_index words.now (booking + 4) ≤ 10000) }
     ensures sum { OnOk result (slice_index words.now (booking + 2) ≤ 10000000000) }
-    ensures place { OnOk result (place_code (slice_index words.now) booking < 12884901888) }
-    ensures looked { BookingLooked words.now places.now booking above result }
+    ensures looked { BookingLooked words.now (codes_in items.now) booking (after last) result }
 {
-    let kind = words[booking];
-    let id = words[booking + ID];
-    if kind > 2 || id == 0 || id >= KIND {
-        return Err(Flaw::Order(booking as u32));
-    }
-    let place = kind * KIND + id;
-    if place < above {
+    let key = Key {
+        kind: words[booking],
+        id: words[booking + ID],
+    };
+    if key.kind >= place::KINDS || key.id == 0 || key.id > LAST_ID || !may_follow(key, last) {
         return Err(Flaw::Order(booking as u32));
     }
     let units = words[booking + UNITS];
     if units == 0 || units > MOST_UNITS || words[booking + SUM] > units * MOST_AMOUNT as u64 {
         return Err(Flaw::Bookings(booking as u32));
     }
-    find(places, place).ok_or(Flaw::Bookings(booking as u32))
+    find(items, key).ok_or(Flaw::Bookings(booking as u32))
 }
 
 /// Walks a list of bookings, and adds up the units of each item.
@@ -79,17 +93,17 @@ pub fn walk_bookings(
         head result }
 {
     let mut at = head;
-    let mut above: u64 = 0;
+    let mut last: Option<Key> = None;
     for _level in 0..reached.len() + 1 {
         match follow(words, reached, at)? {
             None => return Ok(()),
             Some(booking) => {
-                let item = look_at_booking(words, notes.places.as_slice(), booking, above)?;
-                let so_far = notes.booked[item];
-                notes.booked[item] = so_far + words[booking + UNITS];
+                let index = look_at_booking(words, notes.items.as_slice(), booking, last)?;
+                let item = &mut notes.items[index];
+                item.booked += words[booking + UNITS];
+                last = Some(item.key);
                 notes.tally.bookings += words[booking + UNITS];
                 notes.tally.billed += words[booking + SUM];
-                above = notes.places[item] + 1;
                 at = booking + NEXT;
             }
         }

@@ -1,5 +1,7 @@
 //! What a walk writes down.
 
+use tx_list::Key;
+
 /// Sums over the items and the bookings that were walked.
 #[derive(Clone, Copy, Debug, PartialEq, Eq)]
 pub struct Tally {
@@ -10,12 +12,19 @@ pub struct Tally {
     pub billed: u64,
 }
 
-/// The items that were walked, by ascending kind and id: these two as one number (`places`), the
-/// block (`blocks`), and the units found booked (`booked`, once the items are complete).
+/// An item that was walked.
+#[derive(Clone, Copy)]
+pub struct NotedItem {
+    pub key: Key,
+    /// The first word of its block.
+    pub block: usize,
+    /// How many units of it were found booked.
+    pub booked: u64,
+}
+
+/// The items that were walked, by ascending key, and the sums.
 #[derive(Drop)]
 pub struct Notes {
-    pub places: Vec<u64>,
-    pub blocks: Vec<usize>,
-    pub booked: Vec<u64>,
+    pub items: Vec<NotedItem>,
     pub tally: Tally,
 }

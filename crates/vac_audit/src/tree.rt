@@ -8,10 +8,11 @@ ghost use Rattle.vac_audit.specs.TreeRan.{ItemLooked, ColourLooked, LookRan, Tab
 ghost use Rattle.vac_audit.specs.TreeRan.{Ready, HasRoom, Pushed, DownRan, KeyLooked, RootLooked};
 
 use crate::Flaw;
-use crate::bookings::{KIND, walk_bookings};
-use crate::notes::Notes;
+use crate::bookings::walk_bookings;
+use crate::notes::{NotedItem, Notes};
 use crate::pointers::follow;
 use std::alloc::{AllocError, AllocFailed, Global};
+use tx_list::Key;
 use vac_model::limits::{MOST_AMOUNT, MOST_TOTAL};
 use vac_records::place;
 
@@ -32,8 +33,8 @@ const PRICE: usize = place::PRICE as usize;
 /// The word of a customer that leads to its bookings.
 const BOOKINGS: usize = place::BOOKINGS as usize;
 
-/// The greatest key.
-const LAST_KEY: u64 = 4_294_967_295;
+/// The greatest id, which is the greatest key of a table.
+pub const LAST_ID: u64 = 4_294_967_295;
 
 /// Why a walk ended.
 #[derive(Clone, Copy, Debug, PartialEq, Eq)]
@@ -147,8 +148,14 @@ fn look_at_node(
             notes.tally.used += words[node + USED];
             notes.tally.free += words[node + FREE];
             notes.tally.total += words[node + TOTAL];
-            notes.places.push(kind * KIND + words[node])?;
-            notes.blocks.push(node)?;
+            notes.items.push(NotedItem {
+                key: Key {
+                    kind,
+                    id: words[node],
+                },
+                block: node,
+                booked: 0,
+            })?;
         }
         Table::Customers => walk_bookings(words, reached, notes, node + BOOKINGS)?,
     }
@@ -219,7 +226,7 @@ fn look_at_key(words: &[u64], node: usize, above: u64) -> Result<u64, Flaw>
     ensures looked { KeyLooked words.now node above result }
 {
     let key = words[node];
-    if key < above || key > LAST_KEY {
+    if key < above || key > LAST_ID {
         return Err(Flaw::Order(node as u32));
     }
     Ok(key + 1)
@@ -233,7 +240,7 @@ fn look_at_root(words: &[u64], root: usize, tree: Side) -> Result<(), Flaw>
 {
     if tree.red {
         let top = (words[root] % 4_294_967_296) as u32;
-        return Err(Flaw::Colour(top.wrapping_add(3)));
+        return Err(Flaw::Colour(top.wrapping_add(tx_tree::place::COLOUR)));
     }
     Ok(())
 }

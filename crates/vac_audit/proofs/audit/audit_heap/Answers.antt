@@ -1,7 +1,7 @@
 use Rattle.std.proofs.Common.{refl}
 use Rattle.vac_audit.specs.Ran.{HeapRan}
 use Rattle.vac_audit.proofs.Running.{handed}
-use Rattle.vac_audit.proofs.Whole.{start, heap_items, rising_of, heap_customers, inside_still, counters_still, heap_used, heap_lists, heap_reached, heap_done, starts}
+use Rattle.vac_audit.proofs.Whole.{start, heap_items, order_of, uncounted_of, heap_customers, inside_still, heap_used, heap_lists, heap_reached, heap_done, starts}
 use Rattle.vac_audit.proofs.audit.audit_heap.Goals as goal
 
 pub returns-in_err-kinds : goal.returns-in_err-kinds
@@ -9,17 +9,17 @@ returns-in_err-kinds c =
     let o = starts c.in_ok-reached.reached.items c.args.blocks (c.in_ok-reached.ensures.items_if_clones_equal (λ y e. e)) in
     record { ran = handed (λ r. HeapRan c.args.words.now c.args.blocks r) c.from_residual-in_err-kinds.result _ c.from_residual-in_err-kinds.ensures.1 (heap_items c.args.words.now c.args.blocks c.in_ok-reached.reached.items c.requires.size o.0 c.walk_items.new.reached.items c.walk_items.new.notes _ o.1 c.in_err-kinds.ensures.ran) }
 
-pub walk_customers-requires-clause-rising : goal.walk_customers-requires-clause-rising
-walk_customers-requires-clause-rising c =
+pub walk_customers-requires-clause-order : goal.walk_customers-requires-clause-order
+walk_customers-requires-clause-order c =
     let o = starts c.in_ok-reached.reached.items c.args.blocks (c.in_ok-reached.ensures.items_if_clones_equal (λ y e. e)) in
     let w = c.in_ok-kinds.ensures.ran start o.1 in
-    rising_of c.args.words.now c.args.blocks c.in_ok-reached.reached.items c.requires.size o.0 c.walk_items.new.reached.items c.walk_items.new.notes c.in_ok-kinds.kinds w c.in_ok-kinds.ensures.size
+    order_of c.args.words.now c.args.blocks c.in_ok-reached.reached.items c.requires.size o.0 c.walk_items.new.reached.items c.walk_items.new.notes c.in_ok-kinds.kinds w c.in_ok-kinds.ensures.size
 
 pub walk_customers-requires-clause-uncounted : goal.walk_customers-requires-clause-uncounted
 walk_customers-requires-clause-uncounted c =
     let o = starts c.in_ok-reached.reached.items c.args.blocks (c.in_ok-reached.ensures.items_if_clones_equal (λ y e. e)) in
     let w = c.in_ok-kinds.ensures.ran start o.1 in
-    record { bookings = w.bookings; billed = w.billed }
+    uncounted_of c.args.words.now c.args.blocks c.in_ok-reached.reached.items c.requires.size o.0 c.walk_items.new.reached.items c.walk_items.new.notes c.in_ok-kinds.kinds w c.in_ok-kinds.ensures.size
 
 pub returns-in_err-customers : goal.returns-in_err-customers
 returns-in_err-customers c =
@@ -32,12 +32,6 @@ check_used-requires-clause-inside c =
     let o = starts c.in_ok-reached.reached.items c.args.blocks (c.in_ok-reached.ensures.items_if_clones_equal (λ y e. e)) in
     let w = c.in_ok-kinds.ensures.ran start o.1 in
     inside_still c.args.words.now c.args.blocks c.in_ok-reached.reached.items c.requires.size o.0 c.walk_items.new.reached.items c.walk_items.new.notes c.in_ok-kinds.kinds w c.in_ok-kinds.ensures.size c.walk_customers.new.reached.items c.walk_customers.new.notes c.in_ok-customers.customers c.in_ok-customers.ensures.ran c.in_ok-customers.ensures.size
-
-pub check_used-requires-clause-counters : goal.check_used-requires-clause-counters
-check_used-requires-clause-counters c =
-    let o = starts c.in_ok-reached.reached.items c.args.blocks (c.in_ok-reached.ensures.items_if_clones_equal (λ y e. e)) in
-    let w = c.in_ok-kinds.ensures.ran start o.1 in
-    counters_still c.args.words.now c.args.blocks c.in_ok-reached.reached.items c.requires.size o.0 c.walk_items.new.reached.items c.walk_items.new.notes c.in_ok-kinds.kinds w c.in_ok-kinds.ensures.size c.walk_customers.new.reached.items c.walk_customers.new.notes c.in_ok-customers.customers c.in_ok-customers.ensures.ran c.in_ok-customers.ensures.size
 
 pub returns-in_err-check_used : goal.returns-in_err-check_used
 returns-in_err-check_used c =

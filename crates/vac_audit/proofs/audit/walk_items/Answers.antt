@@ -1,11 +1,12 @@
-use Rattle.std.proofs.Common.{arith, ap, ◌∙◌, List, ℕ, length}
+use Rattle.std.proofs.Common.{arith, ap, ◌∙◌, List, length}
 use Rattle.vac_audit.specs.Ran.{ItemsRan}
+use Rattle.vac_audit.specs.declared.notes.NotedItem.{NotedItem}
 use Rattle.vac_audit.proofs.Running.{handed}
 use Rattle.vac_audit.proofs.Walks.{unmarked_few, items_first, items_second, items_third, items_done}
 use Rattle.vac_audit.proofs.audit.walk_items.Goals as goal
 
 pub walk_table-requires-clause-room : goal.walk_table-requires-clause-room
-walk_table-requires-clause-room c = omega (arith, unmarked_few c.args.reached.now.items, ap (λ (z : List ℕ). length z) c.requires.blank.places, c.requires.marked.few)
+walk_table-requires-clause-room c = omega (arith, unmarked_few c.args.reached.now.items, ap (λ (z : List NotedItem). length z) c.requires.blank.items, c.requires.marked.few)
 
 pub returns-in_err-cars-clause-ran : goal.returns-in_err-cars-clause-ran
 returns-in_err-cars-clause-ran c = handed (λ r. ItemsRan c.args.words.now c.args.reached.now.items c.walk_table.new.reached.items c.walk_table.new.notes r) c.from_residual.result _ c.from_residual.ensures.1

@@ -1,0 +1,46 @@
+-- What a walk wrote down, as lists.
+use Rattle.std.specs.Prelude.{ℕ, ◌+◌, ◌<◌, ◌^◌, List, map, length, slice_index, Option, Some, None}
+use Rattle.std.specs.List.{All}
+use Rattle.tx_alloc.specs.Rows.{Rows}
+use Rattle.tx_list.specs.Bookings.{code_of}
+use Rattle.tx_list.specs.declared.key.Key.{Key}
+use Rattle.vac_audit.specs.declared.notes.NotedItem.{NotedItem}
+
+-- the keys of these items, their blocks, and how many units were found booked of each
+abbrev pub keys_in : List NotedItem → List Key
+keys_in items = map (λ item. item.key) items
+
+abbrev pub blocks_in : List NotedItem → List ℕ
+blocks_in items = map (λ item. item.block) items
+
+abbrev pub booked_in : List NotedItem → List ℕ
+booked_in items = map (λ item. item.booked) items
+
+-- the keys as one number each
+abbrev pub codes_in : List NotedItem → List ℕ
+codes_in items = map code_of (keys_in items)
+
+-- numbers that rise
+abbrev pub Rising : List ℕ → Type 0
+Rising xs =
+    (i j : ℕ) → i < j → j < length xs → slice_index xs i < slice_index xs j
+
+-- the items stand by ascending key. Ids are below 2 ^ 32, so that keys stand as their numbers do
+pub record InOrder (items : List NotedItem) : Type 0 where
+  pub rising : Rising (codes_in items)
+  pub ids : All (λ key. key.id < 2 ^ 32) (keys_in items)
+
+-- the id of the last key, where there is one, is below 2 ^ 32
+abbrev pub HasShortId : Option Key → Type 0
+HasShortId None = Unit {0}
+HasShortId (Some key) = key.id < 2 ^ 32
+
+-- the least number of a key that may follow the last one
+abbrev pub after : Option Key → ℕ
+after None = 0
+after (Some key) = code_of key + 1
+
+-- what is written down of these rows of a table of items
+abbrev pub noted_of : ℕ → Rows → List NotedItem
+noted_of kind rows =
+    map (λ row. record { key = record { kind = kind; id = row.0 }; block = row.1; booked = 0 }) rows
