@@ -12,7 +12,6 @@ use Rattle.vac_audit.specs.Tree.{Tree, leaf, node, rows, is_red}
 use Rattle.vac_audit.specs.Walk.{Seen, Look, above, is_key, is_coloured, walk_tree, walk_table}
 use Rattle.vac_audit.specs.Noted.{Rising, InOrder, codes_in, blocks_in, noted_of}
 use Rattle.vac_audit.specs.Marks.{IsIndex}
-use Rattle.vac_audit.specs.Ran.{Inside}
 use Rattle.vac_audit.specs.declared.notes.NotedItem.{NotedItem}
 use Rattle.vac_audit.specs.declared.Flaw.TheVariants.{Shared, Order, Colour}
 use Rattle.vac_audit.proofs.Noted.{codes_append, blocks_append, noted_none}
@@ -171,26 +170,13 @@ in_rows n lo kind kind' id (r ∷ rs) h l (inr w) =
     let v = in_rows n (r.0 + 1) kind kind' id rs h.3 l w in
     (v.0, at_some n id r rs h.2 (inr v.1))
 
-abbrev AllUnder : ℕ → List ℕ → Type 0
-AllUnder n [] = Unit {0}
-AllUnder n (x ∷ xs) = (x + 8 ≤ n) × AllUnder n xs
-
-under_append : (n : ℕ) (xs ys : List ℕ) → AllUnder n xs → AllUnder n ys → AllUnder n (xs ++ ys)
-under_append n [] ys h k = k
-under_append n (x ∷ xs) ys h k = (h.0, under_append n xs ys h.1 k)
-
-rows_under : (n lo kind : ℕ) (rs : Rows) → GoodRows n lo rs → AllUnder n (blocks_of kind rs)
-rows_under n lo kind [] h = tt
-rows_under n lo kind (r ∷ rs) h = (omega (arith, h.2.1.0), rows_under n (r.0 + 1) kind rs h.3)
-
-under_at : (n : ℕ) (xs : List ℕ) (i : ℕ) → AllUnder n xs → i < length xs → slice_index xs i + 8 ≤ n
-under_at n [] i h l = absurd (omega arith)
-under_at n (x ∷ xs) zero h l = h.0
-under_at n (x ∷ xs) (suc i) h l = under_at n xs i h.1 (omega arith)
-
 noted_short : (n lo kind : ℕ) (rs : Rows) → GoodRows n lo rs → All (λ item. item.key.id < 2 ^ 32) (noted_of kind rs)
 noted_short n lo kind [] h = All-nil (λ (item : NotedItem). item.key.id < 2 ^ 32)
 noted_short n lo kind (r ∷ rs) h = All-cons (λ (item : NotedItem). item.key.id < 2 ^ 32) _ (noted_of kind rs) h.1 (noted_short n (r.0 + 1) kind rs h.3)
+
+noted_inside : (n lo kind : ℕ) (rs : Rows) → GoodRows n lo rs → All (λ item. item.block + 8 ≤ n) (noted_of kind rs)
+noted_inside n lo kind [] h = All-nil (λ (item : NotedItem). item.block + 8 ≤ n)
+noted_inside n lo kind (r ∷ rs) h = All-cons (λ (item : NotedItem). item.block + 8 ≤ n) _ (noted_of kind rs) (omega (arith, h.2.1.0)) (noted_inside n (r.0 + 1) kind rs h.3)
 
 -- three tables of items, as they were written down
 module _ (a b c : Rows) where
@@ -203,9 +189,11 @@ module _ (a b c : Rows) where
   pub all_blocks : blocks_in all_noted ≡ (blocks_of 0 a ++ blocks_of 1 b) ++ blocks_of 2 c
   all_blocks = blocks_append (noted_of 0 a ++ noted_of 1 b) (noted_of 2 c) ∙ ap (λ (z : List ℕ). z ++ blocks_of 2 c) (blocks_append (noted_of 0 a) (noted_of 1 b))
 
+  all_of : (P : NotedItem → Type 0) → All P (noted_of 0 a) → All P (noted_of 1 b) → All P (noted_of 2 c) → All P all_noted
+  all_of P ha hb hc = All-append P (noted_of 0 a ++ noted_of 1 b) (noted_of 2 c) (All-append P (noted_of 0 a) (noted_of 1 b) ha hb) hc
+
   pub all_none : All (λ item. item.booked ≡ 0) all_noted
-  all_none = All-append (λ (item : NotedItem). item.booked ≡ 0) (noted_of 0 a ++ noted_of 1 b) (noted_of 2 c)
-      (All-append (λ (item : NotedItem). item.booked ≡ 0) (noted_of 0 a) (noted_of 1 b) (noted_none 0 a) (noted_none 1 b)) (noted_none 2 c)
+  all_none = all_of (λ item. item.booked ≡ 0) (noted_none 0 a) (noted_none 1 b) (noted_none 2 c)
 
 module _ (n : ℕ) (a b c : Rows) (ga : GoodRows n 1 a) (gb : GoodRows n 1 b) (gc : GoodRows n 1 c) where
   all_rising : Rising ((codes_of 0 a ++ codes_of 1 b) ++ codes_of 2 c)
@@ -216,8 +204,7 @@ module _ (n : ℕ) (a b c : Rows) (ga : GoodRows n 1 a) (gb : GoodRows n 1 b) (g
       (omega arith) (climbs_less 8589934593 8589934592 (codes_of 2 c) (omega arith) (codes_climb n 1 2 c gc)))
 
   all_short : All (λ item. item.key.id < 2 ^ 32) (all_noted a b c)
-  all_short = All-append (λ (item : NotedItem). item.key.id < 2 ^ 32) (noted_of 0 a ++ noted_of 1 b) (noted_of 2 c)
-      (All-append (λ (item : NotedItem). item.key.id < 2 ^ 32) (noted_of 0 a) (noted_of 1 b) (noted_short n 1 0 a ga) (noted_short n 1 1 b gb)) (noted_short n 1 2 c gc)
+  all_short = all_of a b c (λ item. item.key.id < 2 ^ 32) (noted_short n 1 0 a ga) (noted_short n 1 1 b gb) (noted_short n 1 2 c gc)
 
   pub all_order : InOrder (all_noted a b c)
   all_order = record {
@@ -225,9 +212,8 @@ module _ (n : ℕ) (a b c : Rows) (ga : GoodRows n 1 a) (gb : GoodRows n 1 b) (g
     ids = All-map (λ key. key.id < 2 ^ 32) (λ (item : NotedItem). item.key) (all_noted a b c) all_short;
   }
 
-  pub all_inside : (words : List ℕ) → length words ≡ n → Inside words ((blocks_of 0 a ++ blocks_of 1 b) ++ blocks_of 2 c)
-  all_inside words e i l = subst (λ (z : ℕ). slice_index ((blocks_of 0 a ++ blocks_of 1 b) ++ blocks_of 2 c) i + 8 ≤ z) (sym e)
-      (under_at n _ i (under_append n (blocks_of 0 a ++ blocks_of 1 b) (blocks_of 2 c) (under_append n (blocks_of 0 a) (blocks_of 1 b) (rows_under n 1 0 a ga) (rows_under n 1 1 b gb)) (rows_under n 1 2 c gc)) l)
+  pub all_inside : All (λ item. item.block + 8 ≤ n) (all_noted a b c)
+  all_inside = all_of a b c (λ item. item.block + 8 ≤ n) (noted_inside n 1 0 a ga) (noted_inside n 1 1 b gb) (noted_inside n 1 2 c gc)
 
   there : (kind id : ℕ) → kind < 3 → block_at (tables_of a b c kind) id ≢ 0 → In (key_code kind id) ((codes_of 0 a ++ codes_of 1 b) ++ codes_of 2 c)
   there zero id l ne = in_left _ (codes_of 0 a ++ codes_of 1 b) (codes_of 2 c) (in_left _ (codes_of 0 a) (codes_of 1 b) (rows_in 0 id a ne))

@@ -1,10 +1,10 @@
 -- The lists of what a walk wrote down.
-use Rattle.std.proofs.Common.{◌≡◌, inl, inr, ℕ, ◌<◌, ◌^◌, List, [], ◌∷◌, ◌++◌, map, length, get_or, set, refl, sym, ap, ◌∙◌, subst, arith}
+use Rattle.std.proofs.Common.{◌≡◌, inl, inr, ℕ, ◌+◌, ◌<◌, ◌≤◌, ◌^◌, List, [], ◌∷◌, ◌++◌, map, length, get_or, set, refl, sym, ap, ◌∙◌, subst, arith}
 use Rattle.std.specs.Prelude.{slice_index}
 use Rattle.std.specs.List.{All}
 use Rattle.std.proofs.lemmas.Bool.{cases_lt}
 use Rattle.std.proofs.lemmas.List.{length-map, get_or-map, get_or_past, map-append, map-set, set-get_or}
-use Rattle.std.proofs.lemmas.List.Elements.{All-get_or, All-nil, All-cons}
+use Rattle.std.proofs.lemmas.List.Elements.{All-get_or, All-from_get_or, All-nil, All-cons}
 use Rattle.tx_alloc.specs.Rows.{Rows}
 use Rattle.tx_list.specs.Bookings.{code_of}
 use Rattle.tx_list.specs.declared.key.Key.{Key}
@@ -67,6 +67,11 @@ module _ (notes notes' : Notes) (same : SameItems notes notes') where
     rising = subst Rising (sym same_codes) h.rising;
     ids = subst (λ keys. All (λ key. key.id < 2 ^ 32) keys) (sym same.keys) h.ids;
   }
+
+  pub same_inside : (n : ℕ) → All (λ item. item.block + 8 ≤ n) notes.items.items → All (λ item. item.block + 8 ≤ n) notes'.items.items
+  same_inside n h = All-from_get_or (λ (item : NotedItem). item.block + 8 ≤ n) notes'.items.items no_item (λ i l.
+      let inside : i < length notes.items.items = omega (arith, l, same_length) in
+      omega (arith, block_at notes'.items.items i no_item l, ap (λ (z : List ℕ). slice_index z i) same.blocks, block_at notes.items.items i no_item inside, h i no_item inside))
 
 -- lists one behind the other
 pub noted_append : (kind : ℕ) (rs ts : Rows) → noted_of kind (rs ++ ts) ≡ noted_of kind rs ++ noted_of kind ts

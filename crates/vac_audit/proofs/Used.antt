@@ -1,8 +1,8 @@
 -- Each item has as many units used as are booked of it: over the lists of codes, blocks and units.
-use Rattle.std.proofs.Common.{◌≡◌, ◌≢◌, ℕ, ◌+◌, inl, inr, ◌<◌, ◌≤◌, Bool, true, false, List, [], ◌∷◌, ◌++◌, length, get_or, zero, suc, refl, sym, ap, ◌∙◌, subst, arith, nat_eq}
+use Rattle.std.proofs.Common.{◌≡◌, ◌≢◌, ℕ, ◌+◌, ◌<◌, Bool, true, false, List, [], ◌∷◌, ◌++◌, length, get_or, zero, suc, refl, sym, ap, ◌∙◌, arith, nat_eq}
 use Rattle.std.specs.Prelude.{Result, Ok, Err, slice_index}
+use Rattle.std.specs.List.{All}
 use Rattle.std.proofs.lemmas.List.{append_assoc}
-use Rattle.std.proofs.lemmas.Bool.{cases_lt}
 use Rattle.std.proofs.lemmas.Bool.Decides.{nat_tests}
 use Rattle.tx_alloc.specs.Pool.{with_at}
 use Rattle.tx_alloc.specs.Rows.{Rows}
@@ -10,7 +10,7 @@ use Rattle.tx_list.specs.Bookings.{key_code}
 use Rattle.vac_records.specs.Heap.{over}
 use Rattle.vac_audit.specs.Noted.{blocks_in, booked_in}
 use Rattle.vac_audit.specs.Walk.{then, wants, check_used, check_all_used, units_in}
-use Rattle.vac_audit.specs.Ran.{Inside, IsUsed, FirstUnused}
+use Rattle.vac_audit.specs.Ran.{IsUsed, FirstUnused}
 use Rattle.vac_audit.specs.declared.notes.NotedItem.{NotedItem}
 use Rattle.vac_audit.specs.declared.Flaw.{Flaw}
 use Rattle.vac_audit.specs.declared.Flaw.TheVariants.{Bookings}
@@ -81,33 +81,36 @@ pairs_err m f (p ∷ ps) (b ∷ bs) (suc i) e l ne h =
     let t : nat_eq (m (b + 4)) (f p) ≡ true = grind (arith, nat_tests) in
     ap (λ (z : Bool). then (wants z (Bookings (b + 4))) (λ _. check_pairs m f ps bs)) t ∙ pairs_err m f ps bs i (omega (arith, e)) (omega arith) ne (λ j k. h (suc j) (omega arith))
 
-module _ (words codes blocks booked : List ℕ) (a b c customers : Rows) (lists : ℕ → Rows)
-    (are : codes ≡ (codes_of 0 a ++ codes_of 1 b) ++ codes_of 2 c) (at : blocks ≡ (blocks_of 0 a ++ blocks_of 1 b) ++ blocks_of 2 c) (same : length codes ≡ length blocks)
-    (counts : (i : ℕ) → i < length codes → slice_index booked i ≡ over (units_in (slice_index words) (slice_index codes i)) customers lists) where
-  as_pairs : (r : Result (Unit {0}) Flaw) → check_pairs (slice_index words) (booked_at (slice_index words) customers lists) codes blocks ≡ r → check_all_used (slice_index words) (with_at (tables_of a b c) 3 customers) lists 3 ≡ r
+module _ (words codes : List ℕ) (items : List NotedItem) (a b c customers : Rows) (lists : ℕ → Rows)
+    (are : codes ≡ (codes_of 0 a ++ codes_of 1 b) ++ codes_of 2 c) (at : blocks_in items ≡ (blocks_of 0 a ++ blocks_of 1 b) ++ blocks_of 2 c) (same : length codes ≡ length items)
+    (counts : (i : ℕ) → i < length items → slice_index (booked_in items) i ≡ over (units_in (slice_index words) (slice_index codes i)) customers lists) where
+  as_pairs : (r : Result (Unit {0}) Flaw) → check_pairs (slice_index words) (booked_at (slice_index words) customers lists) codes (blocks_in items) ≡ r → check_all_used (slice_index words) (with_at (tables_of a b c) 3 customers) lists 3 ≡ r
   as_pairs r h = sym (pairs_all (slice_index words) customers lists a b c)
       ∙ (ap (λ (z : List ℕ). check_pairs (slice_index words) (booked_at (slice_index words) customers lists) z ((blocks_of 0 a ++ blocks_of 1 b) ++ blocks_of 2 c)) (sym are)
       ∙ (ap (λ (z : List ℕ). check_pairs (slice_index words) (booked_at (slice_index words) customers lists) codes z) (sym at) ∙ h))
 
-  pub used_ok : ((i : ℕ) → i < length blocks → IsUsed words blocks booked i) → check_all_used (slice_index words) (with_at (tables_of a b c) 3 customers) lists 3 ≡ Ok tt
-  used_ok h = as_pairs (Ok tt) (pairs_ok (slice_index words) _ codes blocks same (λ i l. h i l ∙ counts i (omega (arith, same, l))))
+  as_long : length codes ≡ length (blocks_in items)
+  as_long = same ∙ sym (length_blocks items)
 
-  pub used_err : (flaw : Flaw) → FirstUnused words blocks booked flaw → check_all_used (slice_index words) (with_at (tables_of a b c) 3 customers) lists 3 ≡ Err flaw
-  used_err flaw h = as_pairs (Err flaw) (pairs_err (slice_index words) _ codes blocks h.i same h.inside (λ e. h.other (e ∙ sym (counts h.i (omega (arith, same, h.inside)))))
-      (λ j l. h.earlier j l ∙ counts j (omega (arith, same, h.inside, l))) ∙ ap (λ (z : Flaw). Err z) (sym h.is))
+  module _ (i : ℕ) (l : i < length items) where
+    word_is : slice_index words (slice_index (blocks_in items) i + 4) ≡ slice_index words ((get_or items i no_item).block + 4)
+    word_is = ap (λ (z : ℕ). slice_index words (z + 4)) (block_at items i no_item l)
 
--- the code's loop over the items, which it reads in a slice
-pub used_block : (words : List ℕ) (items slice : List NotedItem) (i : ℕ) → slice ≡ items → i < length slice → Inside words (blocks_in items) → (get_or slice i no_item).block + 8 ≤ length words
-used_block words items slice i e l h =
-    let inside : Inside words (blocks_in slice) = subst (λ (z : List NotedItem). Inside words (blocks_in z)) (sym e) h in
-    omega (arith, inside i (omega (arith, l, length_blocks slice)), block_at slice i no_item l)
+    units_are : (get_or items i no_item).booked ≡ booked_at (slice_index words) customers lists (slice_index codes i)
+    units_are = sym (units_at items i no_item l) ∙ counts i l
 
-pub used_next : (words : List ℕ) (items slice : List NotedItem) (i : ℕ) → slice ≡ items → i < length slice → ((j : ℕ) → j < i → IsUsed words (blocks_in items) (booked_in items) j)
-    → slice_index words ((get_or slice i no_item).block + 4) ≡ (get_or slice i no_item).booked → (j : ℕ) → j < i + 1 → IsUsed words (blocks_in items) (booked_in items) j
-used_next words items slice i e l so_far here j k = elim (cases_lt j i) [
-  | inl below ↦ so_far j below
-  | inr at ↦ (
-      let same : i ≡ j = omega arith in
-      let now : IsUsed words (blocks_in slice) (booked_in slice) i = ap (λ (z : ℕ). slice_index words (z + 4)) (block_at slice i no_item l) ∙ (here ∙ sym (units_at slice i no_item l)) in
-      subst (λ (z : ℕ). IsUsed words (blocks_in items) (booked_in items) z) same (subst (λ (z : List NotedItem). IsUsed words (blocks_in z) (booked_in z) i) e now))
-]
+    used_at : IsUsed words (get_or items i no_item) → slice_index words (slice_index (blocks_in items) i + 4) ≡ booked_at (slice_index words) customers lists (slice_index codes i)
+    used_at h = word_is ∙ (h ∙ units_are)
+
+    unused_at : (IsUsed words (get_or items i no_item) → ⊥) → slice_index words (slice_index (blocks_in items) i + 4) ≢ booked_at (slice_index words) customers lists (slice_index codes i)
+    unused_at other e = other (sym word_is ∙ (e ∙ sym units_are))
+
+  pub used_ok : All (IsUsed words) items → check_all_used (slice_index words) (with_at (tables_of a b c) 3 customers) lists 3 ≡ Ok tt
+  used_ok h = as_pairs (Ok tt) (pairs_ok (slice_index words) _ codes (blocks_in items) as_long (λ i l.
+      let inside : i < length items = omega (arith, l, length_blocks items) in
+      used_at i inside (h i no_item inside)))
+
+  pub used_err : (flaw : Flaw) → FirstUnused words items flaw → check_all_used (slice_index words) (with_at (tables_of a b c) 3 customers) lists 3 ≡ Err flaw
+  used_err flaw h = as_pairs (Err flaw) (pairs_err (slice_index words) _ codes (blocks_in items) h.i as_long (omega (arith, h.inside, length_blocks items)) (unused_at h.i h.inside (h.other no_item))
+      (λ j l. used_at j (omega (arith, l, h.inside)) (h.earlier j no_item (omega arith) l))
+      ∙ ap (λ (z : Flaw). Err z) (ap (λ (z : ℕ). Bookings (z + 4)) (block_at items h.i no_item h.inside) ∙ sym (h.is no_item)))

@@ -20,7 +20,7 @@ use Rattle.vac_audit.specs.declared.tree.Fault.TheVariants.{Memory, Found}
 use Rattle.vac_audit.specs.declared.audit.AuditFault.TheVariants.{Flaw as Flawed}
 use Rattle.vac_audit.specs.declared.audit.Kinds.{Kinds}
 use Rattle.vac_audit.proofs.Index.{GoodRows, codes_of, blocks_of, table_good, all_codes, all_blocks, all_none, all_order, all_inside, all_index}
-use Rattle.vac_audit.proofs.Noted.{length_codes, length_blocks}
+use Rattle.vac_audit.proofs.Noted.{length_codes, same_length, same_inside}
 use Rattle.vac_audit.proofs.Running.{then_err}
 use Rattle.vac_audit.proofs.Steps.{then_with}
 use Rattle.vac_audit.proofs.Used.{used_ok, used_err}
@@ -129,8 +129,8 @@ module _ (words : List ℕ) (blocks : ℕ) (marks0 : List Bool) (size : length w
     pub index_of : IsIndex (codes_in notes1.items.items) (tables_of w.a w.b w.c)
     index_of = subst (λ (z : List ℕ). IsIndex z (tables_of w.a w.b w.c)) (sym codes_are) (all_index (length words) w.a w.b w.c ga gb gc)
 
-    inside_of : Inside words (blocks_in notes1.items.items)
-    inside_of = subst (λ (z : List ℕ). Inside words z) (sym blocks_are) (all_inside (length words) w.a w.b w.c ga gb gc words refl)
+    inside_of : Inside words notes1.items.items
+    inside_of = subst (λ (z : List NotedItem). Inside words z) (sym w.items) (all_inside (length words) w.a w.b w.c ga gb gc)
 
     items_is : walk_items (slice_index words) (length words) (suc (length marks0)) 3 start ≡ Ok (tables_of w.a w.b w.c, w.s3)
     items_is = next_ok (slice_index words) (length words) (suc (length marks0)) start 2 _ (next_ok (slice_index words) (length words) (suc (length marks0)) start 1 _ (first_ok (slice_index words) (length words) (suc (length marks0)) start w.a w.s1 w.is_a) w.b w.s2 w.is_b) w.c w.s3 w.is_c
@@ -147,22 +147,22 @@ module _ (words : List ℕ) (blocks : ℕ) (marks0 : List Bool) (size : length w
       customers_is : walk_table (slice_index words) (length words) (look_at_customer (slice_index words) (length words) (tables_of w.a w.b w.c) (suc (length marks0))) (suc (length marks0)) 4 w.s3 ≡ Ok (v.rows, v.s')
       customers_is = subst (λ (z : ℕ). walk_table (slice_index words) (length words) (look_at_customer (slice_index words) (length words) (tables_of w.a w.b w.c) (suc z)) (suc z) 4 w.s3 ≡ Ok (v.rows, v.s')) size1 v.is
 
-      pub inside_still : Inside words (blocks_in notes2.items.items)
-      inside_still = subst (λ (z : List ℕ). Inside words z) (sym v.items.blocks) inside_of
+      pub inside_still : Inside words notes2.items.items
+      inside_still = same_inside notes1 notes2 v.items (length words) inside_of
 
-      same_long : length (codes_in notes1.items.items) ≡ length (blocks_in notes2.items.items)
-      same_long = length_codes notes1.items.items ∙ (sym (length_blocks notes1.items.items) ∙ ap (λ (z : List ℕ). length z) (sym v.items.blocks))
+      same_long : length (codes_in notes1.items.items) ≡ length notes2.items.items
+      same_long = length_codes notes1.items.items ∙ sym (same_length notes1 notes2 v.items)
 
-      counts : (i : ℕ) → i < length (codes_in notes1.items.items) → slice_index (booked_in notes2.items.items) i ≡ over (units_in (slice_index words) (slice_index (codes_in notes1.items.items) i)) v.rows v.s'.lists
-      counts i l = v.booked i (omega (arith, l, length_codes notes1.items.items))
+      counts : (i : ℕ) → i < length notes2.items.items → slice_index (booked_in notes2.items.items) i ≡ over (units_in (slice_index words) (slice_index (codes_in notes1.items.items) i)) v.rows v.s'.lists
+      counts i l = v.booked i (omega (arith, l, same_length notes1 notes2 v.items))
 
-      pub heap_used : (flaw : Flaw) → UsedRan words (blocks_in notes2.items.items) (booked_in notes2.items.items) (Err flaw) → HeapRan words blocks (Err (Found flaw))
+      pub heap_used : (flaw : Flaw) → UsedRan words notes2.items.items (Err flaw) → HeapRan words blocks (Err (Found flaw))
       heap_used flaw g = as_audit (Err flaw) (used_bad (slice_index words) (length words) (suc (length marks0)) blocks (tables_of w.a w.b w.c, w.s3) items_is (v.rows, v.s') customers_is flaw
-          (used_err words (codes_in notes1.items.items) (blocks_in notes2.items.items) (booked_in notes2.items.items) w.a w.b w.c v.rows v.s'.lists codes_are (v.items.blocks ∙ blocks_are) same_long counts flaw g))
+          (used_err words (codes_in notes1.items.items) notes2.items.items w.a w.b w.c v.rows v.s'.lists codes_are (v.items.blocks ∙ blocks_are) same_long counts flaw g))
 
-      module _ (g : UsedRan words (blocks_in notes2.items.items) (booked_in notes2.items.items) (Ok tt)) where
+      module _ (g : UsedRan words notes2.items.items (Ok tt)) where
         used_is : check_all_used (slice_index words) (with_at (tables_of w.a w.b w.c) 3 v.rows) v.s'.lists 3 ≡ Ok tt
-        used_is = used_ok words (codes_in notes1.items.items) (blocks_in notes2.items.items) (booked_in notes2.items.items) w.a w.b w.c v.rows v.s'.lists codes_are (v.items.blocks ∙ blocks_are) same_long counts g
+        used_is = used_ok words (codes_in notes1.items.items) notes2.items.items w.a w.b w.c v.rows v.s'.lists codes_are (v.items.blocks ∙ blocks_are) same_long counts g
 
         pub heap_lists : (marks3 : List Bool) (flaw : Flaw) → ListsRan words marks2 marks3 (Err flaw) → HeapRan words blocks (Err (Found flaw))
         heap_lists marks3 flaw h = as_audit (Err flaw) (lists_bad (slice_index words) (length words) (suc (length marks0)) blocks (tables_of w.a w.b w.c, w.s3) items_is (v.rows, v.s') customers_is used_is flaw

@@ -1,6 +1,6 @@
 -- What the running audit does.
 use Rattle.std.specs.Prelude.{◌≡◌, ◌⊎◌, ℕ, ◌+◌, ◌*◌, ◌<◌, ◌≤◌, Bool, List, [], ◌++◌, length, suc, Result, Ok, Err, MatchResult, slice_index, sum_by, ⊤}
-use Rattle.std.specs.List.{All}
+use Rattle.std.specs.List.{All, AllWithin, HoldsAt}
 use Rattle.tx_alloc.specs.Rows.{Rows}
 use Rattle.vac_model.specs.declared.replies.Report.{Report}
 use Rattle.vac_records.specs.Heap.{over}
@@ -10,6 +10,7 @@ use Rattle.vac_audit.specs.Noted.{booked_in, codes_in, noted_of}
 use Rattle.vac_audit.specs.TreeRan.{Faulted}
 use Rattle.vac_audit.specs.declared.Flaw.{Flaw}
 use Rattle.vac_audit.specs.declared.Flaw.TheVariants.{Bookings}
+use Rattle.vac_audit.specs.declared.notes.NotedItem.{NotedItem}
 use Rattle.vac_audit.specs.declared.notes.Notes.{Notes}
 use Rattle.vac_audit.specs.declared.tree.Fault.{Fault}
 use Rattle.vac_audit.specs.declared.tree.Fault.TheVariants.{Memory as Refused, Found}
@@ -106,27 +107,26 @@ CustomersRan words marks marks' notes notes' result =
     (λ customers. CustomersWalked words marks marks' notes notes' tables customers s)
     (λ fault. Faulted fault (λ flaw. customer_table words (length marks) tables s ≡ Err flaw))
 
--- these blocks are inside of the words
-abbrev pub Inside : List ℕ → List ℕ → Type 0
-Inside words blocks = (i : ℕ) → i < length blocks → slice_index blocks i + 8 ≤ length words
+-- the items' blocks are inside of the words
+abbrev pub Inside : List ℕ → List NotedItem → Type 0
+Inside words items = All (λ item. item.block + 8 ≤ length words) items
 
 -- as many units are used of an item as are booked
-abbrev pub IsUsed : List ℕ → List ℕ → List ℕ → ℕ → Type 0
-IsUsed words blocks booked i =
-    slice_index words (slice_index blocks i + 4) ≡ slice_index booked i
+abbrev pub IsUsed : List ℕ → NotedItem → Type 0
+IsUsed words item = slice_index words (item.block + 4) ≡ item.booked
 
 -- the first item that has others
-pub record FirstUnused (words blocks booked : List ℕ) (flaw : Flaw) : Type 0 where
+pub record FirstUnused (words : List ℕ) (items : List NotedItem) (flaw : Flaw) : Type 0 where
   pub i : ℕ
-  pub inside : i < length blocks
-  pub is : flaw ≡ Bookings (slice_index blocks i + 4)
-  pub other : IsUsed words blocks booked i → ⊥
-  pub earlier : (j : ℕ) → j < i → IsUsed words blocks booked j
+  pub inside : i < length items
+  pub is : HoldsAt (λ item. flaw ≡ Bookings (item.block + 4)) items i
+  pub other : HoldsAt (λ item. IsUsed words item → ⊥) items i
+  pub earlier : AllWithin (IsUsed words) items 0 i
 
-abbrev pub UsedRan : List ℕ → List ℕ → List ℕ → Result ⊤ Flaw → Type 0
-UsedRan words blocks booked result = MatchResult result
-    (λ _. (i : ℕ) → i < length blocks → IsUsed words blocks booked i)
-    (λ flaw. FirstUnused words blocks booked flaw)
+abbrev pub UsedRan : List ℕ → List NotedItem → Result ⊤ Flaw → Type 0
+UsedRan words items result = MatchResult result
+    (λ _. All (IsUsed words) items)
+    (λ flaw. FirstUnused words items flaw)
 
 -- the words of a heap of this many blocks were audited
 abbrev pub HeapRan : List ℕ → ℕ → Result Report Fault → Type 0

@@ -2,7 +2,7 @@
 
 ghost use Rattle.std.specs.Prelude.{◌≡◌, ◌+◌, ◌*◌, ◌≤◌, IfOk, Err, length, slice_index};
 ghost use Rattle.vac_audit.specs.Marks.{IsMarked, unmarked};
-ghost use Rattle.vac_audit.specs.Noted.{InOrder, blocks_in, booked_in};
+ghost use Rattle.vac_audit.specs.Noted.{InOrder};
 ghost use Rattle.vac_audit.specs.Ran.{Blank, ItemsRan, Uncounted, CustomersRan};
 ghost use Rattle.vac_audit.specs.Ran.{Inside, UsedRan, HeapRan, IsHeapSize, Audited, fault_answer};
 ghost use Rattle.vac_audit.specs.Represented.{StateOf, Recognised};
@@ -92,9 +92,8 @@ fn walk_customers(
 /// Looks for an item that has another number of units used than are booked.
 fn check_used(words: &[u64], notes: &Notes) -> Result<(), Flaw>
     requires few { length words.now ≤ 2097168 }
-    requires inside { Inside words.now (blocks_in notes.now.items.items) }
-    ensures ran { UsedRan words.now (blocks_in notes.now.items.items)
-        (booked_in notes.now.items.items) result }
+    requires inside { Inside words.now notes.now.items.items }
+    ensures ran { UsedRan words.now notes.now.items.items result }
 {
     for item in &notes.items {
         let at = item.block + USED;
