@@ -7,6 +7,8 @@ use Rattle.tx_alloc.specs.Pool.{held, with_at}
 use Rattle.tx_alloc.specs.Rows.{Rows, times}
 use Rattle.tx_alloc.proofs.Sums.{with_here, with_else}
 use Rattle.tx_list.specs.Bookings.{place_code}
+use Rattle.vac_model.specs.declared.items.Kind.{Kind}
+use Rattle.vac_model.specs.State.{kind_number}
 use Rattle.vac_records.specs.Heap.{over}
 use Rattle.vac_audit.specs.Walk.{walk_bookings, is_in_order, is_booking, units_in}
 use Rattle.vac_audit.specs.Noted.{booked_in, codes_in, noted_of}
@@ -56,9 +58,9 @@ customer_looked words marks marks' notes notes' table p is f = subst (λ (z : Ta
 
 -- one node more
 module _ (m : ℕ → ℕ) (a b c : Notes) (rs : Rows) (k p : ℕ) (lists lists' : ℕ → Rows) where
-  items_more : (kind : ℕ) → ItemsNoted m kind a b rs → ItemsNoted m kind b c ((k, p) ∷ []) → ItemsNoted m kind a c (rs ++ ((k, p) ∷ []))
+  items_more : (kind : Kind) → ItemsNoted m kind a b rs → ItemsNoted m kind b c ((k, p) ∷ []) → ItemsNoted m kind a c (rs ++ ((k, p) ∷ []))
   items_more kind h w = record {
-    items = w.items ∙ (ap (λ (z : List NotedItem). z ++ noted_of kind ((k, p) ∷ [])) h.items ∙ (append_assoc a.items.items (noted_of kind rs) (noted_of kind ((k, p) ∷ [])) ∙ ap (λ (z : List NotedItem). a.items.items ++ z) (sym (noted_append kind rs ((k, p) ∷ [])))));
+    items = w.items ∙ (ap (λ (z : List NotedItem). z ++ noted_of (kind_number kind) ((k, p) ∷ [])) h.items ∙ (append_assoc a.items.items (noted_of (kind_number kind) rs) (noted_of (kind_number kind) ((k, p) ∷ [])) ∙ ap (λ (z : List NotedItem). a.items.items ++ z) (sym (noted_append (kind_number kind) rs ((k, p) ∷ [])))));
     used = omega (arith, w.used, h.used, sum_by-append (λ (r : ℕ × ℕ). m (r.1 + 4)) rs ((k, p) ∷ []));
     free = omega (arith, w.free, h.free, sum_by-append (λ (r : ℕ × ℕ). m (r.1 + 5)) rs ((k, p) ∷ []));
     total = omega (arith, w.total, h.total, sum_by-append (λ (r : ℕ × ℕ). m (r.1 + 6)) rs ((k, p) ∷ []));

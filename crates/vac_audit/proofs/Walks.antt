@@ -3,6 +3,8 @@ use Rattle.std.proofs.Common.{◌≡◌, ℕ, ◌+◌, ◌≤◌, Bool, List, []
 use Rattle.std.specs.Prelude.{Result, Ok, Err, MatchResult, slice_index}
 use Rattle.tx_alloc.specs.Pool.{with_at}
 use Rattle.tx_alloc.specs.Rows.{Rows}
+use Rattle.vac_model.specs.declared.items.Kind.{Kind}
+use Rattle.vac_model.specs.declared.items.Kind.TheVariants.{Car, Flight, Room}
 use Rattle.vac_audit.specs.Walk.{Seen, look_at_item, walk_table, walk_items}
 use Rattle.vac_audit.specs.Noted.{InOrder, noted_of}
 use Rattle.vac_audit.specs.Marks.{Marks, Counting, unmarked}
@@ -46,47 +48,47 @@ module _ (m : ℕ → ℕ) (n levels : ℕ) (s : Seen) where
   later_err k f e = then_err (walk_items m n levels k s) _ f e
 
 -- a table of items, with the levels of the start
-abbrev pub TableAt : List ℕ → ℕ → List Bool → Notes → Notes → ℕ → ℕ → Result ℕ Fault → Seen → Type 0
+abbrev pub TableAt : List ℕ → ℕ → List Bool → Notes → Notes → Kind → ℕ → Result ℕ Fault → Seen → Type 0
 TableAt words levels marks' notes notes' kind root result s = MatchResult result
     (λ nodes. (x : Rows × Seen) × ((walk_table (slice_index words) (length words) (look_at_item (slice_index words)) levels root s ≡ Ok x)
     × Marks marks' x.1.blocks × (nodes ≡ length x.0) × ItemsNoted (slice_index words) kind notes notes' x.0))
     (λ fault. Faulted fault (λ flaw. walk_table (slice_index words) (length words) (look_at_item (slice_index words)) levels root s ≡ Err flaw))
 
-pub table_at : (words : List ℕ) (blocks : ℕ) (marks marks' : List Bool) (notes notes' : Notes) (kind root : ℕ) (result : Result ℕ Fault) (s : Seen) → length marks ≡ blocks
+pub table_at : (words : List ℕ) (blocks : ℕ) (marks marks' : List Bool) (notes notes' : Notes) (kind : Kind) (root : ℕ) (result : Result ℕ Fault) (s : Seen) → length marks ≡ blocks
     → TableRan words marks marks' notes notes' (Items kind) root result → Marks marks s.blocks → TableAt words (suc blocks) marks' notes notes' kind root result s
 table_at words blocks marks marks' notes notes' kind root result s e f a = subst (λ (z : ℕ). TableAt words (suc z) marks' notes notes' kind root result s) e (f (λ _. []) tt s a)
 
 module _ (words : List ℕ) (marks0 : List Bool) where
-  pub items_first : (marks1 : List Bool) (notes0 notes1 : Notes) (fault : Fault) → TableRan words marks0 marks1 notes0 notes1 (Items 0) 1 (Err fault) → ItemsRan words marks0 marks1 notes1 (Err fault)
+  pub items_first : (marks1 : List Bool) (notes0 notes1 : Notes) (fault : Fault) → TableRan words marks0 marks1 notes0 notes1 (Items Car) 1 (Err fault) → ItemsRan words marks0 marks1 notes1 (Err fault)
   items_first marks1 notes0 notes1 Memory f s a = tt
   items_first marks1 notes0 notes1 (Found flaw) f s a =
-      let e = table_at words (length marks0) marks0 marks1 notes0 notes1 0 1 (Err (Found flaw)) s refl f a in
+      let e = table_at words (length marks0) marks0 marks1 notes0 notes1 Car 1 (Err (Found flaw)) s refl f a in
       later_err (slice_index words) (length words) (suc (length marks0)) s 2 flaw (later_err (slice_index words) (length words) (suc (length marks0)) s 1 flaw (first_err (slice_index words) (length words) (suc (length marks0)) s flaw e))
 
-  pub items_second : (marks1 marks2 : List Bool) (notes0 notes1 notes2 : Notes) (cars : ℕ) (fault : Fault) → TableRan words marks0 marks1 notes0 notes1 (Items 0) 1 (Ok cars) → length marks1 ≡ length marks0
-      → TableRan words marks1 marks2 notes1 notes2 (Items 1) 2 (Err fault) → ItemsRan words marks0 marks2 notes2 (Err fault)
+  pub items_second : (marks1 marks2 : List Bool) (notes0 notes1 notes2 : Notes) (cars : ℕ) (fault : Fault) → TableRan words marks0 marks1 notes0 notes1 (Items Car) 1 (Ok cars) → length marks1 ≡ length marks0
+      → TableRan words marks1 marks2 notes1 notes2 (Items Flight) 2 (Err fault) → ItemsRan words marks0 marks2 notes2 (Err fault)
   items_second marks1 marks2 notes0 notes1 notes2 cars Memory f size g s a = tt
   items_second marks1 marks2 notes0 notes1 notes2 cars (Found flaw) f size g s a =
-      let x = table_at words (length marks0) marks0 marks1 notes0 notes1 0 1 (Ok cars) s refl f a in
-      let e = table_at words (length marks0) marks1 marks2 notes1 notes2 1 2 (Err (Found flaw)) x.0.1 size g x.1.1 in
+      let x = table_at words (length marks0) marks0 marks1 notes0 notes1 Car 1 (Ok cars) s refl f a in
+      let e = table_at words (length marks0) marks1 marks2 notes1 notes2 Flight 2 (Err (Found flaw)) x.0.1 size g x.1.1 in
       later_err (slice_index words) (length words) (suc (length marks0)) s 2 flaw (next_err (slice_index words) (length words) (suc (length marks0)) s 1 _ (first_ok (slice_index words) (length words) (suc (length marks0)) s x.0.0 x.0.1 x.1.0) flaw e)
 
-  pub items_third : (marks1 marks2 marks3 : List Bool) (notes0 notes1 notes2 notes3 : Notes) (cars flights : ℕ) (fault : Fault) → TableRan words marks0 marks1 notes0 notes1 (Items 0) 1 (Ok cars) → length marks1 ≡ length marks0
-      → TableRan words marks1 marks2 notes1 notes2 (Items 1) 2 (Ok flights) → length marks2 ≡ length marks0 → TableRan words marks2 marks3 notes2 notes3 (Items 2) 3 (Err fault) → ItemsRan words marks0 marks3 notes3 (Err fault)
+  pub items_third : (marks1 marks2 marks3 : List Bool) (notes0 notes1 notes2 notes3 : Notes) (cars flights : ℕ) (fault : Fault) → TableRan words marks0 marks1 notes0 notes1 (Items Car) 1 (Ok cars) → length marks1 ≡ length marks0
+      → TableRan words marks1 marks2 notes1 notes2 (Items Flight) 2 (Ok flights) → length marks2 ≡ length marks0 → TableRan words marks2 marks3 notes2 notes3 (Items Room) 3 (Err fault) → ItemsRan words marks0 marks3 notes3 (Err fault)
   items_third marks1 marks2 marks3 notes0 notes1 notes2 notes3 cars flights Memory f size g size' h s a = tt
   items_third marks1 marks2 marks3 notes0 notes1 notes2 notes3 cars flights (Found flaw) f size g size' h s a =
-      let x = table_at words (length marks0) marks0 marks1 notes0 notes1 0 1 (Ok cars) s refl f a in
-      let y = table_at words (length marks0) marks1 marks2 notes1 notes2 1 2 (Ok flights) x.0.1 size g x.1.1 in
-      let e = table_at words (length marks0) marks2 marks3 notes2 notes3 2 3 (Err (Found flaw)) y.0.1 size' h y.1.1 in
+      let x = table_at words (length marks0) marks0 marks1 notes0 notes1 Car 1 (Ok cars) s refl f a in
+      let y = table_at words (length marks0) marks1 marks2 notes1 notes2 Flight 2 (Ok flights) x.0.1 size g x.1.1 in
+      let e = table_at words (length marks0) marks2 marks3 notes2 notes3 Room 3 (Err (Found flaw)) y.0.1 size' h y.1.1 in
       next_err (slice_index words) (length words) (suc (length marks0)) s 2 _
       (next_ok (slice_index words) (length words) (suc (length marks0)) s 1 _ (first_ok (slice_index words) (length words) (suc (length marks0)) s x.0.0 x.0.1 x.1.0) y.0.0 y.0.1 y.1.0) flaw e
 
-  pub items_done : (marks1 marks2 marks3 : List Bool) (notes0 notes1 notes2 notes3 : Notes) (kinds : Kinds) → Blank notes0 → TableRan words marks0 marks1 notes0 notes1 (Items 0) 1 (Ok kinds.cars) → length marks1 ≡ length marks0
-      → TableRan words marks1 marks2 notes1 notes2 (Items 1) 2 (Ok kinds.flights) → length marks2 ≡ length marks0 → TableRan words marks2 marks3 notes2 notes3 (Items 2) 3 (Ok kinds.rooms) → ItemsRan words marks0 marks3 notes3 (Ok kinds)
+  pub items_done : (marks1 marks2 marks3 : List Bool) (notes0 notes1 notes2 notes3 : Notes) (kinds : Kinds) → Blank notes0 → TableRan words marks0 marks1 notes0 notes1 (Items Car) 1 (Ok kinds.cars) → length marks1 ≡ length marks0
+      → TableRan words marks1 marks2 notes1 notes2 (Items Flight) 2 (Ok kinds.flights) → length marks2 ≡ length marks0 → TableRan words marks2 marks3 notes2 notes3 (Items Room) 3 (Ok kinds.rooms) → ItemsRan words marks0 marks3 notes3 (Ok kinds)
   items_done marks1 marks2 marks3 notes0 notes1 notes2 notes3 kinds blank f size g size' h s q =
-      let x = table_at words (length marks0) marks0 marks1 notes0 notes1 0 1 (Ok kinds.cars) s refl f q in
-      let y = table_at words (length marks0) marks1 marks2 notes1 notes2 1 2 (Ok kinds.flights) x.0.1 size g x.1.1 in
-      let z = table_at words (length marks0) marks2 marks3 notes2 notes3 2 3 (Ok kinds.rooms) y.0.1 size' h y.1.1 in
+      let x = table_at words (length marks0) marks0 marks1 notes0 notes1 Car 1 (Ok kinds.cars) s refl f q in
+      let y = table_at words (length marks0) marks1 marks2 notes1 notes2 Flight 2 (Ok kinds.flights) x.0.1 size g x.1.1 in
+      let z = table_at words (length marks0) marks2 marks3 notes2 notes3 Room 3 (Ok kinds.rooms) y.0.1 size' h y.1.1 in
       let xn = x.1.3 in let yn = y.1.3 in let zn = z.1.3 in
       record {
         a = x.0.0;

@@ -2,6 +2,8 @@
 use Rattle.std.specs.Prelude.{◌≡◌, ℕ, ◌+◌, ◌*◌, ◌≤◌, ◌<◌, ◌⊎◌, Bool, true, false, cond, List, [], ◌∷◌, ◌++◌, length, suc, Some, None, Result, Ok, Err, MatchResult, slice_index, nat_eq, sum_by, ⊤}
 use Rattle.tx_alloc.specs.Pool.{held, IsBlock}
 use Rattle.tx_alloc.specs.Rows.{Rows}
+use Rattle.vac_model.specs.declared.items.Kind.{Kind}
+use Rattle.vac_model.specs.State.{kind_number}
 use Rattle.vac_records.specs.Heap.{over}
 use Rattle.vac_audit.specs.Tree.{Tree, leaf, blacks, is_red}
 use Rattle.vac_audit.specs.Walk.{Seen, Look, is_item, is_key, is_coloured, look_at_item, look_at_customer, walk_table, units_in}
@@ -107,8 +109,8 @@ Indexed (Items kind) notes tables = Unit {0}
 Indexed Customers notes tables = IsIndex (codes_in notes.items.items) tables
 
 -- these items were written down
-pub record ItemsNoted (m : ℕ → ℕ) (kind : ℕ) (notes notes' : Notes) (rs : Rows) : Type 0 where
-  pub items : notes'.items.items ≡ notes.items.items ++ noted_of kind rs
+pub record ItemsNoted (m : ℕ → ℕ) (kind : Kind) (notes notes' : Notes) (rs : Rows) : Type 0 where
+  pub items : notes'.items.items ≡ notes.items.items ++ noted_of (kind_number kind) rs
   pub used : notes'.tally.used ≡ notes.tally.used + sum_by (λ r. m (r.1 + 4)) rs
   pub free : notes'.tally.free ≡ notes.tally.free + sum_by (λ r. m (r.1 + 5)) rs
   pub total : notes'.tally.total ≡ notes.tally.total + sum_by (λ r. m (r.1 + 6)) rs
@@ -139,7 +141,7 @@ pub record Summed (tally : Tally) (items : ℕ) : Type 0 where
 
 -- what was written down allows a walk of such a table that reaches this many blocks more
 abbrev pub Ready : Table → Notes → ℕ → Type 0
-Ready (Items kind) notes left = (kind < 3) × Summed notes.tally (length notes.items.items)
+Ready (Items kind) notes left = Summed notes.tally (length notes.items.items)
 Ready Customers notes left = Counting notes left
 
 -- there is room for this many items more

@@ -16,7 +16,7 @@ use crate::pointers::{BLOCK_WORDS, FIRST_BLOCK};
 use crate::tree::{Fault, Table, USED, walk_table};
 use std::alloc::{AllocError, Global};
 use tx_alloc::place::MOST_BLOCKS;
-use vac_model::Report;
+use vac_model::{Kind, Report};
 
 /// Why words have no report.
 #[derive(Clone, Copy, Debug, PartialEq, Eq)]
@@ -61,9 +61,9 @@ fn walk_items(
     ensures size { length reached.new.items ≡ length reached.old.items }
     ensures ran { ItemsRan words.now reached.old.items reached.new.items notes.new result }
 {
-    let cars = walk_table(alloc, words, reached, notes, Table::Items { kind: 0 }, 1)?;
-    let flights = walk_table(alloc, words, reached, notes, Table::Items { kind: 1 }, 2)?;
-    let rooms = walk_table(alloc, words, reached, notes, Table::Items { kind: 2 }, 3)?;
+    let cars = walk_table(alloc, words, reached, notes, Table::Items(Kind::Car), 1)?;
+    let flights = walk_table(alloc, words, reached, notes, Table::Items(Kind::Flight), 2)?;
+    let rooms = walk_table(alloc, words, reached, notes, Table::Items(Kind::Room), 3)?;
     Ok(Kinds {
         cars,
         flights,

@@ -12,9 +12,9 @@ use crate::bookings::walk_bookings;
 use crate::notes::{NotedItem, Notes};
 use crate::pointers::follow;
 use std::alloc::{AllocError, AllocFailed, Global};
-use tx_list::Key;
+use vac_model::Kind;
 use vac_model::limits::{MOST_AMOUNT, MOST_TOTAL};
-use vac_records::place;
+use vac_records::{key_of, place};
 
 const LEFT: usize = tx_tree::place::LEFT as usize;
 
@@ -70,7 +70,7 @@ impl From<Flaw> for Fault {
 /// What a table has: items of one kind, or customers.
 #[derive(Clone, Copy)]
 pub enum Table {
-    Items { kind: u64 },
+    Items(Kind),
     Customers,
 }
 
@@ -143,16 +143,13 @@ fn look_at_node(
         table node result }
 {
     match table {
-        Table::Items { kind } => {
+        Table::Items(kind) => {
             look_at_item(words, node)?;
             notes.tally.used += words[node + USED];
             notes.tally.free += words[node + FREE];
             notes.tally.total += words[node + TOTAL];
             notes.items.push(NotedItem {
-                key: Key {
-                    kind,
-                    id: words[node],
-                },
+                key: key_of(kind, words[node] as u32),
                 block: node,
                 booked: 0,
             })?;
