@@ -74,6 +74,25 @@ fn two_words_share_a_lock(rt: HostRuntime) -> Result<(), Fail> {
 }
 
 #[test]
+fn locks_come_with_their_words(rt: HostRuntime) -> Result<(), Fail> {
+    let mut log = new_log(rt.alloc());
+    for (addr, value) in [(9, 1), (6, 2), (5, 3), (9, 4)] {
+        put(&mut log, 4, addr, value)?;
+    }
+    let mut found = Vec::new(rt.alloc());
+    for (lock, words) in log.by_lock() {
+        for (addr, value) in words {
+            found.push((lock, addr, value))?;
+        }
+    }
+    let wanted = [(1, Addr(5), 3), (1, Addr(9), 4), (2, Addr(6), 2)];
+    assert_eq!(rt; found.as_slice(), wanted.as_slice());
+    log.clear();
+    assert!(rt; log.by_lock().next().is_none());
+    Ok(())
+}
+
+#[test]
 fn a_read_log_is_a_list(rt: HostRuntime) -> Result<(), Fail> {
     let mut log = ReadLog::new(rt.alloc());
     for addr in [9, 9, 4] {
@@ -210,9 +229,10 @@ fn each_growth_of_the_read_log_is_refused(rt: HostRuntime) -> Result<(), Fail> {
     for (size, most) in [
         (1_000, 0),
         (5_000, 1_024),
+        (8_250, 1_024),
         (10_000, 2_048),
-        (20_800, 4_096),
-        (21_000, 5_000),
+        (20_500, 4_096),
+        (20_800, 5_000),
         (100_000, 5_000),
     ] {
         let heap = LocalHeap::new(rt.alloc(), size)?;

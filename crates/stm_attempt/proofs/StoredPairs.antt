@@ -1,5 +1,5 @@
 -- Values that are stored lock by lock.
-use Rattle.std.proofs.Common.{◌≡◌, ◌⊎◌, inl, inr, refl, sym, ap, subst, ◌∙◌, ℕ, zero, suc, ◌+◌, ◌<◌, Bool, true, false, List, [], ◌∷◌, ◌++◌, append_assoc, length, length-append, Option, Some, None, arith}
+use Rattle.std.proofs.Common.{◌≡◌, ◌⊎◌, inl, inr, refl, sym, ap, subst, ◌∙◌, ℕ, zero, suc, ◌+◌, ◌<◌, Bool, true, false, List, [], ◌∷◌, ◌++◌, map, append_assoc, length, length-append, Option, Some, None, arith}
 use Rattle.std.proofs.lemmas.Bool.{eqb-true, eq-eqb}
 use Rattle.std.proofs.lemmas.List.{append-nil, map-append}
 use Rattle.std.proofs.lemmas.Grind.{flat_map-append}
@@ -11,14 +11,14 @@ use Rattle.stm_words.proofs.Paired.{in_later}
 use Rattle.stm_core.specs.Client.{Client, Stamp, committed, writes_to, old_version, RecordLaw}
 use Rattle.stm_core.specs.Event.{put, after}
 use Rattle.stm_core.proofs.Held.{old_in}
-use Rattle.stm_logs.specs.Log.{LogValue, log_pairs, log_locks, is_number, pairs_of, SameAddresses}
+use Rattle.stm_logs.specs.Log.{LogValue, log_groups, log_pairs, log_locks, is_number, pairs_of, SameAddresses}
 use Rattle.stm_logs.proofs.LockLemmas.{in_locks, locks_rise}
 use Rattle.stm_logs.proofs.RisingLemmas.{Rising, rising_entries, rising_map, rising_filter, filter_in, in_filter, in_get, get_in, in_map, map_in, In as Among}
 use Rattle.stm_region.specs.Shown.{RegionShown, stripe_of, bounds}
 use Rattle.stm_attempt.specs.Begun.{addresses, address_of, IsPlaced}
 use Rattle.stm_attempt.specs.Committing.{settling}
-use Rattle.stm_attempt.specs.CommitParts.{IsAllStored, HasStored}
-use Rattle.stm_attempt.specs.StoredPairs.{IsUnstored, HasStoredPairs}
+use Rattle.stm_attempt.specs.CommitParts.{CanSettle, IsAllStored, HasStored}
+use Rattle.stm_attempt.specs.StoredPairs.{AreStorable, IsUnstored, HasStoredPairs}
 use Rattle.stm_attempt.proofs.Locks.{among_held, rising_before, among_middle, among_front}
 use Rattle.stm_attempt.proofs.Counting.{count_shares, one_kept}
 use Rattle.stm_core.proofs.Conditions.{may_act_so}
@@ -110,41 +110,33 @@ has_more v u v' xs ys first next = record {
   steps = omega (arith, first.steps, next.steps, length-append xs ys);
 }
 
-module _ (lawful : RecordLaw) (t : Stamp) (region : RegionShown) (w : LogValue) (lock : ℕ) (v0 v : Client) (a x : ℕ) (now rest : List (ℕ × ℕ)) (storing : IsStoring v0 v (pairs_of w lock) now) (next : now ≡ (a, x) ∷ rest) (placed : IsPlaced region w) where
-  order : storing.done ++ (a, x) ∷ rest ≡ pairs_of w lock
+module _ (lawful : RecordLaw) (t : Stamp) (region : RegionShown) (v0 v : Client) (a x : ℕ) (pairs now rest : List (ℕ × ℕ)) (storing : IsStoring v0 v pairs now) (next : now ≡ (a, x) ∷ rest) (able : AreStorable region v0 pairs) where
+  order : storing.done ++ (a, x) ∷ rest ≡ pairs
   order = ap (λ (ps : List (ℕ × ℕ)). storing.done ++ ps) (sym next) ∙ storing.order
 
-  here : Among (a, x) (pairs_of w lock)
-  here = subst (λ (ps : List (ℕ × ℕ)). Among (a, x) ps) order (among_middle storing.done (a, x) rest)
-
-  later : Among a (addresses storing.done) → ⊥
-  later i =
-      let both : addresses storing.done ++ a ∷ addresses rest ≡ addresses (pairs_of w lock) = sym (map-append address_of storing.done ((a, x) ∷ rest)) ∙ ap addresses order in
-      let less : a < a = rising_before (addresses storing.done) a (addresses rest) a (subst (λ (zs : List ℕ). Rising (λ (y : ℕ). y) zs) (sym both) (rising_pairs w lock)) i in
-      absurd (omega arith)
+  here : In (a, x) pairs
+  here = among_in (a, x) pairs (subst (λ (ps : List (ℕ × ℕ)). Among (a, x) ps) order (among_middle storing.done (a, x) rest))
 
   pub put_inside : a < region.size
-  put_inside = placed.inside a lock (pair_logged w lock a x here).1
+  put_inside = able.inside a x here
 
-  pub may_put : (v0.spent ≡ false) × (v0.attempt.phase ≡ committed) → v0.attempt.writes ≡ log_pairs w → Holds v0.attempt.held lock → IsUnstored (pairs_of w lock) v0.attempt.stored → May lawful (stripe_of region.stripes) (bounds region) (put a x) v
-  may_put decided writes holds unstored =
-      let got = pair_logged w lock a x here in
-      let same_writes : log_pairs w ≡ v.attempt.writes = sym (ap (λ (c : Client). c.attempt.writes) storing.has.same ∙ writes) in
-      let same_held : v0.attempt.held ≡ v.attempt.held = sym (storing.has.held) in
-      let held_here : Holds v.attempt.held lock = subst (λ (h : List (ℕ × ℕ)). Holds h lock) same_held holds in (
+  pub may_put : (v0.spent ≡ false) × (v0.attempt.phase ≡ committed) → May lawful (stripe_of region.stripes) (bounds region) (put a x) v
+  may_put decided =
+      let same_writes : v0.attempt.writes ≡ v.attempt.writes = sym (ap (λ (c : Client). c.attempt.writes) storing.has.same) in
+      let same_held : v0.attempt.held ≡ v.attempt.held = sym (storing.has.held) in (
         ap (λ (c : Client). c.spent) storing.has.same ∙ decided.0,
         may_act_so (stripe_of region.stripes) lawful (bounds region) v.attempt (put a x) (
           ap (λ (c : Client). c.attempt.phase) storing.has.same ∙ decided.1,
-          subst (In (a, x)) same_writes (among_in (a, x) (log_pairs w) (get_in w.words a x got.0)),
-          subst (Holds v.attempt.held) (placed.lock a lock got.1) held_here,
+          subst (In (a, x)) same_writes (able.written a x here),
+          subst (λ (h : List (ℕ × ℕ)). Holds h (stripe_of region.stripes a)) same_held (able.held a x here),
           λ i. elim (among_either v0.attempt.stored (addresses storing.done) a (in_among a _ (subst (In a) storing.has.stored i))) [
-            | inl before ↦ unstored a x (among_in (a, x) (pairs_of w lock) here) (among_in a v0.attempt.stored before)
-            | inr since ↦ later since
+            | inl before ↦ able.unstored a x here (among_in a v0.attempt.stored before)
+            | inr since ↦ able.once storing.done rest a x order (among_in a (addresses storing.done) since)
           ],
         ),
       )
 
-  pub stored_one : (v' : Client) → v' ≡ after t (stripe_of region.stripes) (put a x) 0 v → IsStoring v0 v' (pairs_of w lock) rest
+  pub stored_one : (v' : Client) → v' ≡ after t (stripe_of region.stripes) (put a x) 0 v → IsStoring v0 v' pairs rest
   stored_one v' e = record {
     done = storing.done ++ (a, x) ∷ [];
     order = append_assoc storing.done ((a, x) ∷ []) rest ∙ order;
@@ -156,43 +148,106 @@ module _ (lawful : RecordLaw) (t : Stamp) (region : RegionShown) (w : LogValue) 
     });
   }
 
+-- a lock with its pairs
+abbrev with_pairs : LogValue → ℕ → ℕ × List (ℕ × ℕ)
+with_pairs w k = (k, pairs_of w k)
+
 -- the pairs of the locks that are done are stored, and those of the rest are left
-pub record IsStoringAll (w : LogValue) (v v' : Client) (rest : List ℕ) : Type 0 where
+pub record IsStoringAll (w : LogValue) (v v' : Client) (rest : List (ℕ × List (ℕ × ℕ))) : Type 0 where
   pub done : List ℕ
-  pub order : done ++ rest ≡ log_locks w
+  pub left : List ℕ
+  pub order : done ++ left ≡ log_locks w
+  pub groups : rest ≡ map (with_pairs w) left
   pub has : HasStoredPairs v v' (flat_map (pairs_of w) done)
 
-module _ (w : LogValue) (v0 v : Client) (k : ℕ) (now rest : List ℕ) (storing : IsStoringAll w v0 v now) (next : now ≡ k ∷ rest) where
-  all_order : storing.done ++ k ∷ rest ≡ log_locks w
-  all_order = ap (λ (ks : List ℕ). storing.done ++ ks) (sym next) ∙ storing.order
+-- the first of the locks that are left, with its pairs
+record Next (w : LogValue) (left : List ℕ) (k : ℕ) (pairs : List (ℕ × ℕ)) (rest : List (ℕ × List (ℕ × ℕ))) : Type 0 where
+  behind : List ℕ
+  first : left ≡ k ∷ behind
+  its : pairs ≡ pairs_of w k
+  groups : rest ≡ map (with_pairs w) behind
 
-  pub next_held : addresses v0.attempt.held ≡ log_locks w → Holds v.attempt.held k
+next_of : (w : LogValue) (left : List ℕ) (k : ℕ) (pairs : List (ℕ × ℕ)) (now rest : List (ℕ × List (ℕ × ℕ)))
+    → now ≡ map (with_pairs w) left → now ≡ (k, pairs) ∷ rest → Next w left k pairs rest
+next_of w [] k pairs now rest groups next = cc
+next_of w (j ∷ js) k pairs now rest groups next =
+    let both : (j, pairs_of w j) ∷ map (with_pairs w) js ≡ (k, pairs) ∷ rest = sym groups ∙ next in
+    let tail : rest ≡ map (with_pairs w) js = cc in
+    let head : (j, pairs_of w j) ≡ (k, pairs) = cc in
+    let same : j ≡ k = ap (λ (p : ℕ × List (ℕ × ℕ)). p.0) head in
+    let its : pairs_of w j ≡ pairs = ap (λ (p : ℕ × List (ℕ × ℕ)). p.1) head in
+    record { behind = js; first = ap (λ (l : ℕ). l ∷ js) same; its = sym its ∙ ap (pairs_of w) same; groups = tail }
+
+module _ (w : LogValue) (v0 v : Client) (k : ℕ) (pairs : List (ℕ × ℕ)) (now rest : List (ℕ × List (ℕ × ℕ))) (storing : IsStoringAll w v0 v now) (next : now ≡ (k, pairs) ∷ rest) where
+  found : Next w storing.left k pairs rest
+  found = next_of w storing.left k pairs now rest storing.groups next
+
+  all_order : storing.done ++ k ∷ found.behind ≡ log_locks w
+  all_order = ap (λ (ks : List ℕ). storing.done ++ ks) (sym found.first) ∙ storing.order
+
+  next_held : addresses v0.attempt.held ≡ log_locks w → Holds v.attempt.held k
   next_held held =
       let same_held : v0.attempt.held ≡ v.attempt.held = sym (storing.has.held) in
-      subst (λ (h : List (ℕ × ℕ)). Holds h k) same_held (among_held v0.attempt.held k (subst (Among k) (all_order ∙ sym held) (among_middle storing.done k rest)))
+      subst (λ (h : List (ℕ × ℕ)). Holds h k) same_held (among_held v0.attempt.held k (subst (Among k) (all_order ∙ sym held) (among_middle storing.done k found.behind)))
 
-  pub next_unstored : v0.attempt.stored ≡ [] → IsUnstored (pairs_of w k) v.attempt.stored
+  next_unstored : v0.attempt.stored ≡ [] → IsUnstored (pairs_of w k) v.attempt.stored
   next_unstored none a x i m =
       let stored : v.attempt.stored ≡ addresses (flat_map (pairs_of w) storing.done) = storing.has.stored ∙ ap (λ (zs : List ℕ). zs ++ addresses (flat_map (pairs_of w) storing.done)) none in
       let s = map_in address_of (flat_map (pairs_of w) storing.done) a (in_among a _ (subst (In a) stored m)) in
       let f = flat_among w storing.done s.0 s.1.0 in
-      let less : f.0 < k = rising_before storing.done k rest f.0 (subst (λ (ks : List ℕ). Rising (λ (y : ℕ). y) ks) (sym all_order) (locks_rise w)) f.1.0 in
+      let less : f.0 < k = rising_before storing.done k found.behind f.0 (subst (λ (ks : List ℕ). Rising (λ (y : ℕ). y) ks) (sym all_order) (locks_rise w)) f.1.0 in
       let before = (pair_logged w f.0 s.0.0 s.0.1 f.1.1).1 in
       let now_is = (pair_logged w k a x (in_among (a, x) (pairs_of w k) i)).1 in
       let both : Some f.0 ≡ Some k = sym before ∙ ap (get w.locks) (sym s.1.1) ∙ now_is in
       let same : f.0 ≡ k = cc in
       absurd (omega (arith, less, same))
 
-  pub stored_lock : (v' : Client) → HasStoredPairs v v' (pairs_of w k) → IsStoringAll w v0 v' rest
+  next_once : (before after : List (ℕ × ℕ)) (a x : ℕ) → before ++ (a, x) ∷ after ≡ pairs_of w k → In a (addresses before) → ⊥
+  next_once before after a x order i =
+      let both : addresses before ++ a ∷ addresses after ≡ addresses (pairs_of w k) = sym (map-append address_of before ((a, x) ∷ after)) ∙ ap addresses order in
+      let less : a < a = rising_before (addresses before) a (addresses after) a (subst (λ (zs : List ℕ). Rising (λ (y : ℕ). y) zs) (sym both) (rising_pairs w k)) (in_among a _ i) in
+      absurd (omega arith)
+
+  pub next_storable : (region : RegionShown) → IsPlaced region w → CanSettle v0 w → AreStorable region v pairs
+  next_storable region placed decided =
+      let same_writes : log_pairs w ≡ v.attempt.writes = sym (ap (λ (c : Client). c.attempt.writes) storing.has.same ∙ decided.writes) in
+      let logged : (a x : ℕ) → In (a, x) (pairs_of w k) → (get w.words a ≡ Some x) × (get w.locks a ≡ Some k) = λ a x i. pair_logged w k a x (in_among (a, x) (pairs_of w k) i) in
+      let here : AreStorable region v (pairs_of w k) = record {
+        inside = λ a x i. placed.inside a k (logged a x i).1;
+        written = λ a x i. subst (In (a, x)) same_writes (among_in (a, x) (log_pairs w) (get_in w.words a x (logged a x i).0));
+        held = λ a x i. subst (Holds v.attempt.held) (placed.lock a k (logged a x i).1) (next_held decided.held);
+        unstored = next_unstored decided.stored;
+        once = next_once;
+      } in
+      subst (AreStorable region v) (sym found.its) here
+
+  pub stored_lock : (v' : Client) → HasStoredPairs v v' pairs → IsStoringAll w v0 v' rest
   stored_lock v' has = record {
     done = storing.done ++ k ∷ [];
-    order = append_assoc storing.done (k ∷ []) rest ∙ all_order;
-    has = subst (HasStoredPairs v0 v') (ap (λ (ps : List (ℕ × ℕ)). flat_map (pairs_of w) storing.done ++ ps) (sym (append-nil (pairs_of w k))) ∙ sym (flat_map-append (pairs_of w) storing.done (k ∷ []))) (has_more v0 v v' _ _ storing.has has);
+    left = found.behind;
+    order = append_assoc storing.done (k ∷ []) found.behind ∙ all_order;
+    groups = found.groups;
+    has = subst (HasStoredPairs v0 v') (ap (λ (ps : List (ℕ × ℕ)). flat_map (pairs_of w) storing.done ++ ps) (sym (append-nil (pairs_of w k))) ∙ sym (flat_map-append (pairs_of w) storing.done (k ∷ []))) (has_more v0 v v' _ _ storing.has (subst (HasStoredPairs v v') found.its has));
   }
 
-module _ (w : LogValue) (v0 v : Client) (now : List ℕ) (storing : IsStoringAll w v0 v now) (none_left : now ≡ []) (same_addresses : SameAddresses w) (writes : v0.attempt.writes ≡ log_pairs w) where
+-- before the first lock nothing is stored
+pub storing_none : (w : LogValue) (v : Client) (rest : List (ℕ × List (ℕ × ℕ))) → rest ≡ log_groups w → IsStoringAll w v v rest
+storing_none w v rest all = record {
+  done = [];
+  left = log_locks w;
+  order = refl;
+  groups = all;
+  has = record { same = refl; held = refl; stored = sym (append-nil v.attempt.stored); steps = omega arith };
+}
+
+-- none is left where no group is
+none_behind : (w : LogValue) (left : List ℕ) (now : List (ℕ × List (ℕ × ℕ))) → now ≡ map (with_pairs w) left → now ≡ [] → left ≡ []
+none_behind w [] now groups none = refl
+none_behind w (j ∷ js) now groups none = cc
+
+module _ (w : LogValue) (v0 v : Client) (now : List (ℕ × List (ℕ × ℕ))) (storing : IsStoringAll w v0 v now) (none_left : now ≡ []) (same_addresses : SameAddresses w) (writes : v0.attempt.writes ≡ log_pairs w) where
   all_done : storing.done ≡ log_locks w
-  all_done = sym (append-nil storing.done) ∙ ap (λ (ks : List ℕ). storing.done ++ ks) (sym none_left) ∙ storing.order
+  all_done = sym (append-nil storing.done) ∙ ap (λ (ks : List ℕ). storing.done ++ ks) (sym (none_behind w storing.left now storing.groups none_left)) ∙ storing.order
 
   all_has : HasStoredPairs v0 v (flat_map (pairs_of w) (log_locks w))
   all_has = subst (λ (ks : List ℕ). HasStoredPairs v0 v (flat_map (pairs_of w) ks)) all_done storing.has

@@ -1,40 +1,35 @@
 //! The end of a decided commit: its values are stored, and its locks released.
 ghost use Rattle.std.specs.Prelude.{◌≡◌, false};
 ghost use Rattle.stm_core.specs.Client.{committed};
-ghost use Rattle.stm_core.specs.Guards.{Holds};
-ghost use Rattle.stm_logs.specs.Log.{log_pairs, log_locks, pairs_of};
+ghost use Rattle.stm_logs.specs.Log.{log_locks};
 ghost use Rattle.stm_attempt.specs.Begun.{IsPlaced, addresses};
 ghost use Rattle.stm_attempt.specs.CommitParts.{CanSettle, HasStored, HasReleased, IsAllStored};
-ghost use Rattle.stm_attempt.specs.StoredPairs.{IsUnstored, HasStoredPairs};
+ghost use Rattle.stm_attempt.specs.StoredPairs.{AreStorable, HasStoredPairs};
 
 use std::alloc::Allocator;
-use stm_logs::WriteLog;
+use stm_logs::{Words, WriteLog};
 use stm_region::{Client, Region};
 use stm_words::Law;
 
-/// Stores the values of the addresses of one lock.
-fn store_words<L: Law, R: Allocator, A: Allocator + Copy>(
+/// Stores the values of some addresses.
+fn store_words<L: Law, R: Allocator, A: Allocator>(
     region: &Region<L, R>,
     client: &mut Client<L>,
-    lock: u32,
-    writes: &WriteLog<A>,
+    words: Words<'_, A>,
 )
     requires own { client.old.table ≡ region.now.table }
     requires committed { (client.old.value.spent ≡ false)
         × (client.old.value.attempt.phase ≡ committed) }
-    requires writes { client.old.value.attempt.writes ≡ log_pairs writes.now }
-    requires held { Holds client.old.value.attempt.held lock }
-    requires placed { IsPlaced region.now writes.now }
-    requires unstored { IsUnstored (pairs_of writes.now lock) client.old.value.attempt.stored }
+    requires storable { AreStorable region.now client.old.value words }
     ensures own { client.new.table ≡ client.old.table }
-    ensures stored { HasStoredPairs client.old.value client.new.value (pairs_of writes.now lock) }
+    ensures stored { HasStoredPairs client.old.value client.new.value words.entry }
 {
-    for (addr, value) in writes.words_of(lock) {
+    for (addr, value) in words {
         region.put(client, addr, value);
     }
 }
 
-/// Stores all written values.
+/// Stores all written values, lock by lock.
 pub(crate) fn store_all<L: Law, R: Allocator, A: Allocator + Copy>(
     region: &Region<L, R>,
     client: &mut Client<L>,
@@ -47,8 +42,8 @@ pub(crate) fn store_all<L: Law, R: Allocator, A: Allocator + Copy>(
     ensures stored { HasStored client.old.value client.new.value }
 {
     writes.same_addresses();
-    for lock in writes.locks() {
-        store_words(region, client, lock, writes);
+    for (_lock, words) in writes.by_lock() {
+        store_words(region, client, words);
     }
 }
 

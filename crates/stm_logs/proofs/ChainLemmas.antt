@@ -5,12 +5,12 @@ use Rattle.std.specs.Ordering.{nat_cmp}
 use Rattle.std.proofs.lemmas.Bool.Decides.{nat_tests}
 use Rattle.std.proofs.Math.ListN.{length-map}
 use Rattle.stm_logs.specs.declared.nodes.Node.{Node}
-use Rattle.stm_logs.specs.Nodes.{at}
-use Rattle.stm_logs.specs.Log.{LogValue, empty_log, log_pairs, log_locks, is_number, pairs_of}
+use Rattle.stm_logs.specs.Nodes.{Block, at}
+use Rattle.stm_logs.specs.Log.{LogValue, empty_log, log_groups, log_pairs, log_locks, is_number, pairs_of}
 use Rattle.stm_logs.specs.Index.{is_lock_node, HasKey, HasNone}
-use Rattle.stm_logs.specs.Tree.{Least, IsTree, log_value, table, trues, is_word_at, is_lock_at}
+use Rattle.stm_logs.specs.Tree.{Least, IsTree, block_log, log_value, table, trues, is_word_at, is_lock_at}
 use Rattle.stm_logs.specs.Held.{IsLog}
-use Rattle.stm_logs.specs.Chain.{chain, Ends, number_of, pair_of}
+use Rattle.stm_logs.specs.Chain.{chain, Ends, EndBelow, group_of, number_of, pair_of}
 use Rattle.stm_logs.proofs.NodeLemmas.{same_or}
 use Rattle.stm_logs.proofs.TableLemmas.{both_bool, true_false, Apart, get_source, get_there, len_table, mark}
 use Rattle.stm_logs.proofs.RisingLemmas.{In, Rising, rising_entries, get_in, in_get, in_map, map_in, rising_map, filter_in, in_filter, rising_filter, length_filter_le, rising_same}
@@ -203,6 +203,43 @@ locks_chain ns n log =
     (λ e z m top _. in_lock ns n e log z m top)
     (omega (arith, count_locks ns n log, trues_le (is_lock_at ns) n))
 
+-- the chains below the locks of a chain, and the locks with their words
+groups : (block : Block) (most p : ℕ) → IsLog block.list block.count → (0 < p → (p ≤ block.count) × ((at block.list p).parent ≡ 0)) → Ends block.list most p
+    → EndBelow block.list block.count most p × (chain (group_of block) block.list most p ≡ map (λ lock. (lock, pairs_of (block_log block) lock)) (chain number_of block.list most p))
+groups block zero p log top ends = (ends, refl)
+groups block (suc most) p log top ends =
+    let ns : List Node = block.list in
+    let n : ℕ = block.count in
+    let pairs : ℕ → ℕ × List (ℕ × ℕ) = λ lock. (lock, pairs_of (block_log block) lock) in
+    elim (same_or p 0) [
+      | inl is ↦ (
+        (λ some. absurd (omega (arith, is, some))),
+        ap (λ b. cond b [] (group_of block (at ns p) ∷ chain (group_of block) ns most (at ns p).next)) (eq_zero p is)
+            ∙ sym (ap (λ b. map pairs (cond b [] (number_of (at ns p) ∷ chain number_of ns most (at ns p).next))) (eq_zero p is)),
+      )
+      | inr ne ↦ (
+          let some : 0 < p = omega arith in
+          let here = top some in
+          let words = pairs_chain ns n (at ns p).number p log some here.0 (refl, eq_zero _ here.1) in
+          let rest = groups block most (at ns p).next log (λ z. let s = (log.ready.tree.next p some here.0).some z in (s.0, s.1 ∙ here.1)) (ends some).1 in (
+            (λ _. ((ends some).0, words.1, rest.0)),
+            ap (λ b. cond b [] (group_of block (at ns p) ∷ chain (group_of block) ns most (at ns p).next)) (not_zero p some)
+                ∙ (λ i. ((at ns p).number, words.0 i) ∷ rest.1 i)
+                ∙ sym (ap (λ b. map pairs (cond b [] (number_of (at ns p) ∷ chain number_of ns most (at ns p).next))) (not_zero p some)),
+          )
+          )
+    ]
+
+-- the chain of the root gives the locks with their words
+pub groups_chain : (block : Block) → IsLog block.list block.count
+    → (chain (group_of block) block.list block.count (at block.list 0).first ≡ log_groups (block_log block)) × EndBelow block.list block.count block.count (at block.list 0).first
+groups_chain block log =
+    let ns : List Node = block.list in
+    let n : ℕ = block.count in
+    let locks = locks_chain ns n log in
+    let all = groups block n (at ns 0).first log (λ some. let s = (log.ready.tree.first 0 (omega arith)).some some in (s.0, s.1)) locks.1 in
+    (all.1 ∙ ap (map (λ lock. (lock, pairs_of (block_log block) lock))) locks.0, all.0)
+
 -- a lock node is there exactly for the locks of the log
 pub lock_there : (ns : List Node) (n lock e : ℕ) → IsLog ns n → 0 < e → e ≤ n → HasKey (at ns e) true lock → (a : ℕ) × (get (log_value ns n).locks a ≡ Some lock)
 lock_there ns n lock e log z m key =
@@ -233,6 +270,9 @@ none_entries = no_length _ (sym (len-entries (empty {X = ℕ} {R = nat_cmp})) �
 
 pub empty_locks : log_locks empty_log ≡ []
 empty_locks = ap (λ (es : List (ℕ × ℕ)). keys {R = nat_cmp} (from_entries (map (λ (p : ℕ × ℕ). (p.1, p.0)) es))) none_entries ∙ ap (map (λ (p : ℕ × ℕ). p.0)) none_entries
+
+pub empty_groups : log_groups empty_log ≡ []
+empty_groups = ap (map (λ lock. (lock, pairs_of empty_log lock))) empty_locks
 
 pub empty_pairs : (lock : ℕ) → pairs_of empty_log lock ≡ []
 empty_pairs lock = ap (filter (λ (p : ℕ × ℕ). is_number (get empty_log.locks p.0) lock)) none_entries

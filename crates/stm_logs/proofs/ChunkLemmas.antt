@@ -1,8 +1,10 @@
 -- Chunks as one list.
-use Rattle.std.proofs.Common.{◌≡◌, ℕ, zero, suc, ◌+◌, ◌-◌, ◌*◌, ◌<◌, ◌/◌, ◌%◌, List, [], ◌∷◌, ◌++◌, length, take, get_or, set, refl, sym, ap, ◌∙◌, arith, append_assoc, length-append}
+use Rattle.std.proofs.Common.{◌≡◌, inl, inr, ℕ, zero, suc, ◌+◌, ◌-◌, ◌*◌, ◌<◌, ◌≤◌, ◌/◌, ◌%◌, Option, List, [], ◌∷◌, ◌++◌, length, take, get_or, set, refl, sym, ap, ◌∙◌, arith, append_assoc, length-append}
 use Rattle.std.proofs.Math.ListN.{get_or-append}
-use Rattle.std.proofs.lemmas.List.{get_or-append_right, set-append_left, set-append_right, get_or-take, get_or_default, length-take-le, take_more_set, take-append-le}
-use Rattle.stm_logs.specs.Chunks.{joined, HasRoom, IsLonger, IsRoomier}
+use Rattle.std.proofs.lemmas.List.{append-nil, get_or-append_right, get_or-set_other, get_or-take, length-set, length-take-le, take_more_set, take-append-le}
+use Rattle.std.proofs.lemmas.Grind.{get_or-set_at}
+use Rattle.stm_logs.proofs.NodeLemmas.{same_or}
+use Rattle.stm_logs.specs.Chunks.{joined, in_hand, logged, AreWhole, HasRoom, IsLonger, IsRoomier, IsSetAside}
 
 abbrev AllFull : List (List ℕ) → Type 0
 AllFull cs = (k : ℕ) → k < length cs → length (get_or cs k []) ≡ 1024
@@ -32,58 +34,76 @@ joined_at (c ∷ cs) (suc q) r full l m =
     get_or-append_right c (joined cs) 1024 (1024 * suc q + r) 0 one (omega arith)
     ∙ ap (λ k. get_or (joined cs) k 0) e ∙ joined_at cs q r (behind c cs full) (omega arith) m
 
-pub joined_set : (cs : List (List ℕ)) (q r x : ℕ) → AllFull cs → q < length cs → r < 1024
-    → joined (set cs q (set (get_or cs q []) r x)) ≡ set (joined cs) (1024 * q + r) x
-joined_set [] q r x full l m = absurd (omega arith)
-joined_set (c ∷ cs) zero r x full l m =
-    let one = first c cs full in
-    let e : 1024 * 0 + r ≡ r = omega arith in
-    rw e (sym (set-append_left c (joined cs) r x (omega (arith, one))))
-joined_set (c ∷ cs) (suc q) r x full l m =
-    let one = first c cs full in
-    let e : 1024 * suc q + r - 1024 ≡ 1024 * q + r = omega arith in
-    ap (λ ys. c ++ ys) (joined_set cs q r x (behind c cs full) (omega arith) m ∙ ap (λ k. set (joined cs) k x) (sym e))
-    ∙ sym (set-append_right c (joined cs) 1024 (1024 * suc q + r) x one (omega arith))
-
 pub joined-append : (cs ds : List (List ℕ)) → joined (cs ++ ds) ≡ joined cs ++ joined ds
 joined-append [] ds = refl
 joined-append (c ∷ cs) ds = ap (λ ys. c ++ ys) (joined-append cs ds) ∙ sym (append_assoc c (joined cs) (joined ds))
 
-pub length-log : (cs : List (List ℕ)) (n : ℕ) → HasRoom cs n → length (take n (joined cs)) ≡ n
-length-log cs n h = length-take-le n (joined cs) (omega (arith, h.count, length-joined cs h.each))
+first_whole : (rest : List (List ℕ)) (full : ℕ) → AreWhole rest → full ≤ length rest → AllFull (take full rest)
+first_whole rest full whole few k below =
+    let len : length (take full rest) ≡ full = length-take-le full rest few in
+    let under : k < full = omega (arith, len, below) in
+    ap length (get_or-take full rest k [] under) ∙ whole.each k (omega (arith, under, few))
 
-pub log_at : (cs : List (List ℕ)) (n i : ℕ) → HasRoom cs n → i < length (take n (joined cs)) → get_or (get_or cs (i / 1024) []) (i % 1024) 0 ≡ get_or (take n (joined cs)) i 0
-log_at cs n i h l =
-    let below : i < n = omega (arith, length-log cs n h, l) in
+length-first : (rest : List (List ℕ)) (full : ℕ) → AreWhole rest → full ≤ length rest → length (joined (take full rest)) ≡ 1024 * full
+length-first rest full whole few =
+    length-joined (take full rest) (first_whole rest full whole few) ∙ ap (λ n. 1024 * n) (length-take-le full rest few)
+
+pub length-logged : (rest : List (List ℕ)) (full : ℕ) (hand : Option (List ℕ)) (used : ℕ) → HasRoom rest full hand → used ≤ length (in_hand hand)
+    → length (logged rest full hand used) ≡ 1024 * full + used
+length-logged rest full hand used room few =
+    omega (arith, length-append (joined (take full rest)) (take used (in_hand hand)), length-first rest full room.whole room.count, length-take-le used (in_hand hand) few)
+
+-- a value of a full chunk
+pub full_at : (rest : List (List ℕ)) (full : ℕ) (hand : Option (List ℕ)) (used i : ℕ) → HasRoom rest full hand → i / 1024 < full
+    → get_or (get_or rest (i / 1024) []) (i % 1024) 0 ≡ get_or (logged rest full hand used) i 0
+full_at rest full hand used i room below =
     let e : 1024 * (i / 1024) + i % 1024 ≡ i = omega arith in
-    sym (joined_at cs (i / 1024) (i % 1024) h.each (omega (arith, h.count)) (omega arith)) ∙ ap (λ k. get_or (joined cs) k 0) e
-    ∙ sym (get_or-take n (joined cs) i 0 below)
+    let len = length-first rest full room.whole room.count in
+    let few : i / 1024 < length (take full rest) = omega (arith, below, length-take-le full rest room.count) in
+    ap (λ (c : List ℕ). get_or c (i % 1024) 0) (sym (get_or-take full rest (i / 1024) [] below))
+    ∙ sym (joined_at (take full rest) (i / 1024) (i % 1024) (first_whole rest full room.whole room.count) few (omega arith))
+    ∙ ap (λ k. get_or (joined (take full rest)) k 0) e
+    ∙ sym (get_or-append (joined (take full rest)) (take used (in_hand hand)) 0 i (omega (arith, len, below)))
 
--- a value put behind the first n
-pub log_put : (cs : List (List ℕ)) (n x : ℕ) → HasRoom cs n → n < 1024 * length cs → take (n + 1) (joined (set cs (n / 1024) (set (get_or cs (n / 1024) []) (n % 1024) x))) ≡ take n (joined cs) ++ x ∷ []
-log_put cs n x h l =
-    let e : 1024 * (n / 1024) + n % 1024 ≡ n = omega arith in
-    ap (take (n + 1)) (joined_set cs (n / 1024) (n % 1024) x h.each (omega arith) (omega arith) ∙ ap (λ k. set (joined cs) k x) e)
-    ∙ take_more_set (joined cs) n x (omega (arith, length-joined cs h.each))
+-- a value of the chunk at hand
+pub hand_at : (rest : List (List ℕ)) (full : ℕ) (hand : Option (List ℕ)) (used i : ℕ) → HasRoom rest full hand
+    → used ≤ length (in_hand hand) → length (in_hand hand) ≤ 1024 → full ≤ i / 1024 → i < length (logged rest full hand used)
+    → get_or (in_hand hand) (i % 1024) 0 ≡ get_or (logged rest full hand used) i 0
+hand_at rest full hand used i room few small over inside =
+    let len = length-first rest full room.whole room.count in
+    let below : i < 1024 * full + used = omega (arith, length-logged rest full hand used room few, inside) in
+    let e : i % 1024 ≡ i - 1024 * full = omega (arith, below, few, small, over) in
+    let under : i - 1024 * full < used = omega (arith, below, over) in
+    ap (λ k. get_or (in_hand hand) k 0) e
+    ∙ sym (get_or-take used (in_hand hand) (i - 1024 * full) 0 under)
+    ∙ sym (get_or-append_right (joined (take full rest)) (take used (in_hand hand)) (1024 * full) i 0 len (omega (arith, over)))
 
-pub longer_roomier : (cs ds : List (List ℕ)) (n : ℕ) → HasRoom cs n → n / 1024 ≡ length cs → IsLonger cs ds → IsRoomier cs ds n
-longer_roomier cs ds n h full more = record {
-  room = record {
-    each = more.room.each;
-    count = omega (arith, h.count, ap length more.appended, length-append cs (more.chunk ∷ []));
-    limit = more.room.limit;
-  };
-  same =
-      ap (λ es. take n (joined es)) more.appended ∙ ap (take n) (joined-append cs (more.chunk ∷ []))
-      ∙ take-append-le n (joined cs) (joined (more.chunk ∷ [])) (omega (arith, h.count, length-joined cs h.each));
+set_whole : (chunks : List (List ℕ)) (i : ℕ) (chunk : List ℕ) (k : ℕ) → AreWhole chunks → length chunk ≡ 1024 → k < length (set chunks i chunk)
+    → length (get_or (set chunks i chunk) k []) ≡ 1024
+set_whole chunks i chunk k whole places l =
+    let below : k < length chunks = omega (arith, l, length-set chunks i chunk) in
+    elim (same_or k i) [
+      | inl e ↦ ap length (get_or-set_at chunks i k chunk [] e (omega (arith, e, below))) ∙ places
+      | inr ne ↦ ap length (get_or-set_other chunks i k chunk [] ne) ∙ whole.each k below
+    ]
+
+pub longer_roomier : (rest more : List (List ℕ)) (full : ℕ) → full ≡ length rest → IsLonger rest more → IsRoomier rest more full
+longer_roomier rest more full e longer = record {
+  whole = longer.whole;
+  inside = omega (arith, e, ap length longer.appended, length-append rest (longer.chunk ∷ []));
+  same = ap (take full) longer.appended ∙ take-append-le full rest (longer.chunk ∷ []) (omega (arith, e));
 }
 
-pub log_pushed : (cs more : List (List ℕ)) (n x : ℕ) (old new : List ℕ) → IsRoomier cs more n → old ≡ get_or more (n / 1024) old → new ≡ set old (n % 1024) x
-    → take (n + 1) (joined (set more (n / 1024) new)) ≡ take n (joined cs) ++ x ∷ []
-log_pushed cs more n x old new roomier read wrote =
-    let room = roomier.room in
-    let below : n < 1024 * length more = omega (arith, room.count) in
-    let chunk : old ≡ get_or more (n / 1024) [] = read ∙ get_or_default more (n / 1024) old [] (omega arith) in
-    let fewer : HasRoom more n = record { each = room.each; count = omega arith; limit = room.limit } in
-    ap (λ c. take (n + 1) (joined (set more (n / 1024) c))) (wrote ∙ ap (λ c. set c (n % 1024) x) chunk)
-    ∙ log_put more n x fewer below ∙ ap (λ ys. ys ++ x ∷ []) roomier.same
+pub set_aside : (rest more : List (List ℕ)) (full : ℕ) (chunk spare : List ℕ) → IsRoomier rest more full → length chunk ≡ 1024 → spare ≡ get_or more full []
+    → IsSetAside rest full chunk (set more full chunk) (full + 1) spare
+set_aside rest more full chunk spare roomier places found = record {
+  whole = record {
+    each = λ k l. set_whole more full chunk k roomier.whole places l;
+    limit = omega (arith, roomier.whole.limit, length-set more full chunk);
+  };
+  inside = omega (arith, roomier.inside, length-set more full chunk);
+  places = ap length found ∙ roomier.whole.each full roomier.inside;
+  same =
+      ap joined (take_more_set more full chunk roomier.inside) ∙ joined-append (take full more) (chunk ∷ [])
+      ∙ ap (λ ys. joined (take full more) ++ ys) (append-nil chunk) ∙ ap (λ (cs : List (List ℕ)). joined cs ++ chunk) roomier.same;
+}

@@ -14,6 +14,10 @@ was_away marks i j l away = elim (same_or j i) [
   | inr ne ↦ sym (get_or-set_other marks i j true false ne) ∙ away
 ]
 
+-- one mark more does no harm
+pub more_marked : (marks : List Bool) (i : ℕ) (log : LogValue) → i < length marks → IsMarked marks log.words → IsMarked (set marks i true) log.words
+more_marked marks i log l was b away = was b (was_away marks i (b % MARKS) l away)
+
 -- an address enters with its mark
 pub enters_marked : (marks : List Bool) (i a lock v : ℕ) (old new : LogValue) → i ≡ a % MARKS → i < length marks → IsMarked marks old.words → new ≡ with_word old a lock v → IsMarked (set marks i true) new.words
 enters_marked marks i a lock v old new at_i l was is b away = ap (λ (w : LogValue). get w.words b) is ∙ elim (same_or b a) [

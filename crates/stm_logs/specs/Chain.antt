@@ -34,3 +34,22 @@ EndsIn (Some block) most p = Ends block.now.list most p
 -- the words of a chain with their values
 abbrev pub pairs_from : Block → ℕ → List (ℕ × ℕ)
 pairs_from block p = chain pair_of block.list block.count p
+
+-- the number of a lock's node, and its words with their values
+abbrev pub group_of : Block → Node → ℕ × List (ℕ × ℕ)
+group_of block node = (node.number, pairs_from block node.first)
+
+-- the locks of a chain with their words, in the block that there may be
+abbrev pub groups_in : Option (Bor Block) → ℕ → ℕ → List (ℕ × List (ℕ × ℕ))
+groups_in None most p = []
+groups_in (Some block) most p = chain (group_of block.now) block.now.list most p
+
+-- the chain from p on ends within so many nodes, and the chain below each of them within n
+abbrev pub EndBelow : List Node → ℕ → ℕ → ℕ → Type 0
+EndBelow ns n zero p = p ≡ 0
+EndBelow ns n (suc most) p =
+    0 < p → (p < length ns) × Ends ns n (at ns p).first × EndBelow ns n most (at ns p).next
+
+abbrev pub EndBelowIn : Option (Bor Block) → ℕ → ℕ → Type 0
+EndBelowIn None most p = Unit {0}
+EndBelowIn (Some block) most p = EndBelow block.now.list block.now.count most p

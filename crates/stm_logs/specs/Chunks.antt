@@ -1,25 +1,54 @@
 -- The chunks of a read log.
-use Rattle.std.specs.Prelude.{◌≡◌, ℕ, ◌+◌, ◌*◌, ◌<◌, ◌≤◌, List, [], ◌∷◌, ◌++◌, length, take, slice_index_or}
+use Rattle.std.specs.Prelude.{◌≡◌, ℕ, ◌<◌, ◌≤◌, Option, Some, None, List, [], ◌∷◌, ◌++◌, length, take, slice_index_or}
 
 -- the values of the chunks, one chunk behind the other
 abbrev pub joined : List (List ℕ) → List ℕ
 joined [] = []
 joined (chunk ∷ chunks) = chunk ++ joined chunks
 
--- each chunk has 1,024 places, and there is a place for each of the first len values
-pub record HasRoom (chunks : List (List ℕ)) (len : ℕ) : Type 0 where
+-- the places of the chunk at hand
+abbrev pub in_hand : Option (List ℕ) → List ℕ
+in_hand None = []
+in_hand (Some chunk) = chunk
+
+-- the values of the first full chunks, and behind them so many of the chunk at hand
+abbrev pub logged : List (List ℕ) → ℕ → Option (List ℕ) → ℕ → List ℕ
+logged rest full hand used = joined (take full rest) ++ take used (in_hand hand)
+
+-- each chunk has 1,024 places, and there are no more chunks than a log may have
+pub record AreWhole (chunks : List (List ℕ)) : Type 0 where
   pub each : (k : ℕ) → k < length chunks → length (slice_index_or chunks k []) ≡ 1024
-  pub count : len ≤ 1024 * length chunks
   pub limit : length chunks ≤ 1125899906842624
+
+-- each chunk has 1,024 places, the one at hand too, and so many of the others may be full
+pub record HasRoom (rest : List (List ℕ)) (full : ℕ) (hand : Option (List ℕ)) : Type 0 where
+  pub whole : AreWhole rest
+  pub count : full ≤ length rest
+  pub here : (chunk : List ℕ) → hand ≡ Some chunk → length chunk ≡ 1024
 
 -- more has one chunk more behind the others
 pub record IsLonger (chunks more : List (List ℕ)) : Type 0 where
   pub chunk : List ℕ
-  pub places : length chunk ≡ 1024
   pub appended : more ≡ chunks ++ chunk ∷ []
-  pub room : HasRoom more (1024 * length chunks)
+  pub whole : AreWhole more
 
--- more has a place behind the first len values, which are as in chunks
-pub record IsRoomier (chunks more : List (List ℕ)) (len : ℕ) : Type 0 where
-  pub room : HasRoom more (len + 1)
-  pub same : take len (joined more) ≡ take len (joined chunks)
+-- more has a chunk behind the first full ones, which are as before
+pub record IsRoomier (rest more : List (List ℕ)) (full : ℕ) : Type 0 where
+  pub whole : AreWhole more
+  pub inside : full < length more
+  pub same : take full more ≡ take full rest
+
+-- the chunk has become one of the full ones, behind the others, and another is there for it
+pub record IsSetAside (rest : List (List ℕ)) (full : ℕ) (chunk : List ℕ)
+    (more : List (List ℕ)) (count : ℕ) (spare : List ℕ) : Type 0 where
+  pub whole : AreWhole more
+  pub inside : count ≤ length more
+  pub places : length spare ≡ 1024
+  pub same : joined (take count more) ≡ joined (take full rest) ++ chunk
+
+-- a whole chunk is at hand, and the values of the one that was are behind those of the full ones
+pub record IsTurned (rest : List (List ℕ)) (full : ℕ) (hand : Option (List ℕ))
+    (more : List (List ℕ)) (count : ℕ) (spare : Option (List ℕ)) : Type 0 where
+  pub room : HasRoom more count spare
+  pub places : length (in_hand spare) ≡ 1024
+  pub same : joined (take count more) ≡ joined (take full rest) ++ in_hand hand

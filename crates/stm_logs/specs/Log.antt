@@ -43,6 +43,10 @@ is_number (Some k) lock = nat_eq k lock
 abbrev pub pairs_of : LogValue → ℕ → List (ℕ × ℕ)
 pairs_of w lock = filter (λ p. is_number (get w.locks p.0) lock) (log_pairs w)
 
+-- the locks of the written addresses in ascending order, each with its addresses and values
+abbrev pub log_groups : LogValue → List (ℕ × List (ℕ × ℕ))
+log_groups w = map (λ lock. (lock, pairs_of w lock)) (log_locks w)
+
 -- the same addresses have a value and a lock
 abbrev pub SameAddresses : LogValue → Type 0
 SameAddresses w = (a : ℕ)

@@ -16,6 +16,6 @@ mod row;
 mod tree;
 mod write;
 
-pub use chain::{Locks, Words};
+pub use chain::{ByLock, Locks, Words};
 pub use read::ReadLog;
 pub use write::WriteLog;

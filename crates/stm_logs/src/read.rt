@@ -1,11 +1,12 @@
 //! The read log: the addresses that a transaction has read.
-ghost use Rattle.stm_logs.specs.Chunks.{HasRoom, IsLonger, IsRoomier};
+ghost use Rattle.stm_logs.specs.Chunks.{AreWhole, HasRoom, IsLonger, IsRoomier, IsSetAside, IsTurned};
 ghost use Rattle.stm_logs.specs.Refusals.{OrSame, Becomes};
-ghost use Rattle.std.specs.Prelude.{◌≡◌, ℕ, ◌+◌, ◌*◌, ◌<◌, ◌≤◌, List, [], ◌∷◌, ◌++◌, length, take, slice_index, slice_set, IfOk};
+ghost use Rattle.std.specs.Prelude.{◌≡◌, ℕ, ◌+◌, ◌*◌, ◌<◌, ◌≤◌, List, [], ◌∷◌, ◌++◌, length, take, slice_index, slice_set, IfOk, MatchResult};
 
 use crate::row::{Right, Row, fill, release};
 use std::alloc::{AllocError, Allocator, Global};
 use std::marker::Model;
+use std::mem::swap;
 use stm_words::Addr;
 
 /// The places of a chunk.
@@ -70,19 +71,28 @@ impl<A: Allocator> Chunk<A> {
 #[derive(Drop)]
 pub struct ReadLog<A: Allocator + Copy = Global> {
     alloc: A,
-    chunks: Vec<Chunk<A>, A>,
-    len: usize,
+    /// The chunk at hand, which the next address goes into.
+    hand: Option<Chunk<A>>,
+    /// The addresses of the chunk at hand.
+    used: usize,
+    /// The places of the chunk at hand.
+    end: usize,
+    /// The other chunks, those first that are full.
+    rest: Vec<Chunk<A>, A>,
+    /// The other chunks that are full.
+    full: usize,
 }
 
 impl<A: Allocator + Copy> Model for ReadLog<A> {
-    ghost use Rattle.std.specs.Prelude.{ℕ, List, take};
-    ghost use Rattle.stm_logs.specs.Chunks.{joined, HasRoom};
+    ghost use Rattle.std.specs.Prelude.{◌≡◌, ◌≤◌, ℕ, List, length};
+    ghost use Rattle.stm_logs.specs.Chunks.{in_hand, logged, HasRoom};
 
     ghost Value = { List ℕ };
 
-    ghost view = { λ c. take c.len (joined c.chunks.items) };
+    ghost view = { λ c. logged c.rest.items c.full c.hand c.used };
 
-    ghost invariant = { λ c. HasRoom c.chunks.items c.len };
+    ghost invariant = { λ c. HasRoom c.rest.items c.full c.hand
+        × (c.end ≡ length (in_hand c.hand)) × (c.used ≤ c.end) };
 }
 
 impl<A: Allocator + Copy> ReadLog<A> {
@@ -92,8 +102,11 @@ impl<A: Allocator + Copy> ReadLog<A> {
     {
         ReadLog {
             alloc,
-            chunks: Vec::new(alloc),
-            len: 0,
+            hand: None,
+            used: 0,
+            end: 0,
+            rest: Vec::new(alloc),
+            full: 0,
         }
     }
 
@@ -102,7 +115,7 @@ impl<A: Allocator + Copy> ReadLog<A> {
     pub fn len(&self) -> usize
         ensures { result ≡ length self.now }
     {
-        self.len
+        self.full * PLACES + self.used
     }
 
     /// The address at index `i`.
@@ -111,7 +124,14 @@ impl<A: Allocator + Copy> ReadLog<A> {
         requires { i < length self.now }
         ensures { result.0 ≡ slice_index self.now i }
     {
-        Addr(self.chunks[i / PLACES].get(i % PLACES))
+        let chunk = i / PLACES;
+        if chunk < self.full {
+            return Addr(self.rest[chunk].get(i % PLACES));
+        }
+        match &self.hand {
+            Some(hand) => Addr(hand.get(i % PLACES)),
+            None => unreachable!(),
+        }
     }
 
     /// Appends an address. Where memory is refused, the log stays as it was.
@@ -119,9 +139,16 @@ impl<A: Allocator + Copy> ReadLog<A> {
     pub fn push(&mut self, addr: Addr) -> Result<(), AllocError>
         ensures { Becomes result self.old self.new (self.old ++ addr.0 ∷ []) }
     {
-        make_room(self.alloc, &mut self.chunks, self.len)?;
-        self.chunks[self.len / PLACES].put(self.len % PLACES, addr.0);
-        self.len += 1;
+        if self.used == self.end {
+            turn(self.alloc, &mut self.hand, &mut self.rest, &mut self.full)?;
+            self.used = 0;
+            self.end = PLACES;
+        }
+        match &mut self.hand {
+            Some(hand) => hand.put(self.used, addr.0),
+            None => unreachable!(),
+        }
+        self.used += 1;
         Ok(())
     }
 
@@ -130,30 +157,73 @@ impl<A: Allocator + Copy> ReadLog<A> {
     pub fn clear(&mut self)
         ensures { self.new ≡ [] }
     {
-        self.len = 0;
+        self.full = 0;
+        self.used = 0;
     }
 }
 
-/// Room for one address more than `len`.
-#[inline]
+/// A chunk with no address is at hand, and the one that was stands behind the full ones.
+#[cold]
+fn turn<A: Allocator + Copy>(
+    alloc: A,
+    hand: &mut Option<Chunk<A>>,
+    rest: &mut Vec<Chunk<A>, A>,
+    full: &mut usize,
+) -> Result<(), AllocError>
+    requires { HasRoom rest.old.items full.old hand.old }
+    ensures { MatchResult result
+        (λ _. IsTurned rest.old.items full.old hand.old rest.new.items full.new hand.new)
+        (λ _. (rest.new.items ≡ rest.old.items) × (full.new ≡ full.old) × (hand.new ≡ hand.old)) }
+{
+    match hand {
+        Some(chunk) => set_aside(alloc, chunk, rest, full),
+        None => {
+            *hand = Some(Chunk::new(alloc)?);
+            Ok(())
+        }
+    }
+}
+
+/// Lets a full chunk stand behind the other full ones, with one that is not in use for it.
+fn set_aside<A: Allocator + Copy>(
+    alloc: A,
+    chunk: &mut Chunk<A>,
+    rest: &mut Vec<Chunk<A>, A>,
+    full: &mut usize,
+) -> Result<(), AllocError>
+    requires whole { length chunk.old ≡ 1024 }
+    requires rest { AreWhole rest.old.items }
+    requires full { full.old ≤ length rest.old.items }
+    ensures { MatchResult result
+        (λ _. IsSetAside rest.old.items full.old chunk.old rest.new.items full.new chunk.new)
+        (λ _. (rest.new.items ≡ rest.old.items) × (full.new ≡ full.old)
+        × (chunk.new ≡ chunk.old)) }
+{
+    make_room(alloc, rest, *full)?;
+    swap(chunk, &mut rest[*full]);
+    *full += 1;
+    Ok(())
+}
+
+/// A chunk behind the full ones.
 fn make_room<A: Allocator + Copy>(
     alloc: A,
-    chunks: &mut Vec<Chunk<A>, A>,
-    len: usize,
+    rest: &mut Vec<Chunk<A>, A>,
+    full: usize,
 ) -> Result<(), AllocError>
-    requires { HasRoom chunks.old.items len }
-    ensures { OrSame result (λ old new. IsRoomier old new len) chunks.old.items chunks.new.items }
+    requires whole { AreWhole rest.old.items }
+    requires full { full ≤ length rest.old.items }
+    ensures { OrSame result (λ old new. IsRoomier old new full) rest.old.items rest.new.items }
 {
-    if len / PLACES == chunks.len() {
-        grow(alloc, chunks)?;
+    if full == rest.len() {
+        grow(alloc, rest)?;
     }
     Ok(())
 }
 
 /// Appends a chunk.
-#[cold]
 fn grow<A: Allocator + Copy>(alloc: A, chunks: &mut Vec<Chunk<A>, A>) -> Result<(), AllocError>
-    requires { HasRoom chunks.old.items (1024 * length chunks.old.items) }
+    requires { AreWhole chunks.old.items }
     ensures { OrSame result IsLonger chunks.old.items chunks.new.items }
 {
     if chunks.len() >= MAX_CHUNKS {

@@ -6,10 +6,10 @@ ghost use Rattle.stm_logs.specs.Index.{HasNone, IsIndexed, Answers, unslotted};
 ghost use Rattle.stm_logs.specs.Tree.{IsReady, Added, block_log};
 ghost use Rattle.stm_logs.specs.Held.{IsLog, IsReplaced, IsEntered, HasMore, HasLock};
 ghost use Rattle.stm_logs.specs.Chain.{Ends, pairs_from};
-ghost use Rattle.stm_logs.specs.Log.{LogValue, empty_log, log_locks, pairs_of, SameAddresses};
+ghost use Rattle.stm_logs.specs.Log.{LogValue, empty_log, log_groups, log_locks, pairs_of, SameAddresses};
 ghost use Rattle.stm_logs.specs.Refusals.{OrSame};
 
-use crate::chain::{Locks, Words};
+use crate::chain::{ByLock, Locks, Words};
 use crate::grow::{grown, is_full};
 use crate::index::{enter, find, probe};
 use crate::link::link;
@@ -42,9 +42,23 @@ impl<A: Allocator> Model for Tree<A> {
 }
 
 impl<A: Allocator + Copy> Tree<A> {
-    /// A tree with no word.
+    /// A tree with one word.
     #[cold]
-    pub(crate) fn new(alloc: A) -> Result<Tree<A>, AllocError>
+    pub(crate) fn with_word(
+        alloc: A,
+        number: u32,
+        lock: u32,
+        value: u64,
+    ) -> Result<Tree<A>, AllocError>
+        ensures { IfOk result (λ t. IsEntered empty_log t number lock value) }
+    {
+        let mut tree = Tree::new(alloc)?;
+        tree.put(number, lock, value)?;
+        Ok(tree)
+    }
+
+    /// A tree with no word.
+    fn new(alloc: A) -> Result<Tree<A>, AllocError>
         ensures { IfOk result (λ t. t ≡ empty_log) }
     {
         let nodes = Nodes::new(alloc, PLACES)?;
@@ -86,6 +100,18 @@ impl<A: Allocator + Copy> Tree<A> {
         ensures { result ≡ log_locks self.now }
     {
         Locks {
+            nodes: Some(&self.nodes),
+            at: self.nodes.get(0).first as usize,
+            most: self.nodes.count(),
+        }
+    }
+
+    /// The locks in ascending order, each once, with its words.
+    #[inline]
+    pub(crate) fn by_lock(&self) -> ByLock<'_, A>
+        ensures { result ≡ log_groups self.now }
+    {
+        ByLock {
             nodes: Some(&self.nodes),
             at: self.nodes.get(0).first as usize,
             most: self.nodes.count(),

@@ -3,9 +3,9 @@ ghost use Rattle.std.specs.Prelude.{◌≡◌, ◌≢◌, ◌↔◌, ℕ, ◌%�
 ghost use Rattle.std.specs.FinMap.{get, len};
 ghost use Rattle.stm_logs.specs.Refusals.{Becomes};
 ghost use Rattle.stm_logs.specs.Held.{with_word};
-ghost use Rattle.stm_logs.specs.Log.{LogValue, empty_log, log_locks, pairs_of, SameAddresses};
+ghost use Rattle.stm_logs.specs.Log.{LogValue, empty_log, log_groups, log_locks, pairs_of, SameAddresses};
 
-use crate::chain::{Locks, Words};
+use crate::chain::{ByLock, Locks, Words};
 use crate::tree::Tree;
 use std::alloc::{AllocError, Allocator, Global};
 use std::marker::Model;
@@ -83,21 +83,27 @@ impl<A: Allocator + Copy> WriteLog<A> {
         ensures answer { Becomes result self.old self.new (with_word self.old addr.0 lock value) }
         ensures there { get self.old.words addr.0 ≢ None → IsOk result }
     {
+        self.marks[mark_of(addr)] = true;
         match &mut self.tree {
             Some(tree) => {
                 if tree.put(addr.0, lock, value)? {
                     self.len += 1;
-                    self.marks[mark_of(addr)] = true;
                 }
+                Ok(())
             }
-            None => {
-                let mut tree = Tree::new(self.alloc)?;
-                tree.put(addr.0, lock, value)?;
-                self.tree = Some(tree);
-                self.len = 1;
-                self.marks[mark_of(addr)] = true;
-            }
+            None => self.put_first(addr, lock, value),
         }
+    }
+
+    /// Puts the first address of a log, which has no tree yet.
+    #[cold]
+    fn put_first(&mut self, addr: Addr, lock: u32, value: u64) -> Result<(), AllocError>
+        requires { self.old ≡ empty_log }
+        ensures { Becomes result self.old self.new (with_word self.old addr.0 lock value) }
+    {
+        self.tree = Some(Tree::with_word(self.alloc, addr.0, lock, value)?);
+        self.len = 1;
+        self.marks[mark_of(addr)] = true;
         Ok(())
     }
 
@@ -174,6 +180,22 @@ impl<A: Allocator + Copy> WriteLog<A> {
         match &self.tree {
             Some(tree) => tree.words_of(lock),
             None => Words {
+                nodes: None,
+                at: 0,
+                most: 0,
+            },
+        }
+    }
+
+    /// The locks of the addresses in ascending order, each once, with its addresses and values by
+    /// ascending address. No lock is looked up.
+    #[inline]
+    pub fn by_lock(&self) -> ByLock<'_, A>
+        ensures { result ≡ log_groups self.now }
+    {
+        match &self.tree {
+            Some(tree) => tree.by_lock(),
+            None => ByLock {
                 nodes: None,
                 at: 0,
                 most: 0,

@@ -1,12 +1,15 @@
-use Rattle.std.proofs.Common.{◌≡◌, refl, sym, ap, subst, ◌∙◌, ◌+◌, ◌*◌, arith, length, IfOk, IfErr}
+use Rattle.std.proofs.Common.{rules, ◌≡◌, ◌≤◌, refl, sym, ap, subst, ◌∙◌, ◌+◌, ◌*◌, arith, length, take, true, IfOk, IfErr, MatchResult}
+use Rattle.std.proofs.lemmas.List.{take_all}
 use Rattle.std.specs.Result.{is_ok}
 use Rattle.stm_core.specs.Client.{Client}
-use Rattle.stm_logs.specs.Log.{log_pairs}
+use Rattle.stm_logs.specs.Log.{log_pairs, log_locks}
 use Rattle.stm_logs.proofs.LockLemmas.{locks_few}
 use Rattle.stm_region.specs.Shown.{ClientShown}
 use Rattle.stm_attempt.specs.Begun.{addresses}
-use Rattle.stm_attempt.specs.Committing.{HasCommitted, HasStopped}
-use Rattle.stm_attempt.specs.CommitParts.{IsDecided, HasSettled, HasFailedDeciding, returned}
+use Rattle.stm_attempt.specs.Committing.{HasCommitted, HasStopped, WasDecided}
+use Rattle.stm_attempt.specs.Answers.{IsSpent}
+use Rattle.stm_region.specs.Told.{Decides}
+use Rattle.stm_attempt.specs.CommitParts.{IsDecided, CanSettle, CanGiveBack, HasSettled, HasFailedDeciding, returned}
 use Rattle.stm_attempt.proofs.Parts.{still_ready, some_pairs, map_ok, map_err, ok_of, err_of, has_committed, steps_committed, stopped_locking, stopped_deciding, err_not_ok}
 use Rattle.stm_attempt.proofs.commit.commit_writes.Goals as goal
 use Rattle.stm_attempt.proofs.commit.commit_writes.Goals.{in-Ok, in-Err}
@@ -21,6 +24,106 @@ decide-answer-requires-clause-logged g c = record {
   placed = c.requires.logged.placed;
   written = c.requires.logged.written;
 }
+
+pub settle-requires-clause-decided : goal.settle-requires-clause-decided
+settle-requires-clause-decided g c =
+    let log = c.args.logs.now.writes in
+    let l = c.lock_all.new.client.value in
+    elim c.match-lock_all.branch [
+      | in-Ok w ↦
+          (let ok = ok_of w.decide-answer.result (λ version. IsDecided c.args.region.now (g.T.Tag.numbers c.args.tag.now) (log_pairs log) l w.decide-answer.new.client.value version) (ap is_ok (sym w.answer-is) ∙ sym c.if-is_ok.ensures.value) w.decide-answer.ensures.ok in
+          let all = w.in-Ok.ensures.all in
+          let whole : take c.lock_all.new.taken (log_locks log) ≡ log_locks log = take_all _ _ (omega (arith, all.count)) in
+          let able : CanSettle w.decide-answer.new.client.value log = record {
+            unspent = ok.2.same.spent ∙ ap (λ (x : Client). x.spent) all.same ∙ c.requires.ready.unspent;
+            phase = ok.2.phase;
+            stored = ok.2.unstored;
+            writes = ok.2.writing;
+            held = ap addresses ok.2.held ∙ c.lock_all.ensures.held ∙ whole;
+          } in
+          subst (λ (s : ClientShown). CanSettle s.value log) (sym w.client-is) able)
+      | in-Err w ↦ err_not_ok c.match-lock_all.answer _ w.answer-is (sym c.if-is_ok.ensures.value)
+    ]
+
+pub give_back_first-requires-clause-able : goal.give_back_first-requires-clause-able
+give_back_first-requires-clause-able g c =
+    elim c.match-lock_all.branch [
+      | in-Ok w ↦
+          (let failed = err_of w.decide-answer.result (λ stop. HasFailedDeciding c.args.region.now c.args.logs.now.writes stop c.lock_all.new.client.value w.decide-answer.new.client.value) (ap is_ok (sym w.answer-is) ∙ sym c.if-is_ok.ensures.value) w.decide-answer.ensures.failed in
+          subst (λ (s : ClientShown). CanGiveBack s.value) (sym w.client-is) failed.1.able)
+      | in-Err w ↦ subst (λ (s : ClientShown). CanGiveBack s.value) (sym w.client-is) w.in-Err.ensures.failed.able
+    ]
+
+pub give_back_first-requires-clause-held : goal.give_back_first-requires-clause-held
+give_back_first-requires-clause-held g c =
+    elim c.match-lock_all.branch [
+      | in-Ok w ↦
+          (let failed = err_of w.decide-answer.result (λ stop. HasFailedDeciding c.args.region.now c.args.logs.now.writes stop c.lock_all.new.client.value w.decide-answer.new.client.value) (ap is_ok (sym w.answer-is) ∙ sym c.if-is_ok.ensures.value) w.decide-answer.ensures.failed in
+          ap (λ (s : ClientShown). addresses s.value.attempt.held) w.client-is ∙ ap addresses failed.1.held ∙ c.lock_all.ensures.held)
+      | in-Err w ↦ ap (λ (s : ClientShown). addresses s.value.attempt.held) w.client-is ∙ c.lock_all.ensures.held
+    ]
+
+pub give_back_first-requires-clause-few : goal.give_back_first-requires-clause-few
+give_back_first-requires-clause-few g c =
+    elim c.match-lock_all.branch [
+      | in-Ok w ↦ omega (arith, w.in-Ok.ensures.all.count)
+      | in-Err w ↦ omega (arith, w.in-Err.ensures.few)
+    ]
+
+pub returns-then-is_ok-clause-own : goal.returns-then-is_ok-clause-own
+returns-then-is_ok-clause-own g c =
+    elim c.match-lock_all.branch [
+      | in-Ok w ↦ c.settle.ensures.own ∙ ap (λ (s : ClientShown). s.table) w.client-is ∙ w.decide-answer.ensures.own ∙ c.lock_all.ensures.own
+      | in-Err w ↦ c.settle.ensures.own ∙ ap (λ (s : ClientShown). s.table) w.client-is ∙ c.lock_all.ensures.own
+    ]
+
+pub returns-then-is_ok-clause-version : goal.returns-then-is_ok-clause-version
+returns-then-is_ok-clause-version g c =
+    elim c.match-lock_all.branch [
+      | in-Ok w ↦ subst (λ r. IfOk r (λ version. version ≤ c.args.region.now.last)) (sym w.answer-is) w.decide-answer.ensures.version
+      | in-Err w ↦ subst (λ r. IfOk r (λ version. version ≤ c.args.region.now.last)) (sym w.answer-is) tt
+    ]
+
+pub returns-then-is_ok-clause-decides : goal.returns-then-is_ok-clause-decides
+returns-then-is_ok-clause-decides g c =
+    let region = c.args.region.now in
+    let e = c.settle.new.client.value in
+    elim c.match-lock_all.branch [
+      | in-Ok w ↦
+          (let d = w.decide-answer.new.client.value in
+          let settled : HasSettled d e = subst (λ (s : ClientShown). HasSettled s.value e) w.client-is c.settle.ensures.settled in
+          subst (λ r. IfOk r (λ _. WasDecided g.L.Law.fits g.L.Law.lawful region e)) (sym w.answer-is)
+          (map_ok w.decide-answer.result (λ _. Decides g.L.Law.fits g.L.Law.lawful region d) (λ _. WasDecided g.L.Law.fits g.L.Law.lawful region e)
+          (λ _ decides. record { then = d; same = settled.same; decides = decides }) w.decide-answer.ensures.decides))
+      | in-Err w ↦ subst (λ r. IfOk r (λ _. WasDecided g.L.Law.fits g.L.Law.lawful region e)) (sym w.answer-is) tt
+    ]
+
+pub returns-then-is_ok-clause-next : goal.returns-then-is_ok-clause-next
+returns-then-is_ok-clause-next g c = λ lone.
+    elim c.match-lock_all.branch [
+      | in-Ok w ↦
+          (let still : c.lock_all.new.client.value.attempt.lone ≡ true = ap (λ (x : Client). x.attempt.lone) w.in-Ok.ensures.all.same ∙ lone in
+          subst (λ r. MatchResult r (λ version. version ≡ c.args.rv + 1) (λ _. c.args.rv ≡ c.args.region.now.last)) (sym w.answer-is) (w.decide-answer.ensures.next still))
+      | in-Err w ↦ err_not_ok c.match-lock_all.answer _ w.answer-is (sym c.if-is_ok.ensures.value)
+    ]
+
+pub returns-else-is_ok-clause-lone : goal.returns-else-is_ok-clause-lone
+returns-else-is_ok-clause-lone g c = λ lone.
+    elim c.match-lock_all.branch [
+      | in-Ok w ↦
+          (let still : c.lock_all.new.client.value.attempt.lone ≡ true = ap (λ (x : Client). x.attempt.lone) w.in-Ok.ensures.all.same ∙ lone in
+          subst (λ r. IfErr r (λ stop. IsSpent stop)) (sym w.answer-is) (w.decide-answer.ensures.lone still))
+      | in-Err w ↦ (let taken = c.lock_all.ensures.lone lone in let is = w.in-Err.is in search rules)
+    ]
+
+pub returns-else-is_ok-clause-next : goal.returns-else-is_ok-clause-next
+returns-else-is_ok-clause-next g c = λ lone.
+    elim c.match-lock_all.branch [
+      | in-Ok w ↦
+          (let still : c.lock_all.new.client.value.attempt.lone ≡ true = ap (λ (x : Client). x.attempt.lone) w.in-Ok.ensures.all.same ∙ lone in
+          subst (λ r. MatchResult r (λ version. version ≡ c.args.rv + 1) (λ _. c.args.rv ≡ c.args.region.now.last)) (sym w.answer-is) (w.decide-answer.ensures.next still))
+      | in-Err w ↦ (let taken = c.lock_all.ensures.lone lone in let is = w.in-Err.is in search rules)
+    ]
 
 pub returns-then-is_ok-clause-ok : goal.returns-then-is_ok-clause-ok
 returns-then-is_ok-clause-ok g c =

@@ -5,16 +5,16 @@ use Rattle.stm_attempt.proofs.storing.store_words.Goals as goal
 
 pub put-requires-clause-range : goal.put-requires-clause-range
 put-requires-clause-range g c =
-    put_inside g.L.Law.lawful (unplaced c.args.region.now.renewal) c.args.region.now c.args.writes.now c.args.lock c.args.client.now.value c.loop-addr.client.value _ _ _ _ c.loop-addr.invariant.3 c.in-Some.ensures.steps c.requires.placed
+    put_inside g.L.Law.lawful (unplaced c.args.region.now.renewal) c.args.region.now c.args.client.now.value c.loop-addr.client.value _ _ _ _ _ c.loop-addr.invariant.3 c.in-Some.ensures.steps c.requires.storable
 
 pub put-requires-clause-allowed : goal.put-requires-clause-allowed
 put-requires-clause-allowed g c =
-    may_put g.L.Law.lawful (unplaced c.args.region.now.renewal) c.args.region.now c.args.writes.now c.args.lock c.args.client.now.value c.loop-addr.client.value _ _ _ _ c.loop-addr.invariant.3 c.in-Some.ensures.steps c.requires.placed c.requires.committed c.requires.writes c.requires.held c.requires.unstored
+    may_put g.L.Law.lawful (unplaced c.args.region.now.renewal) c.args.region.now c.args.client.now.value c.loop-addr.client.value _ _ _ _ _ c.loop-addr.invariant.3 c.in-Some.ensures.steps c.requires.storable c.requires.committed
 
 pub loop-addr-preserved : goal.loop-addr-preserved
 loop-addr-preserved g c = (
   tt,
   tt,
   ap (λ (x : ClientShown). x.table) c.put.ensures ∙ c.loop-addr.invariant.2,
-  stored_one g.L.Law.lawful (unplaced c.args.region.now.renewal) c.args.region.now c.args.writes.now c.args.lock c.args.client.now.value c.loop-addr.client.value _ _ _ _ c.loop-addr.invariant.3 c.in-Some.ensures.steps c.requires.placed c.put.new.client.value (ap (λ (x : ClientShown). x.value) c.put.ensures),
+  stored_one g.L.Law.lawful (unplaced c.args.region.now.renewal) c.args.region.now c.args.client.now.value c.loop-addr.client.value _ _ _ _ _ c.loop-addr.invariant.3 c.in-Some.ensures.steps c.requires.storable c.put.new.client.value (ap (λ (x : ClientShown). x.value) c.put.ensures),
 )

@@ -1,5 +1,4 @@
 use Rattle.std.proofs.Common.{◌≡◌}
-use Rattle.stm_logs.specs.Log.{pairs_of}
 use Rattle.stm_attempt.proofs.StoredPairs.{IsStoring}
 use Rattle.stm_attempt.proofs.storing.store_words.Given as goal
 
@@ -8,4 +7,4 @@ invariant-loop-addr g l =
     (goal.iterator-loop-addr g).can_next l.addr-iterator ×
     (goal.iterator-loop-addr g).is_finite l.addr-iterator ×
     (l.client.table ≡ l.region.table) ×
-    IsStoring l.initial.client.value l.client.value (pairs_of l.writes l.lock) l.addr-iterator
+    IsStoring l.initial.client.value l.client.value l.fn.words l.addr-iterator
