@@ -1,7 +1,10 @@
 //! Tests of the words of a transactional memory and of the transaction core: events played one by
-//! one, and random lists of events beside a history that is worked out anew.
+//! one, with and without the memory that they take, and random lists of events beside a history
+//! that is worked out anew.
 #![tactic(auto)]
 
+#[cfg(test)]
+mod acts;
 #[cfg(test)]
 mod core_steps;
 #[cfg(test)]
@@ -12,5 +15,7 @@ mod moves;
 mod player;
 #[cfg(test)]
 mod random_lists;
+#[cfg(test)]
+mod refusals;
 #[cfg(test)]
 mod words;

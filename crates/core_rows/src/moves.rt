@@ -5,7 +5,7 @@ ghost use Rattle.stm_words.specs.declared.version.TheConstants.{VERSION_LIMIT};
 
 use rand_core::utils::NextWord;
 use rand_pcg::Pcg32;
-use std::alloc::{AllocError, Global};
+use std::alloc::{AllocError, Allocator};
 use stm_replay::{Event, Writes};
 use stm_words::VERSION_LIMIT;
 
@@ -129,12 +129,12 @@ impl Move {
     }
 
     /// The event with this tag and these writes.
-    pub(crate) fn event(
+    pub(crate) fn event<A: Allocator + Copy>(
         &self,
-        alloc: Global,
+        alloc: A,
         tag: u64,
         writes: &[(u32, u64)],
-    ) -> Result<Event, AllocError> {
+    ) -> Result<Event<A>, AllocError> {
         let client = self.client;
         let lock = self.place;
         let addr = self.place;

@@ -6,3 +6,4 @@ pub mod Making
 pub mod Numbering
 pub mod Tagging
 pub mod Replaying
+mod Stepping

@@ -12,21 +12,21 @@ use Rattle.stm_replay.proofs.Numbering.{allowed_with_numbers}
 use Rattle.stm_replay.proofs.Counting.{numbered_split}
 use Rattle.stm_core.specs.Client.{RecordLaw}
 
-pub every_event_is_playable : EveryEventIsPlayable
-every_event_is_playable number (acts k begin) = (Begin k, refl)
-every_event_is_playable number (acts k (probe n)) = (Probe k n, refl)
-every_event_is_playable number (acts k (fetch a)) = (Fetch k a, refl)
-every_event_is_playable number (acts k (check a)) = (Check k a, refl)
-every_event_is_playable number (acts k (lock n)) = (Lock k n, refl)
-every_event_is_playable number (acts k (tick from tag writes)) = (Tick k from (number tag) writes, refl)
-every_event_is_playable number (acts k (validate n)) = (Validate k n, refl)
-every_event_is_playable number (acts k (put a x)) = (Put k a x, refl)
-every_event_is_playable number (acts k (release n)) = (Release k n, refl)
-every_event_is_playable number (acts k (give_back n)) = (GiveBack k n, refl)
-every_event_is_playable number (acts k (finish tag)) = (Finish k (number tag), refl)
-every_event_is_playable number (splits k) = (Split k, refl)
-every_event_is_playable number (gathers k j) = (Gather k j, refl)
-every_event_is_playable number (renews k last) = (Renew k last, refl)
+pub every_event_is_playable : (A : Type 0) → EveryEventIsPlayable A
+every_event_is_playable A number (acts k begin) = (Begin k, refl)
+every_event_is_playable A number (acts k (probe n)) = (Probe k n, refl)
+every_event_is_playable A number (acts k (fetch a)) = (Fetch k a, refl)
+every_event_is_playable A number (acts k (check a)) = (Check k a, refl)
+every_event_is_playable A number (acts k (lock n)) = (Lock k n, refl)
+every_event_is_playable A number (acts k (tick from tag writes)) = (Tick k from (number tag) writes, refl)
+every_event_is_playable A number (acts k (validate n)) = (Validate k n, refl)
+every_event_is_playable A number (acts k (put a x)) = (Put k a x, refl)
+every_event_is_playable A number (acts k (release n)) = (Release k n, refl)
+every_event_is_playable A number (acts k (give_back n)) = (GiveBack k n, refl)
+every_event_is_playable A number (acts k (finish tag)) = (Finish k (number tag), refl)
+every_event_is_playable A number (splits k) = (Split k, refl)
+every_event_is_playable A number (gathers k j) = (Gather k j, refl)
+every_event_is_playable A number (renews k last) = (Renew k last, refl)
 
 more : (c : Core) (k : ℕ) → length (set c.clients (k - 1) (giving (client_of c k)) ++ fresh (client_of c k) ∷ []) ≡ suc (length c.clients)
 more c k = length-append (set c.clients (k - 1) (giving (client_of c k))) (fresh (client_of c k) ∷ []) ∙ (let h = length-set c.clients (k - 1) (giving (client_of c k)) in omega arith)

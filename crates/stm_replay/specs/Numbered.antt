@@ -63,11 +63,11 @@ EveryListHasNumbers = (events : List Event)
     → (number : List ℕ → ℕ) × TellsApart number (tags_of events)
     × ((t : List ℕ) → In t (tags_of events) → number t < length events)
 
--- an event with a number for its tag is an event of the running core
-abbrev pub EveryEventIsPlayable : Type 0
-EveryEventIsPlayable =
+-- an event with a number for its tag is an event of the running core over any allocator
+abbrev pub EveryEventIsPlayable : Type 0 → Type 0
+EveryEventIsPlayable A =
     (number : List ℕ → ℕ) (e : Event)
-    → (d : declared.Event) × (event_of d ≡ numbered_event number e)
+    → (d : declared.Event A) × (event_of d ≡ numbered_event number e)
 
 -- each event may be played in its turn
 abbrev pub MayRun : List Event → Running → Type 0

@@ -5,7 +5,7 @@ use Rattle.stm_core.specs.Core as core
 use Rattle.stm_replay.specs.declared.event.Event.{Event}
 use Rattle.stm_replay.specs.declared.event.Event.TheVariants.{Begin, Probe, Fetch, Check, Lock, Tick, Validate, Put, Release, GiveBack, Finish, Split, Gather, Renew}
 
-abbrev pub event_of : Event → core.Event
+abbrev pub event_of : {A : Type 0} → Event A → core.Event
 event_of (Begin k) = core.acts k event.begin
 event_of (Probe k n) = core.acts k (event.probe n)
 event_of (Fetch k a) = core.acts k (event.fetch a)

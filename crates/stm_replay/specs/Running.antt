@@ -103,6 +103,11 @@ abbrev pub found_of : Core → ℕ → Option ℕ
 found_of c k =
     cond (nat_lt 0 k && nat_lt (k - 1) (length c.clients)) (found_by (client_of c k)) None
 
+-- a client has this number
+pub record IsThere (c : Core) (k : ℕ) : Type 0 where
+  pub some : 0 < k
+  pub inside : k - 1 < length c.clients
+
 -- the numbers that a step counts on
 pub record IsSane (c : Core) : Type 0 where
   pub last : c.last < VERSION_LIMIT

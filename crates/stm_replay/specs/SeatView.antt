@@ -30,7 +30,7 @@ abbrev pub tag_of : Option ℕ → List ℕ
 tag_of None = []
 tag_of (Some n) = n ∷ []
 
-abbrev pub client_of_seat : Inside → client.Client
+abbrev pub client_of_seat : {A : Type 0} → Inside A → client.Client
 client_of_seat s = record {
   grants = s.grants;
   spent = s.spent;

@@ -3,7 +3,7 @@ use Rattle.std.specs.Prelude.{◌≡◌, ◌<◌, [], length}
 use Rattle.stm_replay.specs.Running.{Running}
 use Rattle.stm_replay.specs.declared.state.State.TheInside.{Inside}
 
-abbrev pub running_of : Inside → Running
+abbrev pub running_of : {A : Type 0} → Inside A → Running
 running_of s = record {
   core = record {
     first = [];
@@ -20,6 +20,6 @@ running_of s = record {
   order = s.order;
 }
 
-pub record IsWhole (s : Inside) : Type 0 where
+pub record IsWhole {A : Type 0} (s : Inside A) : Type 0 where
   pub stripes : s.stripes ≡ length s.locks.items
   pub some : 0 < s.stripes

@@ -2,16 +2,16 @@
 
 ghost use Rattle.std.specs.Prelude.{◌≡◌, IfOk};
 
-use std::alloc::{AllocError, Global};
+use std::alloc::{AllocError, Allocator, Global};
 use std::marker::Model;
 
 /// What a tick is to write: pairs of address and value.
 #[derive(Drop)]
-pub struct Writes {
-    pairs: Vec<(u32, u64)>,
+pub struct Writes<A: Allocator + Copy = Global> {
+    pairs: Vec<(u32, u64), A>,
 }
 
-impl Model for Writes {
+impl<A: Allocator + Copy> Model for Writes<A> {
     ghost use Rattle.std.specs.Prelude.{List, ℕ};
 
     ghost Value = { List (ℕ × ℕ) };
@@ -19,13 +19,13 @@ impl Model for Writes {
     ghost view = { λ w. w.pairs.items };
 }
 
-impl Writes {
+impl<A: Allocator + Copy> Writes<A> {
     /// The pairs that were given, in their order.
     ///
     /// # Errors
     ///
     /// Where the memory for them is refused.
-    pub fn of(alloc: Global, pairs: &[(u32, u64)]) -> Result<Writes, AllocError>
+    pub fn of(alloc: A, pairs: &[(u32, u64)]) -> Result<Writes<A>, AllocError>
         ensures { IfOk result (λ w. w ≡ pairs.now) }
     {
         Ok(Writes {
@@ -41,7 +41,7 @@ impl Writes {
     }
 
     /// The pairs as a vector.
-    pub(crate) fn into_pairs(self) -> Vec<(u32, u64)>
+    pub(crate) fn into_pairs(self) -> Vec<(u32, u64), A>
         ensures { result.items ≡ self }
     {
         self.pairs
@@ -51,7 +51,7 @@ impl Writes {
 /// One atomic step of one client, a client split off or gathered, or the clock renewed. Clients
 /// are numbered from 1 in the order of opening and splitting, and no number is used again.
 #[derive(Drop)]
-pub enum Event {
+pub enum Event<A: Allocator + Copy = Global> {
     /// Loads the clock: a new attempt, with the value found as its read version.
     Begin {
         client: u32,
@@ -81,7 +81,7 @@ pub enum Event {
         client: u32,
         from: u64,
         tag: u64,
-        writes: Writes,
+        writes: Writes<A>,
     },
     /// Loads the lock word of the next read word; the last validation that passes decides.
     Validate {

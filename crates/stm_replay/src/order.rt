@@ -1,22 +1,22 @@
 //! The decided records in the order of their point steps.
 
-ghost use Rattle.std.specs.Prelude.{◌≡◌, ◌<◌, ◌≤◌, [], length, vec_len, vec_capacity, OnOk, OnErr};
+ghost use Rattle.std.specs.Prelude.{◌≡◌, ◌<◌, ◌≤◌, [], cond, length, vec_len, vec_capacity, OnOk, OnErr};
 ghost use Rattle.std.specs.List.{insert};
 ghost use Rattle.stm_replay.specs.Placing.{place_in, put_in};
 
 use crate::event::Entry;
-use std::alloc::{AllocError, Global};
+use std::alloc::{AllocError, Allocator};
 use std::marker::Model;
 
 /// The decided records in the order of their point steps, with the places of these steps in the
 /// list of events.
 #[derive(Drop)]
-pub(crate) struct Order {
-    entries: Vec<Entry>,
-    points: Vec<usize>,
+pub(crate) struct Order<A: Allocator + Copy> {
+    entries: Vec<Entry, A>,
+    points: Vec<usize, A>,
 }
 
-impl Model for Order {
+impl<A: Allocator + Copy> Model for Order<A> {
     ghost use Rattle.stm_replay.specs.Placing.{Placed};
     ghost use Rattle.std.specs.Prelude.{◌≡◌, length};
 
@@ -27,9 +27,9 @@ impl Model for Order {
     ghost invariant = { λ o. length o.entries.items ≡ length o.points.items };
 }
 
-impl Order {
+impl<A: Allocator + Copy> Order<A> {
     /// No records.
-    pub(crate) fn new(alloc: Global) -> Order
+    pub(crate) fn new(alloc: A) -> Order<A>
         ensures { result ≡ record { entries = []; points = [] } }
     {
         Order {
@@ -57,6 +57,24 @@ impl Order {
         insert_in_room(&mut self.points, place, point);
         Ok(())
     }
+
+    /// Puts a record at its place, where it is decided.
+    pub(crate) fn enter_if(
+        &mut self,
+        decided: bool,
+        entry: Entry,
+        point: usize,
+    ) -> Result<(), AllocError>
+        ensures done { OnOk result
+            (self.new ≡ cond decided (put_in entry point self.old) self.old) }
+        ensures kept { OnErr result (self.new ≡ self.old) }
+    {
+        if decided {
+            self.enter(entry, point)
+        } else {
+            Ok(())
+        }
+    }
 }
 
 /// How many of the points stand up to the last one that is not later, looked for from the back.
@@ -72,7 +90,7 @@ fn place_in(points: &[usize], point: usize) -> usize
 }
 
 /// Puts a value in, where there is room.
-fn insert_in_room<T: Drop>(list: &mut Vec<T>, place: usize, value: T)
+fn insert_in_room<T: Drop, A: Allocator + Copy>(list: &mut Vec<T, A>, place: usize, value: T)
     requires place { place ≤ vec_len list.old }
     requires room { vec_len list.old < vec_capacity list.old }
     ensures { list.new.items ≡ insert list.old.items place value }

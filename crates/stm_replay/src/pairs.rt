@@ -7,6 +7,8 @@ ghost use Rattle.stm_core.specs.Event.{is_empty};
 ghost use Rattle.stm_core.specs.Guards.{is_map, is_next, are_stored, may_write};
 ghost use Rattle.stm_core.specs.Theorem.{stripe_of};
 
+use std::alloc::Allocator;
+
 /// Whether some pair has this number in front.
 pub(crate) fn names(pairs: &[(u32, u64)], number: u32) -> bool
     ensures { result ≡ writes_to pairs.now number }
@@ -147,7 +149,7 @@ pub(crate) fn behind(pairs: &[(u32, u64)], number: u32) -> u64
 }
 
 /// Takes the pairs with this number in front out.
-pub(crate) fn take_out(pairs: &mut Vec<(u32, u64)>, number: u32)
+pub(crate) fn take_out<A: Allocator + Copy>(pairs: &mut Vec<(u32, u64), A>, number: u32)
     ensures { pairs.new.items ≡ without pairs.old.items number }
 {
     pairs.retain(|pair| pair.0 != number);

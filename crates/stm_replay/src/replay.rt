@@ -10,18 +10,18 @@ ghost use Rattle.stm_words.specs.declared.version.TheConstants.{VERSION_LIMIT};
 
 use crate::event::{Entry, Event, NotAllowed};
 use crate::state::State;
-use std::alloc::{AllocError, Global};
+use std::alloc::{AllocError, Allocator, Global};
 use std::marker::Model;
 
 /// A region as running code on one thread, for tests and for replaying a list of events: it plays
 /// one event after another, and refuses those that are not allowed.
 #[derive(Drop)]
-pub struct Core {
-    alloc: Global,
-    state: State,
+pub struct Core<A: Allocator + Copy = Global> {
+    alloc: A,
+    state: State<A>,
 }
 
-impl Model for Core {
+impl<A: Allocator + Copy> Model for Core<A> {
     ghost use Rattle.stm_replay.specs.Running.{Running};
 
     ghost Value = { Running };
@@ -33,14 +33,14 @@ impl Model for Core {
     ghost invariant = { λ c. IsReached c.state };
 }
 
-impl Core {
+impl<A: Allocator + Copy> Core<A> {
     /// A region just opened on an image: clock 0, every lock free with version 0, and client 1
     /// with all grants but its own.
     ///
     /// # Errors
     ///
     /// Where the memory for it is refused.
-    pub fn start(alloc: Global, image: &[u64], last: u64, stripes: u32) -> Result<Core, AllocError>
+    pub fn start(alloc: A, image: &[u64], last: u64, stripes: u32) -> Result<Core<A>, AllocError>
         requires words { (1 ≤ length image.now) × (length image.now ≤ MOST_WORDS) }
         requires versions { (1 ≤ last) × (last < VERSION_LIMIT) }
         requires locks { (1 ≤ stripes) × (stripes ≤ MOST_STRIPES) }
@@ -56,7 +56,7 @@ impl Core {
     ///
     /// `Event` exactly where the event is not allowed, and `Memory` where it is but memory was
     /// refused, or no more events can be counted. The core comes back as it was.
-    pub fn play(mut self, event: Event) -> Result<Core, (Core, NotAllowed)>
+    pub fn play(mut self, event: Event<A>) -> Result<Core<A>, (Core<A>, NotAllowed)>
         ensures played { IfOk result (λ c.
             (may_run (stripes_of self.core) (event_of event) self.core ≡ true)
             × (c ≡ run_played (event_of event) self)) }

@@ -15,7 +15,7 @@ use crate::pairs::{
     all_below, all_stored, behind, has, has_pair, is_next, may_write, names, none, says_free,
     take_out,
 };
-use std::alloc::{AllocError, Global};
+use std::alloc::{AllocError, Allocator};
 use std::marker::Model;
 use stm_core::{MOST_GRANTS, MOST_TICKS};
 
@@ -45,27 +45,27 @@ pub(crate) enum Step {
 
 /// What the core keeps of one client.
 #[derive(Drop)]
-pub(crate) struct Seat {
+pub(crate) struct Seat<A: Allocator + Copy> {
     grants: u32,
     spent: bool,
     phase: Phase,
     rv: u64,
-    reads: Vec<(u32, u64)>,
+    reads: Vec<(u32, u64), A>,
     last: Step,
     gave_back: bool,
-    held: Vec<(u32, u64)>,
+    held: Vec<(u32, u64), A>,
     wv: u64,
     tag: Option<u64>,
-    writes: Vec<(u32, u64)>,
+    writes: Vec<(u32, u64), A>,
     passed: usize,
-    stored: Vec<u32>,
+    stored: Vec<u32, A>,
     ticks: u32,
     next_from: u64,
     began_at: usize,
     ticked_at: usize,
 }
 
-impl Model for Seat {
+impl<A: Allocator + Copy> Model for Seat<A> {
     ghost use Rattle.stm_core.specs.Client.{Client};
 
     ghost Value = { Client };
@@ -75,7 +75,7 @@ impl Model for Seat {
     ghost view = { client_of_seat };
 }
 
-impl Seat {
+impl<A: Allocator + Copy> Seat<A> {
     /// A new attempt.
     pub(crate) fn begin(&mut self, clock: u64, place: usize)
         ensures { self.new ≡ seat_after place begin clock self.old }
@@ -172,7 +172,7 @@ impl Seat {
         &mut self,
         from: u64,
         tag: u64,
-        writes: Vec<(u32, u64)>,
+        writes: Vec<(u32, u64), A>,
         now: u64,
         place: usize,
     )
@@ -247,20 +247,20 @@ impl Seat {
     }
 
     /// The first client, with all grants but its own.
-    pub(crate) fn opener(alloc: Global) -> Seat
+    pub(crate) fn opener(alloc: A) -> Seat<A>
         ensures { result ≡ opener }
     {
         Seat::with_grants(alloc, MOST_GRANTS)
     }
 
     /// A client split off, without grants.
-    pub(crate) fn fresh(alloc: Global) -> Seat
+    pub(crate) fn fresh(alloc: A) -> Seat<A>
         ensures { result ≡ record opener { grants = 0 } }
     {
         Seat::with_grants(alloc, 0)
     }
 
-    fn with_grants(alloc: Global, grants: u32) -> Seat
+    fn with_grants(alloc: A, grants: u32) -> Seat<A>
         ensures { result ≡ record opener { grants = grants } }
     {
         Seat {
@@ -308,14 +308,14 @@ impl Seat {
     }
 
     /// The client after a renewal of the clock: it has no attempt.
-    pub(crate) fn renew(&mut self, alloc: Global)
+    pub(crate) fn renew(&mut self, alloc: A)
         ensures { self.new ≡ blank (renewing self.old) }
     {
         *self = Seat::with_grants(alloc, self.grants);
     }
 
     /// A client that was gathered.
-    pub(crate) fn leave(&mut self, alloc: Global)
+    pub(crate) fn leave(&mut self, alloc: A)
         ensures { self.new ≡ gone }
     {
         *self = Seat::with_grants(alloc, 0);
@@ -611,17 +611,18 @@ impl Seat {
             && self.passed + 1 == self.reads.len()
     }
 
-    /// Whether a tick that is won from this value decides at once.
-    pub(crate) fn decides_from(&self, from: u64) -> bool
+    /// Whether a tick from a value that finds the clock at another, or the same, decides at once.
+    pub(crate) fn decides_from(&self, from: u64, now: u64) -> bool
         ensures { result
-            ≡ (is_empty self.now.attempt.reads || eqb (from + 1) (self.now.attempt.rv + 1)) }
+            ≡ (eqb now from
+            && (is_empty self.now.attempt.reads || eqb (from + 1) (self.now.attempt.rv + 1))) }
     {
-        none(&self.reads) || from == self.rv
+        now == from && (none(&self.reads) || from == self.rv)
     }
 }
 
 /// Whether every client but the one at a place is spent.
-pub(crate) fn others_spent(seats: &[Seat], place: usize) -> bool
+pub(crate) fn others_spent<A: Allocator + Copy>(seats: &[Seat<A>], place: usize) -> bool
     ensures { result ≡ others_spent seats.now place }
 {
     match seats {
@@ -635,7 +636,7 @@ pub(crate) fn others_spent(seats: &[Seat], place: usize) -> bool
 }
 
 /// Whether every client is spent.
-fn are_spent(seats: &[Seat]) -> bool
+fn are_spent<A: Allocator + Copy>(seats: &[Seat<A>]) -> bool
     ensures { result ≡ are_spent seats.now }
 {
     match seats {

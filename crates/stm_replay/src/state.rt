@@ -1,12 +1,12 @@
 //! The words, the clients and the decided records of the running core: when it allows an event, and
 //! what it makes of one.
 
-ghost use Rattle.std.specs.Prelude.{◌≡◌, ◌≢◌, ℕ, ◌<◌, ◌≤◌, ◌+◌, ◌-◌, ◌*◌, ◌^◌, ◌&&◌, true, length, OnOk, OnErr, IfOk, List, [], ◌∷◌};
-ghost use Rattle.stm_core.specs.Core.{client_of, is_out, bounds_of, splits, gathers, renews};
-ghost use Rattle.stm_core.specs.Event.{begin, probe, fetch, check, lock, tick, validate, put, release, give_back, finish};
+ghost use Rattle.std.specs.Prelude.{◌≡◌, ◌≢◌, ℕ, ◌<◌, ◌≤◌, ◌+◌, ◌-◌, ◌*◌, ◌^◌, ◌&&◌, cond, eqb, true, length, slice_index, OnOk, OnErr, IfOk, List, [], ◌∷◌};
+ghost use Rattle.stm_core.specs.Core.{client_of, is_out, others_spent, bounds_of, splits, gathers, renews};
+ghost use Rattle.stm_core.specs.Event.{begin, probe, fetch, check, lock, tick, validate, put, release, give_back, finish, is_empty};
 ghost use Rattle.stm_core.specs.Client.{old_version, word_before, IsFree};
 ghost use Rattle.stm_replay.specs.Played.{event_of};
-ghost use Rattle.stm_replay.specs.Running.{may_run, Running, IsSane, stripes_of, run_acts, run_played, run_opened, found_of};
+ghost use Rattle.stm_replay.specs.Running.{may_run, Running, IsSane, IsThere, stripes_of, run_acts, run_played, run_opened, found_of};
 ghost use Rattle.stm_core.specs.declared.limits.TheConstants.{MOST_GRANTS, MOST_RENEWALS, MOST_TICKS};
 ghost use Rattle.stm_words.specs.declared.version.TheConstants.{VERSION_LIMIT};
 
@@ -14,27 +14,27 @@ use crate::event::{Entry, Event, Writes};
 use crate::limits::MOST_CLIENTS;
 use crate::order::Order;
 use crate::seat::{Seat, others_spent};
-use std::alloc::{AllocError, Global};
+use std::alloc::{AllocError, Allocator};
 use std::marker::Model;
 use stm_core::MOST_RENEWALS;
 use stm_words::VERSION_LIMIT;
 
 /// The words, what is kept of the clients, and the decided records.
 #[derive(Drop)]
-pub(crate) struct State {
+pub(crate) struct State<A: Allocator + Copy> {
     last: u64,
     renewal: u32,
     clock: u64,
     stripes: u32,
-    locks: Vec<u64>,
-    cells: Vec<u64>,
-    seats: Vec<Seat>,
+    locks: Vec<u64, A>,
+    cells: Vec<u64, A>,
+    seats: Vec<Seat<A>, A>,
     /// How many events there were: the place of the next one.
     events: usize,
-    order: Order,
+    order: Order<A>,
 }
 
-impl Model for State {
+impl<A: Allocator + Copy> Model for State<A> {
     ghost use Rattle.stm_replay.specs.Running.{Running};
 
     ghost Value = { Running };
@@ -46,7 +46,7 @@ impl Model for State {
     ghost invariant = { IsWhole };
 }
 
-impl State {
+impl<A: Allocator + Copy> State<A> {
     /// The place of a client among the seats, where it is out.
     fn is_out(&self, client: u32) -> bool
         ensures { result ≡ is_out self.now.core client }
@@ -55,12 +55,36 @@ impl State {
     }
 
     /// What is kept of a client.
-    fn seat(&self, client: u32) -> &Seat
+    fn seat(&self, client: u32) -> &Seat<A>
         requires there { client - 1 < length self.now.core.clients }
         requires some { 0 < client }
         ensures { result.now ≡ client_of self.now.core client }
     {
         &self.seats[client as usize - 1]
+    }
+
+    /// The word of a lock.
+    fn lock_word(&self, stripe: u32) -> u64
+        requires { stripe < length self.now.core.locks }
+        ensures { result ≡ slice_index self.now.core.locks stripe }
+    {
+        self.locks[stripe as usize]
+    }
+
+    /// The data word of an address.
+    fn cell(&self, address: u32) -> u64
+        requires { address < length self.now.core.cells }
+        ensures { result ≡ slice_index self.now.core.cells address }
+    {
+        self.cells[address as usize]
+    }
+
+    /// The word of an address's lock.
+    fn word_of(&self, address: u32) -> u64
+        ensures { result
+            ≡ slice_index self.now.core.locks (stripes_of self.now.core address) }
+    {
+        self.lock_word(address % self.stripes)
     }
 
     /// The number of events with the next one.
@@ -72,7 +96,7 @@ impl State {
 
     /// Begins an attempt.
     fn begin(&mut self, client: u32) -> Result<(), AllocError>
-        requires out { is_out self.old.core client ≡ true }
+        requires there { IsThere self.old.core client }
         ensures done { OnOk result (self.new ≡ run_acts client begin self.old) }
         ensures kept { OnErr result (self.new ≡ self.old) }
     {
@@ -86,13 +110,13 @@ impl State {
 
     /// Loads a lock word.
     fn probe(&mut self, client: u32, stripe: u32) -> Result<(), AllocError>
-        requires out { is_out self.old.core client ≡ true }
+        requires there { IsThere self.old.core client }
         requires inside { stripe < length self.old.core.locks }
         ensures done { OnOk result (self.new ≡ run_acts client (probe stripe) self.old) }
         ensures kept { OnErr result (self.new ≡ self.old) }
     {
         let events = self.one_more()?;
-        let word = self.locks[stripe as usize];
+        let word = self.lock_word(stripe);
         let seat = &mut self.seats[client as usize - 1];
         seat.probe(stripe, word);
         self.events = events;
@@ -101,13 +125,13 @@ impl State {
 
     /// Loads a data word.
     fn fetch(&mut self, client: u32, address: u32) -> Result<(), AllocError>
-        requires out { is_out self.old.core client ≡ true }
+        requires there { IsThere self.old.core client }
         requires inside { address < length self.old.core.cells }
         ensures done { OnOk result (self.new ≡ run_acts client (fetch address) self.old) }
         ensures kept { OnErr result (self.new ≡ self.old) }
     {
         let events = self.one_more()?;
-        let value = self.cells[address as usize];
+        let value = self.cell(address);
         let seat = &mut self.seats[client as usize - 1];
         seat.fetch(address, value);
         self.events = events;
@@ -116,12 +140,12 @@ impl State {
 
     /// Loads a lock word again.
     fn check(&mut self, client: u32, address: u32) -> Result<(), AllocError>
-        requires out { is_out self.old.core client ≡ true }
+        requires there { IsThere self.old.core client }
         ensures done { OnOk result (self.new ≡ run_acts client (check address) self.old) }
         ensures kept { OnErr result (self.new ≡ self.old) }
     {
         let events = self.one_more()?;
-        let word = self.locks[(address % self.stripes) as usize];
+        let word = self.word_of(address);
         let seat = &mut self.seats[client as usize - 1];
         seat.check(address, word)?;
         self.events = events;
@@ -130,27 +154,25 @@ impl State {
 
     /// Exchanges a lock word that was found free.
     fn lock(&mut self, client: u32, stripe: u32) -> Result<(), AllocError>
-        requires out { is_out self.old.core client ≡ true }
+        requires there { IsThere self.old.core client }
         requires inside { stripe < length self.old.core.locks }
         requires free { IsFree (word_before (client_of self.old.core client).attempt.last) }
         ensures done { OnOk result (self.new ≡ run_acts client (lock stripe) self.old) }
         ensures kept { OnErr result (self.new ≡ self.old) }
     {
         let events = self.one_more()?;
-        let word = self.locks[stripe as usize];
+        let word = self.lock_word(stripe);
+        let left = exchanged(word, self.seat(client).word_before());
         let seat = &mut self.seats[client as usize - 1];
-        let wins = word == seat.word_before();
         seat.lock(stripe, word)?;
-        if wins {
-            self.locks[stripe as usize] = word + 1;
-        }
+        self.locks[stripe as usize] = left;
         self.events = events;
         Ok(())
     }
 
     /// Stores a value.
     fn put(&mut self, client: u32, address: u32, value: u64) -> Result<(), AllocError>
-        requires out { is_out self.old.core client ≡ true }
+        requires there { IsThere self.old.core client }
         requires inside { address < length self.old.core.cells }
         ensures done { OnOk result (self.new ≡ run_acts client (put address value) self.old) }
         ensures kept { OnErr result (self.new ≡ self.old) }
@@ -165,15 +187,15 @@ impl State {
 
     /// Releases a lock with the write version.
     fn release(&mut self, client: u32, stripe: u32) -> Result<(), AllocError>
-        requires out { is_out self.old.core client ≡ true }
+        requires there { IsThere self.old.core client }
         requires inside { stripe < length self.old.core.locks }
         requires small { (client_of self.old.core client).attempt.wv < VERSION_LIMIT }
         ensures done { OnOk result (self.new ≡ run_acts client (release stripe) self.old) }
         ensures kept { OnErr result (self.new ≡ self.old) }
     {
         let events = self.one_more()?;
+        let version = self.seat(client).write_version();
         let seat = &mut self.seats[client as usize - 1];
-        let version = seat.write_version();
         seat.release(stripe);
         self.locks[stripe as usize] = 2 * version;
         self.events = events;
@@ -182,7 +204,7 @@ impl State {
 
     /// Gives a lock back with its old version.
     fn give_back(&mut self, client: u32, stripe: u32) -> Result<(), AllocError>
-        requires out { is_out self.old.core client ≡ true }
+        requires there { IsThere self.old.core client }
         requires inside { stripe < length self.old.core.locks }
         requires small { old_version (client_of self.old.core client).attempt.held stripe
             < VERSION_LIMIT }
@@ -190,8 +212,8 @@ impl State {
         ensures kept { OnErr result (self.new ≡ self.old) }
     {
         let events = self.one_more()?;
+        let version = self.seat(client).old_version(stripe);
         let seat = &mut self.seats[client as usize - 1];
-        let version = seat.old_version(stripe);
         seat.give_back(stripe);
         self.locks[stripe as usize] = 2 * version;
         self.events = events;
@@ -200,12 +222,12 @@ impl State {
 
     /// Ends the attempt as a reader.
     fn finish(&mut self, client: u32, tag: u64) -> Result<(), AllocError>
-        requires out { is_out self.old.core client ≡ true }
+        requires there { IsThere self.old.core client }
         ensures done { OnOk result (self.new ≡ run_acts client (finish (tag ∷ [])) self.old) }
         ensures kept { OnErr result (self.new ≡ self.old) }
     {
         let events = self.one_more()?;
-        let seat = &mut self.seats[client as usize - 1];
+        let seat = self.seat(client);
         let entry = Entry {
             client,
             tag,
@@ -213,7 +235,9 @@ impl State {
             writer: false,
             renewal: self.renewal,
         };
-        self.order.enter(entry, seat.began_at())?;
+        let place = seat.began_at();
+        self.order.enter(entry, place)?;
+        let seat = &mut self.seats[client as usize - 1];
         seat.finish(self.clock);
         self.events = events;
         Ok(())
@@ -221,7 +245,7 @@ impl State {
 
     /// Validates the lock of a read word.
     fn validate(&mut self, client: u32, stripe: u32) -> Result<(), AllocError>
-        requires out { is_out self.old.core client ≡ true }
+        requires there { IsThere self.old.core client }
         requires inside { stripe < length self.old.core.locks }
         requires next { (client_of self.old.core client).attempt.passed
             < length (client_of self.old.core client).attempt.reads }
@@ -229,26 +253,33 @@ impl State {
         ensures kept { OnErr result (self.new ≡ self.old) }
     {
         let events = self.one_more()?;
-        let word = self.locks[stripe as usize];
+        let word = self.lock_word(stripe);
+        let seat = self.seat(client);
+        let decides = seat.decides_by(stripe, word);
+        let entry = Entry {
+            client,
+            tag: seat.tag(),
+            version: seat.write_version(),
+            writer: true,
+            renewal: self.renewal,
+        };
+        let place = seat.ticked_at();
+        self.order.enter_if(decides, entry, place)?;
         let seat = &mut self.seats[client as usize - 1];
-        if seat.decides_by(stripe, word) {
-            let entry = Entry {
-                client,
-                tag: seat.tag(),
-                version: seat.write_version(),
-                writer: true,
-                renewal: self.renewal,
-            };
-            self.order.enter(entry, seat.ticked_at())?;
-        }
         seat.validate(stripe, word);
         self.events = events;
         Ok(())
     }
 
     /// Exchanges the clock.
-    fn tick(&mut self, client: u32, from: u64, tag: u64, writes: Writes) -> Result<(), AllocError>
-        requires out { is_out self.old.core client ≡ true }
+    fn tick(
+        &mut self,
+        client: u32,
+        from: u64,
+        tag: u64,
+        writes: Writes<A>,
+    ) -> Result<(), AllocError>
+        requires there { IsThere self.old.core client }
         requires room { (client_of self.old.core client).attempt.ticks < MOST_TICKS }
         requires below { from < VERSION_LIMIT }
         ensures done { OnOk result
@@ -258,28 +289,26 @@ impl State {
         let events = self.one_more()?;
         let now = self.clock;
         let place = self.events;
+        let decides = self.seat(client).decides_from(from, now);
+        let entry = Entry {
+            client,
+            tag,
+            version: from + 1,
+            writer: true,
+            renewal: self.renewal,
+        };
+        let clock = exchanged(now, from);
+        self.order.enter_if(decides, entry, place)?;
         let seat = &mut self.seats[client as usize - 1];
-        if now == from && seat.decides_from(from) {
-            let entry = Entry {
-                client,
-                tag,
-                version: from + 1,
-                writer: true,
-                renewal: self.renewal,
-            };
-            self.order.enter(entry, place)?;
-        }
         seat.tick(from, tag, writes.into_pairs(), now, place);
-        if now == from {
-            self.clock = from + 1;
-        }
+        self.clock = clock;
         self.events = events;
         Ok(())
     }
 
     /// Splits a client off.
-    fn split(&mut self, alloc: Global, client: u32) -> Result<(), AllocError>
-        requires out { is_out self.old.core client ≡ true }
+    fn split(&mut self, alloc: A, client: u32) -> Result<(), AllocError>
+        requires there { IsThere self.old.core client }
         requires grants { 0 < (client_of self.old.core client).grants }
         ensures done { OnOk result (self.new ≡ run_played (splits client) self.old) }
         ensures kept { OnErr result (self.new ≡ self.old) }
@@ -294,9 +323,9 @@ impl State {
     }
 
     /// Gathers a client.
-    fn gather(&mut self, alloc: Global, client: u32, other: u32) -> Result<(), AllocError>
-        requires out { is_out self.old.core client ≡ true }
-        requires there { is_out self.old.core other ≡ true }
+    fn gather(&mut self, alloc: A, client: u32, other: u32) -> Result<(), AllocError>
+        requires there { IsThere self.old.core client }
+        requires other { IsThere self.old.core other }
         requires apart { client ≢ other }
         requires grants { (client_of self.old.core client).grants
             + (client_of self.old.core other).grants + 1 ≤ MOST_GRANTS }
@@ -314,8 +343,8 @@ impl State {
     }
 
     /// Renews the clock.
-    fn renew(&mut self, alloc: Global, client: u32, last: u64) -> Result<(), AllocError>
-        requires out { is_out self.old.core client ≡ true }
+    fn renew(&mut self, alloc: A, client: u32, last: u64) -> Result<(), AllocError>
+        requires there { IsThere self.old.core client }
         requires few { self.old.core.renewal < MOST_RENEWALS }
         ensures done { OnOk result (self.new ≡ run_played (renews client last) self.old) }
         ensures kept { OnErr result (self.new ≡ self.old) }
@@ -333,7 +362,7 @@ impl State {
     }
 
     /// Whether an event is allowed.
-    pub(crate) fn allows(&self, event: &Event) -> bool
+    pub(crate) fn allows(&self, event: &Event<A>) -> bool
         ensures { result ≡ may_run (stripes_of self.now.core) (event_of event.now) self.now.core }
     {
         match event {
@@ -403,20 +432,27 @@ impl State {
             && self.seat(other).holds_none()
     }
 
-    /// Whether a client may renew the clock.
-    fn may_renew(&self, client: u32, last: u64) -> bool
-        ensures { result ≡ may_run (stripes_of self.now.core) (renews client last) self.now.core }
+    /// Whether a client is the only one that is out, and holds no lock.
+    fn is_alone(&self, client: u32) -> bool
+        ensures { result
+            ≡ (is_out self.now.core client
+            && is_empty (client_of self.now.core client).attempt.held
+            && others_spent self.now.core.clients (client - 1)) }
     {
         self.is_out(client)
             && self.seat(client).holds_none()
             && others_spent(&self.seats, client as usize - 1)
-            && 1 <= last
-            && last < VERSION_LIMIT
-            && self.renewal < MOST_RENEWALS
+    }
+
+    /// Whether a client may renew the clock.
+    fn may_renew(&self, client: u32, last: u64) -> bool
+        ensures { result ≡ may_run (stripes_of self.now.core) (renews client last) self.now.core }
+    {
+        self.is_alone(client) && 1 <= last && last < VERSION_LIMIT && self.renewal < MOST_RENEWALS
     }
 
     /// Plays an event that is allowed.
-    pub(crate) fn make(&mut self, alloc: Global, event: Event) -> Result<(), AllocError>
+    pub(crate) fn make(&mut self, alloc: A, event: Event<A>) -> Result<(), AllocError>
         requires may { may_run (stripes_of self.old.core) (event_of event) self.old.core ≡ true }
         requires sane { IsSane self.old.core }
         ensures done { OnOk result (self.new ≡ run_played (event_of event) self.old) }
@@ -469,11 +505,11 @@ impl State {
 
     /// A core just opened.
     pub(crate) fn open(
-        alloc: Global,
+        alloc: A,
         image: &[u64],
         last: u64,
         stripes: u32,
-    ) -> Result<State, AllocError>
+    ) -> Result<State<A>, AllocError>
         requires { 0 < stripes }
         ensures { IfOk result (λ s. s ≡ run_opened image.now last stripes) }
     {
@@ -491,4 +527,12 @@ impl State {
             order: Order::new(alloc),
         })
     }
+}
+
+/// The word that an exchange leaves: the next number, where it finds the wanted one.
+fn exchanged(word: u64, wanted: u64) -> u64
+    requires { wanted + 1 < 2 ^ 64 }
+    ensures { result ≡ cond (eqb word wanted) (word + 1) word }
+{
+    if word == wanted { word + 1 } else { word }
 }

@@ -3,6 +3,7 @@
 ghost use Rattle.stm_replay.specs.Follows.{RunningFollows};
 ghost use Rattle.stm_replay.specs.Numbered.{AllowedWithNumbers, EveryEventIsPlayable, EveryListHasNumbers, LegalHistories, PlayedWithNumbers, SameButTags};
 
+use std::alloc::Allocator;
 use stm_words::Law;
 
 /// The running core follows the core, as a contract: after any list of allowed events it shows the
@@ -16,11 +17,11 @@ pub fn running_theorem()
 /// contract: a list of events that any law allows is allowed here with any numbers for its tags,
 /// the running core plays it, and its records are the same but for the tags, which the numbers can
 /// tell apart.
-pub fn law_theorem<L: Law>()
+pub fn law_theorem<L: Law, A: Allocator>()
     ensures allowed { AllowedWithNumbers L.lawful }
     ensures played { PlayedWithNumbers L.lawful }
     ensures records { SameButTags L.lawful }
     ensures history { LegalHistories L.lawful }
     ensures numbers { EveryListHasNumbers }
-    ensures events { EveryEventIsPlayable }
+    ensures events { EveryEventIsPlayable A }
 {}

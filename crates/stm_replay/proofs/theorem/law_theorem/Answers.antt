@@ -19,4 +19,4 @@ pub returns-clause-numbers : goal.returns-clause-numbers
 returns-clause-numbers g c = every_list_has_numbers
 
 pub returns-clause-events : goal.returns-clause-events
-returns-clause-events g c = every_event_is_playable
+returns-clause-events g c = every_event_is_playable _
