@@ -9,7 +9,7 @@ use Rattle.stm_region.specs.Shown.{Opened, stripe_of}
 use Rattle.stm_region.specs.Layout.{padding}
 use Rattle.stm_region.specs.Traced.{Mirrors}
 use Rattle.stm_region.specs.Rule.{listed}
-use Rattle.stm_region.specs.declared.lay.TheConstants.{FIRST_LOCK}
+use Rattle.stm_region.specs.declared.layout.TheConstants.{FIRST_LOCK}
 
 -- there is such a list and such a core
 pub record IsListed (lawful : RecordLaw) (o : Opened) (s : State (Unit {0}) Client) : Type 0 where

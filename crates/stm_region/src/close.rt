@@ -7,7 +7,7 @@ ghost use Rattle.stm_region.specs.Refused.{ClosesNot};
 
 use crate::client::Client;
 use crate::fault::RegionFault;
-use crate::lay::CLOCK;
+use crate::layout::CLOCK;
 use crate::limits::MOST_GRANTS;
 use crate::region::Region;
 use atomic_table::Closed;

@@ -6,14 +6,14 @@
 //! `stm_core`.
 #![tactic(auto)]
 
-mod acts;
+mod accesses;
 mod client;
 mod close;
 mod fault;
-mod lay;
+mod layout;
 mod limits;
+mod moving;
 mod opening;
-mod plays;
 mod region;
 mod renew;
 mod rule;

@@ -13,10 +13,10 @@ ghost use Rattle.stm_region.specs.Refused.{IsSize, IsLast, IsStripes, OpensNot};
 
 use crate::client::Client;
 use crate::fault::RegionFault;
-use crate::lay::{first_cell, lay};
+use crate::layout::{first_cell, lay_out};
 use crate::limits::{MOST_GRANTS, MOST_STRIPES, MOST_WORDS, VERSION_LIMIT};
+use crate::moving::{Gives, Takes};
 use crate::opening::{Opening, RegionRule};
-use crate::plays::{Gives, Takes};
 use crate::view::View;
 use atomic_table::Table;
 use std::alloc::{Allocator, Global};
@@ -110,7 +110,7 @@ impl<L: Law, A: Allocator + Copy> Region<L, A> {
         if stripes == 0 || stripes > MOST_STRIPES {
             return Err(RegionFault::Stripes);
         }
-        let words = lay(alloc, image, stripes)?;
+        let words = lay_out(alloc, image, stripes)?;
         let opening = Opening {
             words: Snapshot::of(&words),
             last,

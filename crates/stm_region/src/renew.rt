@@ -7,7 +7,7 @@ ghost use Rattle.stm_region.specs.Renewed.{EndsSomewhere, NotRenewed};
 
 use crate::client::Client;
 use crate::fault::RegionFault;
-use crate::lay::{first_cell, lay};
+use crate::layout::{first_cell, lay_out};
 use crate::limits::{MOST_GRANTS, MOST_RENEWALS, VERSION_LIMIT};
 use crate::opening::Opening;
 use crate::region::Region;
@@ -97,7 +97,7 @@ impl<L: Law, A: Allocator + Copy> Region<L, A> {
         let start = Snapshot::of(&client.seat);
         let (stripes, renewal) = (self.stripes, self.renewal + 1);
         let version = self.take_out(client, &mut words);
-        let Ok(laid) = lay(alloc, words.as_slice(), stripes) else {
+        let Ok(laid) = lay_out(alloc, words.as_slice(), stripes) else {
             return Err(RenewFault::Closed(words, version));
         };
         let opening = Opening {

@@ -11,7 +11,7 @@ ghost use Rattle.stm_core.specs.Client.{version_of, IsFree};
 ghost use Rattle.stm_core.specs.Guards.{Holds};
 
 use crate::client::Client;
-use crate::lay::{CLOCK, FIRST_LOCK};
+use crate::layout::{CLOCK, FIRST_LOCK};
 use crate::region::Region;
 use std::alloc::Allocator;
 use std::marker::Brand;

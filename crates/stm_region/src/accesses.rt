@@ -9,8 +9,8 @@ ghost use Rattle.stm_region.specs.Shown.{MayStep, value_after};
 ghost use Rattle.stm_region.specs.Layout.{place, InRange, Exchanges, Stores};
 ghost use Rattle.stm_region.specs.Told.{Told};
 
-use crate::lay::{CLOCK, FIRST_LOCK};
-use crate::plays::{Acting, Acts};
+use crate::layout::{CLOCK, FIRST_LOCK};
+use crate::moving::{Acting, Acts};
 use crate::region::Region;
 use crate::view::View;
 use atomic_table::Seat;

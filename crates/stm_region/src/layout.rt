@@ -20,7 +20,7 @@ const LINE_WORDS: usize = 8;
 const LINE_START: usize = 6;
 
 /// The words of a region at its opening: the clock and the lock words at 0, and the image.
-pub(crate) fn lay<A: Allocator>(
+pub(crate) fn lay_out<A: Allocator>(
     alloc: A,
     image: &[u64],
     stripes: u32,
