@@ -378,7 +378,7 @@ flat_holds xs s low high h small = record {
   under = λ image i. (
     s,
     record {
-      represents = subst (λ (n : ℕ). Represents (mem (flat_view xs) image) n [] s) (sym i.fits)
+      represents = subst (λ (n : ℕ). Represents (mem (flat_view xs) image) n [] s) (sym i.sees.fits)
           (same_words (λ (a : ℕ). slice_index xs a) (mem (flat_view xs) image) (length xs) [] s h
           (λ x l. ap (λ (o : Option ℕ). unwrap_or o (slice_index image x)) (get_at xs x l)));
       small = small;

@@ -5,8 +5,8 @@ ghost use Rattle.vac_records.specs.Holds.{HoldsState};
 use std::alloc::{AllocError, Global};
 use std::marker::Model;
 use stm_words::{Flat, TxMem};
-use tx_alloc::fresh_words;
 use tx_alloc::place::MOST_BLOCKS;
+use tx_alloc::{FreeList, fresh_words};
 use vac_audit::{AuditFault, audit_words};
 use vac_model::{Command, Kind, Reply, Report, Task};
 use vac_tasks::{only_reads, read_task, run_task};
@@ -45,7 +45,7 @@ impl Heap {
         if !task.is_in_range() {
             return None;
         }
-        let Ok(reply) = run_task(&mut self.memory, task, 0);
+        let Ok(reply) = run_task(&mut self.memory, task, FreeList::new(0));
         Some(reply)
     }
 

@@ -9,7 +9,7 @@ use Rattle.tx_alloc.specs.declared.pool.Block.{Block}
 use Rattle.tx_alloc.specs.Pointer.{pointer}
 use Rattle.tx_alloc.specs.Pool.{IsBlock}
 use Rattle.tx_alloc.specs.Rows.{Rows, times, put_row, block_at, Relinks}
-use Rattle.tx_alloc.specs.Steps.{mem}
+use Rattle.tx_alloc.specs.Steps.{mem, stood}
 use Rattle.tx_list.specs.Bookings.{code_of, place_code}
 use Rattle.tx_list.specs.declared.key.Key.{Key}
 use Rattle.tx_list.specs.Lists.{IsListAt, HasList, IsFresh, Inserted, Removed}
@@ -32,32 +32,35 @@ kept_word m m' n j k rs r blocks l = r.others (stock_block j + k) (omega arith) 
 pub stock_read : (s s' : View) → Kept s s' → s'.writes ≡ s.writes → HasStock s → HasStock s'
 stock_read s s' k w h = record {
   size = omega (arith, h.size, k.size);
-  under = λ image i. rw w (h.under image (k.seen image i));
+  under = λ image i. rw w (h.under image (stood k image i));
 }
 
 pub stock_removed : (s s' : View) (key : ℕ) (removed : Option Block) → HasStock s → Removed s s' 5 key removed → HasStock s'
 stock_removed s s' key removed h d = record {
   size = omega (arith, h.size, d.kept.size);
   under = λ image i.
-      let t = h.under image (d.kept.seen image i) in
-      let r = d.relinks image t.list.entries i t.list.is in
+      let t = h.under image (stood d.kept image i) in
+      let q = d.removal image t.list.entries i.sees t.list.is in
+      let r = q.relinks in
       let blocks : (a : ℕ) → 0 < times a t.list.entries → IsBlock (length image) a = λ a x. list_block (mem s image) (length image) (mem s image 5) a t.list.entries t.list.is.list x in
       record {
         size = t.size;
-        list = record { entries = _; is = d.list image t.list.entries i t.list.is };
+        list = record { entries = _; is = q.list };
         kind_is = λ j l. kept_word (mem s image) (mem s' image) (length image) j 0 t.list.entries r blocks (omega arith) ∙ t.kind_is j l;
         id_is = λ j l. kept_word (mem s image) (mem s' image) (length image) j 1 t.list.entries r blocks (omega arith) ∙ t.id_is j l;
       };
 }
 
-pub stock_inserted : (s s' : View) (key b : ℕ) → HasStock s → Inserted s s' 5 key b → HasStock s'
-stock_inserted s s' key b h d = record {
+pub stock_inserted : (s s' : View) (key : Key) (b : ℕ) → HasStock s → IsFresh s 5 key b → Inserted s s' 5 key b → HasStock s'
+stock_inserted s s' key b h fresh d = record {
   size = omega (arith, h.size, d.kept.size);
   under = λ image i.
-      let t = h.under image (d.kept.seen image i) in
-      let r = d.relinks image t.list.entries i t.list.is in
-      let l = d.list image t.list.entries i t.list.is in
-      let blocks : (a : ℕ) → 0 < times a (put_row t.list.entries key b) → IsBlock (length image) a = λ a x. list_block (mem s' image) (length image) (mem s' image 5) a _ l.list x in
+      let i0 = stood d.kept image i in
+      let t = h.under image i0 in
+      let q = d.insertion image t.list.entries i.sees t.list.is (fresh.under image t.list.entries i0 t.list.is) in
+      let r = q.relinks in
+      let l = q.list in
+      let blocks : (a : ℕ) → 0 < times a (put_row t.list.entries (code_of key) b) → IsBlock (length image) a = λ a x. list_block (mem s' image) (length image) (mem s' image 5) a _ l.list x in
       record {
         size = t.size;
         list = record { entries = _; is = l };
@@ -71,9 +74,9 @@ pub stock_fresh : (s s' : View) (key : Key) (b : ℕ) (removed : Option Block) �
 stock_fresh s s' key b removed h d gone k e = record {
   under = λ image rs i l.
       let w = d.none gone in
-      let t = h.under image (d.kept.seen image i) in
+      let t = h.under image (stood d.kept image i) in
       let before : IsListAt (mem s image) (length image) 5 rs = rw w at l in
-      let absent : 0 ≡ block_at rs (code_of key) = sym (ap pointer gone) ∙ d.is image rs i before in
+      let absent : 0 ≡ block_at rs (code_of key) = sym (ap pointer gone) ∙ (d.removal image rs i.sees before).is in
       let kind_is : mem s image (b + 0) ≡ key.kind = rw e (t.kind_is (40 * key.kind + key.id) (omega (arith, k.0, k.1)) ∙ omega (arith, k.1)) in
       let id_is : mem s image (b + 1) ≡ key.id = rw e (t.id_is (40 * key.kind + key.id) (omega (arith, k.0, k.1)) ∙ omega (arith, k.1)) in
       let code : place_code (mem s image) b ≡ code_of key = omega (arith, kind_is, id_is) in
@@ -126,7 +129,7 @@ stock_flat xs ys e h = rw e (record {
       let word : (a : ℕ) → a < 976 → memory image (numbered 0 xs) a ≡ stock_word a = λ a l.
       ap (λ (o : Option ℕ). unwrap_or o (slice_index image a)) (get_at xs a (omega (arith, l, h.0))) ∙ h.1 a l in
       record {
-        size = i.fits ∙ h.0;
+        size = i.sees.fits ∙ h.0;
         list = record { entries = []; is = record { list = record { linked = word 5 (omega arith) }; outside = λ a x. absurd (omega (arith, x)) } };
         kind_is = λ j l. word (stock_block j + 0) (omega (arith, l)) ∙ kind_word j;
         id_is = λ j l. word (stock_block j + 1) (omega (arith, l)) ∙ id_word j;

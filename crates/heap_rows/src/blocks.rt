@@ -1,12 +1,11 @@
 //! Blocks of a heap in plain memory: which are free at first, and which come when.
-ghost use Rattle.std.specs.Prelude.{◌≡◌, ◌<◌, ◌≤◌, IfOk};
+ghost use Rattle.std.specs.Prelude.{◌≡◌, ◌≤◌, IfOk};
 ghost use Rattle.tx_alloc.specs.Pool.{HasPool};
 
 use std::alloc::{AllocError, Global};
 use std::test::Fail;
 use stm_words::{Addr, Flat, TxMem};
-use tx_alloc::place::LISTS;
-use tx_alloc::{Block, fresh_words, give, rows_are_a_map, take};
+use tx_alloc::{Block, FreeList, fresh_words, give, rows_are_a_map, take};
 
 /// The words that are not 0, with their places.
 fn filled(alloc: Global, words: &[u64]) -> Result<Vec<(usize, u64)>, AllocError> {
@@ -47,12 +46,11 @@ fn words_of_heaps_without_entries(rt: HostRuntime) -> Result<(), Fail> {
 /// Takes three blocks, looked for from these lists on.
 fn take_three<M: TxMem>(
     memory: &mut M,
-    first: u32,
-    second: u32,
-    third: u32,
+    first: FreeList,
+    second: FreeList,
+    third: FreeList,
 ) -> Result<[Option<Block>; 3], M::Stop>
     requires pool { HasPool (M.view memory.old) }
-    requires starts { (first < LISTS) × (second < LISTS) × (third < LISTS) }
     ensures origin { M.origin memory.new ≡ M.origin memory.old }
     ensures pool { IfOk result (λ _. HasPool (M.view memory.new)) }
 {
@@ -63,9 +61,12 @@ fn take_three<M: TxMem>(
 }
 
 /// Takes a block and gives it back to another list.
-fn take_and_give<M: TxMem>(memory: &mut M, from: u32, to: u32) -> Result<Option<Block>, M::Stop>
+fn take_and_give<M: TxMem>(
+    memory: &mut M,
+    from: FreeList,
+    to: FreeList,
+) -> Result<Option<Block>, M::Stop>
     requires pool { HasPool (M.view memory.old) }
-    requires lists { (from < LISTS) × (to < LISTS) }
     ensures origin { M.origin memory.new ≡ M.origin memory.old }
     ensures pool { IfOk result (λ _. HasPool (M.view memory.new)) }
 {
@@ -83,8 +84,13 @@ fn take_and_give<M: TxMem>(memory: &mut M, from: u32, to: u32) -> Result<Option<
 fn blocks_come_from_the_first_list_that_has_one(rt: HostRuntime) -> Result<(), Fail> {
     let words = fresh_words(rt.alloc(), 10)?;
     let mut flat = Flat::new(words);
-    let Ok(taken) = take_three(&mut flat, 1, 3, 3);
-    let Ok(given) = take_and_give(&mut flat, 3, 7);
+    let Ok(taken) = take_three(
+        &mut flat,
+        FreeList::new(1),
+        FreeList::new(3),
+        FreeList::new(3),
+    );
+    let Ok(given) = take_and_give(&mut flat, FreeList::new(3), FreeList::new(7));
     let words = flat.words();
     let filled_after = filled(rt.alloc(), &words)?;
     let blocks = [
@@ -112,7 +118,12 @@ fn blocks_come_from_the_first_list_that_has_one(rt: HostRuntime) -> Result<(), F
 fn the_search_goes_round_and_ends(rt: HostRuntime) -> Result<(), Fail> {
     let words = fresh_words(rt.alloc(), 2)?;
     let mut flat = Flat::new(words);
-    let Ok(taken) = take_three(&mut flat, 1, 5, 0);
+    let Ok(taken) = take_three(
+        &mut flat,
+        FreeList::new(1),
+        FreeList::new(5),
+        FreeList::new(0),
+    );
     assert_eq!(rt; taken, [Some(Block(Addr(24))), Some(Block(Addr(16))), None]);
     Ok(())
 }

@@ -4,3 +4,4 @@ mod Stocked
 mod Tabled
 mod Recorded
 mod Owned
+mod Nulled

@@ -1,7 +1,7 @@
 -- What the calls on a customer make of its bookings.
 use Rattle.std.proofs.Common.{◌≡◌, ◌≢◌, inl, inr, ℕ, ◌+◌, ◌*◌, ◌<◌, ◌≤◌, ◌^◌, List, [], ◌∷◌, length, nat_eq, false, refl, sym, ap, ◌∙◌, subst, arith}
 use Rattle.std.proofs.lemmas.Bool.Decides.{nat_tests}
-use Rattle.stm_words.specs.View.{View, Kept}
+use Rattle.stm_words.specs.View.{View, Sees, Kept}
 use Rattle.stm_words.specs.Plain.{flat_view}
 use Rattle.stm_words.specs.Seen.{same_or}
 use Rattle.tx_alloc.specs.Steps.{mem}
@@ -13,7 +13,7 @@ use Rattle.vac_model.specs.State.{Place}
 use Rattle.vac_model.specs.Step.{extended}
 use Rattle.vac_records.specs.Items.{IsNode}
 use Rattle.vac_records.specs.Bookings.{place_key}
-use Rattle.vac_records.specs.Customers.{CustomerMade, CanBook, IsLoose, Booked, CanExtend, BookingChanged, CanBill}
+use Rattle.vac_records.specs.Customers.{CustomerMade, CanBook, IsLoose, IsBooked, Booked, CanExtend, BookingChanged, CanBill}
 use Rattle.vac_records.proofs.Links.{list_kept}
 use Rattle.stm_rows.specs.Laws.{Holds}
 use Rattle.stm_rows.specs.Records.{IsSized, HasNoBooking, HasOneBooking}
@@ -35,7 +35,7 @@ pub no_list : (s : View) → HasNoBooking s → HasList s 28
 no_list s h = record {
   small = omega (arith, h.size);
   room = omega (arith, h.size);
-  under = λ image i. record { entries = []; is = list_empty _ _ (h.head_is image i) };
+  under = λ image i. record { entries = []; is = list_empty _ _ (h.head_is image i.sees) };
 }
 
 none_loose : (m : ℕ → ℕ) (n : ℕ) (place : Place) (rows : Rows) → m 28 ≡ 0 → n ≡ 96 → IsListAt m n 28 rows → IsLoose m n 24 rows place 32
@@ -48,7 +48,7 @@ pub none_node : (s : View) → HasNoBooking s → (node : ℕ) → node + 8 ≤ 
 none_node s h node l = record { inside = omega (arith, h.size, l); small = omega (arith, h.size) }
 
 pub can_book : (s : View) (place : Place) → HasNoBooking s → CanBook s 24 place 32
-can_book s place h = record { under = λ image rows i l. none_loose (mem s image) (length image) place rows (h.head_is image i) (h.long image i) l }
+can_book s place h = record { under = λ image rows i l. none_loose (mem s image) (length image) place rows (h.head_is image i.sees) (h.long image i.sees) l }
 
 -- the only block of one row
 only : (key a : ℕ) → 0 < times a ((key, 32) ∷ []) → a ≡ 32
@@ -58,16 +58,22 @@ only key a h =
       | inr ne ↦ (let t : nat_eq 32 a ≡ false = grind (arith, nat_tests) in let z : 0 < 0 = rw t at h in absurd (omega (arith, z)))
     ]
 
+booked_one : (s s' : View) (place : Place) (num price : ℕ) → HasNoBooking s → Booked s s' 24 place num price 32 → (image : List ℕ) → Sees s' image → IsBooked (mem s image) (mem s' image) (length image) 24 [] place num price 32
+booked_one s s' place num price h b image i =
+    let i0 = b.kept.seen image i in
+    let list = list_empty (mem s image) (length image) (h.head_is image i0) in
+    b.booked image [] i list (none_loose (mem s image) (length image) place [] (h.head_is image i0) (h.long image i0) list)
+
 pub booked : (s s' : View) (place : Place) (num price : ℕ) → HasNoBooking s → Booked s s' 24 place num price 32 → HasOneBooking s' (place_key place) num (num * price)
 booked s s' place num price h b = record {
   size = b.kept.size ∙ h.size;
   long = λ image i. h.long image (b.kept.seen image i);
-  list = λ image i. (b.booked image [] i (list_empty _ _ (h.head_is image (b.kept.seen image i)))).list;
+  list = λ image i. (booked_one s s' place num price h b image i).list;
   sum_is = λ image i.
-      let t = b.booked image [] i (list_empty _ _ (h.head_is image (b.kept.seen image i))) in
+      let t = booked_one s s' place num price h b image i in
       t.relinks.others 34 (omega arith) (λ a x. let e = only (place_key place) a x in inl (omega (arith, e))) ∙ ap (λ (k : Booking). k.sum) t.made.is;
   units_is = λ image i.
-      let t = b.booked image [] i (list_empty _ _ (h.head_is image (b.kept.seen image i))) in
+      let t = booked_one s s' place num price h b image i in
       t.relinks.others 36 (omega arith) (λ a x. let e = only (place_key place) a x in inr (omega (arith, e))) ∙ ap (λ (k : Booking). k.units) t.made.is;
 }
 
@@ -85,7 +91,7 @@ module _ (s : View) (key units sum : ℕ) (h : HasOneBooking s key units sum) wh
   one_list = record {
     small = omega (arith, h.size);
     room = omega (arith, h.size);
-    under = λ image i. record { entries = (key, 32) ∷ []; is = h.list image i };
+    under = λ image i. record { entries = (key, 32) ∷ []; is = h.list image i.sees };
   }
 
   pub booking_node : IsNode s 32
@@ -93,8 +99,8 @@ module _ (s : View) (key units sum : ℕ) (h : HasOneBooking s key units sum) wh
 
   pub can_extend : (num price : ℕ) → sum + num * price < 2 ^ 64 → units + num < 2 ^ 64 → CanExtend s 32 num price
   can_extend num price l k = record {
-    sum = record { fits = λ image i. let e = h.sum_is image i in rw e l };
-    units = record { fits = λ image i. let e = h.units_is image i in rw e k };
+    sum = record { fits = λ image i. let e = h.sum_is image i.sees in rw e l };
+    units = record { fits = λ image i. let e = h.units_is image i.sees in rw e k };
   }
 
   pub extended_booking : (s' : View) (num price : ℕ) → BookingChanged s s' 32 (λ b. extended b num price) → HasOneBooking s' key (units + num) (sum + num * price)
@@ -110,7 +116,7 @@ module _ (s : View) (key units sum : ℕ) (h : HasOneBooking s key units sum) wh
   can_bill l = record {
     small = omega (arith, h.size);
     room = omega (arith, h.size);
-    under = λ image i. record { entries = (key, 32) ∷ []; is = record { list = h.list image i; few = omega arith; fits = omega (arith, h.sum_is image i, l) } };
+    under = λ image i. record { entries = (key, 32) ∷ []; is = record { list = h.list image i.sees; few = omega arith; fits = omega (arith, h.sum_is image i.sees, l) } };
   }
 
   pub one_read : (s' : View) → Kept s s' → s'.writes ≡ s.writes → HasOneBooking s' key units sum

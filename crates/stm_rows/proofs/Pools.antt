@@ -22,7 +22,7 @@ heap_local m m' n same h = record {
 }
 
 pub heap_pool : (s : View) → Holds IsHeapOfTen 96 s → HasPool s
-heap_pool s h = record { small = omega (arith, h.size_is); under = λ image i. (h.under image i).pool }
+heap_pool s h = record { small = omega (arith, h.size_is); under = λ image i. (h.under image i.sees).pool }
 
 -- either answer of a call of take
 pub heap_took : {B : Type 0} (taken : Option B) (address : B → ℕ) (s s' : View) (start : ℕ) → MatchOption taken (NoneFree s s') (λ b. Taken s s' start (address b)) → Carries IsHeapOfTen IsHeapOfTen s s'

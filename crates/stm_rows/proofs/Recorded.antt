@@ -53,24 +53,24 @@ module _ (s : View) (node used free total price : ℕ) (h : HasItem s node used 
 
   pub can_drop : (num : ℕ) → num ≤ free → num ≤ total → HasFree s node num
   can_drop num l k = record {
-    free = record { enough = λ image i. omega (arith, l, free_is image i) };
-    total = record { enough = λ image i. omega (arith, k, total_is image i) };
+    free = record { enough = λ image i. omega (arith, l, free_is image i.sees) };
+    total = record { enough = λ image i. omega (arith, k, total_is image i.sees) };
   }
 
   pub can_make : (num : ℕ) → num ≤ free → used + num < 2 ^ 64 → CanMake s node num
   can_make num l k = record {
-    free = record { enough = λ image i. omega (arith, l, free_is image i) };
-    used = record { fits = λ image i. omega (arith, k, used_is image i) };
+    free = record { enough = λ image i. omega (arith, l, free_is image i.sees) };
+    used = record { fits = λ image i. omega (arith, k, used_is image i.sees) };
   }
 
   pub can_cancel : (num : ℕ) → num ≤ used → free + num < 2 ^ 64 → CanCancel s node num
   can_cancel num l k = record {
-    used = record { enough = λ image i. omega (arith, l, used_is image i) };
-    free = record { fits = λ image i. omega (arith, k, free_is image i) };
+    used = record { enough = λ image i. omega (arith, l, used_is image i.sees) };
+    free = record { fits = λ image i. omega (arith, k, free_is image i.sees) };
   }
 
   pub has_room : (num : ℕ) → free + num < 2 ^ 64 → total + num < 2 ^ 64 → HasRoom s node num
   has_room num l k = record {
-    free = λ image i. omega (arith, l, free_is image i);
-    total = λ image i. omega (arith, k, total_is image i);
+    free = λ image i. omega (arith, l, free_is image i.sees);
+    total = λ image i. omega (arith, k, total_is image i.sees);
   }

@@ -22,12 +22,10 @@ table_sought s s' count key (Some b) h f = record { entries = after_reads s s' 3
 
 pub table_fresh : (s s1 s2 : View) (count key number b : ℕ) → HoldsTable s count → number < 10 → b ≡ 16 + 8 * number → Loaded s s1 b key → Found s1 s2 3 key 0 → IsFresh s2 3 key b
 table_fresh s s1 s2 count key number b h inside e l f =
-    fresh_read s s1 s2 3 10 count key number b h.entries inside e
-    (λ image i. let n = h.long image (l.kept.seen image (f.kept.seen image i)) in omega (arith, n, f.kept.size, l.kept.size, h.entries.size))
-    l f
+    fresh_read s s1 s2 3 10 count key number b h.entries inside e l f
 
-pub table_put : (s s' : View) (count key b : ℕ) → HoldsTable s count → count < 262144 → Inserted s s' 3 key b → HoldsTable s' (count + 1)
-table_put s s' count key b h room p = record { entries = after_put s s' 3 10 count key b h.entries room p; long = λ image i. h.long image (p.kept.seen image i) }
+pub table_put : (s s' : View) (count key b : ℕ) → HoldsTable s count → count < 262144 → IsFresh s 3 key b → Inserted s s' 3 key b → HoldsTable s' (count + 1)
+table_put s s' count key b h room fresh p = record { entries = after_put s s' 3 10 count key b h.entries room fresh p; long = λ image i. h.long image (p.kept.seen image i) }
 
 pub table_cut : (s s' : View) (count key : ℕ) (removed : Option Block) (b : Block) → HoldsTable s count → removed ≡ Some b → MatchOption removed (Found s s' 3 key 0) (λ b. Removed s s' 3 key b.0.0) → HoldsTable s' (count - 1)
 table_cut s s' count key removed b h e r =
@@ -54,7 +52,7 @@ table_held s h = record {
     small = omega arith;
     low = omega arith;
     few = omega arith;
-    under = λ image i. (h.under image i).entries;
+    under = λ image i. (h.under image i.sees).entries;
   };
   long = λ image i. (h.under image i).size;
 }

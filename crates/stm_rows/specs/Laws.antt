@@ -1,5 +1,5 @@
 -- Which words the regions of the tests may have.
-use Rattle.std.specs.Prelude.{◌≡◌, ℕ, List, length, slice_index}
+use Rattle.std.specs.Prelude.{◌≡◌, ℕ, ◌+◌, ◌<◌, List, length, slice_index}
 use Rattle.stm_words.specs.View.{View, Sees}
 use Rattle.stm_attempt.specs.Leading.{Property, words_of}
 use Rattle.tx_alloc.specs.Steps.{mem}
@@ -33,3 +33,9 @@ pub record HoldsTable (s : View) (count : ℕ) : Type 0 where
 -- the words of a heap without a table
 abbrev pub IsTableless : List ℕ → Type 0
 IsTableless xs = (length xs ≡ 96) × (slice_index xs 3 ≡ 0)
+
+-- the words that lead to a table, to a list and to free blocks are 0, however many words there are
+pub record HasNulls (m : ℕ → ℕ) (n : ℕ) : Type 0 where
+  pub root : m 3 ≡ 0
+  pub head : m 5 ≡ 0
+  pub free : (i : ℕ) → i < 8 → m (8 + i) ≡ 0

@@ -1,5 +1,5 @@
 //! Free blocks over plain memory and over a region, and clients that take from different lists.
-ghost use Rattle.std.specs.Prelude.{◌≡◌, ◌<◌, IfOk};
+ghost use Rattle.std.specs.Prelude.{◌≡◌, IfOk};
 ghost use Rattle.stm_core.specs.Core.{IsFreeHanded};
 ghost use Rattle.stm_attempt.specs.Leading.{Carries};
 ghost use Rattle.tx_alloc.specs.Pool.{HasPool};
@@ -12,8 +12,7 @@ use std::test::Fail;
 use stm_attempt::{Attempt, Logs, NoGate};
 use stm_region::{Client, Region};
 use stm_words::{Addr, Flat, Law, TxMem, Version};
-use tx_alloc::place::LISTS;
-use tx_alloc::{Block, fresh_words, give, take};
+use tx_alloc::{Block, FreeList, fresh_words, give, take};
 
 /// An image fits where it is a heap of ten blocks, and a record is lawful where it keeps fitting
 /// images that agree with its reads.
@@ -40,8 +39,7 @@ fn heap_region(alloc: Global) -> Result<(Region<HeapLaw>, Client<HeapLaw>), Fail
     Ok(Region::<HeapLaw>::new(alloc, words.as_slice(), 100, 96)?)
 }
 
-fn take_block<M: TxMem>(memory: &mut M, start: u32) -> Result<Option<Block>, M::Stop>
-    requires start { start < LISTS }
+fn take_block<M: TxMem>(memory: &mut M, start: FreeList) -> Result<Option<Block>, M::Stop>
     requires heap { Holds IsHeapOfTen 96 (M.view memory.old) }
     ensures origin { M.origin memory.new ≡ M.origin memory.old }
     ensures heap { IfOk result (λ _.
@@ -56,12 +54,11 @@ fn take_and_commit(
     region: &Region<HeapLaw>,
     client: &mut Client<HeapLaw>,
     logs: &mut Logs,
-    start: u32,
+    start: FreeList,
 ) -> Option<(Block, Version)>
     requires own { client.old.table ≡ region.now.table }
     requires free { IsFreeHanded client.old.value }
     requires size { region.now.size ≡ 96 }
-    requires start { start < LISTS }
     ensures own { client.new.table ≡ client.old.table }
     ensures free { IsFreeHanded client.new.value }
 {
@@ -90,8 +87,8 @@ fn take_beside_another(
     ensures free { IsFreeHanded client.new.value × IsFreeHanded other.new.value }
 {
     let mut attempt = Attempt::begin(region, client, logs);
-    let taken = take_block(&mut attempt, 0);
-    let theirs = take_and_commit(region, other, others, 1);
+    let taken = take_block(&mut attempt, FreeList::new(0));
+    let theirs = take_and_commit(region, other, others, FreeList::new(1));
     let Ok(block) = taken else {
         attempt.drop_it();
         return [None, theirs];
@@ -131,9 +128,12 @@ fn two_clients_take_from_different_lists(rt: HostRuntime) -> Result<(), Fail> {
 }
 
 /// Takes a block and gives it back to another list.
-fn take_and_give<M: TxMem>(memory: &mut M, from: u32, to: u32) -> Result<Option<Block>, M::Stop>
+fn take_and_give<M: TxMem>(
+    memory: &mut M,
+    from: FreeList,
+    to: FreeList,
+) -> Result<Option<Block>, M::Stop>
     requires pool { HasPool (M.view memory.old) }
-    requires lists { (from < LISTS) × (to < LISTS) }
     ensures origin { M.origin memory.new ≡ M.origin memory.old }
     ensures pool { IfOk result (λ _. HasPool (M.view memory.new)) }
 {
@@ -152,9 +152,9 @@ fn move_two<M: TxMem>(memory: &mut M) -> Result<[Option<Block>; 3], M::Stop>
     requires pool { HasPool (M.view memory.old) }
     ensures origin { M.origin memory.new ≡ M.origin memory.old }
 {
-    let one = take_and_give(memory, 1, 7)?;
-    let two = take_and_give(memory, 3, 7)?;
-    let three = take(memory, 7)?;
+    let one = take_and_give(memory, FreeList::new(1), FreeList::new(7))?;
+    let two = take_and_give(memory, FreeList::new(3), FreeList::new(7))?;
+    let three = take(memory, FreeList::new(7))?;
     Ok([one, two, three])
 }
 

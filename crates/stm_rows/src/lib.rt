@@ -14,6 +14,8 @@ mod gates;
 #[cfg(test)]
 mod heaps;
 #[cfg(test)]
+mod lengths;
+#[cfg(test)]
 mod lists;
 #[cfg(test)]
 mod logs;

@@ -1,6 +1,6 @@
 -- The blocks of a memory: free ones in eight lists, and taken ones.
 use Rattle.std.specs.Prelude.{◌≡◌, ◌≢◌, ℕ, ◌+◌, ◌*◌, ◌%◌, ◌<◌, ◌≤◌, ◌^◌, List, [], ◌∷◌, cond, nat_eq, nat_lt, length, slice_index, zero, suc}
-use Rattle.stm_words.specs.View.{View, Sees, Kept, IsWrite}
+use Rattle.stm_words.specs.View.{View, Sees, Stands, Kept, IsWrite}
 use Rattle.tx_alloc.specs.Steps.{mem}
 use Rattle.tx_alloc.specs.declared.place.TheConstants.{LISTS, FIRST_HEAD, FIRST_BLOCK, BLOCK_WORDS}
 
@@ -45,10 +45,11 @@ pub record SomePool (m : ℕ → ℕ) (n : ℕ) : Type 0 where
   pub count : ℕ
   pub pool : IsPool m n free used count
 
--- under each image that there may be the blocks are free or taken. Addresses fit 32 bits.
+-- under each image of the memory's size that there may be the blocks are free or taken. Addresses
+-- fit 32 bits.
 pub record HasPool (s : View) : Type 0 where
   pub small : s.size ≤ 2 ^ 32
-  pub under : (image : List ℕ) → Sees s image → SomePool (mem s image) (length image)
+  pub under : (image : List ℕ) → Stands s image → SomePool (mem s image) (length image)
 
 -- only reads were made, and no list has a block
 pub record NoneFree (s s' : View) : Type 0 where
@@ -91,10 +92,10 @@ pub record SomeUsed (m : ℕ → ℕ) (n b : ℕ) : Type 0 where
   pub count : ℕ
   pub is : IsUsed m n free used count b
 
--- under each image that there may be b is taken. Addresses fit 32 bits.
+-- under each image of the memory's size that there may be b is taken. Addresses fit 32 bits.
 pub record HasUsed (s : View) (b : ℕ) : Type 0 where
   pub small : s.size ≤ 2 ^ 32
-  pub under : (image : List ℕ) → Sees s image → SomeUsed (mem s image) (length image) b
+  pub under : (image : List ℕ) → Stands s image → SomeUsed (mem s image) (length image) b
 
 -- b became the first block of the list start, and nothing but its first word and the list's head
 -- was written

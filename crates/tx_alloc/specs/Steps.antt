@@ -1,6 +1,6 @@
 -- Steps of a memory, one after the other.
 use Rattle.std.proofs.Common.{◌≡◌, ℕ, List, refl, ◌∙◌}
-use Rattle.stm_words.specs.View.{View, Sees, Kept, Loaded, Stored, IsWrite}
+use Rattle.stm_words.specs.View.{View, Sees, Stands, Kept, Loaded, Stored, IsWrite}
 pub use Rattle.stm_words.specs.View.{mem}
 
 pub kept_none : (s : View) → Kept s s
@@ -11,6 +11,10 @@ kept_both s s' s'' h k = record {
   size = k.size ∙ h.size;
   seen = λ image i. h.seen image (k.seen image i);
 }
+
+-- an image of the memory's size on which it may stand is one on which it may have stood before
+pub stood : {s s' : View} → Kept s s' → (image : List ℕ) → Stands s' image → Stands s image
+stood k image i = record { size = i.size ∙ k.size; sees = k.seen image i.sees }
 
 -- the answer of a load, spoken of the memory at the start, since when only reads were made
 pub at_start : (s0 s s' : View) (a v : ℕ) → s.writes ≡ s0.writes → Loaded s s' a v →

@@ -8,10 +8,12 @@
 #![tactic(auto)]
 
 mod fresh;
+mod list;
 pub mod place;
 mod pool;
 mod rows;
 
 pub use fresh::fresh_words;
+pub use list::FreeList;
 pub use pool::{Block, give, take};
 pub use rows::rows_are_a_map;

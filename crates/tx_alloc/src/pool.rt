@@ -3,6 +3,7 @@
 ghost use Rattle.std.specs.Prelude.{◌≡◌, ◌<◌, IfOk, MatchOption};
 ghost use Rattle.tx_alloc.specs.Pool.{HasPool, HasUsed, NoneFree, Taken, Given};
 
+use crate::list::FreeList;
 use crate::place::{FIRST_HEAD, LISTS};
 use stm_words::{Addr, TxMem, load, store};
 
@@ -15,16 +16,16 @@ pub struct Block(pub Addr);
 ///
 /// The block's words are as they were when it was given back: its first word is the next free
 /// block's place.
-pub fn take<M: TxMem>(memory: &mut M, start: u32) -> Result<Option<Block>, M::Stop>
-    requires start { start < LISTS }
+pub fn take<M: TxMem>(memory: &mut M, start: FreeList) -> Result<Option<Block>, M::Stop>
     requires pool { HasPool (M.view memory.old) }
     ensures origin { M.origin memory.new ≡ M.origin memory.old }
     ensures answer { IfOk result (λ taken. MatchOption taken
         (NoneFree (M.view memory.old) (M.view memory.new))
         (λ block. Taken (M.view memory.old) (M.view memory.new) start block.0.0)) }
 {
+    let list = start.number();
     for i in 0..LISTS {
-        let head = Addr(FIRST_HEAD + (start + i) % LISTS);
+        let head = Addr(FIRST_HEAD + (list + i) % LISTS);
         let first = load(memory, head)?;
         if first != 0 {
             let block = Addr(first as u32);
@@ -38,15 +39,16 @@ pub fn take<M: TxMem>(memory: &mut M, start: u32) -> Result<Option<Block>, M::St
 
 /// Gives back a block that is taken and that nothing leads to any more. It becomes the first of
 /// list `start`.
-pub fn give<M: TxMem>(memory: &mut M, start: u32, block: Block) -> Result<(), M::Stop>
-    requires start { start < LISTS }
+pub fn give<M: TxMem>(memory: &mut M, start: FreeList, block: Block) -> Result<(), M::Stop>
     requires used { HasUsed (M.view memory.old) block.0.0 }
     ensures origin { M.origin memory.new ≡ M.origin memory.old }
+    ensures list { start < LISTS }
     ensures answer { IfOk result (λ _.
         Given (M.view memory.old) (M.view memory.new) start block.0.0) }
 {
     let Block(addr) = block;
-    let head = Addr(FIRST_HEAD + start);
+    let list = start.number();
+    let head = Addr(FIRST_HEAD + list);
     let first = load(memory, head)?;
     store(memory, addr, first)?;
     store(memory, head, addr.0 as u64)?;

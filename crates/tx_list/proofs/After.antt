@@ -5,7 +5,7 @@ use Rattle.stm_words.specs.Seen.{same_or}
 use Rattle.stm_words.specs.View.{View}
 use Rattle.tx_alloc.specs.declared.pool.Block.{Block}
 use Rattle.tx_alloc.specs.Rows.{Rows, times}
-use Rattle.tx_alloc.specs.Steps.{mem}
+use Rattle.tx_alloc.specs.Steps.{mem, stood}
 use Rattle.tx_list.specs.Bookings.{first_block, block_behind}
 use Rattle.tx_list.specs.Lists.{HasList, HasBooking, First, Next}
 
@@ -28,8 +28,8 @@ first_booking s s' head found b h f e =
     record {
       small = omega (arith, h.small, g.kept.size);
       under = λ image i.
-          let t = h.under image (g.kept.seen image i) in
-          let has = first_has t.entries b.0.0 (g.is image t.entries i t.is) (omega (arith, g.within.0)) in
+          let t = h.under image (stood g.kept image i) in
+          let has = first_has t.entries b.0.0 (g.is image t.entries i.sees t.is) (omega (arith, g.within.0)) in
           rw g.writes (record { start = mem s image head; entries = t.entries; list = t.is.list; has = has });
     }
 
@@ -39,7 +39,7 @@ next_booking s s' a found b h f e =
     record {
       small = omega (arith, h.small, g.kept.size);
       under = λ image i.
-          let t = h.under image (g.kept.seen image i) in
-          let has = behind_has t.entries a b.0.0 (g.is image t.start t.entries i t.list t.has) (omega (arith, g.within.0)) in
+          let t = h.under image (stood g.kept image i) in
+          let has = behind_has t.entries a b.0.0 (g.is image t.start t.entries i.sees t.list t.has) (omega (arith, g.within.0)) in
           rw g.writes (record { start = t.start; entries = t.entries; list = t.list; has = has });
     }

@@ -3,7 +3,7 @@ use Rattle.std.proofs.Common.{◌≡◌, ◌≢◌, ◌⊎◌, inl, inr, ℕ, �
 use Rattle.std.proofs.lemmas.Bool.Decides.{nat_tests}
 use Rattle.std.proofs.lemmas.Bool.{cases_lt}
 use Rattle.stm_words.specs.Seen.{some_le, same_or}
-use Rattle.stm_words.specs.View.{View, Sees, Stands, Loaded, Stored, IsWrite}
+use Rattle.stm_words.specs.View.{View, Stands, Loaded, Stored, IsWrite}
 use Rattle.tx_alloc.specs.declared.pool.Block.{Block}
 use Rattle.tx_alloc.specs.Pointer.{pointer, IsWithin}
 use Rattle.tx_alloc.specs.Rows.{Rows, times, put_row, cut_row, block_at, Relinks}
@@ -12,8 +12,8 @@ use Rattle.tx_alloc.proofs.Times.{times_put, times_cut, cut_is, cut_else}
 use Rattle.tx_list.specs.Bookings.{code_of, IsKey, Linked, link_of}
 use Rattle.tx_list.specs.declared.key.Key.{Key}
 use Rattle.tx_list.specs.declared.search.Spot.{Spot}
-use Rattle.tx_list.specs.Lists.{IsOutside, IsListAt, HasList, Fresh, IsFresh, Inserted, Removed}
-use Rattle.tx_list.specs.Search.{Sought, IsSpot, Hung, Unhung}
+use Rattle.tx_list.specs.Lists.{IsOutside, IsListAt, HasList, Fresh, IsFresh, IsInsertion, Inserted, IsRemoval, Removed}
+use Rattle.tx_list.specs.Search.{Sought, SpotAt, Hung, Unhung}
 use Rattle.tx_list.proofs.Links.{SparesAll, outside_spares, link_is, Puts, Keyed, put_linked, Cuts, cut_linked, cut_none}
 use Rattle.tx_list.proofs.Open.{none_below}
 use Rattle.tx_list.proofs.Reading.{Inside}
@@ -81,45 +81,36 @@ put_relinks m m' head key b rs w = record {
       (λ e. elim (away b (put_new key b rs)) [ inl below ↦ absurd (omega (arith, e, below)) | inr above ↦ absurd (omega (arith, e, above)) ]);
 }
 
-inserted : (s s1 s2 : View) (head : ℕ) (key : Key) (b : ℕ) (spot : Spot) → IsKey key → IsFresh s head key b → IsSpot s head (code_of key) spot → Stored s s1 (b + 3) spot.word → Stored s1 s2 spot.link.0 b → Inserted s s2 head (code_of key) b
-inserted s s1 s2 head key b spot is_key f p w w' =
-    let seen0 : (image : List ℕ) → Sees s2 image → Sees s image = λ image seen. w.kept.seen image (w'.kept.seen image seen) in
-    let fresh : (image : List ℕ) (rs : Rows) → Sees s2 image → IsListAt (mem s image) (length image) head rs → Fresh (mem s image) (length image) head rs key b = λ image rs seen h.
-    f.under image rs (seen0 image seen) h in
-    let puts : (image : List ℕ) (rs : Rows) → Sees s2 image → IsListAt (mem s image) (length image) head rs → Puts (mem s image) (mem s2 image) b (link_of head rs (code_of key)) = λ image rs seen h.
-    let at = p.link image rs (seen0 image seen) h in
-    let o = fresh image rs seen h in
-    let ne : spot.link.0 ≢ b + 3 = λ e. place_apart head (code_of key) b rs o.outside o.loose (sym at ∙ e) in
-    subst (λ (x : ℕ). Puts (mem s image) (mem s2 image) b x) at (puts_by (mem s image) (mem s1 image) (mem s2 image) b spot.link.0 spot.word (w.written image) (w'.written image) (p.word image (seen0 image seen)) ne) in
-    record {
-      kept = kept_both s s1 s2 w.kept w'.kept;
-      list = λ image rs seen h. put_list (mem s image) (mem s2 image) (length image) head rs key b h is_key (fresh image rs seen h) (puts image rs seen h);
-      relinks = λ image rs seen h. put_relinks (mem s image) (mem s2 image) head (code_of key) b rs (puts image rs seen h);
-    }
-
 -- two writes hang a block in
 pub hung : (s s1 s2 : View) (b : ℕ) (spot : Spot) → Stored s s1 (b + 3) spot.word → Stored s1 s2 spot.link.0 b → Hung s s2 spot b
 hung s s1 s2 b spot w w' = record {
   kept = kept_both s s1 s2 w.kept w'.kept;
-  inserted = λ head key is_key p f. inserted s s1 s2 head key b spot is_key f p w w';
+  insertion = λ image seen head key rs is_key h p o.
+      let ne : spot.link.0 ≢ b + 3 = λ e. place_apart head (code_of key) b rs o.outside o.loose (sym p.link ∙ e) in
+      let puts : Puts (mem s image) (mem s2 image) b (link_of head rs (code_of key)) =
+      subst (λ (x : ℕ). Puts (mem s image) (mem s2 image) b x) p.link (puts_by (mem s image) (mem s1 image) (mem s2 image) b spot.link.0 spot.word (w.written image) (w'.written image) p.word ne) in
+      record {
+        list = put_list (mem s image) (mem s2 image) (length image) head rs key b h is_key o puts;
+        relinks = put_relinks (mem s image) (mem s2 image) head (code_of key) b rs puts;
+      };
 }
 
 -- a block that was hung in after a search came into the list
-pub hung_after : (s s1 s2 : View) (head : ℕ) (key : Key) (b : ℕ) (spot : Spot) → IsKey key → IsFresh s head key b → Sought s s1 head (code_of key) spot → Hung s1 s2 spot b → Inserted s s2 head (code_of key) b
-hung_after s s1 s2 head key b spot is_key f k w =
-    let fresh : IsFresh s1 head key b = record { under = λ image rs seen. rw k.writes (f.under image rs (k.kept.seen image seen)) } in
-    let v = w.inserted head key is_key (sought_spot s s1 head (code_of key) spot k) fresh in
-    record {
-      kept = kept_both s s1 s2 k.kept v.kept;
-      list = λ image rs seen. rw k.writes at (v.list image rs seen);
-      relinks = λ image rs seen. rw k.writes at (v.relinks image rs seen);
-    }
+pub hung_after : (s s1 s2 : View) (head : ℕ) (key : Key) (b : ℕ) (spot : Spot) → IsKey key → Sought s s1 head (code_of key) spot → Hung s1 s2 spot b → Inserted s s2 head key b
+hung_after s s1 s2 head key b spot is_key k w = record {
+  kept = kept_both s s1 s2 k.kept w.kept;
+  insertion = λ image rs seen.
+      let v : IsListAt (mem s1 image) (length image) head rs → Fresh (mem s1 image) (length image) head rs key b → IsInsertion (mem s1 image) (mem s2 image) (length image) head (code_of key) b rs = λ h o.
+      let p : SpotAt (mem s image) head (code_of key) spot rs = sought_spot s s1 head (code_of key) spot k image rs (w.kept.seen image seen) (rw k.writes at h) in
+      w.insertion image seen head key rs is_key h (rw k.writes p) o in
+      rw k.writes at v;
+}
 
 -- a block that has room for eight words can be written
 pub fresh_in : (s : View) (head : ℕ) (key : Key) (b : ℕ) → HasList s head → IsFresh s head key b → ∥ ((image : List ℕ) × Stands s image) ∥₁ → Inside s b
 fresh_in s head key b has f ws =
     let fresh : (w : (image : List ℕ) × Stands s image) → (rs : Rows) × Fresh (mem s w.0) (length w.0) head rs key b = λ w.
-    let t = has.under w.0 w.1.sees in (t.entries, f.under w.0 t.entries w.1.sees t.is) in
+    let t = has.under w.0 w.1 in (t.entries, f.under w.0 t.entries w.1 t.is) in
     let room : b + 8 ≤ s.size = some_le (b + 8) s.size ws (λ w. omega (arith, (fresh w).1.block.1.0, w.1.size)) in
     record {
       low = some_le 16 b ws (λ w. omega (arith, (fresh w).1.block.1.1));
@@ -162,65 +153,53 @@ some_none : (b : Block) → Some b ≡ None → ⊥
 some_none b e = cc
 
 -- nothing is taken out at a spot without a booking
-removed_none : (s : View) (head key : ℕ) (spot : Spot) → spot.entry ≡ None → IsSpot s head key spot → Removed s s head key None
-removed_none s head key spot e p =
-    let is : (image : List ℕ) (rs : Rows) → Sees s image → IsListAt (mem s image) (length image) head rs → 0 ≡ block_at rs key = λ image rs seen h.
-    sym (ap pointer e) ∙ p.entry image rs seen h in
-    record {
-      kept = kept_none s;
-      none = λ _. refl;
-      within = tt;
-      is = is;
-      list = λ image rs seen h. rw (cut_none (mem s image) (length image) (mem s image head) 0 key rs h.list.linked (sym (is image rs seen h))) h;
-      relinks = λ image rs seen h. record { others = λ x nh away. refl };
-    }
-
-removed_some : (s s1 s2 : View) (head key next : ℕ) (b : Block) (spot : Spot) → spot.entry ≡ Some b → Loaded s s1 (b.0.0 + 3) next → Stored s1 s2 spot.link.0 next → IsSpot s head key spot → Removed s s2 head key (Some b)
-removed_some s s1 s2 head key next b spot e l w p =
-    let inside : IsWithin s (Some b) = subst (λ (o : Option Block). IsWithin s o) e p.within in
-    let seen0 : (image : List ℕ) → Sees s2 image → Sees s image = λ image seen. l.kept.seen image (w.kept.seen image seen) in
-    let is : (image : List ℕ) (rs : Rows) → Sees s2 image → IsListAt (mem s image) (length image) head rs → b.0.0 ≡ block_at rs key = λ image rs seen h.
-    sym (ap pointer e) ∙ p.entry image rs (seen0 image seen) h in
-    let some : b.0.0 ≢ 0 = omega (arith, inside.0) in
-    let cuts : (image : List ℕ) (rs : Rows) → Sees s2 image → IsListAt (mem s image) (length image) head rs → Cuts (mem s image) (mem s2 image) (link_of head rs key) = λ image rs seen h.
-    let at = p.link image rs (seen0 image seen) h in
-    let leads : mem s image (link_of head rs key) ≡ b.0.0 = link_leads (mem s image) (length image) head 0 key rs h.list.linked (λ z. some (is image rs seen h ∙ z)) ∙ sym (is image rs seen h) in
-    let behind : mem s image (b.0.0 + 3) ≡ next = l.answer image (w.kept.seen image seen) in
-    let put : IsWrite (mem s image) (mem s2 image) spot.link.0 next = write_at_start s s1 s2 spot.link.0 next l.writes w image seen in
-    subst (λ (x : ℕ). Cuts (mem s image) (mem s2 image) x) at (record {
-      here = put.here ∙ (sym behind ∙ ap (λ (x : ℕ). mem s image (x + 3)) (sym (ap (mem s image) at ∙ leads)));
-      others = put.others;
-    }) in
-    record {
-      kept = kept_both s s1 s2 l.kept w.kept;
-      none = λ z. absurd (some_none b z);
-      within = (inside.0, omega (arith, inside.1, l.kept.size, w.kept.size));
-      is = is;
-      list = λ image rs seen h. cut_list (mem s image) (mem s2 image) (length image) head key b.0.0 rs h (sym (is image rs seen h)) some (cuts image rs seen h);
-      relinks = λ image rs seen h. cut_relinks (mem s image) (mem s2 image) head key rs (cuts image rs seen h);
-    }
-
 pub unhung_none : (s : View) (spot : Spot) → spot.entry ≡ None → Unhung s s spot None
-unhung_none s spot e = record { kept = kept_none s; within = tt; gone = λ head key p. removed_none s head key spot e p }
+unhung_none s spot e = record {
+  kept = kept_none s;
+  none = λ _. refl;
+  within = tt;
+  removal = λ image seen head key rs h p.
+      let is : 0 ≡ block_at rs key = sym (ap pointer e) ∙ p.entry in
+      record {
+        is = is;
+        list = rw (cut_none (mem s image) (length image) (mem s image head) 0 key rs h.list.linked (sym is)) h;
+        relinks = record { others = λ x nh away. refl };
+      };
+}
 
 pub unhung_some : (s s1 s2 : View) (next : ℕ) (b : Block) (spot : Spot) → spot.entry ≡ Some b → IsWithin s spot.entry → Loaded s s1 (b.0.0 + 3) next → Stored s1 s2 spot.link.0 next → Unhung s s2 spot (Some b)
 unhung_some s s1 s2 next b spot e within l w =
     let inside : IsWithin s (Some b) = subst (λ (o : Option Block). IsWithin s o) e within in
+    let some : b.0.0 ≢ 0 = omega (arith, inside.0) in
     record {
       kept = kept_both s s1 s2 l.kept w.kept;
+      none = λ z. absurd (some_none b z);
       within = (inside.0, omega (arith, inside.1, l.kept.size, w.kept.size));
-      gone = λ head key p. removed_some s s1 s2 head key next b spot e l w p;
+      removal = λ image seen head key rs h p.
+          let is : b.0.0 ≡ block_at rs key = sym (ap pointer e) ∙ p.entry in
+          let leads : mem s image (link_of head rs key) ≡ b.0.0 = link_leads (mem s image) (length image) head 0 key rs h.list.linked (λ z. some (is ∙ z)) ∙ sym is in
+          let behind : mem s image (b.0.0 + 3) ≡ next = l.answer image (w.kept.seen image seen) in
+          let put : IsWrite (mem s image) (mem s2 image) spot.link.0 next = write_at_start s s1 s2 spot.link.0 next l.writes w image seen in
+          let cuts : Cuts (mem s image) (mem s2 image) (link_of head rs key) = subst (λ (x : ℕ). Cuts (mem s image) (mem s2 image) x) p.link (record {
+            here = put.here ∙ (sym behind ∙ ap (λ (x : ℕ). mem s image (x + 3)) (sym (ap (mem s image) p.link ∙ leads)));
+            others = put.others;
+          }) in
+          record {
+            is = is;
+            list = cut_list (mem s image) (mem s2 image) (length image) head key b.0.0 rs h (sym is) some cuts;
+            relinks = cut_relinks (mem s image) (mem s2 image) head key rs cuts;
+          };
     }
 
 -- a booking that was taken out after a search left the list
 pub unhung_after : (s s1 s2 : View) (head key : ℕ) (spot : Spot) (o : Option Block) → Sought s s1 head key spot → Unhung s1 s2 spot o → Removed s s2 head key o
-unhung_after s s1 s2 head key spot o k w =
-    let v = w.gone head key (sought_spot s s1 head key spot k) in
-    record {
-      kept = kept_both s s1 s2 k.kept v.kept;
-      none = λ e. v.none e ∙ k.writes;
-      within = v.within;
-      is = λ image rs seen. rw k.writes at (v.is image rs seen);
-      list = λ image rs seen. rw k.writes at (v.list image rs seen);
-      relinks = λ image rs seen. rw k.writes at (v.relinks image rs seen);
-    }
+unhung_after s s1 s2 head key spot o k v = record {
+  kept = kept_both s s1 s2 k.kept v.kept;
+  none = λ e. v.none e ∙ k.writes;
+  within = v.within;
+  removal = λ image rs seen.
+      let r : IsListAt (mem s1 image) (length image) head rs → IsRemoval (mem s1 image) (mem s2 image) (length image) head key o rs = λ h.
+      let p : SpotAt (mem s image) head key spot rs = sought_spot s s1 head key spot k image rs (v.kept.seen image seen) (rw k.writes at h) in
+      v.removal image seen head key rs h (rw k.writes p) in
+      rw k.writes at r;
+}

@@ -5,7 +5,7 @@ use Rattle.stm_words.specs.Seen.{some_le, same_or}
 use Rattle.stm_words.specs.View.{View, Stands, Loaded}
 use Rattle.tx_alloc.specs.Pool.{IsBlock}
 use Rattle.tx_alloc.specs.Rows.{Rows, times}
-use Rattle.tx_alloc.specs.Steps.{mem}
+use Rattle.tx_alloc.specs.Steps.{mem, stood}
 use Rattle.tx_list.specs.Bookings.{Linked, first_block, block_behind}
 use Rattle.tx_list.specs.Lists.{HasList, HasBooking, First, Next}
 use Rattle.tx_list.specs.Search.{Leads, Followed}
@@ -22,7 +22,7 @@ pub followed_in : (s s' : View) (link p : ℕ) → Leads s link → Loaded s s' 
 followed_in s s' link p has l ne ws =
     let block : (w : (image : List ℕ) × Stands s' image) → IsBlock (length w.0) p = λ w.
     let at = l.answer w.0 w.1.sees in
-    subst (λ (x : ℕ). IsBlock (length w.0) x) at (has.under w.0 (l.kept.seen w.0 w.1.sees) (λ z. ne (sym at ∙ z))) in
+    subst (λ (x : ℕ). IsBlock (length w.0) x) at (has.under w.0 (stood l.kept w.0 w.1) (λ z. ne (sym at ∙ z))) in
     let room : p + 8 ≤ s'.size = some_le (p + 8) s'.size ws (λ w. omega (arith, (block w).1.0, w.1.size)) in
     record {
       low = some_le 16 p ws (λ w. omega (arith, (block w).1.1));
@@ -88,7 +88,7 @@ behind_block m n p lo b ((k, a) ∷ rs) (r, h) i ne =
 pub booking_in : (s : View) (b : ℕ) → HasBooking s b → ∥ ((image : List ℕ) × Stands s image) ∥₁ → Inside s b
 booking_in s b has ws =
     let block : (w : (image : List ℕ) × Stands s image) → IsBlock (length w.0) b = λ w.
-    let t = has.under w.0 w.1.sees in
+    let t = has.under w.0 w.1 in
     list_block (mem s w.0) (length w.0) t.start b t.entries t.list t.has in
     let room : b + 8 ≤ s.size = some_le (b + 8) s.size ws (λ w. omega (arith, (block w).1.0, w.1.size)) in
     record {

@@ -7,7 +7,7 @@ use Rattle.stm_words.specs.View.{View, Sees, Stands, Kept, Loaded}
 use Rattle.tx_alloc.specs.Pool.{IsBlock}
 use Rattle.tx_alloc.specs.declared.pool.Block.{Block}
 use Rattle.tx_alloc.specs.Rows.{Rows}
-use Rattle.tx_alloc.specs.Steps.{mem, kept_none, kept_both, at_start}
+use Rattle.tx_alloc.specs.Steps.{mem, kept_none, kept_both, stood, at_start}
 use Rattle.tx_list.specs.Bookings.{code_of, place_code}
 use Rattle.tx_list.specs.declared.place.TheConstants.{KIND, ID}
 use Rattle.tx_list.specs.declared.key.Key.{Key}
@@ -38,9 +38,9 @@ seek_start s head key has = record {
 pub seek_in : (s0 s s' : View) (head key link low p : ℕ) → Seeking s0 s head key link low → HasList s0 head → Loaded s s' link p → p ≢ 0 → ∥ ((image : List ℕ) × Stands s' image) ∥₁ → Inside s' p
 seek_in s0 s s' head key link low p k has l ne ws =
     let block : (w : (image : List ℕ) × Stands s' image) → IsBlock (length w.0) p = λ w.
-    let seen = l.kept.seen w.0 w.1.sees in
-    let t = has.under w.0 (k.kept.seen w.0 seen) in
-    (trail_opened (mem s0 w.0) (length w.0) head link low key p t.entries (k.trail w.0 t.entries seen t.is) (at_start s0 s s' link p k.writes l w.0 w.1.sees) ne).block in
+    let seen = stood l.kept w.0 w.1 in
+    let t = has.under w.0 (stood k.kept w.0 seen) in
+    (trail_opened (mem s0 w.0) (length w.0) head link low key p t.entries (k.trail w.0 t.entries seen.sees t.is) (at_start s0 s s' link p k.writes l w.0 w.1.sees) ne).block in
     let room : p + 8 ≤ s'.size = some_le (p + 8) s'.size ws (λ w. omega (arith, (block w).1.0, w.1.size)) in
     record {
       low = some_le 16 p ws (λ w. omega (arith, (block w).1.1));
@@ -67,7 +67,7 @@ seek_at s0 s s1 s2 head key link low p order k l r ne image rs seen h =
 pub seek_below : (s0 s s1 s2 : View) (head : ℕ) (key : Key) (link low p : ℕ) (order : Ordering) → Seeking s0 s head (code_of key) link low → HasList s0 head → Loaded s s1 link p → Compared s1 s2 p key order → p ≢ 0 → order ≡ Less → ∥ ((image : List ℕ) × Stands s2 image) ∥₁ → low + 1 ≤ code_of key
 seek_below s0 s s1 s2 head key link low p order k has l r ne less ws =
     some_le (low + 1) (code_of key) ws (λ w.
-    let t = has.under w.0 (k.kept.seen w.0 (l.kept.seen w.0 (r.kept.seen w.0 w.1.sees))) in
+    let t = has.under w.0 (stood k.kept w.0 (stood l.kept w.0 (stood r.kept w.0 w.1))) in
     let a = seek_at s0 s s1 s2 head key link low p order k l r ne w.0 t.entries w.1.sees t.is in
     let b : place_code (mem s0 w.0) p < code_of key = less_code (mem s0 w.0 (p + KIND)) (mem s0 w.0 (p + ID)) key.kind key.id a.small (sym a.is ∙ less) in
     let c : low ≤ place_code (mem s0 w.0) p = a.above in

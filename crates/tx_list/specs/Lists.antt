@@ -1,6 +1,6 @@
 -- What the calls on a list of bookings need, and what they do.
 use Rattle.std.specs.Prelude.{◌≡◌, ◌⊎◌, ℕ, ◌+◌, ◌<◌, ◌≤◌, ◌^◌, List, length, Option, None}
-use Rattle.stm_words.specs.View.{View, Sees, Kept}
+use Rattle.stm_words.specs.View.{View, Sees, Stands, Kept}
 use Rattle.tx_alloc.specs.declared.place.TheConstants.{BLOCK_WORDS}
 use Rattle.tx_alloc.specs.declared.pool.Block.{Block}
 use Rattle.tx_alloc.specs.Pointer.{pointer, IsWithin}
@@ -24,11 +24,12 @@ pub record SomeList (m : ℕ → ℕ) (n head : ℕ) : Type 0 where
   pub entries : Rows
   pub is : IsListAt m n head entries
 
--- under each image that there may be the word head leads to a list. Addresses fit 32 bits.
+-- under each image of the memory's size that there may be the word head leads to a list. Addresses
+-- fit 32 bits.
 pub record HasList (s : View) (head : ℕ) : Type 0 where
   pub small : s.size ≤ 2 ^ 32
   pub room : head < s.size
-  pub under : (image : List ℕ) → Sees s image → SomeList (mem s image) (length image) head
+  pub under : (image : List ℕ) → Stands s image → SomeList (mem s image) (length image) head
 
 -- only reads were made, and the answer is the block at the key
 pub record Found (s s' : View) (head key : ℕ) (found : Option Block) : Type 0 where
@@ -52,10 +53,11 @@ pub record SomeBooking (m : ℕ → ℕ) (n b : ℕ) : Type 0 where
   pub list : IsList m n start entries
   pub has : 0 < times b entries
 
--- under each image that there may be b is a block of a list. Addresses fit 32 bits.
+-- under each image of the memory's size that there may be b is a block of a list. Addresses fit 32
+-- bits.
 pub record HasBooking (s : View) (b : ℕ) : Type 0 where
   pub small : s.size ≤ 2 ^ 32
-  pub under : (image : List ℕ) → Sees s image → SomeBooking (mem s image) (length image) b
+  pub under : (image : List ℕ) → Stands s image → SomeBooking (mem s image) (length image) b
 
 -- only reads were made, and the answer is the block behind b in each list that has b
 pub record Next (s s' : View) (b : ℕ) (found : Option Block) : Type 0 where
@@ -76,32 +78,37 @@ pub record Fresh (m : ℕ → ℕ) (n head : ℕ) (rs : Rows) (key : Key) (b : �
   pub id_is : m (b + ID) ≡ key.id
 
 pub record IsFresh (s : View) (head : ℕ) (key : Key) (b : ℕ) : Type 0 where
-  pub under : (image : List ℕ) (rs : Rows) → Sees s image →
+  pub under : (image : List ℕ) (rs : Rows) → Stands s image →
       IsListAt (mem s image) (length image) head rs →
       Fresh (mem s image) (length image) head rs key b
 
 -- the block came into the list under its key, and no word was changed but the head and the words
 -- of its blocks that lead on
-pub record Inserted (s s' : View) (head key b : ℕ) : Type 0 where
+pub record IsInsertion (m m' : ℕ → ℕ) (n head key b : ℕ) (rs : Rows) : Type 0 where
+  pub list : IsListAt m' n head (put_row rs key b)
+  pub relinks : Relinks m m' NEXT head (put_row rs key b)
+
+-- the block, which was fresh, came into the list
+pub record Inserted (s s' : View) (head : ℕ) (key : Key) (b : ℕ) : Type 0 where
   pub kept : Kept s s'
-  pub list : (image : List ℕ) (rs : Rows) → Sees s' image →
+  pub insertion : (image : List ℕ) (rs : Rows) → Sees s' image →
       IsListAt (mem s image) (length image) head rs →
-      IsListAt (mem s' image) (length image) head (put_row rs key b)
-  pub relinks : (image : List ℕ) (rs : Rows) → Sees s' image →
-      IsListAt (mem s image) (length image) head rs →
-      Relinks (mem s image) (mem s' image) NEXT head (put_row rs key b)
+      Fresh (mem s image) (length image) head rs key b →
+      IsInsertion (mem s image) (mem s' image) (length image) head (code_of key) b rs
 
 -- the row of the key is gone, if there was one, and the answer is its block. No word was changed
--- but the head and the words of the list's blocks that lead on, and none where there was no row.
+-- but the head and the words of the list's blocks that lead on.
+pub record IsRemoval (m m' : ℕ → ℕ) (n head key : ℕ) (removed : Option Block) (rs : Rows) : Type 0
+  where
+    pub is : pointer removed ≡ block_at rs key
+    pub list : IsListAt m' n head (cut_row rs key)
+    pub relinks : Relinks m m' NEXT head rs
+
+-- the booking of the key left the list, if there was one. Nothing was written where there was none.
 pub record Removed (s s' : View) (head key : ℕ) (removed : Option Block) : Type 0 where
   pub kept : Kept s s'
   pub none : removed ≡ None → s'.writes ≡ s.writes
   pub within : IsWithin s' removed
-  pub is : (image : List ℕ) (rs : Rows) → Sees s' image →
-      IsListAt (mem s image) (length image) head rs → pointer removed ≡ block_at rs key
-  pub list : (image : List ℕ) (rs : Rows) → Sees s' image →
+  pub removal : (image : List ℕ) (rs : Rows) → Sees s' image →
       IsListAt (mem s image) (length image) head rs →
-      IsListAt (mem s' image) (length image) head (cut_row rs key)
-  pub relinks : (image : List ℕ) (rs : Rows) → Sees s' image →
-      IsListAt (mem s image) (length image) head rs →
-      Relinks (mem s image) (mem s' image) NEXT head rs
+      IsRemoval (mem s image) (mem s' image) (length image) head key removed rs

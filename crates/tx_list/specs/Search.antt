@@ -1,15 +1,15 @@
 -- What the steps of a search say.
-use Rattle.std.specs.Prelude.{◌≡◌, ◌≢◌, ℕ, ◌+◌, ◌<◌, ◌≤◌, ◌^◌, List, length, Option}
+use Rattle.std.specs.Prelude.{◌≡◌, ◌≢◌, ℕ, ◌+◌, ◌<◌, ◌≤◌, ◌^◌, List, length, Option, None}
 use Rattle.std.specs.declared.cmp.Ordering.{Ordering}
 use Rattle.std.specs.Ordering.{nat_cmp, ordering_then}
-use Rattle.stm_words.specs.View.{View, Sees, Kept}
+use Rattle.stm_words.specs.View.{View, Sees, Stands, Kept}
 use Rattle.tx_alloc.specs.declared.pool.Block.{Block}
 use Rattle.tx_alloc.specs.Pointer.{pointer, IsWithin}
 use Rattle.tx_alloc.specs.Pool.{IsBlock}
 use Rattle.tx_alloc.specs.Rows.{Rows, block_at}
 use Rattle.tx_alloc.specs.Steps.{mem}
 use Rattle.tx_list.specs.Bookings.{IsKey, code_of, link_of}
-use Rattle.tx_list.specs.Lists.{IsListAt, IsFresh, Inserted, Removed}
+use Rattle.tx_list.specs.Lists.{IsListAt, Fresh, IsInsertion, IsRemoval}
 use Rattle.tx_list.specs.declared.key.Key.{Key}
 use Rattle.tx_list.specs.declared.place.TheConstants.{KIND, ID}
 use Rattle.tx_list.specs.declared.search.Spot.{Spot}
@@ -29,7 +29,7 @@ pub record Compared (s s' : View) (b : ℕ) (key : Key) (order : Ordering) : Typ
 pub record Leads (s : View) (link : ℕ) : Type 0 where
   pub small : s.size ≤ 2 ^ 32
   pub room : link < s.size
-  pub under : (image : List ℕ) → Sees s image → mem s image link ≢ 0 →
+  pub under : (image : List ℕ) → Stands s image → mem s image link ≢ 0 →
       IsBlock (length image) (mem s image link)
 
 -- only reads were made, and the word at the link leads to the answer
@@ -51,24 +51,26 @@ pub record Sought (s s' : View) (head key : ℕ) (spot : Spot) : Type 0 where
   pub entry : (image : List ℕ) (rs : Rows) → Sees s' image →
       IsListAt (mem s image) (length image) head rs → pointer spot.entry ≡ block_at rs key
 
--- in the list at head, the key stands at this spot, or would stand there
-pub record IsSpot (s : View) (head key : ℕ) (spot : Spot) : Type 0 where
-  pub room : spot.link.0 < s.size
-  pub within : IsWithin s spot.entry
-  pub link : (image : List ℕ) (rs : Rows) → Sees s image →
-      IsListAt (mem s image) (length image) head rs → spot.link.0 ≡ link_of head rs key
-  pub word : (image : List ℕ) → Sees s image → mem s image spot.link.0 ≡ spot.word
-  pub entry : (image : List ℕ) (rs : Rows) → Sees s image →
-      IsListAt (mem s image) (length image) head rs → pointer spot.entry ≡ block_at rs key
+-- in the list of these bookings at head, the key stands at this spot, or would stand there
+pub record SpotAt (m : ℕ → ℕ) (head key : ℕ) (spot : Spot) (rs : Rows) : Type 0 where
+  pub link : spot.link.0 ≡ link_of head rs key
+  pub word : m spot.link.0 ≡ spot.word
+  pub entry : pointer spot.entry ≡ block_at rs key
 
 -- the block b came into each list in which this was the spot of its key
 pub record Hung (s s' : View) (spot : Spot) (b : ℕ) : Type 0 where
   pub kept : Kept s s'
-  pub inserted : (head : ℕ) (key : Key) → IsKey key → IsSpot s head (code_of key) spot →
-      IsFresh s head key b → Inserted s s' head (code_of key) b
+  pub insertion : (image : List ℕ) → Sees s' image → (head : ℕ) (key : Key) (rs : Rows) →
+      IsKey key → IsListAt (mem s image) (length image) head rs →
+      SpotAt (mem s image) head (code_of key) spot rs →
+      Fresh (mem s image) (length image) head rs key b →
+      IsInsertion (mem s image) (mem s' image) (length image) head (code_of key) b rs
 
--- the booking at a spot left each list in which this was the spot of a key, if it had one
+-- the booking at a spot, if it had one, left each list in which this was the spot of a key
 pub record Unhung (s s' : View) (spot : Spot) (removed : Option Block) : Type 0 where
   pub kept : Kept s s'
+  pub none : removed ≡ None → s'.writes ≡ s.writes
   pub within : IsWithin s' removed
-  pub gone : (head key : ℕ) → IsSpot s head key spot → Removed s s' head key removed
+  pub removal : (image : List ℕ) → Sees s' image → (head key : ℕ) (rs : Rows) →
+      IsListAt (mem s image) (length image) head rs → SpotAt (mem s image) head key spot rs →
+      IsRemoval (mem s image) (mem s' image) (length image) head key removed rs

@@ -1,6 +1,6 @@
 -- For tests: a memory with one list, whose head is word 5, and a block for each of 120 keys.
 use Rattle.std.specs.Prelude.{◌≡◌, ℕ, ◌+◌, ◌-◌, ◌*◌, ◌/◌, ◌%◌, ◌<◌, List, cond, nat_eq, nat_lt, length, slice_index}
-use Rattle.stm_words.specs.View.{View, Sees}
+use Rattle.stm_words.specs.View.{View, Stands}
 use Rattle.tx_alloc.specs.Steps.{mem}
 use Rattle.tx_list.specs.declared.key.Key.{Key}
 use Rattle.tx_list.specs.Lists.{SomeList}
@@ -32,4 +32,4 @@ pub record IsStocked (m : ℕ → ℕ) (n : ℕ) : Type 0 where
 
 pub record HasStock (s : View) : Type 0 where
   pub size : s.size ≡ 976
-  pub under : (image : List ℕ) → Sees s image → IsStocked (mem s image) (length image)
+  pub under : (image : List ℕ) → Stands s image → IsStocked (mem s image) (length image)

@@ -21,7 +21,7 @@ pub fn insert<M: TxMem>(memory: &mut M, head: Addr, key: Key, block: Block) -> R
     requires fresh { IsFresh (M.view memory.old) head.0 key block.0.0 }
     ensures origin { M.origin memory.new ≡ M.origin memory.old }
     ensures answer { IfOk result (λ _.
-        Inserted (M.view memory.old) (M.view memory.new) head.0 (code_of key) block.0.0) }
+        Inserted (M.view memory.old) (M.view memory.new) head.0 key block.0.0) }
 {
     let spot = seek(memory, head, key)?;
     insert_at(memory, spot, block)?;

@@ -1,10 +1,10 @@
 -- A table with the number of its entries over the calls of this crate, by their contracts alone.
 use Rattle.std.proofs.Common.{◌≡◌, ℕ, zero, suc, ◌+◌, ◌-◌, ◌*◌, ◌<◌, ◌≤◌, List, [], ◌∷◌, length, slice_index, unwrap_or, Option, Some, refl, sym, ap, ◌∙◌, subst, arith, get_or}
 use Rattle.std.specs.FinMap.{get}
-use Rattle.stm_words.specs.View.{View, Sees, Kept, Loaded}
+use Rattle.stm_words.specs.View.{View, Kept, Loaded}
 use Rattle.stm_words.specs.Plain.{flat_view, numbered}
 use Rattle.stm_words.specs.PlainSeen.{get_at}
-use Rattle.tx_alloc.specs.Steps.{mem}
+use Rattle.tx_alloc.specs.Steps.{mem, stood}
 use Rattle.tx_alloc.specs.Rows.{put_row, cut_row}
 use Rattle.tx_alloc.proofs.Times.{length_put, length_cut}
 use Rattle.tx_tree.specs.Table.{IsTable, Table, HasTable, Found, IsFresh, Inserted, Removed}
@@ -28,21 +28,23 @@ after_reads s s' root blocks count h k w = record {
   small = h.small;
   low = h.low;
   few = h.few;
-  under = λ image i. rw w (h.under image (k.seen image i));
+  under = λ image i. rw w (h.under image (stood k image i));
 }
 
-pub after_put : (s s' : View) (root blocks count key b : ℕ) → HasEntries s root blocks count → count < 262144 → Inserted s s' root key b → HasEntries s' root blocks (count + 1)
-after_put s s' root blocks count key b h room p = record {
+pub after_put : (s s' : View) (root blocks count key b : ℕ) → HasEntries s root blocks count → count < 262144 → IsFresh s root key b → Inserted s s' root key b → HasEntries s' root blocks (count + 1)
+after_put s s' root blocks count key b h room fresh p = record {
   size = p.kept.size ∙ h.size;
   small = h.small;
   low = h.low;
   few = omega arith;
   under = λ image i.
-      let e = h.under image (p.kept.seen image i) in
+      let i0 = stood p.kept image i in
+      let e = h.under image i0 in
       let few : length e.entries ≤ 262144 = omega (arith, e.is, h.few) in
+      let t : Table (mem s image) (length image) root e.entries = record { table = e.table; few = few } in
       record {
         entries = put_row e.entries key b;
-        table = p.table image e.entries i (record { table = e.table; few = few });
+        table = p.table image e.entries i.sees t (fresh.under image e.entries i0 t);
         is = omega (arith, length_put key b e.entries, e.is);
       };
 }
@@ -54,27 +56,26 @@ after_cut s s' root blocks count key b h p = record {
   low = h.low;
   few = omega (arith, h.few);
   under = λ image i.
-      let e = h.under image (p.kept.seen image i) in
+      let e = h.under image (stood p.kept image i) in
       let few : length e.entries ≤ 262144 = omega (arith, e.is, h.few) in
       let t : Table (mem s image) (length image) root e.entries = record { table = e.table; few = few } in
       record {
         entries = cut_row e.entries key;
-        table = p.table image e.entries i t;
-        is = omega (arith, length_cut key b e.entries (sym (p.is image e.entries i t)) (omega (arith, p.inside.0)), e.is);
+        table = p.table image e.entries i.sees t;
+        is = omega (arith, length_cut key b e.entries (sym (p.is image e.entries i.sees t)) (omega (arith, p.inside.0)), e.is);
       };
 }
 
 -- a block whose first word was read as a key that the table does not have
-pub fresh_read : (s s1 s2 : View) (root blocks count key number b : ℕ) → HasEntries s root blocks count → number < blocks → b ≡ 16 + 8 * number → ((image : List ℕ) → Sees s2 image → length image ≡ s2.size) → Loaded s s1 b key → Found s1 s2 root key 0 → IsFresh s2 root key b
-fresh_read s s1 s2 root blocks count key number b h inside e same l f = record {
+pub fresh_read : (s s1 s2 : View) (root blocks count key number b : ℕ) → HasEntries s root blocks count → number < blocks → b ≡ 16 + 8 * number → Loaded s s1 b key → Found s1 s2 root key 0 → IsFresh s2 root key b
+fresh_read s s1 s2 root blocks count key number b h inside e l f = record {
   under = λ image rs i t.
-      let i1 = f.kept.seen image i in
+      let i1 = stood f.kept image i in
       let t1 : Table (mem s1 image) (length image) root rs = rw f.writes at t in
-      let n = same image i in
       record {
-        block = (number, (omega (arith, n, f.kept.size, l.kept.size, h.size, inside, e), e));
-        absent = sym (f.is image rs i t1);
-        key_is = rw (f.writes ∙ l.writes) (l.answer image i1);
+        block = (number, (omega (arith, i.size, f.kept.size, l.kept.size, h.size, inside, e), e));
+        absent = sym (f.is image rs i.sees t1);
+        key_is = rw (f.writes ∙ l.writes) (l.answer image i1.sees);
       };
 }
 

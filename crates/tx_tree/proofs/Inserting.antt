@@ -3,7 +3,7 @@ use Rattle.std.proofs.Common.{◌≡◌, ◌≢◌, inl, inr, ℕ, ◌+◌, ◌<
 use Rattle.stm_words.specs.Seen.{same_or, some_le}
 use Rattle.stm_words.specs.View.{View, Sees, Stands, Kept, Stored, IsWrite}
 use Rattle.tx_alloc.specs.Pool.{with_block}
-use Rattle.tx_alloc.specs.Steps.{mem, kept_both, write_at_start}
+use Rattle.tx_alloc.specs.Steps.{mem, kept_both, stood, write_at_start}
 use Rattle.tx_alloc.specs.Rows.{Rows, times, put_row, block_at, Relinks, AllBelow, IsFrom}
 use Rattle.tx_tree.specs.Tree.{Tree, leaf, node, rows}
 use Rattle.tx_tree.specs.Way.{Way, plug, front, behind}
@@ -99,42 +99,41 @@ hung_at m m1 m2 m3 m' n root key b p xs d rs h e is from f loose w1 w2 w3 w4 =
 -- the same over every memory
 pub record Hanging (s s5 : View) (root key b : ℕ) (xs : List ℕ) (d : ℕ) : Type 0 where
   pub kept : Kept s s5
-  pub hung : (image : List ℕ) (rs : Rows) → Sees s5 image → Table (mem s image) (length image) root rs → Hung (mem s image) (mem s5 image) (length image) root key b xs d rs
+  pub hung : (image : List ℕ) (rs : Rows) → Sees s5 image → Table (mem s image) (length image) root rs → Fresh (mem s image) (length image) rs key b → Hung (mem s image) (mem s5 image) (length image) root key b xs d rs
 
-pub hanging : (s s1 s2 s3 s4 s5 : View) (root key b p : ℕ) (xs : List ℕ) (d : ℕ) → IsFresh s root key b → Sought s s1 root key xs d p → Stored s1 s2 (b + 1) 0 → Stored s2 s3 (b + 2) 0 → Stored s3 s4 (b + 3) 1 → Stored s4 s5 (slice_index xs d) b → Hanging s s5 root key b xs d
-hanging s s1 s2 s3 s4 s5 root key b p xs d fresh so w1 w2 w3 w4 = record {
+pub hanging : (s s1 s2 s3 s4 s5 : View) (root key b p : ℕ) (xs : List ℕ) (d : ℕ) → Sought s s1 root key xs d p → Stored s1 s2 (b + 1) 0 → Stored s2 s3 (b + 2) 0 → Stored s3 s4 (b + 3) 1 → Stored s4 s5 (slice_index xs d) b → Hanging s s5 root key b xs d
+hanging s s1 s2 s3 s4 s5 root key b p xs d so w1 w2 w3 w4 = record {
   kept = kept_both s s2 s5 (kept_both s s1 s2 so.seeking.kept w1.kept) (kept_both s2 s3 s5 w2.kept (kept_both s3 s4 s5 w3.kept w4.kept));
-  hung = λ image rs i t.
+  hung = λ image rs i t f.
       let i4 = w4.kept.seen image i in let i3 = w3.kept.seen image i4 in let i2 = w2.kept.seen image i3 in let i1 = w1.kept.seen image i2 in
-      let i0 = so.seeking.kept.seen image i1 in
-      let f = fresh.under image rs i0 t in
       let first : IsWrite (mem s image) (mem s2 image) (b + 1) 0 = write_at_start s s1 s2 _ 0 so.seeking.writes w1 image i2 in
       hung_at (mem s image) (mem s2 image) (mem s3 image) (mem s4 image) (mem s5 image) (length image) root key b p xs d rs (so.seeking.place image rs i1 t)
       (so.is image i1) (λ ne. so.key_is ne image i1) t.table.ascending f (table_loose (mem s image) (length image) (mem s image root) key b rs t.table f.key_is f.absent) first (w2.written image) (w3.written image) (w4.written image);
 }
 
-pub hanging_raised : (s s5 : View) (root key b : ℕ) (xs : List ℕ) (d : ℕ) → HasTable s root → length xs ≡ 40 → d < 40 → Hanging s s5 root key b xs d → HasRaised s5 xs d b
-hanging_raised s s5 root key b xs d table size deep h = record {
+pub hanging_raised : (s s5 : View) (root key b : ℕ) (xs : List ℕ) (d : ℕ) → HasTable s root → IsFresh s root key b → length xs ≡ 40 → d < 40 → Hanging s s5 root key b xs d → HasRaised s5 xs d b
+hanging_raised s s5 root key b xs d table fresh size deep h = record {
   small = omega (arith, table.small, h.kept.size);
   room = omega (arith, table.room, h.kept.size);
   size = size;
   deep = deep;
   under = λ image i.
-      let t = table.under image (h.kept.seen image i) in
-      let a = h.hung image t.entries i t.is in
+      let i0 = stood h.kept image i in
+      let t = table.under image i0 in
+      let a = h.hung image t.entries i.sees t.is (fresh.under image t.entries i0 t.is) in
       record { root = root; total = _; way = a.way; left = leaf; key = key; right = leaf; blacks = a.blacks; at = a.at };
 }
 
 pub inserted : (s s5 s6 : View) (root key b : ℕ) (xs : List ℕ) (d : ℕ) → Hanging s s5 root key b xs d → Settled s5 s6 xs d b → Inserted s s6 root key b
 inserted s s5 s6 root key b xs d h f = record {
   kept = kept_both s s5 s6 h.kept f.kept;
-  table = λ image rs i t.
-      let a = h.hung image rs (f.kept.seen image i) t in
+  table = λ image rs i t free.
+      let a = h.hung image rs (f.kept.seen image i) t free in
       let e = f.ends image i root (with_block (λ x. times x rs) b) a.way leaf key leaf a.blacks a.at in
       let e' : Ends (mem s5 image) (mem s6 image) (length image) root (with_block (λ x. times x rs) b) (put_row rs key b) = rw a.is at e in
       table_ends (mem s5 image) (mem s6 image) (length image) root (with_block (λ x. times x rs) b) (put_row rs key b) e' a.ascending;
-  relinks = λ image rs i t.
-      let a = h.hung image rs (f.kept.seen image i) t in
+  relinks = λ image rs i t free.
+      let a = h.hung image rs (f.kept.seen image i) t free in
       let e = f.ends image i root (with_block (λ x. times x rs) b) a.way leaf key leaf a.blacks a.at in
       let e' : Ends (mem s5 image) (mem s6 image) (length image) root (with_block (λ x. times x rs) b) (put_row rs key b) = rw a.is at e in
       relinks_touches (mem s image) (mem s6 image) root (with_block (λ x. times x rs) b) (put_row rs key b) (count_ends (mem s5 image) (mem s6 image) (length image) root (with_block (λ x. times x rs) b) (put_row rs key b) e')
@@ -143,14 +142,14 @@ inserted s s5 s6 root key b xs d h f = record {
 
 pub fresh_room : (s s1 : View) (root key b : ℕ) → Kept s s1 → HasTable s root → IsFresh s root key b → ∥ ((image : List ℕ) × Stands s1 image) ∥₁ → b + 8 ≤ s.size
 fresh_room s s1 root key b k table fresh ws = some_le (b + 8) s.size ws (λ w.
-    let i = k.seen w.0 w.1.sees in
+    let i = stood k w.0 w.1 in
     let t = table.under w.0 i in
     omega (arith, (fresh.under w.0 t.entries i t.is).block.1.0, w.1.size, k.size))
 
 pub sought_room : (s s1 : View) (root key p : ℕ) (xs : List ℕ) (d : ℕ) → HasTable s root → Sought s s1 root key xs d p → ∥ ((image : List ℕ) × Stands s1 image) ∥₁ → slice_index xs d + 1 ≤ s.size
 sought_room s s1 root key p xs d table so ws = some_le (slice_index xs d + 1) s.size ws (λ w.
     let k = so.seeking.kept in
-    let t = table.under w.0 (k.seen w.0 w.1.sees) in
+    let t = table.under w.0 (stood k w.0 w.1) in
     omega (arith, link_room (mem s w.0) (length w.0) root key xs d t.entries (so.seeking.place w.0 t.entries w.1.sees t.is) (omega (arith, table.room, k.size, w.1.size)), w.1.size, k.size))
 
 pub found : (s s' : View) (root key p q : ℕ) (xs : List ℕ) (d : ℕ) → Sought s s' root key xs d p → p ≡ q → Found s s' root key q

@@ -3,7 +3,7 @@ use Rattle.std.proofs.Common.{◌≡◌, ◌≢◌, inl, inr, ℕ, ◌+◌, ◌-
 use Rattle.stm_words.specs.Seen.{some_le}
 use Rattle.stm_words.specs.View.{View, Sees, Stands, Kept, Loaded, Stored, IsWrite}
 use Rattle.tx_alloc.specs.Pool.{IsBlock}
-use Rattle.tx_alloc.specs.Steps.{mem, kept_none, kept_both, at_start, write_at_start}
+use Rattle.tx_alloc.specs.Steps.{mem, kept_none, kept_both, stood, at_start, write_at_start}
 use Rattle.tx_alloc.specs.Rows.{Rows}
 use Rattle.tx_tree.specs.Tree.{Tree, node, join, rows}
 use Rattle.tx_tree.specs.Way.{Way, top, step, plug, depth}
@@ -35,7 +35,7 @@ one_false true ne = absurd (ne refl)
 one_false false ne = refl
 
 pub lift_along : (s s' : View) (link p q side : ℕ) → Kept s s' → s'.writes ≡ s.writes → HasLift s link p q side → HasLift s' link p q side
-lift_along s s' link p q side k w h = record { small = omega (arith, h.small, k.size); room = omega (arith, h.room, k.size); under = λ image i. rw w (h.under image (k.seen image i)) }
+lift_along s s' link p q side k w h = record { small = omega (arith, h.small, k.size); room = omega (arith, h.room, k.size); under = λ image i. rw w (h.under image (stood k image i)) }
 
 pub record LiftRooms (n link p q side : ℕ) : Type 0 where
   pub link_in : link + 1 ≤ n
@@ -64,7 +64,7 @@ rooms_at m n link p q side room a =
 
 pub lift_rooms : (s : View) (link p q side : ℕ) → HasLift s link p q side → ∥ ((image : List ℕ) × Stands s image) ∥₁ → LiftRooms s.size link p q side
 lift_rooms s link p q side h ws =
-    let f : (w : (image : List ℕ) × Stands s image) → LiftRooms s.size link p q side = λ w. rw w.1.size at (rooms_at (mem s w.0) (length w.0) link p q side (omega (arith, h.room, w.1.size)) (h.under w.0 w.1.sees)) in
+    let f : (w : (image : List ℕ) × Stands s image) → LiftRooms s.size link p q side = λ w. rw w.1.size at (rooms_at (mem s w.0) (length w.0) link p q side (omega (arith, h.room, w.1.size)) (h.under w.0 w.1)) in
     record {
       link_in = some_le _ _ ws (λ w. (f w).link_in);
       node = some_le _ _ ws (λ w. (f w).node);
@@ -310,9 +310,9 @@ has_lift s s2 xs d q h one b = record {
   small = omega (arith, h.small, b.kept.size);
   room = omega (arith, h.room, b.kept.size);
   under = λ image i.
-      let a = h.under image (b.kept.seen image i) in
+      let a = h.under image (stood b.kept image i) in
       let u = one_up (mem s image) (length image) a.root a.total xs d a.way a.tree a.blacks a.at one in
-      let l = lift_at (mem s image) (length image) a.root a.total xs d q a.way a.tree a.blacks a.at u (b.is image i) (b.black image i) in
+      let l = lift_at (mem s image) (length image) a.root a.total xs d q a.way a.tree a.blacks a.at u (b.is image i.sees) (b.black image i.sees) in
       let some : SomeLift (mem s image) (length image) (slice_index xs (d - 1)) (slice_index xs d - slice_index xs d % 8) q (slice_index xs d % 8) = record { root = a.root; total = a.total; way = u.up; right = u.right; colour = u.colour; key = u.key; other = u.other; tree = a.tree; blacks = a.blacks; at = l } in
       rw b.writes some;
 }
@@ -358,8 +358,8 @@ has_lift_red s s4 xs d q q' h b = record {
   small = omega (arith, h.small, b.kept.size);
   room = omega (arith, h.room, b.kept.size);
   under = λ image i.
-      let a = h.under image (b.kept.seen image i) in
-      let r = b.goes image i a.root a.total a.way a.tree a.blacks a.at in
+      let a = h.under image (stood b.kept image i) in
+      let r = b.goes image i.sees a.root a.total a.way a.tree a.blacks a.at in
       record {
         root = a.root;
         total = a.total;
@@ -370,7 +370,7 @@ has_lift_red s s4 xs d q q' h b = record {
         other = r.other;
         tree = a.tree;
         blacks = a.blacks;
-        at = subst (λ (x : ℕ). LiftAt (mem s4 image) (length image) a.root a.total (q + (slice_index xs d % 8)) (slice_index xs d - slice_index xs d % 8) x (slice_index xs d % 8) r.up r.right true r.key r.other a.tree a.blacks) (b.is image i) r.at;
+        at = subst (λ (x : ℕ). LiftAt (mem s4 image) (length image) a.root a.total (q + (slice_index xs d % 8)) (slice_index xs d - slice_index xs d % 8) x (slice_index xs d % 8) r.up r.right true r.key r.other a.tree a.blacks) (b.is image i.sees) r.at;
       };
 }
 
@@ -409,8 +409,8 @@ short_now s0 s xs d0 d h t = record {
   size = h.size;
   deep = t.deep;
   under = λ image i.
-      let a = h.under image (t.kept.seen image i) in
-      let r = t.goes image i a.root a.total a.way a.tree a.blacks a.at in
+      let a = h.under image (stood t.kept image i) in
+      let r = t.goes image i.sees a.root a.total a.way a.tree a.blacks a.at in
       record { root = a.root; total = a.total; way = r.way; tree = r.tree; blacks = r.blacks; at = r.at };
 }
 
@@ -449,7 +449,7 @@ mend_top s0 s xs d0 d t z = record {
 pub raised_leads : (s s1 s2 s3 : View) (xs : List ℕ) (d q : ℕ) (red : Bool) → HasShort s xs d → 1 ≤ d → Reached s s1 (slice_index xs d - slice_index xs d % 8 + (3 - slice_index xs d % 8)) q → Coloured s1 s2 q red → red ≡ true → Raising s2 s3 (slice_index xs (d - 1)) (slice_index xs d - slice_index xs d % 8) q (3 - (slice_index xs d % 8)) 0 1 → ∥ ((image : List ℕ) × Stands s3 image) ∥₁ → Leads s3 (slice_index xs d - slice_index xs d % 8 + (3 - slice_index xs d % 8))
 raised_leads s s1 s2 s3 xs d q red h one r c e rise ws =
     let room : slice_index xs d - slice_index xs d % 8 + (3 - slice_index xs d % 8) + 1 ≤ s3.size = some_le _ _ ws (λ w.
-    let i2 = rise.kept.seen w.0 w.1.sees in let i1 = c.kept.seen w.0 i2 in let i0 = r.loaded.kept.seen w.0 i1 in
+    let i2 = stood rise.kept w.0 w.1 in let i1 = stood c.kept w.0 i2 in let i0 = stood r.loaded.kept w.0 i1 in
     let a = h.under w.0 i0 in
     let u = one_up (mem s w.0) (length w.0) a.root a.total xs d a.way a.tree a.blacks a.at one in
     let z : Zip (mem s w.0) (length w.0) a.root a.total (step u.right u.colour (u.key, (slice_index xs d - slice_index xs d % 8)) u.other u.up) a.tree = rw u.is at a.at.zip in
@@ -458,10 +458,10 @@ raised_leads s s1 s2 s3 xs d q red h one r c e rise ws =
       small = omega (arith, h.small, rise.kept.size, c.kept.size, r.loaded.kept.size);
       room = omega arith;
       under = λ image i ne.
-          let i2 = rise.kept.seen image i in let i1 = c.kept.seen image i2 in let i0 = r.loaded.kept.seen image i1 in
+          let i2 = stood rise.kept image i in let i1 = stood c.kept image i2 in let i0 = stood r.loaded.kept image i1 in
           let a = h.under image i0 in
-          let is_red : mem s image (q + 3) ≡ 1 = rw r.loaded.writes at (c.is_one e image i2) in
-          let up' : Rising (mem s image) (mem s3 image) (slice_index xs (d - 1)) (slice_index xs d - slice_index xs d % 8) q (3 - (slice_index xs d % 8)) 0 1 = rw (c.writes ∙ r.loaded.writes) at (rise.rising image i) in
-          let f = red_step (mem s image) (mem s3 image) (length image) a.root a.total xs d q a.way a.tree a.blacks a.at one (r.loaded.answer image i1) (c.there e) is_red up' in
+          let is_red : mem s image (q + 3) ≡ 1 = rw r.loaded.writes at (c.is_one e image i2.sees) in
+          let up' : Rising (mem s image) (mem s3 image) (slice_index xs (d - 1)) (slice_index xs d - slice_index xs d % 8) q (3 - (slice_index xs d % 8)) 0 1 = rw (c.writes ∙ r.loaded.writes) at (rise.rising image i.sees) in
+          let f = red_step (mem s image) (mem s3 image) (length image) a.root a.total xs d q a.way a.tree a.blacks a.at one (r.loaded.answer image i1.sees) (c.there e) is_red up' in
           (beside_node (mem s3 image) (length image) a.root a.total f.up f.right true f.key (slice_index xs d - slice_index xs d % 8) (mem s3 image (slice_index xs d - slice_index xs d % 8 + (3 - slice_index xs d % 8))) f.other a.tree a.blacks f.at.zip f.at.beside_is f.at.short).block;
     }

@@ -1,7 +1,7 @@
 -- A removal, over every memory that there may be.
 use Rattle.std.proofs.Common.{◌≡◌, ◌≢◌, ℕ, ◌+◌, ◌<◌, true, false, List, ◌++◌, length, sym, ap, ◌∙◌, subst, arith, append-nil}
 use Rattle.stm_words.specs.View.{View, Sees, Kept}
-use Rattle.tx_alloc.specs.Steps.{mem, kept_both, at_start}
+use Rattle.tx_alloc.specs.Steps.{mem, kept_both, stood, at_start}
 use Rattle.tx_alloc.specs.Rows.{Rows, times, block_at}
 use Rattle.tx_tree.specs.Tree.{Tree, leaf, node, rows, blacks}
 use Rattle.tx_tree.specs.Way.{plug, front, behind}
@@ -27,8 +27,8 @@ left_leads s s1 root key p xs d table so ne = record {
   small = omega (arith, table.small, so.seeking.kept.size);
   room = omega (arith, (so.there ne).1);
   under = λ image i nz.
-      let t = table.under image (so.seeking.kept.seen image i) in
-      let h = here_at s s1 root key p xs d so ne image t.entries i t.is in
+      let t = table.under image (stood so.seeking.kept image i) in
+      let h = here_at s s1 root key p xs d so ne image t.entries i.sees t.is in
       rw so.seeking.writes (pointer (mem s image) (length image) (mem s image (p + 1)) h.left h.zip.tree.1.0 (rw so.seeking.writes at nz));
 }
 
@@ -37,9 +37,9 @@ right_leads s s1 s2 root key p vl xs d table so ne r = record {
   small = omega (arith, table.small, so.seeking.kept.size, r.loaded.kept.size);
   room = omega (arith, (so.there ne).1, r.loaded.kept.size);
   under = λ image i nz.
-      let i1 = r.loaded.kept.seen image i in
-      let t = table.under image (so.seeking.kept.seen image i1) in
-      let h = here_at s s1 root key p xs d so ne image t.entries i1 t.is in
+      let i1 = stood r.loaded.kept image i in
+      let t = table.under image (stood so.seeking.kept image i1) in
+      let h = here_at s s1 root key p xs d so ne image t.entries i1.sees t.is in
       rw (r.loaded.writes ∙ so.seeking.writes) (pointer (mem s image) (length image) (mem s image (p + 2)) h.right h.zip.tree.1.1 (rw (r.loaded.writes ∙ so.seeking.writes) at nz));
 }
 
@@ -80,9 +80,9 @@ has_both s s3 root key p vl vr xs d table h ne = record {
   size = h.size;
   deep = h.deep;
   under = λ image i.
-      let t = table.under image (h.kept.seen image i) in
-      let a = h.here image t.entries i t.is in
-      rw h.writes (record { root = root; total = λ x. times x t.entries; way = a.way; colour = a.colour; left = a.left; key = key; right = a.right; blacks = _; at = both_of (mem s image) (length image) root key p vr xs d t.entries a (h.at_right image i) ne });
+      let t = table.under image (stood h.kept image i) in
+      let a = h.here image t.entries i.sees t.is in
+      rw h.writes (record { root = root; total = λ x. times x t.entries; way = a.way; colour = a.colour; left = a.left; key = key; right = a.right; blacks = _; at = both_of (mem s image) (length image) root key p vr xs d t.entries a (h.at_right image i.sees) ne });
 }
 
 pub removed_both : (s s3 s4 : View) (root key p vl vr : ℕ) (xs : List ℕ) (d : ℕ) → Here s s3 root key p vl vr xs d → vr ≢ 0 → NextUnlinked s3 s4 xs d p → Removed s s4 root key p
@@ -125,9 +125,9 @@ has_last_left s s3 root key p vl vr xs d table h none = record {
   size = h.size;
   deep = h.deep;
   under = λ image i.
-      let t = table.under image (h.kept.seen image i) in
-      let a = h.here image t.entries i t.is in
-      rw h.writes (record { root = root; total = λ x. times x t.entries; way = a.way; right = false; colour = a.colour; key = key; tree = a.right; blacks = _; at = last_left (mem s image) (length image) root key p vr xs d t.entries a (h.at_left image i ∙ none) (h.at_right image i) });
+      let t = table.under image (stood h.kept image i) in
+      let a = h.here image t.entries i.sees t.is in
+      rw h.writes (record { root = root; total = λ x. times x t.entries; way = a.way; right = false; colour = a.colour; key = key; tree = a.right; blacks = _; at = last_left (mem s image) (length image) root key p vr xs d t.entries a (h.at_left image i.sees ∙ none) (h.at_right image i.sees) });
 }
 
 pub removed_left : (s s3 s4 : View) (root key p vl vr : ℕ) (xs : List ℕ) (d : ℕ) → Here s s3 root key p vl vr xs d → vl ≡ 0 → Unlinked s3 s4 xs d p vr → Removed s s4 root key p
@@ -170,9 +170,9 @@ has_last_right s s3 root key p vl vr xs d table h none = record {
   size = h.size;
   deep = h.deep;
   under = λ image i.
-      let t = table.under image (h.kept.seen image i) in
-      let a = h.here image t.entries i t.is in
-      rw h.writes (record { root = root; total = λ x. times x t.entries; way = a.way; right = true; colour = a.colour; key = key; tree = a.left; blacks = _; at = last_right (mem s image) (length image) root key p vl xs d t.entries a (h.at_right image i ∙ none) (h.at_left image i) });
+      let t = table.under image (stood h.kept image i) in
+      let a = h.here image t.entries i.sees t.is in
+      rw h.writes (record { root = root; total = λ x. times x t.entries; way = a.way; right = true; colour = a.colour; key = key; tree = a.left; blacks = _; at = last_right (mem s image) (length image) root key p vl xs d t.entries a (h.at_right image i.sees ∙ none) (h.at_left image i.sees) });
 }
 
 pub removed_right : (s s3 s4 : View) (root key p vl vr : ℕ) (xs : List ℕ) (d : ℕ) → Here s s3 root key p vl vr xs d → vr ≡ 0 → Unlinked s3 s4 xs d p vl → Removed s s4 root key p

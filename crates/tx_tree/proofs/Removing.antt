@@ -1,9 +1,9 @@
 -- A removal: a node with one side at most goes, and the tree is mended.
 use Rattle.std.proofs.Common.{◌≡◌, ◌≢◌, inl, inr, ℕ, ◌+◌, ◌≤◌, Bool, true, false, List, length, slice_index, refl, sym, ap, ◌∙◌, arith, rules}
 use Rattle.stm_words.specs.Seen.{some_le}
-use Rattle.stm_words.specs.View.{View, Sees, Stands, Stored, IsWrite}
+use Rattle.stm_words.specs.View.{View, Stands, Stored, IsWrite}
 use Rattle.tx_alloc.specs.Pool.{IsBlock}
-use Rattle.tx_alloc.specs.Steps.{mem, kept_both, write_at_start}
+use Rattle.tx_alloc.specs.Steps.{mem, kept_both, stood, write_at_start}
 use Rattle.tx_tree.specs.Tree.{Tree, leaf, node, join, rows, blacks, is_red, EvenAt}
 use Rattle.tx_tree.specs.Way.{Way, plug, depth}
 use Rattle.tx_tree.specs.Hangs.{Hangs, link_of, Zip, Touches, without}
@@ -51,7 +51,7 @@ loose_short m n root total xs d p w t h a never = record {
 
 pub loose_room : (s : View) (xs : List ℕ) (d p : ℕ) → HasLoose s xs d p → p ≢ 0 → ∥ ((image : List ℕ) × Stands s image) ∥₁ → p + 8 ≤ s.size
 loose_room s xs d p h ne ws = some_le (p + 8) s.size ws (λ w.
-    let a = h.under w.0 w.1.sees in
+    let a = h.under w.0 w.1 in
     omega (arith, (pointer (mem s w.0) (length w.0) p a.tree (loose_hangs (mem s w.0) (length w.0) a.root a.total xs d p a.way a.tree a.blacks a.at) ne).1.0, w.1.size))
 
 pub lightened_red : (s s1 s2 : View) (xs : List ℕ) (d p : ℕ) (red : Bool) → Coloured s s1 p red → red ≡ true → Stored s1 s2 (p + 3) 0 → Lightened s s2 xs d p
@@ -69,8 +69,8 @@ loose_has_short s s1 xs d p red h c e = record {
   size = h.size;
   deep = h.deep;
   under = λ image i.
-      let a = h.under image (c.kept.seen image i) in
-      rw c.writes (record { root = a.root; total = a.total; way = a.way; tree = a.tree; blacks = a.blacks; at = loose_short (mem s image) (length image) a.root a.total xs d p a.way a.tree a.blacks a.at (λ ne. c.is_none e ne image i) });
+      let a = h.under image (stood c.kept image i) in
+      rw c.writes (record { root = a.root; total = a.total; way = a.way; tree = a.tree; blacks = a.blacks; at = loose_short (mem s image) (length image) a.root a.total xs d p a.way a.tree a.blacks a.at (λ ne. c.is_none e ne image i.sees) });
 }
 
 pub lightened_black : (s s1 s2 : View) (xs : List ℕ) (d p : ℕ) (red : Bool) → Coloured s s1 p red → red ≡ false → Mended s1 s2 xs d → Lightened s s2 xs d p
@@ -145,20 +145,20 @@ unlinked_red s s1 s2 xs d b p red c e w = record {
       red_after (mem s image) (mem s2 image) (length image) root total xs d b p way right col k t h a ((join_colour (mem s image) (length image) root total way right col leaf k b t a.zip).0 (c.is_one e image i1)) g;
 }
 
-pub last_block : (s : View) (xs : List ℕ) (d b p : ℕ) → HasLast s xs d b p → (image : List ℕ) → Sees s image → IsBlock (length image) b
+pub last_block : (s : View) (xs : List ℕ) (d b p : ℕ) → HasLast s xs d b p → (image : List ℕ) → Stands s image → IsBlock (length image) b
 last_block s xs d b p h image i =
     let a = h.under image i in
     (at_join (mem s image) (length image) a.root a.total a.way a.right a.colour leaf a.key b a.tree a.at.zip).block
 
 pub last_room : (s : View) (xs : List ℕ) (d b p : ℕ) → HasLast s xs d b p → ∥ ((image : List ℕ) × Stands s image) ∥₁ → (16 ≤ b) × (b + 8 ≤ s.size)
 last_room s xs d b p h ws = (
-  some_le 16 b ws (λ w. omega (arith, (last_block s xs d b p h w.0 w.1.sees).1.1)),
-  some_le (b + 8) s.size ws (λ w. omega (arith, (last_block s xs d b p h w.0 w.1.sees).1.0, w.1.size)),
+  some_le 16 b ws (λ w. omega (arith, (last_block s xs d b p h w.0 w.1).1.1)),
+  some_le (b + 8) s.size ws (λ w. omega (arith, (last_block s xs d b p h w.0 w.1).1.0, w.1.size)),
 )
 
 pub last_link : (s : View) (xs : List ℕ) (d b p : ℕ) → HasLast s xs d b p → ∥ ((image : List ℕ) × Stands s image) ∥₁ → slice_index xs d + 1 ≤ s.size
 last_link s xs d b p h ws = some_le (slice_index xs d + 1) s.size ws (λ w.
-    let a = h.under w.0 w.1.sees in
+    let a = h.under w.0 w.1 in
     let at = at_link xs a.root d a.way a.at.path a.at.deep in
     elim (link_is a.root a.way) [
       | inl e ↦ omega (arith, at, e, a.at.zip.low, h.room)
@@ -172,10 +172,10 @@ loose_now s s1 s2 xs d b p red h some c e w = record {
   size = h.size;
   deep = h.deep;
   under = λ image i.
-      let i1 = w.kept.seen image i in
-      let a = h.under image (c.kept.seen image i1) in
-      let g = gone (mem s image) (mem s2 image) (length image) a.root a.total xs d b p a.way a.right a.colour a.key a.tree a.blacks a.at (write_at_start s s1 s2 _ p c.writes w image i) in
-      let black = (join_colour (mem s image) (length image) a.root a.total a.way a.right a.colour leaf a.key b a.tree a.at.zip).1 (c.is_none e some image i1) in
+      let i1 = stood w.kept image i in
+      let a = h.under image (stood c.kept image i1) in
+      let g = gone (mem s image) (mem s2 image) (length image) a.root a.total xs d b p a.way a.right a.colour a.key a.tree a.blacks a.at (write_at_start s s1 s2 _ p c.writes w image i.sees) in
+      let black = (join_colour (mem s image) (length image) a.root a.total a.way a.right a.colour leaf a.key b a.tree a.at.zip).1 (c.is_none e some image i1.sees) in
       record { root = a.root; total = without a.total b; way = a.way; tree = a.tree; blacks = blacks a.tree; at = loose_after (mem s image) (mem s2 image) (length image) a.root a.total xs d b p a.way a.right a.colour a.key a.tree a.blacks a.at black g };
 }
 

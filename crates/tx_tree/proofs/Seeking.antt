@@ -4,9 +4,9 @@ use Rattle.std.proofs.lemmas.Bool.{cases_lt}
 use Rattle.std.proofs.Math.Pow.{pow_mono}
 use Rattle.std.proofs.Math.Nat.{mul-le-mul}
 use Rattle.stm_words.specs.Seen.{some_le}
-use Rattle.stm_words.specs.View.{View, Stands, Loaded}
+use Rattle.stm_words.specs.View.{View, Words, Stands, Loaded, memory}
 use Rattle.tx_alloc.specs.Pool.{IsBlock}
-use Rattle.tx_alloc.specs.Steps.{mem, kept_none, kept_both, at_start}
+use Rattle.tx_alloc.specs.Steps.{mem, kept_none, kept_both, stood, at_start}
 use Rattle.tx_alloc.specs.Rows.{Rows, times, AllBelow, IsFrom}
 use Rattle.tx_tree.specs.Tree.{Tree, leaf, node, rows, IsEven, IsApart, is_red, height}
 use Rattle.tx_tree.specs.Way.{Way, top, step, plug, depth, front, behind}
@@ -158,23 +158,23 @@ seek_leads s0 s root key xs d table k ws = record {
   small = omega (arith, table.small, k.kept.size);
   room = (
       let r : slice_index xs d + 1 ≤ s.size = some_le (slice_index xs d + 1) s.size ws (λ w.
-      let t = table.under w.0 (k.kept.seen w.0 w.1.sees) in
+      let t = table.under w.0 (stood k.kept w.0 w.1) in
       let p = k.place w.0 t.entries w.1.sees t.is in
       omega (arith, link_room (mem s0 w.0) (length w.0) root key xs d t.entries p (omega (arith, table.room, k.kept.size, w.1.size)), w.1.size)) in
       omega arith);
   under = λ image i ne.
-      let t = table.under image (k.kept.seen image i) in
-      let p = k.place image t.entries i t.is in
+      let t = table.under image (stood k.kept image i) in
+      let p = k.place image t.entries i.sees t.is in
       let at : slice_index xs d ≡ link_of root p.way = ap (slice_index xs) p.deep ∙ path_at xs root p.way p.path in
-      let same : mem s image (slice_index xs d) ≡ mem s0 image (link_of root p.way) = rw k.writes (ap (mem s0 image) at) in
+      let same : mem s image (slice_index xs d) ≡ mem s0 image (link_of root p.way) = ap (λ (w : Words). memory image w (slice_index xs d)) k.writes ∙ ap (mem s0 image) at in
       subst (λ (x : ℕ). IsBlock (length image) x) (sym same) (pointer (mem s0 image) (length image) (mem s0 image (link_of root p.way)) p.tree p.zip.tree (λ z. ne (same ∙ z)));
 }
 
 pub seek_low : (s0 s s1 : View) (root key : ℕ) (xs : List ℕ) (d p : ℕ) → HasTable s0 root → Seeking s0 s root key xs d → Reached s s1 (slice_index xs d) p → p ≢ 0 → ∥ ((image : List ℕ) × Stands s1 image) ∥₁ → d + 1 ≤ 36
 seek_low s0 s s1 root key xs d p table k r ne ws = some_le (d + 1) 36 ws (λ w.
-    let i = r.loaded.kept.seen w.0 w.1.sees in
-    let t = table.under w.0 (k.kept.seen w.0 i) in
-    place_low (mem s0 w.0) (length w.0) root key p xs d t.entries (k.place w.0 t.entries i t.is) (at_start s0 s s1 (slice_index xs d) p k.writes r.loaded w.0 w.1.sees) ne t.is.few)
+    let i = stood r.loaded.kept w.0 w.1 in
+    let t = table.under w.0 (stood k.kept w.0 i) in
+    place_low (mem s0 w.0) (length w.0) root key p xs d t.entries (k.place w.0 t.entries i.sees t.is) (at_start s0 s s1 (slice_index xs d) p k.writes r.loaded w.0 w.1.sees) ne t.is.few)
 
 pub seek_step : (s0 s s1 s2 : View) (root key : ℕ) (xs : List ℕ) (d p found : ℕ) (right : Bool) → Seeking s0 s root key xs d → Reached s s1 (slice_index xs d) p → p ≢ 0 → Loaded s1 s2 p found → d + 1 ≤ 36 → (right ≡ false → key < found) → (right ≡ true → found < key) → Seeking s0 s2 root key (slice_set xs (d + 1) (p + off right)) (d + 1)
 seek_step s0 s s1 s2 root key xs d p found right k r ne l low less more = record {

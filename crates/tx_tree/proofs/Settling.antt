@@ -2,7 +2,7 @@
 use Rattle.std.proofs.Common.{◌≡◌, ◌≢◌, ℕ, ◌+◌, ◌-◌, ◌%◌, ◌<◌, ◌≤◌, Bool, true, false, List, length, slice_index, refl, sym, ap, ◌∙◌, arith}
 use Rattle.stm_words.specs.Seen.{some_le}
 use Rattle.stm_words.specs.View.{View, Sees, Stands, Kept, Stored, IsWrite}
-use Rattle.tx_alloc.specs.Steps.{mem, kept_none, kept_both, at_start, write_at_start}
+use Rattle.tx_alloc.specs.Steps.{mem, kept_none, kept_both, stood, at_start, write_at_start}
 use Rattle.tx_tree.specs.Tree.{Tree, node, rows}
 use Rattle.tx_tree.specs.Way.{Way, plug}
 use Rattle.tx_tree.specs.Steps.{Reached, Coloured}
@@ -31,8 +31,8 @@ raised_now s0 s xs d0 b0 d b h t = record {
   size = h.size;
   deep = t.deep;
   under = λ image i.
-      let a = h.under image (t.kept.seen image i) in
-      let r = t.goes image i a.root a.total a.way a.left a.key a.right a.blacks a.at in
+      let a = h.under image (stood t.kept image i) in
+      let r = t.goes image i.sees a.root a.total a.way a.left a.key a.right a.blacks a.at in
       record { root = a.root; total = a.total; way = r.way; left = r.left; key = r.key; right = r.right; blacks = r.blacks; at = r.at };
 }
 
@@ -42,7 +42,7 @@ raised_along s s' xs d b k w h = record {
   room = omega (arith, h.room, k.size);
   size = h.size;
   deep = h.deep;
-  under = λ image i. rw w (h.under image (k.seen image i));
+  under = λ image i. rw w (h.under image (stood k image i));
 }
 
 pub raised_way : (s : View) (xs : List ℕ) (d b : ℕ) → HasRaised s xs d b → HasWay s xs d
@@ -57,7 +57,7 @@ raised_way s xs d b h = record {
 }
 
 pub raised_room : (s : View) (xs : List ℕ) (d b : ℕ) → HasRaised s xs d b → ∥ ((image : List ℕ) × Stands s image) ∥₁ → b + 8 ≤ s.size
-raised_room s xs d b h ws = some_le (b + 8) s.size ws (λ w. omega (arith, (h.under w.0 w.1.sees).at.zip.tree.0.block.1.0, w.1.size))
+raised_room s xs d b h ws = some_le (b + 8) s.size ws (λ w. omega (arith, (h.under w.0 w.1).at.zip.tree.0.block.1.0, w.1.size))
 
 -- the node above is black
 pub settled_black : (s0 s s1 : View) (xs : List ℕ) (d0 b0 d b : ℕ) (red : Bool) → HasRaised s0 xs d0 b0 → Settling s0 s xs d0 b0 d b → 1 ≤ d → Coloured s s1 (slice_index xs d - slice_index xs d % 8) red → red ≡ false → ∥ ((image : List ℕ) × Stands s image) ∥₁ → Settled s0 s1 xs d0 b0

@@ -2,9 +2,9 @@
 use Rattle.std.proofs.Common.{◌≡◌, ◌≢◌, inl, inr, ℕ, ◌+◌, ◌<◌, ◌≤◌, Bool, true, false, cond, List, [], ◌∷◌, ◌++◌, Option, Some, None, nat_lt, MatchOption, length, refl, sym, ap, ◌∙◌, subst, arith, append_assoc}
 use Rattle.std.proofs.lemmas.Bool.Decides.{nat_tests}
 use Rattle.stm_words.specs.Seen.{some_le}
-use Rattle.stm_words.specs.View.{View, Sees, Stands, Kept, Loaded}
+use Rattle.stm_words.specs.View.{View, Words, Sees, Stands, Kept, Loaded, memory}
 use Rattle.tx_alloc.specs.Pool.{IsBlock}
-use Rattle.tx_alloc.specs.Steps.{mem, kept_none, kept_both, at_start}
+use Rattle.tx_alloc.specs.Steps.{mem, kept_none, kept_both, stood, at_start}
 use Rattle.tx_alloc.specs.Rows.{Rows, times, block_at, AllBelow, IsFrom}
 use Rattle.tx_tree.specs.Tree.{Tree, node, rows, IsEven, IsApart, is_red}
 use Rattle.tx_tree.specs.Way.{Way, top, step, plug, depth, front, behind}
@@ -165,14 +165,14 @@ descent_leads s0 s root lo key link d next table k ws = record {
   small = omega (arith, table.small, k.kept.size);
   room = (
       let r : link + 1 ≤ s.size = some_le (link + 1) s.size ws (λ w.
-      let t = table.under w.0 (k.kept.seen w.0 w.1.sees) in
+      let t = table.under w.0 (stood k.kept w.0 w.1) in
       let p = k.spot w.0 t.entries w.1.sees t.is in
       omega (arith, spot_room (mem s0 w.0) (length w.0) root lo key link d next t.entries p (omega (arith, table.room, k.kept.size, w.1.size)), w.1.size)) in
       omega arith);
   under = λ image i ne.
-      let t = table.under image (k.kept.seen image i) in
-      let p = k.spot image t.entries i t.is in
-      let same : mem s image link ≡ mem s0 image (link_of root p.way) = rw k.writes (ap (mem s0 image) p.at) in
+      let t = table.under image (stood k.kept image i) in
+      let p = k.spot image t.entries i.sees t.is in
+      let same : mem s image link ≡ mem s0 image (link_of root p.way) = ap (λ (w : Words). memory image w link) k.writes ∙ ap (mem s0 image) p.at in
       subst (λ (x : ℕ). IsBlock (length image) x) (sym same) (pointer (mem s0 image) (length image) (mem s0 image (link_of root p.way)) p.tree p.zip.tree (λ z. ne (same ∙ z)));
 }
 

@@ -1,6 +1,6 @@
 -- What the steps that mend a tree say.
 use Rattle.std.specs.Prelude.{◌≡◌, ◌≢◌, ℕ, ◌+◌, ◌-◌, ◌%◌, ◌<◌, ◌≤◌, ◌^◌, List, length, slice_index, true, false}
-use Rattle.stm_words.specs.View.{View, Sees, Kept, IsWrite}
+use Rattle.stm_words.specs.View.{View, Sees, Stands, Kept, IsWrite}
 use Rattle.tx_alloc.specs.Steps.{mem}
 use Rattle.tx_alloc.specs.Rows.{Rows}
 use Rattle.tx_tree.specs.Tree.{Tree, node, rows, IsEven, IsApart, is_red}
@@ -42,7 +42,7 @@ pub record HasWay (s : View) (xs : List ℕ) (d : ℕ) : Type 0 where
   pub room : 16 ≤ s.size
   pub size : length xs ≡ 40
   pub deep : d < 40
-  pub under : (image : List ℕ) → Sees s image → WayAt (mem s image) (length image) xs d
+  pub under : (image : List ℕ) → Stands s image → WayAt (mem s image) (length image) xs d
 
 -- the whole tree is as it should be, and has these rows; nothing but linking words was written
 pub record Ends (m m' : ℕ → ℕ) (n root : ℕ) (total : ℕ → ℕ) (rs : Rows) : Type 0 where
@@ -77,7 +77,7 @@ pub record HasRaised (s : View) (xs : List ℕ) (d b : ℕ) : Type 0 where
   pub room : 16 ≤ s.size
   pub size : length xs ≡ 40
   pub deep : d < 40
-  pub under : (image : List ℕ) → Sees s image → SomeRaised (mem s image) (length image) xs d b
+  pub under : (image : List ℕ) → Stands s image → SomeRaised (mem s image) (length image) xs d b
 
 pub record Settled (s s' : View) (xs : List ℕ) (d b : ℕ) : Type 0 where
   pub kept : Kept s s'
@@ -117,7 +117,7 @@ pub record HasShort (s : View) (xs : List ℕ) (d : ℕ) : Type 0 where
   pub room : 16 ≤ s.size
   pub size : length xs ≡ 40
   pub deep : d < 40
-  pub under : (image : List ℕ) → Sees s image → SomeShort (mem s image) (length image) xs d
+  pub under : (image : List ℕ) → Stands s image → SomeShort (mem s image) (length image) xs d
 
 pub record Mended (s s' : View) (xs : List ℕ) (d : ℕ) : Type 0 where
   pub kept : Kept s s'

@@ -1,6 +1,6 @@
 -- What the steps of a removal say.
 use Rattle.std.specs.Prelude.{◌≡◌, ℕ, ◌+◌, ◌<◌, ◌≤◌, ◌^◌, List, length, slice_index, Bool, false, not}
-use Rattle.stm_words.specs.View.{View, Sees, Kept}
+use Rattle.stm_words.specs.View.{View, Sees, Stands, Kept}
 use Rattle.tx_alloc.specs.Steps.{mem}
 use Rattle.tx_tree.specs.Tree.{Tree, leaf, join, rows, EvenAt, IsApart}
 use Rattle.tx_tree.specs.Way.{Way, plug, depth, IsEvenWay, IsApartWay}
@@ -35,7 +35,7 @@ pub record HasLoose (s : View) (xs : List ℕ) (d p : ℕ) : Type 0 where
   pub room : 16 ≤ s.size
   pub size : length xs ≡ 40
   pub deep : d < 40
-  pub under : (image : List ℕ) → Sees s image → SomeLoose (mem s image) (length image) xs d p
+  pub under : (image : List ℕ) → Stands s image → SomeLoose (mem s image) (length image) xs d p
 
 pub record Lightened (s s' : View) (xs : List ℕ) (d p : ℕ) : Type 0 where
   pub kept : Kept s s'
@@ -69,7 +69,7 @@ pub record HasLast (s : View) (xs : List ℕ) (d b p : ℕ) : Type 0 where
   pub room : 16 ≤ s.size
   pub size : length xs ≡ 40
   pub deep : d < 40
-  pub under : (image : List ℕ) → Sees s image → SomeLast (mem s image) (length image) xs d b p
+  pub under : (image : List ℕ) → Stands s image → SomeLast (mem s image) (length image) xs d b p
 
 pub record Unlinked (s s' : View) (xs : List ℕ) (d b p : ℕ) : Type 0 where
   pub kept : Kept s s'

@@ -1,6 +1,6 @@
 -- What the steps of a call say.
 use Rattle.std.specs.Prelude.{◌≡◌, ◌≢◌, ℕ, ◌+◌, ◌<◌, ◌≤◌, ◌^◌, List, length, slice_index, Bool, true, false}
-use Rattle.stm_words.specs.View.{View, Sees, Kept, Loaded}
+use Rattle.stm_words.specs.View.{View, Sees, Stands, Kept, Loaded}
 use Rattle.tx_alloc.specs.Pool.{IsBlock}
 use Rattle.tx_alloc.specs.Steps.{mem}
 use Rattle.tx_alloc.specs.Rows.{Rows, times, AllBelow, IsFrom}
@@ -13,7 +13,7 @@ use Rattle.tx_tree.specs.Table.{Table}
 pub record Leads (s : View) (link : ℕ) : Type 0 where
   pub small : s.size ≤ 2 ^ 32
   pub room : link < s.size
-  pub under : (image : List ℕ) → Sees s image → mem s image link ≢ 0 →
+  pub under : (image : List ℕ) → Stands s image → mem s image link ≢ 0 →
       IsBlock (length image) (mem s image link)
 
 -- the link leads to p

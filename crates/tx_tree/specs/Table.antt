@@ -1,6 +1,6 @@
 -- A table by key. What stands above uses the lemmas on IsTable alone, and not its fields.
 use Rattle.std.specs.Prelude.{◌≡◌, ◌≢◌, ℕ, ◌+◌, ◌<◌, ◌≤◌, ◌^◌, List, [], ◌∷◌, length, false, cond, nat_lt, zero, suc, MatchOption, Option, Some, None}
-use Rattle.stm_words.specs.View.{View, Sees, Kept}
+use Rattle.stm_words.specs.View.{View, Sees, Stands, Kept}
 use Rattle.tx_alloc.specs.Pool.{IsBlock}
 use Rattle.tx_alloc.specs.declared.place.TheConstants.{FIRST_BLOCK, BLOCK_WORDS, MOST_BLOCKS}
 use Rattle.tx_alloc.specs.Steps.{mem}
@@ -35,12 +35,13 @@ pub record SomeTable (m : ℕ → ℕ) (n root : ℕ) : Type 0 where
   pub entries : Rows
   pub is : Table m n root entries
 
--- under each image that there may be the root word leads to a table. Addresses fit 32 bits.
+-- under each image of the memory's size that there may be the root word leads to a table. Addresses
+-- fit 32 bits.
 pub record HasTable (s : View) (root : ℕ) : Type 0 where
   pub small : s.size ≤ 2 ^ 32
   pub room : 16 ≤ s.size
   pub low : root < 16
-  pub under : (image : List ℕ) → Sees s image → SomeTable (mem s image) (length image) root
+  pub under : (image : List ℕ) → Stands s image → SomeTable (mem s image) (length image) root
 
 -- the words of a block at b are words of a memory of n words, and of no head or root
 abbrev pub IsInside : ℕ → ℕ → Type 0
@@ -83,17 +84,17 @@ pub record Fresh (m : ℕ → ℕ) (n : ℕ) (rs : Rows) (key b : ℕ) : Type 0 
   pub key_is : m b ≡ key
 
 pub record IsFresh (s : View) (root key b : ℕ) : Type 0 where
-  pub under : (image : List ℕ) (rs : Rows) → Sees s image →
+  pub under : (image : List ℕ) (rs : Rows) → Stands s image →
       Table (mem s image) (length image) root rs → Fresh (mem s image) (length image) rs key b
 
--- the block came into the table under its key
+-- the block, which was fresh, came into the table under its key
 pub record Inserted (s s' : View) (root key b : ℕ) : Type 0 where
   pub kept : Kept s s'
   pub table : (image : List ℕ) (rs : Rows) → Sees s' image →
-      Table (mem s image) (length image) root rs →
+      Table (mem s image) (length image) root rs → Fresh (mem s image) (length image) rs key b →
       IsTable (mem s' image) (length image) (mem s' image root) (put_row rs key b)
   pub relinks : (image : List ℕ) (rs : Rows) → Sees s' image →
-      Table (mem s image) (length image) root rs →
+      Table (mem s image) (length image) root rs → Fresh (mem s image) (length image) rs key b →
       Relinks (mem s image) (mem s' image) 1 root (put_row rs key b)
 
 -- the row of the key was there and is gone, and p is its block

@@ -1,9 +1,9 @@
 -- Units are booked of an item that has so many: by a customer who has no booking of it.
-use Rattle.std.proofs.Common.{◌≡◌, inl, inr, ℕ, ◌+◌, ◌<◌, ◌≤◌, ◌^◌, List, [], ◌∷◌, length, Option, Some, None, true, false, nat_le, nat_lt, IsTrue, refl, sym, ap, ◌∙◌, subst, arith}
+use Rattle.std.proofs.Common.{◌≡◌, inl, inr, ℕ, ◌+◌, ◌<◌, ◌≤◌, ◌^◌, List, [], ◌∷◌, length, Option, Some, None, true, false, nat_le, nat_lt, refl, sym, ap, ◌∙◌, subst, arith}
 use Rattle.std.proofs.lemmas.Bool.Decides.{nat_tests}
 use Rattle.std.specs.FinMap.{get, insert}
 use Rattle.stm_words.specs.Seen.{same_or}
-use Rattle.stm_words.specs.View.{View, Sees}
+use Rattle.stm_words.specs.View.{View, Sees, Stands}
 use Rattle.vac_model.specs.declared.items.Kind.{Kind}
 use Rattle.vac_model.specs.declared.items.Kind.TheVariants.{Car, Flight, Room}
 use Rattle.vac_model.specs.declared.items.Item.{Item}
@@ -11,25 +11,26 @@ use Rattle.vac_model.specs.declared.items.Booking.{Booking}
 use Rattle.vac_model.specs.declared.commands.Command.TheVariants as command
 use Rattle.vac_model.specs.declared.commands.Why.TheVariants.{Full}
 use Rattle.vac_model.specs.declared.replies.Reply.TheVariants as reply
-use Rattle.vac_model.specs.Ranges.{is_command}
 use Rattle.vac_model.specs.State.{State, Bookings, Place, kind_number, item_of, with_item, with_bookings, size, is_full}
 use Rattle.vac_model.specs.Step.{done, refused, step, taken, new_booking}
 use Rattle.vac_model.proofs.States.{item_of-with_bookings}
+use Rattle.tx_alloc.specs.Pointer.{pointer}
 use Rattle.tx_alloc.specs.Pool.{IsTaking, NoneFree, Taken}
 use Rattle.tx_alloc.specs.Rows.{Rows, block_at}
 use Rattle.tx_list.specs.declared.search.Spot.{Spot}
-use Rattle.tx_list.specs.Lists.{IsListAt, HasList}
-use Rattle.tx_list.specs.Search.{IsSpot}
-use Rattle.tx_list.proofs.Frame.{list_block}
-use Rattle.tx_list.proofs.Spots.{spot_stays}
-use Rattle.vac_records.specs.Items.{mem, item_in, IsNode, IsItemNow, CanMakeOf, ItemChanged}
+use Rattle.tx_list.specs.Bookings.{IsList}
+use Rattle.tx_list.specs.Lists.{IsListAt}
+use Rattle.tx_list.specs.Search.{SpotAt}
+use Rattle.tx_list.proofs.Frame.{list_frame, list_block}
+use Rattle.tx_list.proofs.Spots.{Unmoved, spot_stays}
+use Rattle.vac_records.specs.Items.{mem, item_in, IsNode, IsItemNow, CanMakeOf, ItemChangedOf}
 use Rattle.vac_records.specs.Bookings.{kind_of, place_in, place_key, booking_in}
-use Rattle.vac_records.specs.Customers.{head_of, IsLoose, CanBook, IsBooked, BookedAt, Booked}
+use Rattle.vac_records.specs.Customers.{head_of, IsLoose, IsBooked, BookedAt}
 use Rattle.vac_records.specs.Heap.{used_in, count_in}
 use Rattle.vac_records.specs.Represents.{Represents, IsState}
 use Rattle.vac_records.specs.Holds.{HoldsState}
 use Rattle.vac_records.specs.Laws.{Stays, IsItemAt, IsCustomerAt, ListGrown}
-use Rattle.vac_records.specs.Steps.{kept_both}
+use Rattle.vac_records.specs.Steps.{kept_both, stood}
 use Rattle.vac_records.proofs.Items.{item_replaced}
 use Rattle.vac_records.proofs.Booked.{booking_found, booking_inserted}
 use Rattle.vac_records.proofs.Bridges.{pool_there, list_there}
@@ -37,10 +38,10 @@ use Rattle.vac_records.proofs.Hands.{block_taken, block_written}
 use Rattle.vac_records.proofs.Links.{list_one}
 use Rattle.vac_records.proofs.Single.{none_left, some_left}
 use Rattle.vac_commands.specs.declared.bookings.Offer.{Offer}
-use Rattle.vac_commands.specs.Entries.{HasItemAt, HasCustomerAt}
-use Rattle.vac_commands.specs.BookingSteps.{booking_block, LacksBooking, IsOffered, RanInPlace}
-use Rattle.vac_commands.proofs.Serving.{Lands, in_place, reads_in_place}
-use Rattle.vac_commands.proofs.Owners.{Here, here, owned, at_owner, at_item, its_item, not_booked, list_held}
+use Rattle.vac_commands.specs.Entries.{ItemIsAt, CustomerIsAt}
+use Rattle.vac_commands.specs.BookingSteps.{booking_block, Here, AtSpot, HasSpot, IsOffered, Lands, Serves}
+use Rattle.vac_commands.proofs.Serving.{reads_serve}
+use Rattle.vac_commands.proofs.Owners.{here_at, owned, at_owner, its_list, at_item, its_item, not_booked, owner_is_block}
 use Rattle.vac_commands.proofs.InHand.{loose, outside, same_rows}
 use Rattle.vac_commands.proofs.Cancelling.{item_stays, item_words}
 use Rattle.vac_commands.proofs.Extending.{counts_fit}
@@ -177,109 +178,100 @@ module _ (m : ℕ → ℕ) (n : ℕ) (s : State) (h : IsState m n s) (customer o
             stays = record { after = after.after; tables = λ i l. after.tables i l ∙ joined.tables i l };
           }
 
--- the calls, under all images
-module _ (s : View) (customer owner : ℕ) (kind : Kind) (id item num : ℕ) (offer : Offer) (held : HoldsState s) (c : HasCustomerAt s customer owner) (f : HasItemAt s kind id item)
-    (o : IsOffered s item num offer) (g : LacksBooking s owner (kind, id)) (small : id < 2 ^ 32) where
+-- the customer has no booking where the spot has none
+none_at : (m : ℕ → ℕ) (n : ℕ) (s : State) (h : IsState m n s) (customer owner : ℕ) (kind : Kind) (id item : ℕ) (spot : Spot) → spot.entry ≡ None → AtSpot customer owner kind id item spot m n s h → booking_block h owner (kind, id) ≡ 0
+none_at m n s h customer owner kind id item spot absent p = sym p.at.entry ∙ ap pointer absent
+
+-- the calls, under each image
+module _ (s : View) (customer owner : ℕ) (kind : Kind) (id item num : ℕ) (offer : Offer) (spot : Spot) (o : IsOffered s item num offer) (absent : spot.entry ≡ None) where
   enough_at : (image : List ℕ) → Sees s image → num ≤ mem s image (item + 5)
   enough_at image i = omega (arith, o.enough, o.free_is image i)
 
-  pub no_block : (s1 : View) → IsTrue (is_command (command.Reserve customer kind id num)) → NoneFree s s1 → RanInPlace s s1 (command.Reserve customer kind id num) (reply.No Full)
-  no_block s1 range z = reads_in_place s s1 (command.Reserve customer kind id num) (reply.No Full) range (record { kept = z.kept; writes = z.writes }) (λ image state i h.
-      let i0 = z.kept.seen image i in
-      let p = h.represents.parts in
-      no_place (mem s image) (length image) state h customer owner kind id item (here s customer owner kind id item c f small image state i0 h) (g.none image state i0 h)
-      num (enough_at image i0) (z.none image p.free (used_in p) (count_in p) i (pool_there (mem s image) (length image) [] state h.represents)))
+  none : (image : List ℕ) (state : State) (h : IsState (mem s image) (length image) state) → AtSpot customer owner kind id item spot (mem s image) (length image) state h → booking_block h owner (kind, id) ≡ 0
+  none image state h p = none_at (mem s image) (length image) state h customer owner kind id item spot absent p
 
-  module _ (s1 : View) (b start : ℕ) (spot : Spot) (t : Taken s s1 start b) where
+  pub no_block : (s1 : View) → NoneFree s s1 → Serves s s1 (command.Reserve customer kind id num) (reply.No Full) (AtSpot customer owner kind id item spot)
+  no_block s1 z = reads_serve s s1 (command.Reserve customer kind id num) (reply.No Full) (AtSpot customer owner kind id item spot) (record { kept = z.kept; writes = z.writes }) (λ image state i h p.
+      let q = h.represents.parts in
+      no_place (mem s image) (length image) state h customer owner kind id item p.here (none image state h p)
+      num (enough_at image (z.kept.seen image i)) (z.none image q.free (used_in q) (count_in q) i (pool_there (mem s image) (length image) [] state h.represents)))
+
+  module _ (s1 : View) (b start : ℕ) (t : Taken s s1 start b) where
     its_taking : (image : List ℕ) (state : State) → Sees s1 image → (h : IsState (mem s image) (length image) state) →
         IsTaking (mem s image) (mem s1 image) (length image) h.represents.parts.free (used_in h.represents.parts) (count_in h.represents.parts) start b
     its_taking image state i h = let p = h.represents.parts in t.taking image p.free (used_in p) (count_in p) i (pool_there (mem s image) (length image) [] state h.represents)
 
-    -- the words of the customer's list are as before, and so its spots
-    still_spot : (p : IsSpot s (head_of owner) (place_key (kind, id)) spot) → IsSpot s1 (head_of owner) (place_key (kind, id)) spot
-    still_spot p = spot_stays s s1 (head_of owner) (place_key (kind, id)) spot (list_held s customer owner held c) t.kept (λ image rows i at.
-        let r = held.under image (t.kept.seen image i) in
-        let g = its_taking image r.0 i r.1 in
-        record {
-          start = g.write.others (head_of owner) (omega (arith, c.inside.0, g.is_list));
-          blocks = λ a o k less.
-              let ba = list_block (mem s image) (length image) (mem s image (head_of owner)) a rows at.list o in
-              g.write.others (a + k) (omega (arith, ba.1.1, g.is_list));
-        }) p
+    pub block_node : HoldsState s → IsNode s1 b
+    block_node held = record { inside = t.room; small = omega (arith, held.small, t.kept.size) }
 
-    pub block_node : IsNode s1 b
-    block_node = record { inside = t.room; small = omega (arith, held.small, t.kept.size) }
+    pub spot_room : HasSpot s owner (kind, id) spot → spot.link.0 < s1.size
+    spot_room p = omega (arith, p.room, t.kept.size)
 
-    has_list : HasList s1 (head_of owner)
-    has_list = record {
-      small = omega (arith, held.small, t.kept.size);
-      room = omega (arith, c.inside.1, t.kept.size);
-      under = λ image i.
-          let i0 = t.kept.seen image i in
-          let r = held.under image i0 in
-          let e = here s customer owner kind id item c f small image r.0 i0 r.1 in
-          record {
-            entries = rows_now (mem s image) (length image) r.0 r.1 customer owner kind id item e (g.none image r.0 i0 r.1) (mem s1 image) b start (its_taking image r.0 i r.1);
-            is = list_now (mem s image) (length image) r.0 r.1 customer owner kind id item e (g.none image r.0 i0 r.1) (mem s1 image) b start (its_taking image r.0 i r.1);
-          };
-    }
-
-    can_book : CanBook s1 owner (kind, id) b
-    can_book = record {
-      under = λ image rows i l.
-          let i0 = t.kept.seen image i in
-          let r = held.under image i0 in
-          let e = here s customer owner kind id item c f small image r.0 i0 r.1 in
-          can_hang (mem s image) (length image) r.0 r.1 customer owner kind id item e (g.none image r.0 i0 r.1) (mem s1 image) b start (its_taking image r.0 i r.1) rows l;
-    }
-
-    pub spot_room : IsSpot s (head_of owner) (place_key (kind, id)) spot → spot.link.0 < s1.size
-    spot_room p = (still_spot p).room
-
-    pub its_booked : (s2 : View) → IsSpot s (head_of owner) (place_key (kind, id)) spot → BookedAt s1 s2 spot (kind, id) num offer.price b → Booked s1 s2 owner (kind, id) num offer.price b
-    its_booked s2 p w = w.booked owner has_list (still_spot p) can_book
-
-    module _ (s2 : View) (w : Booked s1 s2 owner (kind, id) num offer.price b) where
-      its_booking : (image : List ℕ) (state : State) → Sees s2 image → (i1 : Sees s1 image) (i0 : Sees s image) → (h : IsState (mem s image) (length image) state) →
+    module _ (s2 : View) (w : BookedAt s1 s2 spot (kind, id) num offer.price b) where
+      -- the words of the customer's list are as before, and so its spots
+      its_booking : (image : List ℕ) (state : State) → Sees s2 image → (i1 : Sees s1 image) → (h : IsState (mem s image) (length image) state) → (p : AtSpot customer owner kind id item spot (mem s image) (length image) state h) →
           IsBooked (mem s1 image) (mem s2 image) (length image) owner
-          (rows_now (mem s image) (length image) state h customer owner kind id item (here s customer owner kind id item c f small image state i0 h) (g.none image state i0 h) (mem s1 image) b start (its_taking image state i1 h))
+          (rows_now (mem s image) (length image) state h customer owner kind id item p.here (none image state h p) (mem s1 image) b start (its_taking image state i1 h))
           (kind, id) num offer.price b
-      its_booking image state i i1 i0 h =
-          let e = here s customer owner kind id item c f small image state i0 h in
-          w.booked image (rows_now (mem s image) (length image) state h customer owner kind id item e (g.none image state i0 h) (mem s1 image) b start (its_taking image state i1 h)) i
-          (list_now (mem s image) (length image) state h customer owner kind id item e (g.none image state i0 h) (mem s1 image) b start (its_taking image state i1 h))
+      its_booking image state i i1 h p =
+          let m = mem s image in
+          let m1 = mem s1 image in
+          let n = length image in
+          let g = its_taking image state i1 h in
+          let rows = h.represents.parts.lists owner in
+          let list = its_list m n state h customer owner kind id item p.here in
+          let now = rows_now m n state h customer owner kind id item p.here (none image state h p) m1 b start g in
+          let listed = list_now m n state h customer owner kind id item p.here (none image state h p) m1 b start g in
+          let owner_block = owner_is_block m n state h customer owner kind id item p.here in
+          let still : Unmoved m m1 (head_of owner) rows = record {
+            start = g.write.others (head_of owner) (omega (arith, owner_block.1.1, g.is_list));
+            blocks = λ a o k less.
+                let ba = list_block m n (m (head_of owner)) a rows list.list o in
+                g.write.others (a + k) (omega (arith, ba.1.1, g.is_list));
+          } in
+          let kept : IsList m1 n (m1 (head_of owner)) rows = rw still.start (list_frame m m1 n (m (head_of owner)) rows list.list still.blocks) in
+          let same : rows ≡ now = list_one m1 n (m1 (head_of owner)) rows now kept listed.list in
+          let there = spot_stays m m1 (head_of owner) (place_key (kind, id)) spot rows still p.at in
+          w.booked image i owner now listed (subst (λ (z : Rows). SpotAt m1 (head_of owner) (place_key (kind, id)) spot z) same there)
+          (can_hang m n state h customer owner kind id item p.here (none image state h p) m1 b start g now listed)
 
-      pub can_make : CanMakeOf s2 item num offer.free
-      can_make = record {
-        free_is = λ image i.
-            let i1 = w.kept.seen image i in
-            let i0 = t.kept.seen image i1 in
-            let r = held.under image i0 in
-            let e = here s customer owner kind id item c f small image r.0 i0 r.1 in
-            free_same (mem s image) (length image) r.0 r.1 customer owner kind id item e (g.none image r.0 i0 r.1) (mem s1 image) b start (its_taking image r.0 i1 r.1)
-            (mem s2 image) num offer.price (its_booking image r.0 i i1 i0 r.1) (enough_at image i0) (o.price_is image i0) ∙ o.free_is image i0;
-        enough = o.enough;
-        used = record {
-          fits = λ image i.
-              let i1 = w.kept.seen image i in
-              let i0 = t.kept.seen image i1 in
-              let r = held.under image i0 in
-              let e = here s customer owner kind id item c f small image r.0 i0 r.1 in
-              used_fits (mem s image) (length image) r.0 r.1 customer owner kind id item e (g.none image r.0 i0 r.1) (mem s1 image) b start (its_taking image r.0 i1 r.1)
-              (mem s2 image) num offer.price (its_booking image r.0 i i1 i0 r.1) (enough_at image i0) (o.price_is image i0);
-        };
-      }
+      free_now : (image : List ℕ) (state : State) → Sees s2 image → (i1 : Sees s1 image) → Sees s image → (h : IsState (mem s image) (length image) state) → (p : AtSpot customer owner kind id item spot (mem s image) (length image) state h) → mem s2 image (item + 5) ≡ offer.free
+      free_now image state i i1 i0 h p =
+          free_same (mem s image) (length image) state h customer owner kind id item p.here (none image state h p) (mem s1 image) b start (its_taking image state i1 h)
+          (mem s2 image) num offer.price (its_booking image state i i1 h p) (enough_at image i0) (o.price_is image i0) ∙ o.free_is image i0
 
-      pub add_done : (s3 : View) → IsTrue (is_command (command.Reserve customer kind id num)) → ItemChanged s2 s3 item (λ x. taken x num) → RanInPlace s s3 (command.Reserve customer kind id num) reply.Done
-      add_done s3 range made = in_place s s3 (command.Reserve customer kind id num) reply.Done range (record {
+      pub can_make : HoldsState s → CustomerIsAt s customer owner → ItemIsAt s kind id item → HasSpot s owner (kind, id) spot → id < 2 ^ 32 → CanMakeOf s2 item num offer.free
+      can_make held c f q small =
+          let at : (image : List ℕ) (state : State) → Stands s image → (h : IsState (mem s image) (length image) state) → AtSpot customer owner kind id item spot (mem s image) (length image) state h = λ image state i h.
+          record { here = here_at s customer owner kind id item c f small image state i h; at = q.at image state i h } in
+          record {
+            free_is = λ image i.
+                let i1 = stood w.kept image i in
+                let i0 = stood t.kept image i1 in
+                let r = held.under image i0 in
+                free_now image r.0 i.sees i1.sees i0.sees r.1 (at image r.0 i0 r.1);
+            enough = o.enough;
+            used = record {
+              fits = λ image i.
+                  let i1 = stood w.kept image i in
+                  let i0 = stood t.kept image i1 in
+                  let r = held.under image i0 in
+                  let p = at image r.0 i0 r.1 in
+                  used_fits (mem s image) (length image) r.0 r.1 customer owner kind id item p.here (none image r.0 r.1 p) (mem s1 image) b start (its_taking image r.0 i1.sees r.1)
+                  (mem s2 image) num offer.price (its_booking image r.0 i.sees i1.sees r.1 p) (enough_at image i0.sees) (o.price_is image i0.sees);
+            };
+          }
+
+      pub add_done : (s3 : View) → ItemChangedOf s2 s3 item offer.free (λ x. taken x num) → Serves s s3 (command.Reserve customer kind id num) reply.Done (AtSpot customer owner kind id item spot)
+      add_done s3 made = record {
         kept = kept_both s s2 s3 (kept_both s s1 s2 t.kept w.kept) made.kept;
         untouched = tt;
         idle = tt;
-        lands = λ image state i h.
+        lands = λ image state i h p.
             let i2 = made.kept.seen image i in
             let i1 = w.kept.seen image i2 in
             let i0 = t.kept.seen image i1 in
-            let e = here s customer owner kind id item c f small image state i0 h in
-            added_lands (mem s image) (length image) state h customer owner kind id item e (g.none image state i0 h) (mem s1 image) b start (its_taking image state i1 h)
-            (mem s2 image) num offer.price (its_booking image state i2 i1 i0 h) (enough_at image i0) (o.price_is image i0) (mem s3 image) (made.changed image i);
-      })
+            added_lands (mem s image) (length image) state h customer owner kind id item p.here (none image state h p) (mem s1 image) b start (its_taking image state i1 h)
+            (mem s2 image) num offer.price (its_booking image state i2 i1 h p) (enough_at image i0) (o.price_is image i0) (mem s3 image)
+            (made.changed image i (free_now image state i2 i1 i0 h p));
+      }

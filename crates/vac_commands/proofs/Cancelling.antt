@@ -1,39 +1,38 @@
 -- A booking leaves its list, its units are given back to the item, and its block is free.
-use Rattle.std.proofs.Common.{◌≡◌, ◌≢◌, ℕ, ◌+◌, ◌<◌, ◌≤◌, ◌^◌, List, [], ◌∷◌, length, Option, Some, None, IsTrue, refl, sym, ap, ◌∙◌, arith}
+use Rattle.std.proofs.Common.{◌≡◌, ◌≢◌, ℕ, ◌+◌, ◌<◌, ◌≤◌, ◌^◌, List, [], ◌∷◌, length, Option, Some, None, refl, sym, ap, ◌∙◌, arith}
 use Rattle.std.specs.FinMap.{get, remove}
-use Rattle.stm_words.specs.View.{View, Sees}
+use Rattle.stm_words.specs.View.{View, Sees, Stands}
 use Rattle.vac_model.specs.declared.items.Kind.{Kind}
 use Rattle.vac_model.specs.declared.items.Item.{Item}
 use Rattle.vac_model.specs.declared.commands.Command.TheVariants as command
 use Rattle.vac_model.specs.declared.commands.Why.TheVariants.{NotBooked}
 use Rattle.vac_model.specs.declared.replies.Reply.TheVariants as reply
-use Rattle.vac_model.specs.Ranges.{is_command}
 use Rattle.vac_model.specs.State.{State, Bookings, kind_number, item_of, with_item, with_bookings}
 use Rattle.vac_model.specs.Step.{done, step, given_back}
 use Rattle.vac_model.proofs.States.{item_of-with_bookings}
 use Rattle.vac_model.proofs.Balance.{some_same}
 use Rattle.vac_model.proofs.Holdings.{units-used}
 use Rattle.tx_alloc.specs.declared.pool.Block.{Block}
-use Rattle.tx_alloc.specs.Pointer.{pointer}
+use Rattle.tx_list.specs.declared.search.Spot.{Spot}
 use Rattle.tx_alloc.specs.Pool.{IsBlock, IsUsed, IsGiving, HasUsed, Given}
 use Rattle.tx_alloc.specs.Rows.{Rows, block_at}
 use Rattle.vac_records.specs.Items.{mem, item_in, IsItemNow, CanCancel, ItemChanged}
 use Rattle.vac_records.specs.Bookings.{place_key, booking_in}
-use Rattle.vac_records.specs.Customers.{block_of, Unbooked}
+use Rattle.vac_records.specs.Customers.{IsUnbooking, UnbookedAt}
 use Rattle.vac_records.specs.Heap.{used_in, count_in}
 use Rattle.vac_records.specs.Represents.{Represents, IsState}
 use Rattle.vac_records.specs.Holds.{HoldsState}
 use Rattle.vac_records.specs.Laws.{Stays, ListCut, IsItemAt}
-use Rattle.vac_records.specs.Steps.{kept_both}
+use Rattle.vac_records.specs.Steps.{kept_both, stood}
 use Rattle.vac_records.proofs.Shifts.{kind_small}
 use Rattle.vac_records.proofs.Items.{item_found, item_replaced}
 use Rattle.vac_records.proofs.Booked.{booking_removed}
 use Rattle.vac_records.proofs.Hands.{block_given}
 use Rattle.vac_records.proofs.Bridges.{hand_there}
-use Rattle.vac_commands.specs.Entries.{HasItemAt, HasCustomerAt}
-use Rattle.vac_commands.specs.BookingSteps.{booking_block, RanInPlace}
-use Rattle.vac_commands.proofs.Serving.{Lands, in_place, reads_in_place}
-use Rattle.vac_commands.proofs.Owners.{Here, here, owned, at_owner, its_list, at_item, its_item, booked_at, not_booked, booking_is_block}
+use Rattle.vac_commands.specs.Entries.{ItemIsAt, CustomerIsAt}
+use Rattle.vac_commands.specs.BookingSteps.{booking_block, Here, AtSpot, HasSpot, Lands, Serves}
+use Rattle.vac_commands.proofs.Serving.{reads_serve}
+use Rattle.vac_commands.proofs.Owners.{here_at, owned, at_owner, its_list, at_item, its_item, booked_at, not_booked, booking_is_block}
 
 -- the item stands where it stood after a change that lets the tables stay
 pub item_stays : (m m' : ℕ → ℕ) (n : ℕ) (out out' : List ℕ) (s s' : State) (h : Represents m n out s) (kind : Kind) (id item : ℕ) → (g : Stays h m' out' s') → IsItemAt h kind id item → IsItemAt g.after kind id item
@@ -108,75 +107,76 @@ module _ (m m1 : ℕ → ℕ) (n : ℕ) (s : State) (h : IsState m n s) (custome
           stays = record { after = free.after; tables = λ i l. free.tables i l ∙ (given.tables i l ∙ unhung.tables i l) };
         }
 
--- the calls, under all images
-module _ (s s1 : View) (customer owner : ℕ) (kind : Kind) (id item : ℕ) (c : HasCustomerAt s customer owner) (f : HasItemAt s kind id item) (small : id < 2 ^ 32) where
-  -- the block that left the list is the booking's
-  block_is : (taken : Option (Block × ℕ)) → Unbooked s s1 owner (kind, id) taken → (image : List ℕ) (state : State) → Sees s1 image → Sees s image → (h : IsState (mem s image) (length image) state) → booking_block h owner (kind, id) ≡ pointer (block_of taken)
-  block_is taken u image state i i0 h =
-      let e = here s customer owner kind id item c f small image state i0 h in
-      sym (u.is image (h.represents.parts.lists owner) i (its_list (mem s image) (length image) state h customer owner kind id item e))
+-- the calls, under each image
+module _ (s s1 : View) (customer owner : ℕ) (kind : Kind) (id item : ℕ) (spot : Spot) where
+  its_unbooking : (taken : Option (Block × ℕ)) → UnbookedAt s s1 spot taken → (image : List ℕ) (state : State) → Sees s1 image → (h : IsState (mem s image) (length image) state) → AtSpot customer owner kind id item spot (mem s image) (length image) state h →
+      IsUnbooking (mem s image) (mem s1 image) (length image) owner (kind, id) taken (h.represents.parts.lists owner)
+  its_unbooking taken u image state i h p =
+      u.unbooking image i owner (kind, id) (h.represents.parts.lists owner) (its_list (mem s image) (length image) state h customer owner kind id item p.here) p.at
 
-  pub none_booked : IsTrue (is_command (command.Cancel customer kind id)) → Unbooked s s1 owner (kind, id) None → RanInPlace s s1 (command.Cancel customer kind id) (reply.No NotBooked)
-  none_booked range u = reads_in_place s s1 (command.Cancel customer kind id) (reply.No NotBooked) range (record { kept = u.kept; writes = u.none refl }) (λ image state i h.
-      let i0 = u.kept.seen image i in
-      let e = here s customer owner kind id item c f small image state i0 h in
-      let o = owned (mem s image) (length image) state h customer owner kind id item e in
-      let there = its_item (mem s image) (length image) state h customer owner kind id item e in
-      let gone = not_booked (mem s image) (length image) state h customer owner kind id item e o (block_is None u image state i i0 h) in
+  pub none_booked : UnbookedAt s s1 spot None → Serves s s1 (command.Cancel customer kind id) (reply.No NotBooked) (AtSpot customer owner kind id item spot)
+  none_booked u = reads_serve s s1 (command.Cancel customer kind id) (reply.No NotBooked) (AtSpot customer owner kind id item spot) (record { kept = u.kept; writes = u.none refl }) (λ image state i h p.
+      let o = owned (mem s image) (length image) state h customer owner kind id item p.here in
+      let there = its_item (mem s image) (length image) state h customer owner kind id item p.here in
+      let gone = not_booked (mem s image) (length image) state h customer owner kind id item p.here o (sym (its_unbooking None u image state i h p).is) in
       rw (o.there, there, gone) refl)
 
-  module _ (held : HoldsState s) (x : Block) (units : ℕ) (u : Unbooked s s1 owner (kind, id) (Some (x, units))) where
+  module _ (x : Block) (units : ℕ) (u : UnbookedAt s s1 spot (Some (x, units))) where
     some : x.0.0 ≢ 0
     some = let w = u.within in omega (arith, w.0)
 
-    its_cut : (image : List ℕ) (state : State) → Sees s1 image → Sees s image → (h : IsState (mem s image) (length image) state) → ListCut (mem s image) (mem s1 image) (length image) owner (h.represents.parts.lists owner) (place_key (kind, id))
-    its_cut image state i i0 h =
-        let rows = h.represents.parts.lists owner in
-        let e = here s customer owner kind id item c f small image state i0 h in
-        let l = its_list (mem s image) (length image) state h customer owner kind id item e in
-        record { list = (u.list image rows i l).list; relinks = u.relinks image rows i l }
+    its_cut : (image : List ℕ) (state : State) → Sees s1 image → (h : IsState (mem s image) (length image) state) → AtSpot customer owner kind id item spot (mem s image) (length image) state h → ListCut (mem s image) (mem s1 image) (length image) owner (h.represents.parts.lists owner) (place_key (kind, id))
+    its_cut image state i h p =
+        let r = its_unbooking (Some (x, units)) u image state i h p in
+        record { list = r.list.list; relinks = r.relinks }
 
-    pub can_cancel : CanCancel s1 item units
-    can_cancel = record {
-      used = record {
-        enough = λ image i.
-            let i0 = u.kept.seen image i in
+    module _ (held : HoldsState s) (c : CustomerIsAt s customer owner) (f : ItemIsAt s kind id item) (q : HasSpot s owner (kind, id) spot) (small : id < 2 ^ 32) where
+      at_size : (image : List ℕ) (state : State) → Stands s image → (h : IsState (mem s image) (length image) state) → AtSpot customer owner kind id item spot (mem s image) (length image) state h
+      at_size image state i h = record { here = here_at s customer owner kind id item c f small image state i h; at = q.at image state i h }
+
+      pub can_cancel : CanCancel s1 item units
+      can_cancel = record {
+        used = record {
+          enough = λ image i.
+              let i0 = stood u.kept image i in
+              let t = held.under image i0 in
+              let p = at_size image t.0 i0 t.1 in
+              let r = its_unbooking (Some (x, units)) u image t.0 i.sees t.1 p in
+              units_are_used (mem s image) (mem s1 image) (length image) t.0 t.1 customer owner kind id item x.0.0 units p.here (sym r.is) some (its_cut image t.0 i.sees t.1 p) r.units;
+        };
+        free = record {
+          fits = λ image i.
+              let i0 = stood u.kept image i in
+              let t = held.under image i0 in
+              let p = at_size image t.0 i0 t.1 in
+              let r = its_unbooking (Some (x, units)) u image t.0 i.sees t.1 p in
+              units_fit (mem s image) (mem s1 image) (length image) t.0 t.1 customer owner kind id item x.0.0 units p.here (sym r.is) some (its_cut image t.0 i.sees t.1 p) r.units;
+        };
+      }
+
+      pub used_now : (s2 : View) → ItemChanged s1 s2 item (λ y. given_back y units) → HasUsed s2 x.0.0
+      used_now s2 w = record {
+        small = omega (arith, held.small, u.kept.size, w.kept.size);
+        under = λ image i.
+            let i1 = stood w.kept image i in
+            let i0 = stood u.kept image i1 in
             let t = held.under image i0 in
-            let e = here s customer owner kind id item c f small image t.0 i0 t.1 in
-            units_are_used (mem s image) (mem s1 image) (length image) t.0 t.1 customer owner kind id item x.0.0 units e (block_is (Some (x, units)) u image t.0 i i0 t.1) some (its_cut image t.0 i i0 t.1) (u.units image i);
-      };
-      free = record {
-        fits = λ image i.
-            let i0 = u.kept.seen image i in
-            let t = held.under image i0 in
-            let e = here s customer owner kind id item c f small image t.0 i0 t.1 in
-            units_fit (mem s image) (mem s1 image) (length image) t.0 t.1 customer owner kind id item x.0.0 units e (block_is (Some (x, units)) u image t.0 i i0 t.1) some (its_cut image t.0 i i0 t.1) (u.units image i);
-      };
-    }
+            let p = at_size image t.0 i0 t.1 in
+            let k = its_unbooking (Some (x, units)) u image t.0 i1.sees t.1 p in
+            let r = in_hand (mem s image) (mem s1 image) (length image) t.0 t.1 customer owner kind id item x.0.0 units p.here (sym k.is) some (its_cut image t.0 i1.sees t.1 p) k.units
+            (mem s2 image) (w.changed image i.sees) in
+            record { free = r.0; used = r.1.0; count = r.1.1.0; is = r.1.1.1 };
+      }
 
-    pub used_now : (s2 : View) → ItemChanged s1 s2 item (λ y. given_back y units) → HasUsed s2 x.0.0
-    used_now s2 w = record {
-      small = omega (arith, held.small, u.kept.size, w.kept.size);
-      under = λ image i.
-          let i1 = w.kept.seen image i in
-          let i0 = u.kept.seen image i1 in
-          let t = held.under image i0 in
-          let e = here s customer owner kind id item c f small image t.0 i0 t.1 in
-          let r = in_hand (mem s image) (mem s1 image) (length image) t.0 t.1 customer owner kind id item x.0.0 units e (block_is (Some (x, units)) u image t.0 i1 i0 t.1) some (its_cut image t.0 i1 i0 t.1) (u.units image i1)
-          (mem s2 image) (w.changed image i) in
-          record { free = r.0; used = r.1.0; count = r.1.1.0; is = r.1.1.1 };
-    }
-
-    pub cancel_done : (s2 s3 : View) (start : ℕ) → start < 8 → IsTrue (is_command (command.Cancel customer kind id)) → ItemChanged s1 s2 item (λ y. given_back y units) → Given s2 s3 start x.0.0 → RanInPlace s s3 (command.Cancel customer kind id) reply.Done
-    cancel_done s2 s3 start low range w v = in_place s s3 (command.Cancel customer kind id) reply.Done range (record {
+    pub cancel_done : (s2 s3 : View) (start : ℕ) → start < 8 → ItemChanged s1 s2 item (λ y. given_back y units) → Given s2 s3 start x.0.0 → Serves s s3 (command.Cancel customer kind id) reply.Done (AtSpot customer owner kind id item spot)
+    cancel_done s2 s3 start low w v = record {
       kept = kept_both s s2 s3 (kept_both s s1 s2 u.kept w.kept) v.kept;
       untouched = tt;
       idle = tt;
-      lands = λ image state i h.
+      lands = λ image state i h p.
           let i2 = v.kept.seen image i in
           let i1 = w.kept.seen image i2 in
-          let i0 = u.kept.seen image i1 in
-          let e = here s customer owner kind id item c f small image state i0 h in
-          cancelled (mem s image) (mem s1 image) (length image) state h customer owner kind id item x.0.0 units e (block_is (Some (x, units)) u image state i1 i0 h) some (its_cut image state i1 i0 h) (u.units image i1)
+          let r = its_unbooking (Some (x, units)) u image state i1 h p in
+          cancelled (mem s image) (mem s1 image) (length image) state h customer owner kind id item x.0.0 units p.here (sym r.is) some (its_cut image state i1 h p) r.units
           (mem s2 image) (w.changed image i2) (mem s3 image) start low (λ free used count z. v.giving image free used count i z);
-    })
+    }

@@ -1,5 +1,5 @@
 -- Units are booked of an item that has so many: by a customer who has a booking of it.
-use Rattle.std.proofs.Common.{◌≡◌, ◌≢◌, ℕ, ◌+◌, ◌*◌, ◌<◌, ◌≤◌, ◌^◌, List, [], length, Some, true, false, nat_lt, IsTrue, refl, sym, ap, ◌∙◌, arith}
+use Rattle.std.proofs.Common.{◌≡◌, ◌≢◌, ℕ, ◌+◌, ◌*◌, ◌<◌, ◌≤◌, ◌^◌, List, [], length, Some, true, false, nat_lt, refl, sym, ap, ◌∙◌, arith}
 use Rattle.std.proofs.lemmas.Bool.Decides.{nat_tests}
 use Rattle.std.proofs.Math.Nat.{mul-le-mul_left}
 use Rattle.std.specs.FinMap.{get, insert}
@@ -11,35 +11,33 @@ use Rattle.vac_model.specs.declared.items.Booking.{Booking}
 use Rattle.vac_model.specs.declared.commands.Command.TheVariants as command
 use Rattle.vac_model.specs.declared.commands.Why.TheVariants.{UnitLimit}
 use Rattle.vac_model.specs.declared.replies.Reply.TheVariants as reply
-use Rattle.vac_model.specs.Ranges.{is_command}
 use Rattle.vac_model.specs.State.{State, Bookings, item_of, with_item, with_bookings}
 use Rattle.vac_model.specs.Step.{done, refused, step, taken, extended, unit_limit}
 use Rattle.vac_model.specs.Balanced.{IsBooking}
 use Rattle.vac_model.proofs.States.{item_of-with_bookings}
-use Rattle.vac_records.specs.Items.{mem, item_in, IsItemNow, CanMakeOf, ItemChanged}
+use Rattle.vac_records.specs.Items.{mem, item_in, IsItemNow, CanMakeOf, ItemChangedOf}
 use Rattle.vac_records.specs.Bookings.{booking_in}
 use Rattle.vac_records.specs.Customers.{IsBookingNow, CanExtend, BookingChanged}
 use Rattle.vac_records.specs.Represents.{IsState}
 use Rattle.vac_records.specs.Holds.{HoldsState}
 use Rattle.vac_records.specs.Laws.{Stays, IsItemAt}
-use Rattle.vac_records.specs.Steps.{kept_both}
+use Rattle.vac_records.specs.Steps.{kept_both, stood}
 use Rattle.vac_records.proofs.Items.{item_replaced}
 use Rattle.vac_records.proofs.Booked.{booking_replaced}
 use Rattle.vac_commands.specs.declared.bookings.Offer.{Offer}
-use Rattle.vac_commands.specs.Entries.{HasItemAt, HasCustomerAt}
-use Rattle.vac_commands.specs.BookingSteps.{booking_block, HasBookingAt, IsOffered, RanInPlace}
-use Rattle.vac_commands.proofs.Serving.{Lands, in_place, reads_in_place}
-use Rattle.vac_commands.proofs.Held.{item_is}
-use Rattle.vac_commands.proofs.Owners.{Here, here, owned, at_owner, at_item, its_item, booked_at}
+use Rattle.vac_commands.specs.Entries.{ItemIsAt, CustomerIsAt}
+use Rattle.vac_commands.specs.BookingSteps.{booking_block, Here, AtBooking, HasBookingAt, IsOffered, Lands, Serves}
+use Rattle.vac_commands.proofs.Serving.{reads_serve}
+use Rattle.vac_commands.proofs.Held.{item_stood}
+use Rattle.vac_commands.proofs.Owners.{here_at, owned, at_owner, at_item, its_item, booked_at}
 use Rattle.vac_commands.proofs.Cancelling.{item_stays, item_words}
 
 -- an item that is offered has a price in its range
-pub price_small : (s : View) (kind : Kind) (id item num : ℕ) (offer : Offer) → HoldsState s → HasItemAt s kind id item → IsOffered s item num offer → ∥ ((image : List ℕ) × Stands s image) ∥₁ → offer.price ≤ 1000000
+pub price_small : (s : View) (kind : Kind) (id item num : ℕ) (offer : Offer) → HoldsState s → ItemIsAt s kind id item → IsOffered s item num offer → ∥ ((image : List ℕ) × Stands s image) ∥₁ → offer.price ≤ 1000000
 price_small s kind id item num offer held f o ws = some_le offer.price 1000000 ws (λ w.
-    let i = w.1.sees in
-    let t = held.under w.0 i in
-    let r = t.1.small.balanced.items kind id (item_in (mem s w.0) item) (item_is s kind id item f w.0 t.0 i t.1) in
-    omega (arith, r.price_range, o.price_is w.0 i))
+    let t = held.under w.0 w.1 in
+    let r = t.1.small.balanced.items kind id (item_in (mem s w.0) item) (item_stood s kind id item f w.0 t.0 w.1 t.1) in
+    omega (arith, r.price_range, o.price_is w.0 w.1.sees))
 
 pub sum_small : (num price : ℕ) → num < 2 ^ 32 → price ≤ 1000000 → num * price < 2 ^ 64
 sum_small num price few small =
@@ -107,82 +105,79 @@ module _ (m : ℕ → ℕ) (n : ℕ) (s : State) (h : IsState m n s) (customer o
           stays = record { after = after.after; tables = λ i l. after.tables i l ∙ grown.tables i l };
         }
 
--- the calls, under all images
-module _ (s : View) (customer owner : ℕ) (kind : Kind) (id item num : ℕ) (offer : Offer) (b : ℕ) (held : HoldsState s) (c : HasCustomerAt s customer owner) (f : HasItemAt s kind id item)
-    (o : IsOffered s item num offer) (g : HasBookingAt s owner (kind, id) b) (small : id < 2 ^ 32) (few : num < 2 ^ 32) (cheap : offer.price ≤ 1000000) where
+-- the calls, under each image
+module _ (s : View) (customer owner : ℕ) (kind : Kind) (id item num : ℕ) (offer : Offer) (b : ℕ) (o : IsOffered s item num offer) (b_some : b ≢ 0) where
   enough_at : (image : List ℕ) → Sees s image → num ≤ mem s image (item + 5)
   enough_at image i = omega (arith, o.enough, o.free_is image i)
 
-  b_some : b ≢ 0
-  b_some = omega (arith, g.inside.0)
-
-  range_at : (image : List ℕ) (state : State) → Sees s image → IsState (mem s image) (length image) state → IsBooking state kind id (booking_in (mem s image) b)
-  range_at image state i h =
-      its_range (mem s image) (length image) state h customer owner kind id item b (here s customer owner kind id item c f small image state i h) (g.at image state i h) b_some
-
   module _ (s1 : View) (v : ℕ) (l : Loaded s s1 (b + 4) v) where
-    pub units_small : ∥ ((image : List ℕ) × Stands s1 image) ∥₁ → v ≤ 10000
-    units_small ws = some_le v 10000 ws (λ w.
-        let i = l.kept.seen w.0 w.1.sees in
-        let t = held.under w.0 i in
-        omega (arith, (range_at w.0 t.0 i t.1).few_units, l.answer w.0 w.1.sees))
+    pub too_many : 10000 < v + num → Serves s s1 (command.Reserve customer kind id num) (reply.No UnitLimit) (AtBooking customer owner kind id item b)
+    too_many over = reads_serve s s1 (command.Reserve customer kind id num) (reply.No UnitLimit) (AtBooking customer owner kind id item b) (record { kept = l.kept; writes = l.writes }) (λ image state i h p.
+        over_limit (mem s image) (length image) state h customer owner kind id item b p.here p.is b_some
+        num (enough_at image (l.kept.seen image i)) (omega (arith, over, l.answer image i)))
 
-    pub too_many : IsTrue (is_command (command.Reserve customer kind id num)) → 10000 < v + num → RanInPlace s s1 (command.Reserve customer kind id num) (reply.No UnitLimit)
-    too_many range over = reads_in_place s s1 (command.Reserve customer kind id num) (reply.No UnitLimit) range (record { kept = l.kept; writes = l.writes }) (λ image state i h.
-        let i0 = l.kept.seen image i in
-        over_limit (mem s image) (length image) state h customer owner kind id item b (here s customer owner kind id item c f small image state i0 h) (g.at image state i0 h) b_some
-        num (enough_at image i0) (omega (arith, over, l.answer image i)))
+    module _ (held : HoldsState s) (c : CustomerIsAt s customer owner) (f : ItemIsAt s kind id item) (g : HasBookingAt s owner (kind, id) b) (small : id < 2 ^ 32) where
+      at_size : (image : List ℕ) (state : State) → Stands s image → (h : IsState (mem s image) (length image) state) → AtBooking customer owner kind id item b (mem s image) (length image) state h
+      at_size image state i h = record { here = here_at s customer owner kind id item c f small image state i h; is = g.at image state i h }
 
-    pub can_extend : CanExtend s1 b num offer.price
-    can_extend =
-        let product : num * offer.price ≤ num * 1000000 = mul-le-mul_left num cheap in
-        record {
-          sum = record {
-            fits = λ image i.
-                let i0 = l.kept.seen image i in
-                let t = held.under image i0 in
-                let r = range_at image t.0 i0 t.1 in
-                rw l.writes (omega (arith, r.few_units, r.sum_range, product, few));
-          };
-          units = record {
-            fits = λ image i.
-                let i0 = l.kept.seen image i in
-                let t = held.under image i0 in
-                rw l.writes (omega (arith, (range_at image t.0 i0 t.1).few_units, few));
-          };
-        }
+      range_at : (image : List ℕ) → (i : Stands s1 image) → IsBooking ((held.under image (stood l.kept image i)).0) kind id (booking_in (mem s image) b)
+      range_at image i =
+          let i0 = stood l.kept image i in
+          let t = held.under image i0 in
+          let p = at_size image t.0 i0 t.1 in
+          its_range (mem s image) (length image) t.0 t.1 customer owner kind id item b p.here p.is b_some
+
+      pub units_small : ∥ ((image : List ℕ) × Stands s1 image) ∥₁ → v ≤ 10000
+      units_small ws = some_le v 10000 ws (λ w. omega (arith, (range_at w.0 w.1).few_units, l.answer w.0 w.1.sees))
+
+      pub can_extend : num < 2 ^ 32 → offer.price ≤ 1000000 → CanExtend s1 b num offer.price
+      can_extend few cheap =
+          let product : num * offer.price ≤ num * 1000000 = mul-le-mul_left num cheap in
+          record {
+            sum = record {
+              fits = λ image i.
+                  let r = range_at image i in
+                  rw l.writes (omega (arith, r.few_units, r.sum_range, product, few));
+            };
+            units = record { fits = λ image i. rw l.writes (omega (arith, (range_at image i).few_units, few)) };
+          }
 
     module _ (s2 : View) (w : BookingChanged s1 s2 b (λ x. extended x num offer.price)) where
       its_change : (image : List ℕ) → Sees s2 image → IsBookingNow (mem s image) (mem s2 image) b (extended (booking_in (mem s image) b) num offer.price)
       its_change image i = rw l.writes at (w.changed image i)
 
-      pub can_make : CanMakeOf s2 item num offer.free
-      can_make = record {
+      free_now : (image : List ℕ) (state : State) → Sees s2 image → Sees s image → (h : IsState (mem s image) (length image) state) → AtBooking customer owner kind id item b (mem s image) (length image) state h → mem s2 image (item + 5) ≡ offer.free
+      free_now image state i i0 h p =
+          free_same (mem s image) (length image) state h customer owner kind id item b p.here p.is b_some
+          (mem s2 image) num offer.price (enough_at image i0) (o.price_is image i0) (its_change image i) ∙ o.free_is image i0
+
+      pub can_make : HoldsState s → CustomerIsAt s customer owner → ItemIsAt s kind id item → HasBookingAt s owner (kind, id) b → id < 2 ^ 32 → CanMakeOf s2 item num offer.free
+      can_make held c f g small = record {
         free_is = λ image i.
-            let i0 = l.kept.seen image (w.kept.seen image i) in
+            let i0 = stood l.kept image (stood w.kept image i) in
             let t = held.under image i0 in
-            free_same (mem s image) (length image) t.0 t.1 customer owner kind id item b (here s customer owner kind id item c f small image t.0 i0 t.1) (g.at image t.0 i0 t.1) b_some
-            (mem s2 image) num offer.price (enough_at image i0) (o.price_is image i0) (its_change image i) ∙ o.free_is image i0;
+            free_now image t.0 i.sees i0.sees t.1 (at_size held c f g small image t.0 i0 t.1);
         enough = o.enough;
         used = record {
           fits = λ image i.
-              let i0 = l.kept.seen image (w.kept.seen image i) in
+              let i0 = stood l.kept image (stood w.kept image i) in
               let t = held.under image i0 in
-              used_fits (mem s image) (length image) t.0 t.1 customer owner kind id item b (here s customer owner kind id item c f small image t.0 i0 t.1) (g.at image t.0 i0 t.1) b_some
-              (mem s2 image) num offer.price (enough_at image i0) (o.price_is image i0) (its_change image i);
+              let p = at_size held c f g small image t.0 i0 t.1 in
+              used_fits (mem s image) (length image) t.0 t.1 customer owner kind id item b p.here p.is b_some
+              (mem s2 image) num offer.price (enough_at image i0.sees) (o.price_is image i0.sees) (its_change image i.sees);
         };
       }
 
-      pub extend_done : (s3 : View) → IsTrue (is_command (command.Reserve customer kind id num)) → v + num ≤ 10000 → ItemChanged s2 s3 item (λ x. taken x num) → RanInPlace s s3 (command.Reserve customer kind id num) reply.Done
-      extend_done s3 range under made = in_place s s3 (command.Reserve customer kind id num) reply.Done range (record {
+      pub extend_done : (s3 : View) → v + num ≤ 10000 → ItemChangedOf s2 s3 item offer.free (λ x. taken x num) → Serves s s3 (command.Reserve customer kind id num) reply.Done (AtBooking customer owner kind id item b)
+      extend_done s3 under made = record {
         kept = kept_both s s2 s3 (kept_both s s1 s2 l.kept w.kept) made.kept;
         untouched = tt;
         idle = tt;
-        lands = λ image state i h.
+        lands = λ image state i h p.
             let i2 = made.kept.seen image i in
             let i1 = w.kept.seen image i2 in
             let i0 = l.kept.seen image i1 in
-            extended_lands (mem s image) (length image) state h customer owner kind id item b (here s customer owner kind id item c f small image state i0 h) (g.at image state i0 h) b_some
+            extended_lands (mem s image) (length image) state h customer owner kind id item b p.here p.is b_some
             (mem s2 image) num offer.price (enough_at image i0) (o.price_is image i0) (its_change image i2)
-            (mem s3 image) (omega (arith, under, l.answer image i1)) (made.changed image i);
-      })
+            (mem s3 image) (omega (arith, under, l.answer image i1)) (made.changed image i (free_now image state i2 i0 h p));
+      }

@@ -1,7 +1,7 @@
 -- Memories that hold a state: what reads leave, what the calls on blocks, tables and lists ask for,
 -- and how a command's outcome is shown.
 use Rattle.std.proofs.Common.{◌≡◌, ℕ, ◌+◌, ◌<◌, List, [], length, Some, None, true, refl, sym, ap, ◌∙◌, subst, arith}
-use Rattle.stm_words.specs.View.{View, Words, Sees, Kept, memory}
+use Rattle.stm_words.specs.View.{View, Words, Sees, Stands, Kept, memory}
 use Rattle.vac_model.specs.declared.items.Kind.{Kind}
 use Rattle.vac_model.specs.declared.commands.Command.{Command}
 use Rattle.vac_model.specs.declared.replies.Reply.{Reply}
@@ -13,7 +13,7 @@ use Rattle.tx_alloc.specs.Pool.{HasPool}
 use Rattle.tx_alloc.specs.Rows.{Rows, block_at}
 use Rattle.tx_tree.specs.Table.{HasTable}
 use Rattle.vac_records.specs.Items.{mem, item_in, IsNode}
-use Rattle.vac_records.specs.Steps.{kept_both}
+use Rattle.vac_records.specs.Steps.{kept_both, stood}
 use Rattle.vac_records.specs.Represents.{Represents, IsState}
 use Rattle.vac_records.specs.Holds.{HoldsState, OnlyRead}
 use Rattle.vac_records.specs.Laws.{HasBookings}
@@ -23,7 +23,7 @@ use Rattle.vac_records.proofs.Customers.{customer_found, customer_missing}
 use Rattle.vac_records.proofs.Single.{one_shape}
 use Rattle.vac_records.proofs.Bridges.{pool_there, table_there}
 pub use Rattle.vac_records.proofs.AfterReads.{read_none, read_both, state_on, state_back, held_on}
-use Rattle.vac_commands.specs.Entries.{item_block, customer_block, LacksItem, HasItemAt, LacksCustomer, HasCustomerAt, ItemsStay, CustomersStay}
+use Rattle.vac_commands.specs.Entries.{item_block, customer_block, LacksItem, HasItemAt, LacksCustomer, HasCustomerAt, ItemIsAt, CustomerIsAt, CustomerIsMissing, ItemsStay, CustomersStay}
 use Rattle.vac_model.specs.declared.replies.Reply.TheVariants as reply
 use Rattle.vac_model.specs.declared.commands.Command.TheVariants as command
 use Rattle.vac_commands.specs.Ran.{IsOutcome, Ran, Asked, Untouched, Idle}
@@ -33,7 +33,7 @@ pub held_ran : (s s' : View) (c : Command) (r : Reply) → Ran s s' c r → Hold
 held_ran s s' c r ran h = record {
   inside = omega (arith, h.inside, ran.kept.size);
   small = omega (arith, h.small, ran.kept.size);
-  under = λ image i. (let t = h.under image (ran.kept.seen image i) in ((step t.0 c).0, (ran.outcome image t.0 i t.1).state));
+  under = λ image i. (let t = h.under image (stood ran.kept image i) in ((step t.0 c).0, (ran.outcome image t.0 i.sees t.1).state));
 }
 
 -- the blocks of a state
@@ -89,9 +89,39 @@ customer_at_on s s' id c r at = record {
   at = λ image state i. customer_same s s' image state id c r.writes (at.at image state (r.kept.seen image i));
 }
 
+-- what was found holds of images of the memory's size
+pub item_found_at : (s : View) (kind : Kind) (id b : ℕ) → HasItemAt s kind id b → ItemIsAt s kind id b
+item_found_at s kind id b at = record { some = at.some; inside = at.inside; at = λ image state i. at.at image state i.sees }
+
+pub customer_found_at : (s : View) (id c : ℕ) → HasCustomerAt s id c → CustomerIsAt s id c
+customer_found_at s id c at = record { some = at.some; inside = at.inside; at = λ image state i. at.at image state i.sees }
+
+pub customer_missed : (s : View) (id : ℕ) → LacksCustomer s id → CustomerIsMissing s id
+customer_missed s id l = record { none = λ image state i. l.none image state i.sees }
+
+-- and holds of them after further reads
+pub item_is_on : (s s' : View) (kind : Kind) (id b : ℕ) → OnlyRead s s' → ItemIsAt s kind id b → ItemIsAt s' kind id b
+item_is_on s s' kind id b r at = record {
+  some = at.some;
+  inside = (at.inside.0, omega (arith, at.inside.1, r.kept.size));
+  at = λ image state i. item_same s s' image state kind id b r.writes (at.at image state (stood r.kept image i));
+}
+
+pub customer_is_on : (s s' : View) (id c : ℕ) → OnlyRead s s' → CustomerIsAt s id c → CustomerIsAt s' id c
+customer_is_on s s' id c r at = record {
+  some = at.some;
+  inside = (at.inside.0, omega (arith, at.inside.1, r.kept.size));
+  at = λ image state i. customer_same s s' image state id c r.writes (at.at image state (stood r.kept image i));
+}
+
 -- the state's entries, by the blocks that were found
 pub item_is : (s : View) (kind : Kind) (id b : ℕ) → HasItemAt s kind id b → (image : List ℕ) (state : State) → Sees s image → IsState (mem s image) (length image) state → item_of state kind id ≡ Some (item_in (mem s image) b)
 item_is s kind id b at image state i h =
+    item_found (mem s image) (length image) [] state h.represents kind id b (record { at = at.at image state i h; some = at.some })
+
+-- the same of an item that was found before
+pub item_stood : (s : View) (kind : Kind) (id b : ℕ) → ItemIsAt s kind id b → (image : List ℕ) (state : State) → Stands s image → IsState (mem s image) (length image) state → item_of state kind id ≡ Some (item_in (mem s image) b)
+item_stood s kind id b at image state i h =
     item_found (mem s image) (length image) [] state h.represents kind id b (record { at = at.at image state i h; some = at.some })
 
 pub item_none : (s : View) (kind : Kind) (id : ℕ) → LacksItem s kind id → (image : List ℕ) (state : State) → Sees s image → IsState (mem s image) (length image) state → item_of state kind id ≡ None
@@ -202,20 +232,26 @@ customers_stay_reads s s' r = record {
 }
 
 -- what was found stands in its block after a change that lets it stay
-pub item_at_stays : (s s' : View) (kind : Kind) (id b : ℕ) → HoldsState s → Kept s s' → ItemsStay s s' → HasItemAt s kind id b → HasItemAt s' kind id b
-item_at_stays s s' kind id b held k stays at = record {
+pub item_at_stays : (s s' : View) (kind : Kind) (id b : ℕ) → HoldsState s → Kept s s' →
+    ((image : List ℕ) (state state' : State) → Stands s' image → (h : IsState (mem s image) (length image) state) → (h' : IsState (mem s' image) (length image) state') → item_block h' kind id ≡ item_block h kind id) →
+    ItemIsAt s kind id b → ItemIsAt s' kind id b
+item_at_stays s s' kind id b held k stay at = record {
   some = at.some;
   inside = (at.inside.0, omega (arith, at.inside.1, k.size));
   at = λ image state' i h'.
-      let t = held.under image (k.seen image i) in
-      stays.stay image t.0 state' i t.1 h' kind id ∙ at.at image t.0 (k.seen image i) t.1;
+      let i0 = stood k image i in
+      let t = held.under image i0 in
+      stay image t.0 state' i t.1 h' ∙ at.at image t.0 i0 t.1;
 }
 
-pub customer_at_stays : (s s' : View) (id c : ℕ) → HoldsState s → Kept s s' → CustomersStay s s' → HasCustomerAt s id c → HasCustomerAt s' id c
-customer_at_stays s s' id c held k stays at = record {
+pub customer_at_stays : (s s' : View) (id c : ℕ) → HoldsState s → Kept s s' →
+    ((image : List ℕ) (state state' : State) → Stands s' image → (h : IsState (mem s image) (length image) state) → (h' : IsState (mem s' image) (length image) state') → customer_block h' id ≡ customer_block h id) →
+    CustomerIsAt s id c → CustomerIsAt s' id c
+customer_at_stays s s' id c held k stay at = record {
   some = at.some;
   inside = (at.inside.0, omega (arith, at.inside.1, k.size));
   at = λ image state' i h'.
-      let t = held.under image (k.seen image i) in
-      stays.stay image t.0 state' i t.1 h' id ∙ at.at image t.0 (k.seen image i) t.1;
+      let i0 = stood k image i in
+      let t = held.under image i0 in
+      stay image t.0 state' i t.1 h' ∙ at.at image t.0 i0 t.1;
 }

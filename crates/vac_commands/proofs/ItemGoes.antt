@@ -7,7 +7,7 @@ use Rattle.tx_alloc.specs.Pool.{IsBlock, HasUsed, Given}
 use Rattle.tx_alloc.specs.Rows.{block_at}
 use Rattle.tx_tree.specs.Table.{Table, Found, Removed}
 use Rattle.vac_records.specs.Items.{mem}
-use Rattle.vac_records.specs.Steps.{kept_both}
+use Rattle.vac_records.specs.Steps.{kept_both, stood}
 use Rattle.vac_records.specs.Represents.{Represents, IsState}
 use Rattle.vac_records.specs.Holds.{HoldsState}
 use Rattle.vac_records.proofs.Bridges.{hand_there, table_there}
@@ -65,8 +65,8 @@ pub used_in_hand : (s s1 : View) (kind : Kind) (id root b : ℕ) → root ≡ 1 
 used_in_hand s s1 kind id root b e held has r = record {
   small = omega (arith, held.small, r.kept.size);
   under = λ image i.
-      let h = held.under image (r.kept.seen image i) in
-      let out = is_out s s1 kind id root b image h.0 e has r i h.1 in
+      let h = held.under image (stood r.kept image i) in
+      let out = is_out s s1 kind id root b image h.0 e has r i.sees h.1 in
       record { free = _; used = _; count = _; is = hand_there (mem s1 image) (length image) b [] (without_item h.0 kind id) out.block out.after };
 }
 

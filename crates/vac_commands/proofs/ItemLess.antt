@@ -1,5 +1,5 @@
 -- Units are taken away from an item, and one with no unit left is removed.
-use Rattle.std.proofs.Common.{◌≡◌, ◌≢◌, ℕ, ◌+◌, ◌-◌, ◌<◌, ◌≤◌, ◌^◌, List, [], length, Some, true, false, IsTrue, nat_eq, nat_le, nat_lt, refl, sym, ap, ◌∙◌, arith}
+use Rattle.std.proofs.Common.{◌≡◌, ◌≢◌, ℕ, ◌+◌, ◌-◌, ◌<◌, ◌≤◌, List, [], length, Some, true, false, IsTrue, nat_eq, nat_lt, refl, sym, ap, ◌∙◌, arith}
 use Rattle.std.proofs.lemmas.Bool.Decides.{nat_tests}
 use Rattle.stm_words.specs.View.{View, Sees, Stands, Loaded}
 use Rattle.stm_words.specs.Seen.{some_le}
@@ -9,7 +9,6 @@ use Rattle.vac_model.specs.declared.items.Item.{Item}
 use Rattle.vac_model.specs.declared.commands.Command.TheVariants as command
 use Rattle.vac_model.specs.declared.replies.Reply.TheVariants as reply
 use Rattle.vac_model.specs.declared.commands.Why.TheVariants.{NoItem, NotFree, InUse}
-use Rattle.vac_model.specs.Amounts.{is_id}
 use Rattle.vac_model.specs.Ranges.{is_command}
 use Rattle.vac_model.specs.State.{State, item_of, with_item, without_item}
 use Rattle.vac_model.specs.Step.{step, deleted}
@@ -86,8 +85,8 @@ drop_step state id item is none =
 -- so many units are free
 pub has_free : (s1 s2 s3 : View) (b num v t : ℕ) → Loaded s1 s2 (b + 5) v → Loaded s2 s3 (b + 6) t → num ≤ v → num < t → HasFree s3 b num
 has_free s1 s2 s3 b num v t l k free less = record {
-  free = record { enough = λ image i. omega (arith, free, loaded_on s1 s2 s3 (b + 5) v l (read_by s2 s3 (b + 6) t k) image i) };
-  total = record { enough = λ image i. omega (arith, less, loaded_on s2 s3 s3 (b + 6) t k (read_none s3) image i) };
+  free = record { enough = λ image i. omega (arith, free, loaded_on s1 s2 s3 (b + 5) v l (read_by s2 s3 (b + 6) t k) image i.sees) };
+  total = record { enough = λ image i. omega (arith, less, loaded_on s2 s3 s3 (b + 6) t k (read_none s3) image i.sees) };
 }
 
 -- after two loads
@@ -122,7 +121,7 @@ delete_less s s1 s2 s3 s4 kind id b num v t range reads at l k free less w none 
 pub total_some : (s1 s2 s3 : View) (kind : Kind) (id b c v t : ℕ) → HoldsState s3 → HasItemAt s1 kind id b → Loaded s1 s2 c v → Loaded s2 s3 (b + 6) t → ∥ ((image : List ℕ) × Stands s3 image) ∥₁ → 1 ≤ t
 total_some s1 s2 s3 kind id b c v t held at l k ws = some_le 1 t ws (λ w.
     let i = w.1.sees in
-    let h = held.under w.0 i in
+    let h = held.under w.0 w.1 in
     let at3 = at_after s1 s2 s3 kind id b c (b + 6) v t at l k in
     let is : mem s3 w.0 (b + 6) ≡ t = loaded_on s2 s3 s3 (b + 6) t k (read_none s3) w.0 i in
     omega (arith, (item_sound s3 kind id b at3 w.0 h.0 i h.1).some_units, is))

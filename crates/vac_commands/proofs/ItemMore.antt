@@ -13,7 +13,7 @@ use Rattle.vac_model.specs.State.{State, item_of, with_item}
 use Rattle.vac_model.specs.Step.{step, added, total_limit}
 use Rattle.vac_model.specs.Balanced.{IsItem}
 use Rattle.vac_records.specs.Items.{mem, item_in, HasRoom, HasMore, UnitsAdded}
-use Rattle.vac_records.specs.Steps.{kept_both}
+use Rattle.vac_records.specs.Steps.{kept_both, stood}
 use Rattle.vac_records.specs.Represents.{IsState}
 use Rattle.vac_records.specs.Holds.{HoldsState}
 use Rattle.vac_records.proofs.Items.{item_replaced}
@@ -29,9 +29,9 @@ item_sound s kind id b at image state i h = h.small.balanced.items kind id (item
 
 pub total_small : (s s1 : View) (kind : Kind) (id b v : ℕ) → HoldsState s → HasItemAt s kind id b → Loaded s s1 (b + 6) v → ∥ ((image : List ℕ) × Stands s1 image) ∥₁ → v ≤ 1000000000
 total_small s s1 kind id b v held at l ws = some_le v 1000000000 ws (λ w.
-    let i = l.kept.seen w.0 w.1.sees in
+    let i = stood l.kept w.0 w.1 in
     let h = held.under w.0 i in
-    omega (arith, (item_sound s kind id b at w.0 h.0 i h.1).few_units, l.answer w.0 w.1.sees))
+    omega (arith, (item_sound s kind id b at w.0 h.0 i.sees h.1).few_units, l.answer w.0 w.1.sees))
 
 limit_step : (state : State) (kind : Kind) (id num : ℕ) (price : Option ℕ) (item : Item) → item_of state kind id ≡ Some item → total_limit < item.total + num → step state (command.Add kind id num price) ≡ (state, reply.No TotalLimit)
 limit_step state kind id num price item is over =
@@ -51,10 +51,10 @@ past_limit s s1 kind id b num v price at l over = ran_reads s s1 (command.Add ki
 -- both counts have room for the units
 pub more_room : (s s1 : View) (kind : Kind) (id b num v : ℕ) → HoldsState s → HasItemAt s kind id b → num < 2 ^ 32 → Loaded s s1 (b + 6) v → HasRoom s1 b num
 more_room s s1 kind id b num v held at few l =
-    let sound : (image : List ℕ) → Sees s1 image → (mem s image (b + 5) ≤ 1000000000) × (mem s image (b + 6) ≤ 1000000000) = λ image i.
-    let i0 = l.kept.seen image i in
+    let sound : (image : List ℕ) → Stands s1 image → (mem s image (b + 5) ≤ 1000000000) × (mem s image (b + 6) ≤ 1000000000) = λ image i.
+    let i0 = stood l.kept image i in
     let h = held.under image i0 in
-    let f = item_sound s kind id b at image h.0 i0 h.1 in
+    let f = item_sound s kind id b at image h.0 i0.sees h.1 in
     (omega (arith, f.few_units, f.counts), omega (arith, f.few_units)) in
     record {
       free = λ image i. rw l.writes (omega (arith, few, (sound image i).0));

@@ -12,9 +12,9 @@ use Rattle.vac_model.specs.State.{State, kind_number, item_of, with_item, is_ful
 use Rattle.vac_model.specs.Step.{step, new_item}
 use Rattle.tx_alloc.specs.Pool.{NoneFree, Taken, IsBlock}
 use Rattle.tx_alloc.specs.Rows.{Rows, block_at}
-use Rattle.tx_tree.specs.Table.{Table, HasTable, IsFresh, Inserted}
+use Rattle.tx_tree.specs.Table.{Fresh, Table, HasTable, IsFresh, Inserted}
 use Rattle.vac_records.specs.Items.{mem, item_in, IsNewItem, ItemMade}
-use Rattle.vac_records.specs.Steps.{kept_both}
+use Rattle.vac_records.specs.Steps.{kept_both, stood}
 use Rattle.vac_records.specs.Heap.{used_in, count_in}
 use Rattle.vac_records.specs.Represents.{Represents, IsState}
 use Rattle.vac_records.specs.Laws.{Stays}
@@ -107,8 +107,8 @@ table_in_hand s s1 s2 kind id num p start b root e held t w = record {
   room = omega (arith, held.inside, t.kept.size, w.kept.size);
   low = omega (arith, kind_small kind);
   under = λ image i.
-      let h = held.under image (t.kept.seen image (w.kept.seen image i)) in
-      let hand = in_hand s s1 s2 id num p start b image h.0 t w i h.1.represents in
+      let h = held.under image (stood t.kept image (stood w.kept image i)) in
+      let hand = in_hand s s1 s2 id num p start b image h.0 t w i.sees h.1.represents in
       let table = new_table (mem s image) (mem s2 image) (length image) b h.0 kind h.1 hand in
       record { entries = h.1.represents.parts.tables (kind_number kind); is = rw e table };
 }
@@ -118,17 +118,17 @@ fresh_in_hand s s1 s2 kind id num p start b root e held l t w = record {
   under = λ image rows i other.
       let m2 = mem s2 image in
       let n = length image in
-      let i0 = t.kept.seen image (w.kept.seen image i) in
+      let i0 = stood t.kept image (stood w.kept image i) in
       let h = held.under image i0 in
       let own = h.1.represents.parts.tables (kind_number kind) in
-      let hand = in_hand s s1 s2 id num p start b image h.0 t w i h.1.represents in
+      let hand = in_hand s s1 s2 id num p start b image h.0 t w i.sees h.1.represents in
       let table = new_table (mem s image) m2 n b h.0 kind h.1 hand in
       let there : Table m2 n (1 + kind_number kind) rows = rw e at other in
       let same : rows ≡ own = table_one m2 n (m2 (1 + kind_number kind)) rows own there.table table.table in
       record {
         block = hand.block;
-        absent = ap (λ (z : Rows). block_at z id) same ∙ l.none image h.0 i0 h.1;
-        key_is = (w.made image i).key_is;
+        absent = ap (λ (z : Rows). block_at z id) same ∙ l.none image h.0 i0.sees h.1;
+        key_is = (w.made image i.sees).key_is;
       };
 }
 
@@ -157,8 +157,9 @@ new_done s s1 s2 s3 kind id num p start b root e l range nz t w v = record {
       let g = subst (λ (x : ℕ). Inserted s2 s3 x id b) e v in
       let table : Table m2 n (1 + k) (after.parts.tables k) = table_there m2 n (b ∷ []) state k after h.small.small (omega arith) in
       let missing : block_at (after.parts.tables k) id ≡ 0 = ap (λ (z : Rows). block_at z id) same ∙ l.none image state i0 h in
+      let fresh : Fresh m2 n (after.parts.tables k) id b = record { block = hand.block; absent = missing; key_is = (w.made image i2).key_is } in
       let grown = item_inserted m2 m3 n b [] state kind id hand.block after missing
-      (record { table = g.table image (after.parts.tables k) i table; relinks = g.relinks image (after.parts.tables k) i table }) in
+      (record { table = g.table image (after.parts.tables k) i table fresh; relinks = g.relinks image (after.parts.tables k) i table fresh }) in
       let numbers = new_numbers (mem s1 image) m2 b id num p (w.made image i2) in
       let none = item_none s kind id l image state i0 h in
       let room = not_full m2 n b state after in

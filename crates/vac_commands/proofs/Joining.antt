@@ -13,23 +13,24 @@ use Rattle.vac_model.specs.Step.{step}
 use Rattle.tx_alloc.specs.Pool.{IsTaking, NoneFree, Taken}
 use Rattle.tx_alloc.specs.Rows.{Rows, put_row, block_at}
 use Rattle.tx_alloc.proofs.Order.{at_put}
-use Rattle.tx_tree.specs.Table.{Table, HasTable, IsFresh, Inserted}
+use Rattle.tx_tree.specs.Table.{Table, HasTable, Fresh, IsFresh, Inserted}
 use Rattle.vac_records.specs.Items.{mem, IsNode}
 use Rattle.vac_records.specs.Customers.{CustomerMade}
 use Rattle.vac_records.specs.Heap.{used_in, count_in}
 use Rattle.vac_records.specs.Represents.{IsState}
 use Rattle.vac_records.specs.Holds.{HoldsState, OnlyRead}
 use Rattle.vac_records.specs.Laws.{Stays, StaysBut}
-use Rattle.vac_records.specs.Steps.{kept_both}
+use Rattle.vac_records.specs.Steps.{kept_both, stood}
 use Rattle.vac_records.proofs.Bridges.{pool_there, table_there}
-use Rattle.vac_records.proofs.Customers.{customer_inserted}
+use Rattle.vac_records.proofs.Customers.{customer_missing, customer_inserted}
 use Rattle.vac_records.proofs.Hands.{block_taken, block_written}
 use Rattle.vac_records.proofs.Shifts.{kind_small}
 use Rattle.vac_records.proofs.Single.{none_left, some_left, one_shape}
 use Rattle.vac_records.proofs.TableRows.{table_one}
-use Rattle.vac_commands.specs.Entries.{LacksCustomer, HasCustomerAt, ItemsStay}
+use Rattle.vac_commands.specs.Entries.{customer_block, HasCustomerAt, CustomerIsMissing, ItemsStay}
 use Rattle.vac_commands.specs.Ran.{Ran}
-use Rattle.vac_commands.proofs.Held.{customer_is, customer_none, outcome_of, read_none, ran_reads, ran_after}
+use Rattle.vac_commands.specs.CustomerSteps.{RanOn, ItemsStayOn, HasSeat}
+use Rattle.vac_commands.proofs.Held.{state_on, customer_is, outcome_of, outcome_same, read_none, ran_reads, ran_after}
 
 -- the customer is there already
 there_step : (state : State) (id : ℕ) (b : Bookings) → bookings_of state id ≡ Some b →
@@ -52,15 +53,19 @@ full_step state id none full =
     let t : is_full state ≡ true = grind (arith, nat_tests) in
     rw (none, t) refl
 
-pub none_left_over : (s s' : View) (id : ℕ) → LacksCustomer s id → NoneFree s s' →
-    Ran s s' (command.NewCustomer id) (reply.No Full)
-none_left_over s s' id lacks n =
-    ran_reads s s' (command.NewCustomer id) (reply.No Full) (record { kept = n.kept; writes = n.writes })
-    (λ image state i h.
-    let r = h.represents in
-    let none = customer_none s id lacks image state (n.kept.seen image i) h in
-    full_step state id none (none_left (mem s image) (length image) state r
-    (n.none image r.parts.free (used_in r.parts) (count_in r.parts) i (pool_there (mem s image) (length image) [] state r))))
+pub none_left_over : (s s' : View) (id : ℕ) → NoneFree s s' →
+    RanOn s s' id 0 (command.NewCustomer id) (reply.No Full)
+none_left_over s s' id n = record {
+  kept = n.kept;
+  untouched = n.writes;
+  idle = tt;
+  outcome = λ image state i h lacks.
+      let r = h.represents in
+      let none = customer_missing (mem s image) (length image) [] state r id lacks in
+      outcome_same (mem s' image) (length image) state (command.NewCustomer id) (reply.No Full) (state_on s s' image state n.writes h)
+      (full_step state id none (none_left (mem s image) (length image) state r
+      (n.none image r.parts.free (used_in r.parts) (count_in r.parts) i (pool_there (mem s image) (length image) [] state r))));
+}
 
 -- the block that was taken
 taking : (s s1 : View) (start b : ℕ) (image : List ℕ) (state : State) → Taken s s1 start b →
@@ -102,49 +107,49 @@ module _ (s s1 s2 : View) (id start b : ℕ) (t : Taken s s1 start b) (w : Custo
     room = omega (arith, has.inside, t.kept.size, w.kept.size);
     low = omega arith;
     under = λ image i.
-        let h = has.under image (t.kept.seen image (w.kept.seen image i)) in
-        let g = in_hand image h.0 i h.1 in
-        record { entries = g.after.parts.tables 3; is = hand_table image h.0 i h.1 g };
+        let h = has.under image (stood t.kept image (stood w.kept image i)) in
+        let g = in_hand image h.0 i.sees h.1 in
+        record { entries = g.after.parts.tables 3; is = hand_table image h.0 i.sees h.1 g };
   }
 
   -- the id is missing while the block is in hand
-  missing : LacksCustomer s id → (image : List ℕ) (state : State) → Sees s2 image →
-      (h : IsState (mem s image) (length image) state) → (g : Stays h.represents (mem s2 image) (b ∷ []) state) →
+  missing : (image : List ℕ) (state : State) (h : IsState (mem s image) (length image) state) → customer_block h id ≡ 0 → (g : Stays h.represents (mem s2 image) (b ∷ []) state) →
       block_at (g.after.parts.tables 3) id ≡ 0
-  missing lacks image state i h g =
-      ap (λ (z : Rows). block_at z id) (g.tables 3 (omega arith))
-      ∙ lacks.none image state (t.kept.seen image (w.kept.seen image i)) h
+  missing image state h none g = ap (λ (z : Rows). block_at z id) (g.tables 3 (omega arith)) ∙ none
 
-  pub fresh_in_hand : HoldsState s → LacksCustomer s id → IsFresh s2 4 id b
+  pub fresh_in_hand : HoldsState s → CustomerIsMissing s id → IsFresh s2 4 id b
   fresh_in_hand has lacks = record {
     under = λ image rs i table.
-        let i1 = w.kept.seen image i in
-        let h = has.under image (t.kept.seen image i1) in
-        let g = in_hand image h.0 i h.1 in
-        let here = hand_table image h.0 i h.1 g in
+        let i1 = stood w.kept image i in
+        let i0 = stood t.kept image i1 in
+        let h = has.under image i0 in
+        let g = in_hand image h.0 i.sees h.1 in
+        let here = hand_table image h.0 i.sees h.1 g in
         let same : rs ≡ g.after.parts.tables 3 =
         table_one (mem s2 image) (length image) (mem s2 image 4) rs (g.after.parts.tables 3) table.table here.table in
         record {
-          block = (taking s s1 start b image h.0 t i1 h.1).block;
-          absent = ap (λ (z : Rows). block_at z id) same ∙ missing lacks image h.0 i h.1 g;
-          key_is = (w.made image i).key_is;
+          block = (taking s s1 start b image h.0 t i1.sees h.1).block;
+          absent = ap (λ (z : Rows). block_at z id) same ∙ missing image h.0 h.1 (lacks.none image h.0 i0 h.1) g;
+          key_is = (w.made image i.sees).key_is;
         };
   }
 
   -- the state with the customer
-  module _ (s3 : View) (v : Inserted s2 s3 4 id b) (lacks : LacksCustomer s id) where
+  module _ (s3 : View) (v : Inserted s2 s3 4 id b) where
     joined : (image : List ℕ) (state : State) → (i : Sees s3 image) →
-        (h : IsState (mem s image) (length image) state) →
+        (h : IsState (mem s image) (length image) state) → customer_block h id ≡ 0 →
         (g : Stays h.represents (mem s2 image) (b ∷ []) state) →
         StaysBut g.after 3 (put_row (g.after.parts.tables 3) id b) (mem s3 image) [] (with_bookings state id empty)
-    joined image state i h g =
+    joined image state i h none g =
         let i2 = v.kept.seen image i in
         let table = hand_table image state i2 h g in
+        let block = (taking s s1 start b image state t (w.kept.seen image i2) h).block in
+        let absent = missing image state h none g in
+        let fresh : Fresh (mem s2 image) (length image) (g.after.parts.tables 3) id b = record { block = block; absent = absent; key_is = (w.made image i2).key_is } in
         customer_inserted (mem s2 image) (mem s3 image) (length image) b [] state id
-        (taking s s1 start b image state t (w.kept.seen image i2) h).block g.after
-        (missing lacks image state i2 h g) (w.made image i2).head_is (record {
-          table = v.table image (g.after.parts.tables 3) i table;
-          relinks = v.relinks image (g.after.parts.tables 3) i table;
+        block g.after absent (w.made image i2).head_is (record {
+          table = v.table image (g.after.parts.tables 3) i table fresh;
+          relinks = v.relinks image (g.after.parts.tables 3) i table fresh;
         })
 
     new_step : (state : State) → bookings_of state id ≡ None → size state < state.capacity →
@@ -153,26 +158,26 @@ module _ (s s1 s2 : View) (id start b : ℕ) (t : Taken s s1 start b) (w : Custo
         let f : is_full state ≡ false = grind (arith, nat_tests) in
         rw (none, f) refl
 
-    pub joined_ran : is_command (command.NewCustomer id) ≡ true → Ran s s3 (command.NewCustomer id) reply.Done
+    pub joined_ran : is_command (command.NewCustomer id) ≡ true → RanOn s s3 id 0 (command.NewCustomer id) reply.Done
     joined_ran range = record {
       kept = kept_both s s2 s3 (kept_both s s1 s2 t.kept w.kept) v.kept;
       untouched = tt;
       idle = tt;
-      outcome = λ image state i h.
+      outcome = λ image state i h lacks.
           let i2 = v.kept.seen image i in
           let g = in_hand image state i2 h in
-          let none = customer_none s id lacks image state (t.kept.seen image (w.kept.seen image i2)) h in
+          let none = customer_missing (mem s image) (length image) [] state h.represents id lacks in
           outcome_of (mem s image) (mem s3 image) (length image) state (with_bookings state id empty)
           (command.NewCustomer id) reply.Done h range
           (new_step state none (some_left (mem s2 image) (length image) b state g.after))
-          (joined image state i h g).after;
+          (joined image state i h lacks g).after;
     }
 
-    pub items_stay_joined : ItemsStay s s3
+    pub items_stay_joined : ItemsStayOn s s3 id 0
     items_stay_joined = record {
-      stay = λ image state state' i h h' kind id'.
+      stay = λ image state state' i h lacks h' kind id'.
           let g = in_hand image state (v.kept.seen image i) h in
-          let j = joined image state i h g in
+          let j = joined image state i h lacks g in
           let k = kind_number kind in
           let l = kind_small kind in
           ap (λ (z : Rows). block_at z id')
@@ -185,21 +190,23 @@ module _ (s s1 s2 : View) (id start b : ℕ) (t : Taken s s1 start b) (w : Custo
         let e : nat_eq id id ≡ true = grind (arith, nat_tests) in
         at_put rs id b id ∙ ap (λ z. cond {A = ℕ} z b (block_at rs id)) e
 
-    pub seated_at : HoldsState s → ∥ ((image : List ℕ) × Stands s3 image) ∥₁ → HasCustomerAt s3 id b
+    pub seated_at : HoldsState s → ∥ ((image : List ℕ) × Stands s3 image) ∥₁ → HasSeat s s3 id b
     seated_at has ws =
         let low : 16 ≤ b = some_le 16 b ws (λ x.
-        let i1 = w.kept.seen x.0 (v.kept.seen x.0 x.1.sees) in
-        let h = has.under x.0 (t.kept.seen x.0 i1) in
-        omega (arith, (taking s s1 start b x.0 h.0 t i1 h.1).block.1.1)) in
+        let i1 = stood w.kept x.0 (stood v.kept x.0 x.1) in
+        let h = has.under x.0 (stood t.kept x.0 i1) in
+        omega (arith, (taking s s1 start b x.0 h.0 t i1.sees h.1).block.1.1)) in
         record {
           some = omega arith;
           inside = (low, omega (arith, t.room, w.kept.size, v.kept.size));
-          at = λ image state' i h'.
-              let i2 = v.kept.seen image i in
-              let h = has.under image (t.kept.seen image (w.kept.seen image i2)) in
-              let g = in_hand image h.0 i2 h.1 in
-              let j = joined image h.0 i h.1 g in
+          at = λ image state state' i h lacks h'.
+              let g = in_hand image state (v.kept.seen image i) h in
+              let j = joined image state i h lacks g in
               ap (λ (z : Rows). block_at z id)
-              (one_shape (mem s3 image) (length image) [] [] (with_bookings h.0 id empty) state' j.after h'.represents 3 (omega arith) ∙ j.table)
+              (one_shape (mem s3 image) (length image) [] [] (with_bookings state id empty) state' j.after h'.represents 3 (omega arith) ∙ j.table)
               ∙ put_here (g.after.parts.tables 3);
         }
+
+-- what stays under every image
+pub stay_on : (s s' : View) (id c : ℕ) → ItemsStay s s' → ItemsStayOn s s' id c
+stay_on s s' id c stays = record { stay = λ image state state' i h at h' kind item. stays.stay image state state' i h h' kind item }

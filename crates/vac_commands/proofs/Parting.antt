@@ -9,23 +9,23 @@ use Rattle.vac_model.specs.declared.replies.Reply.TheVariants as reply
 use Rattle.vac_model.specs.Ranges.{is_command}
 use Rattle.vac_model.specs.State.{State, Bookings, bookings_of, without_customer}
 use Rattle.tx_alloc.specs.Pool.{IsBlock, HasUsed, Given}
-use Rattle.tx_alloc.specs.Rows.{cut_row}
+use Rattle.tx_alloc.specs.Rows.{Rows, cut_row, block_at}
 use Rattle.tx_tree.specs.Table.{Found, Removed}
 use Rattle.vac_records.specs.Items.{mem}
 use Rattle.vac_records.specs.Heap.{used_in, count_in}
 use Rattle.vac_records.specs.Represents.{IsState}
 use Rattle.vac_records.specs.Holds.{HoldsState, OnlyRead}
 use Rattle.vac_records.specs.Laws.{IsCustomerAt, StaysBut}
-use Rattle.vac_records.specs.Steps.{kept_both}
+use Rattle.vac_records.specs.Steps.{kept_both, stood}
 use Rattle.vac_records.proofs.Bridges.{table_there, hand_there}
 use Rattle.vac_records.proofs.Customers.{customer_missing, customer_removed}
 use Rattle.vac_records.proofs.Hands.{block_given}
 use Rattle.vac_records.proofs.Keyed.{row_at, row_times}
 use Rattle.vac_records.proofs.Shifts.{in_table}
-use Rattle.vac_records.proofs.Single.{one_state}
-use Rattle.vac_commands.specs.Entries.{LacksCustomer}
+use Rattle.vac_records.proofs.Single.{one_state, one_shape}
+use Rattle.vac_commands.specs.Entries.{LacksCustomer, CustomerIsAt}
 use Rattle.vac_commands.specs.Ran.{Ran, CustomerGone}
-use Rattle.vac_commands.specs.CustomerSteps.{HasNoBookings, GivenBack}
+use Rattle.vac_commands.specs.CustomerSteps.{RanOn, HasNoBookings, GivenBack}
 use Rattle.vac_commands.proofs.Held.{customer_none, outcome_of, ran_reads, ran_after, read_none}
 use Rattle.vac_commands.proofs.Dropping.{drop_bare}
 
@@ -80,16 +80,16 @@ module _ (s s1 : View) (id b : ℕ) (v : Removed s s1 4 id b) where
   used_in_hand has bare = record {
     small = omega (arith, has.small, v.kept.size);
     under = λ image i.
-        let i0 = v.kept.seen image i in
+        let i0 = stood v.kept image i in
         let h = has.under image i0 in
         let there = bare.none image h.0 i0 h.1 in
-        let g = in_hand image h.0 i h.1 there in
+        let g = in_hand image h.0 i.sees h.1 there in
         let p = g.after.parts in
         record {
           free = p.free;
           used = used_in (record p { out = [] });
           count = count_in (record p { out = [] });
-          is = hand_there (mem s1 image) (length image) b [] (without_customer h.0 id) (block image h.0 i h.1 there) g.after;
+          is = hand_there (mem s1 image) (length image) b [] (without_customer h.0 id) (block image h.0 i.sees h.1 there) g.after;
         };
   }
 
@@ -105,35 +105,49 @@ module _ (s s1 : View) (id b : ℕ) (v : Removed s s1 4 id b) where
   }
 
 -- no booking is left
-pub bare : (s s' : View) (id : ℕ) → HoldsState s → GivenBack s s' id 0 → HasNoBookings s' id
-bare s s' id has given = record {
+pub bare : (s s' : View) (id c : ℕ) → HoldsState s → CustomerIsAt s id c → GivenBack s s' id c 0 → HasNoBookings s' id
+bare s s' id c has at given = record {
   none = λ image state' i h'.
-      let h = has.under image (given.kept.seen image i) in
-      let l = given.under image h.0 i h.1 in
+      let i0 = stood given.kept image i in
+      let h = has.under image i0 in
+      let l = given.under image h.0 i.sees h.1 (at.at image h.0 i0 h.1) in
       let same : l.state ≡ state' = one_state (mem s' image) (length image) [] [] l.state state' l.is.represents h'.represents in
       let none : l.bookings ≡ empty = empty_of_len l.bookings (let f = l.few in omega arith) in
       ap (λ (z : State). bookings_of z id) (sym same) ∙ (l.there ∙ ap (λ (z : Bookings). Some z) none);
 }
 
-pub given_holds : (s s' : View) (id most : ℕ) → HoldsState s → GivenBack s s' id most → HoldsState s'
-given_holds s s' id most has given = record {
+pub given_holds : (s s' : View) (id c most : ℕ) → HoldsState s → CustomerIsAt s id c → GivenBack s s' id c most → HoldsState s'
+given_holds s s' id c most has at given = record {
   inside = omega (arith, has.inside, given.kept.size);
   small = omega (arith, has.small, given.kept.size);
   under = λ image i.
-      let h = has.under image (given.kept.seen image i) in
-      let l = given.under image h.0 i h.1 in
+      let i0 = stood given.kept image i in
+      let h = has.under image i0 in
+      let l = given.under image h.0 i.sees h.1 (at.at image h.0 i0 h.1) in
       (l.state, l.is);
 }
 
+-- and the customer is still in the same block
+pub given_seat : (s s' : View) (id c most : ℕ) → HoldsState s → CustomerIsAt s id c → GivenBack s s' id c most → CustomerIsAt s' id c
+given_seat s s' id c most has at given = record {
+  some = at.some;
+  inside = (at.inside.0, omega (arith, at.inside.1, given.kept.size));
+  at = λ image state' i h'.
+      let i0 = stood given.kept image i in
+      let h = has.under image i0 in
+      let l = given.under image h.0 i.sees h.1 (at.at image h.0 i0 h.1) in
+      ap (λ (rows : Rows). block_at rows id) (one_shape (mem s' image) (length image) [] [] l.state state' l.is.represents h'.represents 3 (omega arith)) ∙ l.seat;
+}
+
 -- given back, and gone
-pub dropped : (s s1 s2 : View) (id : ℕ) → is_command (command.DropCustomer id) ≡ true → GivenBack s s1 id 0 →
-    CustomerGone s1 s2 id → Ran s s2 (command.DropCustomer id) reply.Done
-dropped s s1 s2 id range given gone = record {
+pub dropped : (s s1 s2 : View) (id c : ℕ) → is_command (command.DropCustomer id) ≡ true → GivenBack s s1 id c 0 →
+    CustomerGone s1 s2 id → RanOn s s2 id c (command.DropCustomer id) reply.Done
+dropped s s1 s2 id c range given gone = record {
   kept = kept_both s s1 s2 given.kept gone.kept;
   untouched = tt;
   idle = tt;
-  outcome = λ image state i h.
-      let l = given.under image state (gone.kept.seen image i) h in
+  outcome = λ image state i h at.
+      let l = given.under image state (gone.kept.seen image i) h at in
       let none : l.bookings ≡ empty = empty_of_len l.bookings (let f = l.few in omega arith) in
       let there : bookings_of l.state id ≡ Some empty = l.there ∙ ap (λ (z : Bookings). Some z) none in
       outcome_of (mem s image) (mem s2 image) (length image) state (without_customer l.state id)

@@ -1,32 +1,69 @@
--- What the parts of a reservation need, and what a command on bookings does.
-use Rattle.std.specs.Prelude.{◌≡◌, ℕ, ◌+◌, ◌≤◌, List, length}
-use Rattle.stm_words.specs.View.{View, Sees}
+-- What a command on bookings needs and does, where its customer and its item were found before.
+use Rattle.std.specs.Prelude.{◌≡◌, ◌≢◌, ℕ, ◌+◌, ◌<◌, ◌≤◌, ◌^◌, List, [], length}
+use Rattle.stm_words.specs.View.{View, Sees, Stands, Kept}
 use Rattle.vac_model.specs.declared.commands.Command.{Command}
+use Rattle.vac_model.specs.declared.items.Kind.{Kind}
 use Rattle.vac_model.specs.declared.replies.Reply.{Reply}
 use Rattle.vac_model.specs.State.{State, Place}
+use Rattle.vac_model.specs.Step.{step}
+use Rattle.tx_alloc.specs.Pointer.{IsWithin}
 use Rattle.tx_alloc.specs.Rows.{block_at}
+use Rattle.tx_list.specs.Search.{SpotAt}
+use Rattle.tx_list.specs.declared.search.Spot.{Spot}
 use Rattle.tx_tree.specs.Table.{IsInside}
 use Rattle.vac_records.specs.Items.{mem}
 use Rattle.vac_records.specs.Bookings.{place_key}
+use Rattle.vac_records.specs.Customers.{head_of}
 use Rattle.vac_records.specs.Represents.{IsState}
+use Rattle.vac_records.specs.Laws.{Stays}
 use Rattle.vac_commands.specs.declared.bookings.Offer.{Offer}
-use Rattle.vac_commands.specs.Ran.{Ran}
-use Rattle.vac_commands.specs.Entries.{ItemsStay, CustomersStay}
+use Rattle.vac_commands.specs.Ran.{Untouched, Idle}
+use Rattle.vac_commands.specs.Entries.{item_block, customer_block}
 
 -- the block of the place's booking among those of the customer in block owner, or 0
 abbrev pub booking_block : {m : ℕ → ℕ} {n : ℕ} {s : State} → IsState m n s → ℕ → Place → ℕ
 booking_block h owner place = block_at (h.represents.parts.lists owner) (place_key place)
 
--- under each image the customer in block owner has no booking of the place
-pub record LacksBooking (s : View) (owner : ℕ) (place : Place) : Type 0 where
-  pub none : (image : List ℕ) (state : State) → Sees s image →
-      (h : IsState (mem s image) (length image) state) → booking_block h owner place ≡ 0
+-- the customer and the item stand in these blocks
+pub record Here {m : ℕ → ℕ} {n : ℕ} {s : State} (h : IsState m n s) (customer owner : ℕ)
+    (kind : Kind) (id item : ℕ) : Type 0 where
+  pub owner_is : customer_block h customer ≡ owner
+  pub owner_some : owner ≢ 0
+  pub item_is : item_block h kind id ≡ item
+  pub item_some : item ≢ 0
+  pub small : id < 2 ^ 32
 
--- under each image b is the block of that booking
+-- the same, in the order in which it is asked of a state
+abbrev pub AtBlocks : ℕ → ℕ → Kind → ℕ → ℕ → (m : ℕ → ℕ) (n : ℕ) (s : State) →
+    IsState m n s → Type 0
+AtBlocks customer owner kind id item m n s h = Here h customer owner kind id item
+
+-- and the booking stands in this one
+pub record AtBooking (customer owner : ℕ) (kind : Kind) (id item b : ℕ) (m : ℕ → ℕ) (n : ℕ)
+    (s : State) (h : IsState m n s) : Type 0 where
+  pub here : Here h customer owner kind id item
+  pub is : booking_block h owner (kind, id) ≡ b
+
+-- and this is the booking's spot in the customer's list
+pub record AtSpot (customer owner : ℕ) (kind : Kind) (id item : ℕ) (spot : Spot) (m : ℕ → ℕ)
+    (n : ℕ) (s : State) (h : IsState m n s) : Type 0 where
+  pub here : Here h customer owner kind id item
+  pub at : SpotAt m (head_of owner) (place_key (kind, id)) spot (h.represents.parts.lists owner)
+
+-- under each image of the memory's size b is the block of the booking of the customer in block
+-- owner
 pub record HasBookingAt (s : View) (owner : ℕ) (place : Place) (b : ℕ) : Type 0 where
   pub inside : IsInside s.size b
-  pub at : (image : List ℕ) (state : State) → Sees s image →
+  pub at : (image : List ℕ) (state : State) → Stands s image →
       (h : IsState (mem s image) (length image) state) → booking_block h owner place ≡ b
+
+-- under each image of the memory's size this is the booking's spot in the list of that customer
+pub record HasSpot (s : View) (owner : ℕ) (place : Place) (spot : Spot) : Type 0 where
+  pub room : spot.link.0 < s.size
+  pub within : IsWithin s spot.entry
+  pub at : (image : List ℕ) (state : State) → Stands s image →
+      (h : IsState (mem s image) (length image) state) →
+      SpotAt (mem s image) (head_of owner) (place_key place) spot (h.represents.parts.lists owner)
 
 -- under each image these are the item's free units, so many or more, and its price
 pub record IsOffered (s : View) (item num : ℕ) (offer : Offer) : Type 0 where
@@ -34,8 +71,20 @@ pub record IsOffered (s : View) (item num : ℕ) (offer : Offer) : Type 0 where
   pub free_is : (image : List ℕ) → Sees s image → mem s image (item + 5) ≡ offer.free
   pub price_is : (image : List ℕ) → Sees s image → mem s image (item + 7) ≡ offer.price
 
--- the command ran, and items and customers stand in the same blocks as before
-pub record RanInPlace (s s' : View) (c : Command) (r : Reply) : Type 0 where
-  pub ran : Ran s s' c r
-  pub items : ItemsStay s s'
-  pub customers : CustomersStay s s'
+-- the memory represents the state after the command, in the same tables, and this is the reply
+pub record Lands {m : ℕ → ℕ} {n : ℕ} {s : State} (h : IsState m n s) (m' : ℕ → ℕ) (c : Command)
+    (r : Reply) : Type 0 where
+  pub state : State
+  pub is : step s c ≡ (state, r)
+  pub stays : Stays h.represents m' [] state
+
+-- under each image on which the memory represents a state of which P holds, the command ran, and
+-- items and customers stand in the same tables as before
+pub record Serves (s s' : View) (c : Command) (r : Reply)
+    (P : (m : ℕ → ℕ) (n : ℕ) (state : State) → IsState m n state → Type 0) : Type 0 where
+  pub kept : Kept s s'
+  pub untouched : Untouched s s' r
+  pub idle : Idle s s' c
+  pub lands : (image : List ℕ) (state : State) → Sees s' image →
+      (h : IsState (mem s image) (length image) state) → P (mem s image) (length image) state h →
+      Lands h (mem s' image) c r

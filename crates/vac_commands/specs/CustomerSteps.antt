@@ -1,20 +1,50 @@
--- What the steps of commands on customers need and do, under every image.
-use Rattle.std.specs.Prelude.{◌≡◌, ℕ, ◌+◌, ◌-◌, ◌≤◌, List, ◌∷◌, length, Some}
+-- What the steps of commands on customers need and do.
+use Rattle.std.specs.Prelude.{◌≡◌, ◌≢◌, ℕ, ◌-◌, ◌≤◌, List, ◌∷◌, length, Some}
 use Rattle.std.specs.FinMap.{empty, entries, len}
-use Rattle.stm_words.specs.View.{View, Sees, Kept}
+use Rattle.stm_words.specs.View.{View, Sees, Stands, Kept}
+use Rattle.vac_model.specs.declared.commands.Command.{Command}
 use Rattle.vac_model.specs.declared.items.Booking.{Booking}
+use Rattle.vac_model.specs.declared.items.Kind.{Kind}
+use Rattle.vac_model.specs.declared.replies.Reply.{Reply}
 use Rattle.vac_model.specs.State.{State, Bookings, Place, bookings_of}
-use Rattle.vac_model.specs.Step.{drop_customer}
+use Rattle.vac_model.specs.Step.{step, drop_customer}
 use Rattle.tx_list.specs.Lists.{SomeBooking}
 use Rattle.tx_tree.specs.Table.{IsInside}
 use Rattle.vac_records.specs.Items.{mem}
 use Rattle.vac_records.specs.Bookings.{place_in, booking_in}
 use Rattle.vac_records.specs.Customers.{head_of}
 use Rattle.vac_records.specs.Represents.{IsState}
+use Rattle.vac_commands.specs.Entries.{item_block, customer_block}
+use Rattle.vac_commands.specs.Ran.{Untouched, Idle, IsOutcome}
 
--- under each image the customer is there and has no bookings
+-- the command ran under each image on which the customer's block is c, or the customer is missing
+-- where c is 0
+pub record RanOn (s s' : View) (id c : ℕ) (command : Command) (r : Reply) : Type 0 where
+  pub kept : Kept s s'
+  pub untouched : Untouched s s' r
+  pub idle : Idle s s' command
+  pub outcome : (image : List ℕ) (state : State) → Sees s' image →
+      (h : IsState (mem s image) (length image) state) → customer_block h id ≡ c →
+      IsOutcome (mem s' image) (length image) (step state command) r
+
+-- under each such image the items stand in the same blocks as before
+pub record ItemsStayOn (s s' : View) (id c : ℕ) : Type 0 where
+  pub stay : (image : List ℕ) (state state' : State) → Sees s' image →
+      (h : IsState (mem s image) (length image) state) → customer_block h id ≡ c →
+      (h' : IsState (mem s' image) (length image) state') →
+      (kind : Kind) (item : ℕ) → item_block h' kind item ≡ item_block h kind item
+
+-- under each image on which the customer was missing, c is the customer's block now
+pub record HasSeat (s s' : View) (id c : ℕ) : Type 0 where
+  pub some : c ≢ 0
+  pub inside : IsInside s'.size c
+  pub at : (image : List ℕ) (state state' : State) → Sees s' image →
+      (h : IsState (mem s image) (length image) state) → customer_block h id ≡ 0 →
+      (h' : IsState (mem s' image) (length image) state') → customer_block h' id ≡ c
+
+-- under each image of the memory's size the customer is there and has no bookings
 pub record HasNoBookings (s : View) (id : ℕ) : Type 0 where
-  pub none : (image : List ℕ) (state : State) → Sees s image →
+  pub none : (image : List ℕ) (state : State) → Stands s image →
       IsState (mem s image) (length image) state → bookings_of state id ≡ Some empty
 
 -- the customer has bookings, and the first one is in block b
@@ -25,11 +55,12 @@ pub record HasFirst (m : ℕ → ℕ) (n : ℕ) (s : State) (id b : ℕ) : Type 
   pub entries_are : entries bookings ≡ (place_in m b, booking_in m b) ∷ rest
   pub listed : SomeBooking m n b
 
--- under each image the first booking of the customer in block c is in block b, and c leads there
+-- under each image of the memory's size the first booking of the customer in block c is in block b,
+-- and c leads there
 pub record StartsAt (s : View) (id c b : ℕ) : Type 0 where
   pub inside : IsInside s.size b
-  pub leads : (image : List ℕ) → Sees s image → mem s image (head_of c) ≡ b
-  pub under : (image : List ℕ) (state : State) → Sees s image →
+  pub leads : (image : List ℕ) → Stands s image → mem s image (head_of c) ≡ b
+  pub under : (image : List ℕ) (state : State) → Stands s image →
       IsState (mem s image) (length image) state →
       HasFirst (mem s image) (length image) state id b
 
@@ -39,26 +70,31 @@ pub record PlaceRead (s s' : View) (b : ℕ) (place : Place) : Type 0 where
   pub writes : s'.writes ≡ s.writes
   pub is : (image : List ℕ) → Sees s' image → place_in (mem s image) b ≡ place
 
--- the memory represents a state in which the customer has at most so many bookings, and from which
--- DropCustomer leads where it leads from s
-pub record IsLeaving (m : ℕ → ℕ) (n : ℕ) (s : State) (id most : ℕ) : Type 0 where
+-- the memory represents a state in which the customer, still in block c, has at most so many
+-- bookings, and from which DropCustomer leads where it leads from s
+pub record IsLeaving (m : ℕ → ℕ) (n : ℕ) (s : State) (id c most : ℕ) : Type 0 where
   pub state : State
   pub is : IsState m n state
+  pub seat : customer_block is id ≡ c
   pub bookings : Bookings
   pub there : bookings_of state id ≡ Some bookings
   pub few : len bookings ≤ most
   pub drops : drop_customer state id ≡ drop_customer s id
 
--- under each image one booking of the customer was given back
-pub record OneGivenBack (s s' : View) (id : ℕ) : Type 0 where
+-- under each image on which the customer is in block c, and b is the block of the first booking,
+-- one booking was given back
+pub record OneGivenBack (s s' : View) (id c b : ℕ) : Type 0 where
   pub kept : Kept s s'
   pub under : (image : List ℕ) (state : State) (bookings : Bookings) → Sees s' image →
-      IsState (mem s image) (length image) state → bookings_of state id ≡ Some bookings →
-      IsLeaving (mem s' image) (length image) state id (len bookings - 1)
+      (h : IsState (mem s image) (length image) state) → customer_block h id ≡ c →
+      mem s image (head_of c) ≡ b → HasFirst (mem s image) (length image) state id b →
+      bookings_of state id ≡ Some bookings →
+      IsLeaving (mem s' image) (length image) state id c (len bookings - 1)
 
--- under each image bookings of the customer were given back, until at most so many were left
-pub record GivenBack (s s' : View) (id most : ℕ) : Type 0 where
+-- under each image on which the customer is in block c, bookings were given back, until at most so
+-- many were left
+pub record GivenBack (s s' : View) (id c most : ℕ) : Type 0 where
   pub kept : Kept s s'
   pub under : (image : List ℕ) (state : State) → Sees s' image →
-      IsState (mem s image) (length image) state →
-      IsLeaving (mem s' image) (length image) state id most
+      (h : IsState (mem s image) (length image) state) → customer_block h id ≡ c →
+      IsLeaving (mem s' image) (length image) state id c most

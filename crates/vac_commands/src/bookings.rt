@@ -1,18 +1,15 @@
 //! Commands on bookings.
 
-ghost use Rattle.std.specs.Prelude.{◌≡◌, ◌<◌, IfOk, IsTrue};
+ghost use Rattle.std.specs.Prelude.{◌≡◌, IfOk, IsTrue, None};
 ghost use Rattle.vac_model.specs.Ranges.{is_command};
-ghost use Rattle.tx_list.specs.Search.{IsSpot};
-ghost use Rattle.vac_records.specs.Bookings.{place_key};
-ghost use Rattle.vac_records.specs.Customers.{head_of};
 ghost use Rattle.vac_records.specs.Holds.{HoldsState};
-ghost use Rattle.vac_commands.specs.Entries.{HasItemAt, HasCustomerAt, ItemsStay, CustomersStay};
+ghost use Rattle.vac_commands.specs.Entries.{ItemIsAt, CustomerIsAt};
 ghost use Rattle.vac_commands.specs.Ran.{Ran};
-ghost use Rattle.vac_commands.specs.BookingSteps.{LacksBooking, HasBookingAt, IsOffered, RanInPlace};
+ghost use Rattle.vac_commands.specs.BookingSteps.{AtBlocks, AtBooking, AtSpot, HasBookingAt, HasSpot, IsOffered, Serves};
 
 use crate::find::{find_customer, find_item};
 use stm_words::TxMem;
-use tx_alloc::{Block, give, take};
+use tx_alloc::{Block, FreeList, give, take};
 use tx_list::Spot;
 use vac_model::limits::MOST_UNITS;
 use vac_model::{Command, Kind, Reply, Why};
@@ -38,9 +35,8 @@ pub fn reserve<M: TxMem>(
     kind: Kind,
     id: u32,
     num: u32,
-    start: u32,
+    start: FreeList,
 ) -> Result<Reply, M::Stop>
-    requires start { start < 8 }
     requires state { HoldsState (M.view memory.old) }
     requires range { IsTrue (is_command (Command.Reserve customer kind id num)) }
     ensures origin { M.origin memory.new ≡ M.origin memory.old }
@@ -65,18 +61,16 @@ pub fn reserve_at<M: TxMem>(
     id: u32,
     item: Block,
     num: u32,
-    start: u32,
+    start: FreeList,
 ) -> Result<Reply, M::Stop>
-    requires start { start < 8 }
     requires state { HoldsState (M.view memory.old) }
-    requires customer { HasCustomerAt (M.view memory.old) customer owner.0.0 }
-    requires item { HasItemAt (M.view memory.old) kind id item.0.0 }
+    requires customer { CustomerIsAt (M.view memory.old) customer owner.0.0 }
+    requires item { ItemIsAt (M.view memory.old) kind id item.0.0 }
     requires range { IsTrue (is_command (Command.Reserve customer kind id num)) }
     ensures origin { M.origin memory.new ≡ M.origin memory.old }
-    ensures answer { IfOk result (λ reply. Ran (M.view memory.old) (M.view memory.new)
-        (Command.Reserve customer kind id num) reply) }
-    ensures items { IfOk result (λ _. ItemsStay (M.view memory.old) (M.view memory.new)) }
-    ensures customers { IfOk result (λ _. CustomersStay (M.view memory.old) (M.view memory.new)) }
+    ensures answer { IfOk result (λ reply. Serves (M.view memory.old) (M.view memory.new)
+        (Command.Reserve customer kind id num) reply
+        (AtBlocks customer owner.0.0 kind id item.0.0)) }
 {
     let free = free_at(memory, item.0)?;
     if free < num as u64 {
@@ -109,14 +103,15 @@ fn extend_booking<M: TxMem>(
     booking: Block,
 ) -> Result<Reply, M::Stop>
     requires state { HoldsState (M.view memory.old) }
-    requires customer { HasCustomerAt (M.view memory.old) customer owner.0.0 }
-    requires item { HasItemAt (M.view memory.old) kind id item.0.0 }
+    requires customer { CustomerIsAt (M.view memory.old) customer owner.0.0 }
+    requires item { ItemIsAt (M.view memory.old) kind id item.0.0 }
     requires offered { IsOffered (M.view memory.old) item.0.0 num offer }
     requires booking { HasBookingAt (M.view memory.old) owner.0.0 (kind, id) booking.0.0 }
     requires range { IsTrue (is_command (Command.Reserve customer kind id num)) }
     ensures origin { M.origin memory.new ≡ M.origin memory.old }
-    ensures answer { IfOk result (λ reply. RanInPlace (M.view memory.old) (M.view memory.new)
-        (Command.Reserve customer kind id num) reply) }
+    ensures answer { IfOk result (λ reply. Serves (M.view memory.old) (M.view memory.new)
+        (Command.Reserve customer kind id num) reply
+        (AtBooking customer owner.0.0 kind id item.0.0 booking.0.0)) }
 {
     if units_at(memory, booking.0)? + num as u64 > MOST_UNITS {
         return Ok(Reply::No(Why::UnitLimit));
@@ -138,19 +133,19 @@ fn add_booking<M: TxMem>(
     num: u32,
     offer: Offer,
     spot: Spot,
-    start: u32,
+    start: FreeList,
 ) -> Result<Reply, M::Stop>
-    requires start { start < 8 }
     requires state { HoldsState (M.view memory.old) }
-    requires customer { HasCustomerAt (M.view memory.old) customer owner.0.0 }
-    requires item { HasItemAt (M.view memory.old) kind id item.0.0 }
+    requires customer { CustomerIsAt (M.view memory.old) customer owner.0.0 }
+    requires item { ItemIsAt (M.view memory.old) kind id item.0.0 }
     requires offered { IsOffered (M.view memory.old) item.0.0 num offer }
-    requires missing { LacksBooking (M.view memory.old) owner.0.0 (kind, id) }
-    requires spot { IsSpot (M.view memory.old) (head_of owner.0.0) (place_key (kind, id)) spot }
+    requires missing { spot.entry ≡ None }
+    requires spot { HasSpot (M.view memory.old) owner.0.0 (kind, id) spot }
     requires range { IsTrue (is_command (Command.Reserve customer kind id num)) }
     ensures origin { M.origin memory.new ≡ M.origin memory.old }
-    ensures answer { IfOk result (λ reply. RanInPlace (M.view memory.old) (M.view memory.new)
-        (Command.Reserve customer kind id num) reply) }
+    ensures answer { IfOk result (λ reply. Serves (M.view memory.old) (M.view memory.new)
+        (Command.Reserve customer kind id num) reply
+        (AtSpot customer owner.0.0 kind id item.0.0 spot)) }
 {
     let Some(block) = take(memory, start)? else {
         return Ok(Reply::No(Why::Full));
@@ -167,9 +162,8 @@ pub fn cancel<M: TxMem>(
     customer: u32,
     kind: Kind,
     id: u32,
-    start: u32,
+    start: FreeList,
 ) -> Result<Reply, M::Stop>
-    requires start { start < 8 }
     requires state { HoldsState (M.view memory.old) }
     requires range { IsTrue (is_command (Command.Cancel customer kind id)) }
     ensures origin { M.origin memory.new ≡ M.origin memory.old }
@@ -196,19 +190,17 @@ pub(crate) fn cancel_at<M: TxMem>(
     id: u32,
     item: Block,
     spot: Spot,
-    start: u32,
+    start: FreeList,
 ) -> Result<Reply, M::Stop>
-    requires start { start < 8 }
     requires state { HoldsState (M.view memory.old) }
-    requires customer { HasCustomerAt (M.view memory.old) customer owner.0.0 }
-    requires item { HasItemAt (M.view memory.old) kind id item.0.0 }
-    requires spot { IsSpot (M.view memory.old) (head_of owner.0.0) (place_key (kind, id)) spot }
+    requires customer { CustomerIsAt (M.view memory.old) customer owner.0.0 }
+    requires item { ItemIsAt (M.view memory.old) kind id item.0.0 }
+    requires spot { HasSpot (M.view memory.old) owner.0.0 (kind, id) spot }
     requires range { IsTrue (is_command (Command.Cancel customer kind id)) }
     ensures origin { M.origin memory.new ≡ M.origin memory.old }
-    ensures answer { IfOk result (λ reply. Ran (M.view memory.old) (M.view memory.new)
-        (Command.Cancel customer kind id) reply) }
-    ensures items { IfOk result (λ _. ItemsStay (M.view memory.old) (M.view memory.new)) }
-    ensures customers { IfOk result (λ _. CustomersStay (M.view memory.old) (M.view memory.new)) }
+    ensures answer { IfOk result (λ reply. Serves (M.view memory.old) (M.view memory.new)
+        (Command.Cancel customer kind id) reply
+        (AtSpot customer owner.0.0 kind id item.0.0 spot)) }
 {
     let Some((booking, units)) = unbook_at(memory, spot)? else {
         return Ok(Reply::No(Why::NotBooked));

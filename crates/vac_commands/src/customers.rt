@@ -1,27 +1,26 @@
 //! Commands on customers.
 
-ghost use Rattle.std.specs.Prelude.{◌≡◌, ◌+◌, ◌<◌, ◌≤◌, IfOk, IfErr, IsTrue, MatchOption, Some};
+ghost use Rattle.std.specs.Prelude.{◌≡◌, ◌+◌, ◌≤◌, IfOk, IfErr, IsTrue, MatchOption, Some};
 ghost use Rattle.vac_model.specs.Ranges.{is_command};
 ghost use Rattle.tx_list.specs.Lists.{HasBooking};
 ghost use Rattle.vac_records.specs.Bookings.{kind_of};
 ghost use Rattle.vac_records.specs.Holds.{HoldsState};
-ghost use Rattle.vac_commands.specs.Entries.{LacksCustomer, HasCustomerAt, ItemsStay, CustomersStay};
-ghost use Rattle.vac_commands.specs.CustomerSteps.{HasNoBookings, StartsAt, PlaceRead, OneGivenBack, GivenBack};
+ghost use Rattle.vac_commands.specs.Entries.{CustomerIsAt, CustomerIsMissing};
+ghost use Rattle.vac_commands.specs.CustomerSteps.{RanOn, ItemsStayOn, HasSeat, HasNoBookings, StartsAt, PlaceRead, OneGivenBack, GivenBack};
 ghost use Rattle.vac_commands.specs.Ran.{Ran, Asked, CustomerGone, joining};
 
 use crate::bookings::cancel_at;
 use crate::find::{CUSTOMERS, find_customer, find_item};
 use stm_words::{Addr, TxMem, TxRead, load};
 use tx_alloc::place::MOST_BLOCKS;
-use tx_alloc::{Block, give, take};
+use tx_alloc::{Block, FreeList, give, take};
 use tx_list::Spot;
 use vac_model::{Command, Kind, Reply, Why};
 use vac_records::{init_customer, place};
 
 /// Makes a customer without bookings, in a block of the first free list that has one, from `start`
 /// on.
-pub fn new_customer<M: TxMem>(memory: &mut M, id: u32, start: u32) -> Result<Reply, M::Stop>
-    requires start { start < 8 }
+pub fn new_customer<M: TxMem>(memory: &mut M, id: u32, start: FreeList) -> Result<Reply, M::Stop>
     requires state { HoldsState (M.view memory.old) }
     requires range { IsTrue (is_command (Command.NewCustomer id)) }
     ensures origin { M.origin memory.new ≡ M.origin memory.old }
@@ -41,17 +40,20 @@ pub fn new_customer<M: TxMem>(memory: &mut M, id: u32, start: u32) -> Result<Rep
 }
 
 /// Makes a customer who is missing, and answers the block. `None` says that no block is free.
-pub fn add_customer<M: TxMem>(memory: &mut M, id: u32, start: u32) -> Result<Option<Block>, M::Stop>
-    requires start { start < 8 }
+pub fn add_customer<M: TxMem>(
+    memory: &mut M,
+    id: u32,
+    start: FreeList,
+) -> Result<Option<Block>, M::Stop>
     requires state { HoldsState (M.view memory.old) }
-    requires missing { LacksCustomer (M.view memory.old) id }
+    requires missing { CustomerIsMissing (M.view memory.old) id }
     requires range { IsTrue (is_command (Command.NewCustomer id)) }
     ensures origin { M.origin memory.new ≡ M.origin memory.old }
-    ensures answer { IfOk result (λ added. Ran (M.view memory.old) (M.view memory.new)
-        (Command.NewCustomer id) (joining added)) }
+    ensures answer { IfOk result (λ added. RanOn (M.view memory.old) (M.view memory.new)
+        id 0 (Command.NewCustomer id) (joining added)) }
     ensures block { IfOk result (λ added. MatchOption added (Unit {0})
-        (λ c. HasCustomerAt (M.view memory.new) id c.0.0)) }
-    ensures items { IfOk result (λ _. ItemsStay (M.view memory.old) (M.view memory.new)) }
+        (λ c. HasSeat (M.view memory.old) (M.view memory.new) id c.0.0)) }
+    ensures items { IfOk result (λ _. ItemsStayOn (M.view memory.old) (M.view memory.new) id 0) }
 {
     let Some(block) = take(memory, start)? else {
         return Ok(None);
@@ -81,10 +83,11 @@ pub fn bill<M: TxRead>(memory: &mut M, id: u32) -> Result<Option<u64>, M::Stop>
 /// The same at the customer's block.
 pub fn bill_at<M: TxRead>(memory: &mut M, id: u32, customer: Block) -> Result<u64, M::Stop>
     requires state { HoldsState (M.view memory.old) }
-    requires customer { HasCustomerAt (M.view memory.old) id customer.0.0 }
+    requires customer { CustomerIsAt (M.view memory.old) id customer.0.0 }
     ensures origin { M.origin memory.new ≡ M.origin memory.old }
-    ensures answer { IfOk result (λ n. Asked (M.view memory.old) (M.view memory.new)
-        (Command.Bill id) (Reply.Number (Some n))) }
+    ensures answer { IfOk result (λ n. RanOn (M.view memory.old) (M.view memory.new)
+        id customer.0.0 (Command.Bill id) (Reply.Number (Some n))) }
+    ensures writes { IfOk result (λ _. (M.view memory.new).writes ≡ (M.view memory.old).writes) }
     ensures stopped { IfErr result (λ stop. M.stopped_for memory.new stop) }
 {
     let bill = vac_records::bill(memory, customer.0)?;
@@ -93,8 +96,7 @@ pub fn bill_at<M: TxRead>(memory: &mut M, id: u32, customer: Block) -> Result<u6
 
 /// Gives back all that the customer has booked, and removes the customer. The blocks become the
 /// first of free list `start`.
-pub fn drop_customer<M: TxMem>(memory: &mut M, id: u32, start: u32) -> Result<Reply, M::Stop>
-    requires start { start < 8 }
+pub fn drop_customer<M: TxMem>(memory: &mut M, id: u32, start: FreeList) -> Result<Reply, M::Stop>
     requires state { HoldsState (M.view memory.old) }
     requires range { IsTrue (is_command (Command.DropCustomer id)) }
     ensures origin { M.origin memory.new ≡ M.origin memory.old }
@@ -115,15 +117,14 @@ pub fn drop_customer_at<M: TxMem>(
     memory: &mut M,
     id: u32,
     customer: Block,
-    start: u32,
+    start: FreeList,
 ) -> Result<(), M::Stop>
-    requires start { start < 8 }
     requires state { HoldsState (M.view memory.old) }
-    requires customer { HasCustomerAt (M.view memory.old) id customer.0.0 }
+    requires customer { CustomerIsAt (M.view memory.old) id customer.0.0 }
     requires range { IsTrue (is_command (Command.DropCustomer id)) }
     ensures origin { M.origin memory.new ≡ M.origin memory.old }
-    ensures answer { IfOk result (λ _. Ran (M.view memory.old) (M.view memory.new)
-        (Command.DropCustomer id) Reply.Done) }
+    ensures answer { IfOk result (λ _. RanOn (M.view memory.old) (M.view memory.new)
+        id customer.0.0 (Command.DropCustomer id) Reply.Done) }
 {
     give_bookings_back(memory, id, customer, start)?;
     remove_customer(memory, id, start)?;
@@ -136,14 +137,14 @@ fn give_bookings_back<M: TxMem>(
     memory: &mut M,
     id: u32,
     customer: Block,
-    start: u32,
+    start: FreeList,
 ) -> Result<(), M::Stop>
-    requires start { start < 8 }
     requires state { HoldsState (M.view memory.old) }
-    requires customer { HasCustomerAt (M.view memory.old) id customer.0.0 }
+    requires customer { CustomerIsAt (M.view memory.old) id customer.0.0 }
     requires range { IsTrue (is_command (Command.DropCustomer id)) }
     ensures origin { M.origin memory.new ≡ M.origin memory.old }
-    ensures answer { IfOk result (λ _. GivenBack (M.view memory.old) (M.view memory.new) id 0) }
+    ensures answer { IfOk result (λ _. GivenBack (M.view memory.old) (M.view memory.new)
+        id customer.0.0 0) }
 {
     let head = Addr(customer.0.0 + place::BOOKINGS);
     for _ in 0..MOST_BLOCKS {
@@ -162,16 +163,15 @@ fn cancel_first<M: TxMem>(
     id: u32,
     customer: Block,
     booking: Block,
-    start: u32,
+    start: FreeList,
 ) -> Result<(), M::Stop>
-    requires start { start < 8 }
     requires state { HoldsState (M.view memory.old) }
-    requires customer { HasCustomerAt (M.view memory.old) id customer.0.0 }
+    requires customer { CustomerIsAt (M.view memory.old) id customer.0.0 }
     requires first { StartsAt (M.view memory.old) id customer.0.0 booking.0.0 }
     requires range { IsTrue (is_command (Command.DropCustomer id)) }
     ensures origin { M.origin memory.new ≡ M.origin memory.old }
-    ensures answer { IfOk result (λ _. OneGivenBack (M.view memory.old) (M.view memory.new) id) }
-    ensures customers { IfOk result (λ _. CustomersStay (M.view memory.old) (M.view memory.new)) }
+    ensures answer { IfOk result (λ _. OneGivenBack (M.view memory.old) (M.view memory.new)
+        id customer.0.0 booking.0.0) }
 {
     let (kind, item_id) = place_at(memory, booking)?;
     match find_item(memory, kind, item_id)? {
@@ -214,8 +214,7 @@ fn kind_from(number: u64) -> Kind
 
 /// Takes a customer without bookings out of the table. The block becomes the first of free list
 /// `start`.
-fn remove_customer<M: TxMem>(memory: &mut M, id: u32, start: u32) -> Result<(), M::Stop>
-    requires start { start < 8 }
+fn remove_customer<M: TxMem>(memory: &mut M, id: u32, start: FreeList) -> Result<(), M::Stop>
     requires state { HoldsState (M.view memory.old) }
     requires bare { HasNoBookings (M.view memory.old) id }
     ensures origin { M.origin memory.new ≡ M.origin memory.old }

@@ -1,6 +1,6 @@
 //! Commands on items.
 
-ghost use Rattle.std.specs.Prelude.{◌≡◌, ◌<◌, IfOk, IfErr, IsTrue, None};
+ghost use Rattle.std.specs.Prelude.{◌≡◌, IfOk, IfErr, IsTrue, None};
 ghost use Rattle.vac_model.specs.Ranges.{is_command};
 ghost use Rattle.vac_model.specs.Step.{deleted};
 ghost use Rattle.vac_records.specs.Holds.{HoldsState};
@@ -11,7 +11,7 @@ ghost use Rattle.vac_commands.specs.Ran.{Ran, Asked, ItemGone};
 
 use crate::find::{find_item, root_of};
 use stm_words::{Addr, TxMem, TxRead};
-use tx_alloc::{Block, give, take};
+use tx_alloc::{Block, FreeList, give, take};
 use vac_model::limits::MOST_TOTAL;
 use vac_model::{Command, Kind, Reply, Why};
 use vac_records::{
@@ -59,9 +59,8 @@ fn add_new<M: TxMem>(
     id: u32,
     num: u32,
     price: Option<u32>,
-    start: u32,
+    start: FreeList,
 ) -> Result<Reply, M::Stop>
-    requires start { start < 8 }
     requires state { HoldsState (M.view memory.old) }
     requires missing { LacksItem (M.view memory.old) kind id }
     requires range { IsTrue (is_command (Command.Add kind id num price)) }
@@ -151,9 +150,8 @@ pub fn add<M: TxMem>(
     id: u32,
     num: u32,
     price: Option<u32>,
-    start: u32,
+    start: FreeList,
 ) -> Result<Reply, M::Stop>
-    requires start { start < 8 }
     requires state { HoldsState (M.view memory.old) }
     requires range { IsTrue (is_command (Command.Add kind id num price)) }
     ensures origin { M.origin memory.new ≡ M.origin memory.old }
@@ -168,8 +166,12 @@ pub fn add<M: TxMem>(
 }
 
 /// Takes an item out of its table. Its block becomes the first of free list `start`.
-fn remove_item<M: TxMem>(memory: &mut M, kind: Kind, id: u32, start: u32) -> Result<(), M::Stop>
-    requires start { start < 8 }
+fn remove_item<M: TxMem>(
+    memory: &mut M,
+    kind: Kind,
+    id: u32,
+    start: FreeList,
+) -> Result<(), M::Stop>
     requires state { HoldsState (M.view memory.old) }
     requires item { HasItem (M.view memory.old) kind id }
     ensures origin { M.origin memory.new ≡ M.origin memory.old }
@@ -207,9 +209,8 @@ pub fn delete<M: TxMem>(
     kind: Kind,
     id: u32,
     num: u32,
-    start: u32,
+    start: FreeList,
 ) -> Result<Reply, M::Stop>
-    requires start { start < 8 }
     requires state { HoldsState (M.view memory.old) }
     requires range { IsTrue (is_command (Command.Delete kind id num)) }
     ensures origin { M.origin memory.new ≡ M.origin memory.old }
@@ -234,8 +235,7 @@ pub fn delete<M: TxMem>(
 }
 
 /// Removes a flight of which nothing is booked. Its block becomes the first of free list `start`.
-pub fn drop_flight<M: TxMem>(memory: &mut M, id: u32, start: u32) -> Result<Reply, M::Stop>
-    requires start { start < 8 }
+pub fn drop_flight<M: TxMem>(memory: &mut M, id: u32, start: FreeList) -> Result<Reply, M::Stop>
     requires state { HoldsState (M.view memory.old) }
     ensures origin { M.origin memory.new ≡ M.origin memory.old }
     ensures answer { IfOk result (λ reply. Ran (M.view memory.old) (M.view memory.new)

@@ -9,12 +9,9 @@ ghost use Rattle.vac_judge.specs.Holds.{Holds};
 use std::alloc::{AllocError, Global};
 use std::marker::Model;
 use stm_words::Flat;
-use tx_alloc::fresh_words;
+use tx_alloc::{FreeList, fresh_words};
 use vac_model::limits::MOST_BLOCKS;
 use vac_model::{Reply, Report, Task};
-
-/// Entries take their blocks from this free list first.
-const FIRST_LIST: u32 = 0;
 
 /// Plain memory that holds a state.
 #[derive(Drop)]
@@ -52,7 +49,7 @@ impl Heap {
         ensures state { (s : State) → Holds self.old s → Holds self.new (run s task.now).0 }
         ensures reply { (s : State) → Holds self.old s → (run s task.now).1 ≡ result }
     {
-        let Ok(reply) = vac_tasks::run_task(&mut self.memory, task, FIRST_LIST);
+        let Ok(reply) = vac_tasks::run_task(&mut self.memory, task, FreeList::new(0));
         reply
     }
 

@@ -3,7 +3,7 @@ use Rattle.std.proofs.Common.{◌≡◌, ℕ, List, length, refl, sym, ◌∙◌
 use Rattle.stm_words.specs.View.{View}
 use Rattle.vac_model.specs.State.{State}
 use Rattle.vac_records.specs.Items.{mem}
-use Rattle.vac_records.specs.Steps.{kept_none, kept_both}
+use Rattle.vac_records.specs.Steps.{kept_none, kept_both, stood}
 use Rattle.vac_records.specs.Represents.{IsState}
 use Rattle.vac_records.specs.Holds.{HoldsState, OnlyRead}
 
@@ -28,5 +28,5 @@ pub held_on : (s s' : View) → OnlyRead s s' → HoldsState s → HoldsState s'
 held_on s s' r h = record {
   inside = omega (arith, h.inside, r.kept.size);
   small = omega (arith, h.small, r.kept.size);
-  under = λ image i. (let t = h.under image (r.kept.seen image i) in (t.0, state_on s s' image t.0 r.writes t.1));
+  under = λ image i. (let t = h.under image (stood r.kept image i) in (t.0, state_on s s' image t.0 r.writes t.1));
 }

@@ -10,7 +10,7 @@ use Rattle.tx_list.specs.Lists.{IsListAt, HasList, First, Next, HasBooking, Some
 use Rattle.tx_list.proofs.Frame.{list_rest, list_block}
 use Rattle.vac_records.specs.Items.{mem, IsNode}
 use Rattle.vac_records.specs.Customers.{head_of, sum_in, HasBill, SomeBill, CanBill, Billed}
-use Rattle.vac_records.specs.Steps.{kept_both}
+use Rattle.vac_records.specs.Steps.{kept_both, stood}
 use Rattle.vac_records.proofs.Counting.{some_lt}
 
 -- the rest of the rows, from the block at p on: i rows and so much of the sum are behind
@@ -94,9 +94,9 @@ block_node s0 s customer i total block c h = let w = h.within in record { inside
 pub sum_fits : (s0 s s1 : View) (customer i total v : ℕ) (block : Block) → CanBill s0 customer → Billing s0 s customer (Some block) i total → Loaded s s1 (block.0.0 + 2) v → ∥ ((image : List ℕ) × Stands s1 image) ∥₁ → total + v < 2 ^ 64
 sum_fits s0 s s1 customer i total v block c h l ws = some_lt (total + v) (2 ^ 64) ws (λ w.
     let image = w.0 in
-    let j = l.kept.seen image w.1.sees in
-    let b = c.under image (h.kept.seen image j) in
-    let t = opened (mem s0 image) (length image) block.0.0 i total b.entries (some_block s0 s customer i total block h) (h.trail image b.entries j b.is) in
+    let j = stood l.kept image w.1 in
+    let b = c.under image (stood h.kept image j) in
+    let t = opened (mem s0 image) (length image) block.0.0 i total b.entries (some_block s0 s customer i total block h) (h.trail image b.entries j.sees b.is) in
     let e : mem s0 image (block.0.0 + 2) ≡ v = rw h.writes at (l.answer image w.1.sees) in
     omega (arith, b.is.fits, t.sum, e))
 
@@ -105,9 +105,9 @@ pub in_a_list : (s0 s s1 : View) (customer i total v : ℕ) (block : Block) → 
 in_a_list s0 s s1 customer i total v block c h l = record {
   small = omega (arith, c.small, h.kept.size, l.kept.size);
   under = λ image i1.
-      let j = l.kept.seen image i1 in
-      let b = c.under image (h.kept.seen image j) in
-      let t = opened (mem s0 image) (length image) block.0.0 i total b.entries (some_block s0 s customer i total block h) (h.trail image b.entries j b.is) in
+      let j = stood l.kept image i1 in
+      let b = c.under image (stood h.kept image j) in
+      let t = opened (mem s0 image) (length image) block.0.0 i total b.entries (some_block s0 s customer i total block h) (h.trail image b.entries j.sees b.is) in
       let same : s1.writes ≡ s0.writes = l.writes ∙ h.writes in
       let here : nat_eq t.row.1 block.0.0 ≡ true = (let q = t.is in grind (arith, nat_tests)) in
       rw same (record { start = block.0.0; entries = t.row ∷ t.rest; list = t.list; has = rw here (omega arith) });

@@ -3,12 +3,12 @@ use Rattle.std.proofs.Common.{◌≡◌, ◌≢◌, ◌⊎◌, inl, inr, ℕ, �
 use Rattle.std.proofs.lemmas.Bool.{cases_lt}
 use Rattle.std.proofs.lemmas.Grind.{not_there}
 use Rattle.stm_words.specs.Seen.{some_le}
-use Rattle.stm_words.specs.View.{View, Sees, Stands, Loaded, Stored, IsWrite}
+use Rattle.stm_words.specs.View.{View, Sees, Stands, Kept, Loaded, Stored, IsWrite}
 use Rattle.vac_model.specs.declared.items.Item.{Item}
 use Rattle.vac_model.specs.Step.{deleted, taken, given_back, added}
 use Rattle.std.specs.Prelude.{Option, None}
-use Rattle.vac_records.specs.Items.{mem, item_in, RoomAt, EnoughAt, Shifted, HasRoom, HasMore, UnitsAdded, HasFree, CanMake, CanCancel, IsItemNow, ItemChanged}
-use Rattle.vac_records.specs.Steps.{kept_both, write_at_start}
+use Rattle.vac_records.specs.Items.{mem, item_in, RoomAt, EnoughAt, Shifted, HasRoom, HasMore, UnitsAdded, HasFree, CanMake, CanCancel, IsItemNow, ItemChanged, ItemChangedOf}
+use Rattle.vac_records.specs.Steps.{kept_both, stood, write_at_start}
 
 -- a sum that fits under some image fits
 pub some_lt : {W : Type 0} (a b : ℕ) → ∥ W ∥₁ → (W → a < b) → a < b
@@ -16,11 +16,11 @@ some_lt a b w f = elim (cases_lt a b) [ inl less ↦ less | inr le ↦ absurd (n
 
 pub room_fits : (s s1 : View) (a by v : ℕ) → RoomAt s a by → Loaded s s1 a v → ∥ ((image : List ℕ) × Stands s1 image) ∥₁ → v + by < 2 ^ 64
 room_fits s s1 a by v room l ws = some_lt (v + by) (2 ^ 64) ws (λ w.
-    omega (arith, room.fits w.0 (l.kept.seen w.0 w.1.sees), l.answer w.0 w.1.sees))
+    omega (arith, room.fits w.0 (stood l.kept w.0 w.1), l.answer w.0 w.1.sees))
 
 pub enough_fits : (s s1 : View) (a by v : ℕ) → EnoughAt s a by → Loaded s s1 a v → ∥ ((image : List ℕ) × Stands s1 image) ∥₁ → by ≤ v
 enough_fits s s1 a by v enough l ws = some_le by v ws (λ w.
-    omega (arith, enough.enough w.0 (l.kept.seen w.0 w.1.sees), l.answer w.0 w.1.sees))
+    omega (arith, enough.enough w.0 (stood l.kept w.0 w.1), l.answer w.0 w.1.sees))
 
 pub shifted : (s s1 s2 : View) (a v : ℕ) (f : ℕ → ℕ) → Loaded s s1 a v → Stored s1 s2 a (f v) → Shifted s s2 a f
 shifted s s1 s2 a v f l w = record {
@@ -32,10 +32,10 @@ shifted s s1 s2 a v f l w = record {
 
 -- another word keeps its room
 pub room_kept : (s s1 : View) (a b by : ℕ) (f : ℕ → ℕ) → Shifted s s1 a f → b ≢ a → RoomAt s b by → RoomAt s1 b by
-room_kept s s1 a b by f w ne room = record { fits = λ image i. omega (arith, (w.shifted image i).others b ne, room.fits image (w.kept.seen image i)) }
+room_kept s s1 a b by f w ne room = record { fits = λ image i. omega (arith, (w.shifted image i.sees).others b ne, room.fits image (stood w.kept image i)) }
 
 pub enough_kept : (s s1 : View) (a b by : ℕ) (f : ℕ → ℕ) → Shifted s s1 a f → b ≢ a → EnoughAt s b by → EnoughAt s1 b by
-enough_kept s s1 a b by f w ne enough = record { enough = λ image i. omega (arith, (w.shifted image i).others b ne, enough.enough image (w.kept.seen image i)) }
+enough_kept s s1 a b by f w ne enough = record { enough = λ image i. omega (arith, (w.shifted image i.sees).others b ne, enough.enough image (stood w.kept image i)) }
 
 -- two words were changed
 pub record TwoWords (m m' : ℕ → ℕ) (a b : ℕ) (f g : ℕ → ℕ) : Type 0 where
@@ -43,15 +43,16 @@ pub record TwoWords (m m' : ℕ → ℕ) (a b : ℕ) (f g : ℕ → ℕ) : Type 
   pub second : m' b ≡ g (m b)
   pub others : (x : ℕ) → x ≢ a → x ≢ b → m' x ≡ m x
 
+two_writes : (m m1 m2 : ℕ → ℕ) (a b : ℕ) (f g : ℕ → ℕ) → IsWrite m m1 a (f (m a)) → IsWrite m1 m2 b (g (m1 b)) → a ≢ b → TwoWords m m2 a b f g
+two_writes m m1 m2 a b f g one two ne = record {
+  first = two.others a ne ∙ one.here;
+  second = two.here ∙ ap g (one.others b (λ q. ne (sym q)));
+  others = λ x na nb. two.others x nb ∙ one.others x na;
+}
+
 pub two_words : (s s1 s2 : View) (a b : ℕ) (f g : ℕ → ℕ) → Shifted s s1 a f → Shifted s1 s2 b g → a ≢ b → (image : List ℕ) → Sees s2 image → TwoWords (mem s image) (mem s2 image) a b f g
 two_words s s1 s2 a b f g w w' ne image i =
-    let one = w.shifted image (w'.kept.seen image i) in
-    let two = w'.shifted image i in
-    record {
-      first = two.others a ne ∙ one.here;
-      second = two.here ∙ ap g (one.others b (λ q. ne (sym q)));
-      others = λ x na nb. two.others x nb ∙ one.others x na;
-    }
+    two_writes (mem s image) (mem s1 image) (mem s2 image) a b f g (w.shifted image (w'.kept.seen image i)) (w'.shifted image i) ne
 
 pub more_units : (s s1 s2 : View) (node num a b : ℕ) → a ≡ node + 5 → b ≡ node + 6 → Shifted s s1 a (λ v. v + num) → Shifted s1 s2 b (λ v. v + num) → UnitsAdded s s2 node num
 more_units s s1 s2 node num a b p q w w' = record {
@@ -87,11 +88,14 @@ fewer_units s s1 s2 node num a b p q w w' = record {
       (λ j. record { used = used j; free = free j; total = total j; price = price j });
 }
 
-pub units_made : (s s1 s2 : View) (node num a b : ℕ) → a ≡ node + 5 → b ≡ node + 4 → Shifted s s1 a (λ v. v - num) → Shifted s1 s2 b (λ v. v + num) → ItemChanged s s2 node (λ item. taken item num)
-units_made s s1 s2 node num a b p q w w' = record {
+-- a word that was read before was written anew
+pub units_made : (s s1 s2 : View) (node num free a b : ℕ) → a ≡ node + 5 → b ≡ node + 4 → Stored s s1 a (free - num) → Shifted s1 s2 b (λ v. v + num) → ItemChangedOf s s2 node free (λ item. taken item num)
+units_made s s1 s2 node num free a b p q w w' = record {
   kept = kept_both s s1 s2 w.kept w'.kept;
-  changed = λ image i.
-      let t = two_words s s1 s2 a b (λ v. v - num) (λ v. v + num) w w' (omega arith) image i in
+  changed = λ image i is.
+      let at : mem s image a ≡ free = ap (mem s image) p ∙ is in
+      let less : IsWrite (mem s image) (mem s1 image) a (mem s image a - num) = subst (λ (x : ℕ). IsWrite (mem s image) (mem s1 image) a (x - num)) (sym at) (w.written image) in
+      let t = two_writes (mem s image) (mem s1 image) (mem s2 image) a b (λ v. v - num) (λ v. v + num) less (w'.shifted image i) (omega arith) in
       let used = rw q at t.second in
       let free = rw p at t.first in
       let total = t.others (node + 6) (omega arith) (omega arith) in
@@ -140,6 +144,13 @@ enough_at s a b by e enough = subst (λ (x : ℕ). EnoughAt s x by) (sym e) enou
 -- what was asked of another word before holds after the first change
 pub room_later : (s s1 : View) (a b i j by : ℕ) (f : ℕ → ℕ) → Shifted s s1 a f → a ≡ i → b ≡ j → j ≢ i → RoomAt s j by → RoomAt s1 b by
 room_later s s1 a b i j by f w p q ne room = room_kept s s1 a b by f w (λ e. ne (sym q ∙ (e ∙ p))) (room_at s b j by q room)
+
+-- and of a word that was not stored
+pub room_stored : (s s1 : View) (a b i j v by : ℕ) → Stored s s1 a v → a ≡ i → b ≡ j → j ≢ i → RoomAt s j by → RoomAt s1 b by
+room_stored s s1 a b i j v by w p q ne room =
+    let other : b ≢ a = λ e. ne (sym q ∙ (e ∙ p)) in
+    let there = room_at s b j by q room in
+    record { fits = λ image x. omega (arith, (w.written image).others b other, there.fits image (stood w.kept image x)) }
 
 pub enough_later : (s s1 : View) (a b i j by : ℕ) (f : ℕ → ℕ) → Shifted s s1 a f → a ≡ i → b ≡ j → j ≢ i → EnoughAt s j by → EnoughAt s1 b by
 enough_later s s1 a b i j by f w p q ne enough = enough_kept s s1 a b by f w (λ e. ne (sym q ∙ (e ∙ p))) (enough_at s b j by q enough)

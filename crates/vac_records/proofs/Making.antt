@@ -2,7 +2,7 @@
 use Rattle.std.proofs.Common.{◌≡◌, ◌≢◌, inl, inr, ℕ, ◌+◌, ◌<◌, ◌≤◌, ◌^◌, List, sym, ap, ◌∙◌, subst, arith}
 use Rattle.std.proofs.lemmas.Bool.{cases_lt}
 use Rattle.std.proofs.lemmas.Grind.{not_there}
-use Rattle.stm_words.specs.View.{View, Sees, Stands, Loaded, Stored, IsWrite}
+use Rattle.stm_words.specs.View.{View, Loaded, Stored, IsWrite}
 use Rattle.vac_records.specs.Items.{mem, HasRoom, IsNewItem, HasMore, ItemMade, UnitsAdded}
 use Rattle.vac_records.specs.Steps.{kept_both, write_at_start}
 

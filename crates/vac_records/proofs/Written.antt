@@ -1,7 +1,7 @@
 -- Stores that make a customer and a booking, and what is added to a booking.
 use Rattle.std.proofs.Common.{◌≡◌, ◌≢◌, ◌⊎◌, inl, inr, ℕ, ◌+◌, ◌*◌, ◌<◌, ◌≤◌, ◌^◌, List, refl, sym, ap, ◌∙◌, subst, arith}
 use Rattle.stm_words.specs.Seen.{same_or}
-use Rattle.stm_words.specs.View.{View, Sees, Loaded, Stored, IsWrite}
+use Rattle.stm_words.specs.View.{View, Loaded, Stored, IsWrite}
 use Rattle.vac_model.specs.declared.items.Booking.{Booking}
 use Rattle.vac_model.specs.State.{Place, kind_number}
 use Rattle.vac_model.specs.Step.{new_booking, extended}

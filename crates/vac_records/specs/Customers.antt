@@ -1,7 +1,7 @@
 -- Customers and their bookings in blocks of a transactional memory. The words of a customer's block
 -- are key, left, right, colour, head of the bookings, and three spare ones.
 use Rattle.std.specs.Prelude.{◌≡◌, ◌≢◌, ◌⊎◌, ℕ, ◌+◌, ◌*◌, ◌<◌, ◌≤◌, ◌^◌, List, [], ◌∷◌, length, Option, Some, None}
-use Rattle.stm_words.specs.View.{View, Sees, Kept}
+use Rattle.stm_words.specs.View.{View, Sees, Stands, Kept}
 use Rattle.vac_model.specs.declared.items.Kind.{Kind}
 use Rattle.vac_model.specs.declared.items.Booking.{Booking}
 use Rattle.vac_model.specs.State.{Place, kind_number}
@@ -10,8 +10,8 @@ use Rattle.tx_alloc.specs.declared.pool.Block.{Block}
 use Rattle.tx_alloc.specs.Pointer.{pointer, IsWithin}
 use Rattle.tx_alloc.specs.Pool.{IsBlock}
 use Rattle.tx_alloc.specs.Rows.{Rows, times, put_row, cut_row, block_at, Relinks}
-use Rattle.tx_list.specs.Lists.{IsListAt, IsOutside, HasList}
-use Rattle.tx_list.specs.Search.{IsSpot}
+use Rattle.tx_list.specs.Lists.{IsListAt, IsOutside}
+use Rattle.tx_list.specs.Search.{SpotAt}
 use Rattle.tx_list.specs.declared.search.Spot.{Spot}
 use Rattle.vac_records.specs.Items.{mem, RoomAt}
 use Rattle.vac_records.specs.Bookings.{booking_in, place_key}
@@ -70,8 +70,8 @@ pub record BookingChanged (s s' : View) (node : ℕ) (f : Booking → Booking) :
   pub changed : (image : List ℕ) → Sees s' image →
       IsBookingNow (mem s image) (mem s' image) node (f (booking_in (mem s image) node))
 
--- under each image the customer's list has no booking of the place, and b is a block that is
--- neither the customer's nor in the list
+-- the customer's list has no booking of the place, and b is a block that is neither the customer's
+-- nor in the list
 pub record IsLoose (m : ℕ → ℕ) (n customer : ℕ) (rows : Rows) (place : Place)
     (b : ℕ) : Type 0 where
   pub block : IsBlock n b
@@ -79,8 +79,9 @@ pub record IsLoose (m : ℕ → ℕ) (n customer : ℕ) (rows : Rows) (place : P
   pub absent : block_at rows (place_key place) ≡ 0
   pub loose : times b rows ≡ 0
 
+-- this is so under each image of the memory's size on which these are the bookings
 pub record CanBook (s : View) (customer : ℕ) (place : Place) (b : ℕ) : Type 0 where
-  pub under : (image : List ℕ) (rows : Rows) → Sees s image →
+  pub under : (image : List ℕ) (rows : Rows) → Stands s image →
       IsListAt (mem s image) (length image) (head_of customer) rows →
       IsLoose (mem s image) (length image) customer rows place b
 
@@ -96,15 +97,18 @@ pub record Booked (s s' : View) (customer : ℕ) (place : Place) (num price b : 
   pub kept : Kept s s'
   pub booked : (image : List ℕ) (rows : Rows) → Sees s' image →
       IsListAt (mem s image) (length image) (head_of customer) rows →
+      IsLoose (mem s image) (length image) customer rows place b →
       IsBooked (mem s image) (mem s' image) (length image) customer rows place num price b
 
 -- the block was made a booking of this place, and hung into each customer's list that lacked one
 -- and in which this was its spot
 pub record BookedAt (s s' : View) (spot : Spot) (place : Place) (num price b : ℕ) : Type 0 where
   pub kept : Kept s s'
-  pub booked : (customer : ℕ) → HasList s (head_of customer) →
-      IsSpot s (head_of customer) (place_key place) spot → CanBook s customer place b →
-      Booked s s' customer place num price b
+  pub booked : (image : List ℕ) → Sees s' image → (customer : ℕ) (rows : Rows) →
+      IsListAt (mem s image) (length image) (head_of customer) rows →
+      SpotAt (mem s image) (head_of customer) (place_key place) spot rows →
+      IsLoose (mem s image) (length image) customer rows place b →
+      IsBooked (mem s image) (mem s' image) (length image) customer rows place num price b
 
 -- a booking that left its list: its block and its units
 abbrev pub UnitsOf : (ℕ → ℕ) → Option (Block × ℕ) → Type 0
@@ -115,30 +119,36 @@ abbrev pub block_of : Option (Block × ℕ) → Option Block
 block_of None = None
 block_of (Some taken) = Some taken.0
 
--- the booking of the place left the list, if it was there, and the answer is its block with its
--- units. No word was changed but those that lead on, and none where it was not there.
+-- the booking of the place left the list of these rows, if it was there, and the answer is its
+-- block with its units. No word was changed but those that lead on.
+pub record IsUnbooking (m m' : ℕ → ℕ) (n customer : ℕ) (place : Place)
+    (taken : Option (Block × ℕ)) (rows : Rows) : Type 0 where
+  pub is : pointer (block_of taken) ≡ block_at rows (place_key place)
+  pub units : UnitsOf m taken
+  pub list : IsListAt m' n (head_of customer) (cut_row rows (place_key place))
+  pub relinks : Relinks m m' 3 (head_of customer) rows
+
+-- under each image the booking of the place left the customer's list. Nothing was written where it
+-- was not there.
 pub record Unbooked (s s' : View) (customer : ℕ) (place : Place)
     (taken : Option (Block × ℕ)) : Type 0 where
   pub kept : Kept s s'
   pub none : taken ≡ None → s'.writes ≡ s.writes
   pub within : IsWithin s' (block_of taken)
-  pub is : (image : List ℕ) (rows : Rows) → Sees s' image →
+  pub unbooking : (image : List ℕ) (rows : Rows) → Sees s' image →
       IsListAt (mem s image) (length image) (head_of customer) rows →
-      pointer (block_of taken) ≡ block_at rows (place_key place)
-  pub units : (image : List ℕ) → Sees s' image → UnitsOf (mem s image) taken
-  pub list : (image : List ℕ) (rows : Rows) → Sees s' image →
-      IsListAt (mem s image) (length image) (head_of customer) rows →
-      IsListAt (mem s' image) (length image) (head_of customer)
-      (cut_row rows (place_key place))
-  pub relinks : (image : List ℕ) (rows : Rows) → Sees s' image →
-      IsListAt (mem s image) (length image) (head_of customer) rows →
-      Relinks (mem s image) (mem s' image) 3 (head_of customer) rows
+      IsUnbooking (mem s image) (mem s' image) (length image) customer place taken rows
 
 -- the booking at a spot left each customer's list in which this was the spot of a place
 pub record UnbookedAt (s s' : View) (spot : Spot) (taken : Option (Block × ℕ)) : Type 0 where
   pub kept : Kept s s'
-  pub unbooked : (customer : ℕ) (place : Place) → HasList s (head_of customer) →
-      IsSpot s (head_of customer) (place_key place) spot → Unbooked s s' customer place taken
+  pub none : taken ≡ None → s'.writes ≡ s.writes
+  pub within : IsWithin s' (block_of taken)
+  pub unbooking : (image : List ℕ) → Sees s' image →
+      (customer : ℕ) (place : Place) (rows : Rows) →
+      IsListAt (mem s image) (length image) (head_of customer) rows →
+      SpotAt (mem s image) (head_of customer) (place_key place) spot rows →
+      IsUnbooking (mem s image) (mem s' image) (length image) customer place taken rows
 
 -- the sums of the bookings in these rows, added up
 abbrev pub sum_in : (ℕ → ℕ) → Rows → ℕ
@@ -155,11 +165,12 @@ pub record SomeBill (m : ℕ → ℕ) (n customer : ℕ) : Type 0 where
   pub entries : Rows
   pub is : HasBill m n customer entries
 
--- under each image that there may be the customer has a bill. Addresses fit 32 bits.
+-- under each image of the memory's size that there may be the customer has a bill. Addresses fit 32
+-- bits.
 pub record CanBill (s : View) (customer : ℕ) : Type 0 where
   pub small : s.size ≤ 2 ^ 32
   pub room : head_of customer < s.size
-  pub under : (image : List ℕ) → Sees s image → SomeBill (mem s image) (length image) customer
+  pub under : (image : List ℕ) → Stands s image → SomeBill (mem s image) (length image) customer
 
 -- only reads were made, and the answer is the sum of the bookings' sums
 pub record Billed (s s' : View) (customer total : ℕ) : Type 0 where

@@ -1,16 +1,16 @@
 -- Memories that hold a state, whatever image they stand on.
 use Rattle.std.specs.Prelude.{◌≡◌, ℕ, ◌≤◌, ◌^◌, List, length}
-use Rattle.stm_words.specs.View.{View, Sees, Kept}
+use Rattle.stm_words.specs.View.{View, Stands, Kept}
 use Rattle.vac_model.specs.State.{State}
 use Rattle.vac_records.specs.Items.{mem}
 use Rattle.vac_records.specs.Represents.{IsState}
 
--- under each image that there may be, the memory represents a balanced state. Addresses fit 32
--- bits.
+-- under each image of the memory's size that there may be, the memory represents a balanced state.
+-- Addresses fit 32 bits.
 pub record HoldsState (s : View) : Type 0 where
   pub inside : 16 ≤ s.size
   pub small : s.size ≤ 2 ^ 32
-  pub under : (image : List ℕ) → Sees s image →
+  pub under : (image : List ℕ) → Stands s image →
       (state : State) × IsState (mem s image) (length image) state
 
 -- only reads were made

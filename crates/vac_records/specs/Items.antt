@@ -1,7 +1,7 @@
 -- Items in blocks of a transactional memory. The words of a block are key, left, right, colour,
 -- used, free, total, price.
 use Rattle.std.specs.Prelude.{◌≡◌, ◌≢◌, ◌⊎◌, ℕ, ◌+◌, ◌<◌, ◌≤◌, ◌^◌, List}
-use Rattle.stm_words.specs.View.{View, Sees, Kept, IsWrite}
+use Rattle.stm_words.specs.View.{View, Sees, Stands, Kept, IsWrite}
 use Rattle.vac_model.specs.declared.items.Item.{Item}
 pub use Rattle.tx_alloc.specs.Steps.{mem}
 
@@ -19,10 +19,11 @@ pub record IsNode (s : View) (node : ℕ) : Type 0 where
   pub inside : node + 8 ≤ s.size
   pub small : s.size ≤ 2 ^ 32
 
--- under each image so many units can be added to the item's counts and fit a word
+-- under each image of the memory's size so many units can be added to the item's counts and fit a
+-- word
 pub record HasRoom (s : View) (node num : ℕ) : Type 0 where
-  pub free : (image : List ℕ) → Sees s image → mem s image (node + 5) + num < 2 ^ 64
-  pub total : (image : List ℕ) → Sees s image → mem s image (node + 6) + num < 2 ^ 64
+  pub free : (image : List ℕ) → Stands s image → mem s image (node + 5) + num < 2 ^ 64
+  pub total : (image : List ℕ) → Stands s image → mem s image (node + 6) + num < 2 ^ 64
 
 -- the block became an item of which nothing is used; its links and all words outside are as before
 pub record IsNewItem (m m' : ℕ → ℕ) (node key num price : ℕ) : Type 0 where
@@ -56,13 +57,13 @@ pub record ItemRead (s s' : View) (node : ℕ) (item : Item) : Type 0 where
   pub writes : s'.writes ≡ s.writes
   pub answer : (image : List ℕ) → Sees s' image → item_in (mem s image) node ≡ item
 
--- under each image the word has room for so much more
+-- under each image of the memory's size the word has room for so much more
 pub record RoomAt (s : View) (a by : ℕ) : Type 0 where
-  pub fits : (image : List ℕ) → Sees s image → mem s image a + by < 2 ^ 64
+  pub fits : (image : List ℕ) → Stands s image → mem s image a + by < 2 ^ 64
 
--- under each image the word is so much or more
+-- under each image of the memory's size the word is so much or more
 pub record EnoughAt (s : View) (a by : ℕ) : Type 0 where
-  pub enough : (image : List ℕ) → Sees s image → by ≤ mem s image a
+  pub enough : (image : List ℕ) → Stands s image → by ≤ mem s image a
 
 -- under each image the word was changed by f, and no other word was
 pub record Shifted (s s' : View) (a : ℕ) (f : ℕ → ℕ) : Type 0 where
@@ -82,7 +83,7 @@ pub record CanMake (s : View) (node num : ℕ) : Type 0 where
 
 -- the same, where this is how many units are free
 pub record CanMakeOf (s : View) (node num free : ℕ) : Type 0 where
-  pub free_is : (image : List ℕ) → Sees s image → mem s image (node + 5) ≡ free
+  pub free_is : (image : List ℕ) → Stands s image → mem s image (node + 5) ≡ free
   pub enough : num ≤ free
   pub used : RoomAt s (node + 4) num
 
@@ -100,4 +101,10 @@ pub record IsItemNow (m m' : ℕ → ℕ) (node : ℕ) (item : Item) : Type 0 wh
 pub record ItemChanged (s s' : View) (node : ℕ) (f : Item → Item) : Type 0 where
   pub kept : Kept s s'
   pub changed : (image : List ℕ) → Sees s' image →
+      IsItemNow (mem s image) (mem s' image) node (f (item_in (mem s image) node))
+
+-- the same where so many units were free
+pub record ItemChangedOf (s s' : View) (node free : ℕ) (f : Item → Item) : Type 0 where
+  pub kept : Kept s s'
+  pub changed : (image : List ℕ) → Sees s' image → mem s image (node + 5) ≡ free →
       IsItemNow (mem s image) (mem s' image) node (f (item_in (mem s image) node))

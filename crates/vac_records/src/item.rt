@@ -3,7 +3,7 @@
 ghost use Rattle.std.specs.Prelude.{◌≡◌, ◌+◌, IfOk, IfErr};
 ghost use Rattle.stm_words.specs.View.{Loaded, Stored};
 ghost use Rattle.vac_model.specs.Step.{deleted, taken, given_back};
-ghost use Rattle.vac_records.specs.Items.{IsNode, HasRoom, HasFree, CanMake, CanMakeOf, CanCancel, ItemMade, ItemRead, ItemChanged, UnitsAdded};
+ghost use Rattle.vac_records.specs.Items.{IsNode, HasRoom, HasFree, CanMake, CanMakeOf, CanCancel, ItemMade, ItemRead, ItemChanged, ItemChangedOf, UnitsAdded};
 
 use crate::place;
 use crate::word::{lower, raise, word_of};
@@ -157,8 +157,8 @@ pub fn make_of<M: TxMem>(memory: &mut M, node: Addr, num: u32, free: u64) -> Res
     requires node { IsNode (M.view memory.old) node.0 }
     requires units { CanMakeOf (M.view memory.old) node.0 num free }
     ensures origin { M.origin memory.new ≡ M.origin memory.old }
-    ensures answer { IfOk result (λ _. ItemChanged (M.view memory.old) (M.view memory.new) node.0
-        (λ item. taken item num)) }
+    ensures answer { IfOk result (λ _. ItemChangedOf (M.view memory.old) (M.view memory.new) node.0
+        free (λ item. taken item num)) }
 {
     store(memory, word_of(node, place::FREE), free - num as u64)?;
     raise(memory, word_of(node, place::USED), num as u64)?;

@@ -11,6 +11,7 @@ use Rattle.tx_list.proofs.Frame.{list_rest}
 use Rattle.vac_records.specs.Items.{mem, IsNode}
 use Rattle.vac_records.specs.Customers.{head_of}
 use Rattle.vac_records.specs.Holds.{OnlyRead}
+use Rattle.vac_records.specs.Steps.{stood}
 use Rattle.vac_records.proofs.Counting.{some_lt}
 use Rattle.vac_report.specs.Sums.{words_at, HasSums, CanCount, customer_alone, CustomerCounted}
 use Rattle.vac_report.proofs.Held.{read_both, no_rows}
@@ -92,18 +93,18 @@ word_is s0 s s' a v r l image i = rw r.writes at (l.answer image i)
 pub units_fit : (s0 s s1 : View) (customer i units billed v : ℕ) (block : Block) → CanCount s0 customer → BookingWalk s0 s customer (Some block) i units billed → Loaded s s1 (block.0.0 + 4) v → ∥ ((image : List ℕ) × Stands s1 image) ∥₁ → units + v < 2 ^ 64
 units_fit s0 s s1 customer i units billed v block c h l ws = some_lt (units + v) (2 ^ 64) ws (λ w.
     let image = w.0 in
-    let j = l.kept.seen image w.1.sees in
-    let b = c.under image (h.reads.kept.seen image j) in
-    let t = opened s0 s customer i units billed block h image b.entries j b.is in
+    let j = stood l.kept image w.1 in
+    let b = c.under image (stood h.reads.kept image j) in
+    let t = opened s0 s customer i units billed block h image b.entries j.sees b.is in
     omega (arith, b.is.units, t.units_are, word_is s0 s s1 (block.0.0 + 4) v h.reads l image w.1.sees))
 
 -- and so do the sums
 pub sums_fit : (s0 s s1 s2 : View) (customer i units billed u v : ℕ) (block : Block) → CanCount s0 customer → BookingWalk s0 s customer (Some block) i units billed → Loaded s s1 (block.0.0 + 4) u → Loaded s1 s2 (block.0.0 + 2) v → ∥ ((image : List ℕ) × Stands s2 image) ∥₁ → billed + v < 2 ^ 64
 sums_fit s0 s s1 s2 customer i units billed u v block c h k l ws = some_lt (billed + v) (2 ^ 64) ws (λ w.
     let image = w.0 in
-    let j = k.kept.seen image (l.kept.seen image w.1.sees) in
-    let b = c.under image (h.reads.kept.seen image j) in
-    let t = opened s0 s customer i units billed block h image b.entries j b.is in
+    let j = stood k.kept image (stood l.kept image w.1) in
+    let b = c.under image (stood h.reads.kept image j) in
+    let t = opened s0 s customer i units billed block h image b.entries j.sees b.is in
     let r = read_both s0 s s1 h.reads (loaded_read s s1 (block.0.0 + 4) u k) in
     omega (arith, b.is.sums, t.billed_is, word_is s0 s1 s2 (block.0.0 + 2) v r l image w.1.sees))
 
@@ -112,9 +113,9 @@ pub in_a_list : (s0 s s1 s2 : View) (customer i units billed u v : ℕ) (block :
 in_a_list s0 s s1 s2 customer i units billed u v block c h k l = record {
   small = omega (arith, c.small, h.reads.kept.size, k.kept.size, l.kept.size);
   under = λ image i2.
-      let j = k.kept.seen image (l.kept.seen image i2) in
-      let b = c.under image (h.reads.kept.seen image j) in
-      let t = opened s0 s customer i units billed block h image b.entries j b.is in
+      let j = stood k.kept image (stood l.kept image i2) in
+      let b = c.under image (stood h.reads.kept image j) in
+      let t = opened s0 s customer i units billed block h image b.entries j.sees b.is in
       let same : s2.writes ≡ s0.writes = l.writes ∙ (k.writes ∙ h.reads.writes) in
       rw same (record { start = block.0.0; entries = t.row ∷ t.rest; list = t.list; has = t.here });
 }

@@ -12,6 +12,7 @@ use Rattle.vac_records.specs.Items.{mem}
 use Rattle.vac_records.specs.Heap.{over}
 use Rattle.vac_records.specs.Represents.{IsState}
 use Rattle.vac_records.specs.Holds.{HoldsState, OnlyRead}
+use Rattle.vac_records.specs.Steps.{stood}
 use Rattle.vac_records.proofs.Bridges.{list_there}
 use Rattle.vac_records.proofs.Counting.{some_lt}
 use Rattle.vac_records.proofs.Customers.{customer_found}
@@ -135,12 +136,12 @@ can_count s0 s s1 key i k b sums holds w f = record {
   small = omega (arith, holds.small, w.reads.kept.size, f.kept.size);
   room = (let at = f.inside.1 in omega arith);
   under = λ image j.
-      let state = holds.under image (w.reads.kept.seen image (f.kept.seen image j)) in
+      let state = holds.under image (stood w.reads.kept image (stood f.kept image j)) in
       let same : s1.writes ≡ s0.writes = f.writes ∙ w.reads.writes in
       let ne : b ≢ 0 = λ z. absurd (omega (arith, z, f.inside.0)) in
       rw same (record {
         entries = lists_of (mem s0 image) (length image) state.0 state.1 b;
-        is = row_sums (mem s0 image) (length image) state.0 state.1 key k b (next_row s0 s s1 3 4 key (Some (k, b)) refl (omega arith) w.reads f image state.0 j state.1) ne;
+        is = row_sums (mem s0 image) (length image) state.0 state.1 key k b (next_row s0 s s1 3 4 key (Some (k, b)) refl (omega arith) w.reads f image state.0 j.sees state.1) ne;
       });
 }
 
@@ -181,8 +182,8 @@ unfolding all_rows
 customers_fit s0 s s1 s2 key i k b sums one holds w f c ws =
     let few : AreFew (customers_together sums one) = few_seen (customers_together sums one) ws (λ v.
     let image = v.0 in
-    let j1 = c.reads.kept.seen image v.1.sees in
-    let state = holds.under image (w.reads.kept.seen image (f.kept.seen image j1)) in
+    let j1 = stood c.reads.kept image v.1 in
+    let state = holds.under image (stood w.reads.kept image (stood f.kept image j1)) in
     let t = step_trail s0 s s1 s2 key i k b sums one w f c image state.0 v.1.sees state.1 in
     let total = few_total (mem s0 image) (length image) state.0 state.1 in
     record {

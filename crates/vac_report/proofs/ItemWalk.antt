@@ -11,6 +11,7 @@ use Rattle.tx_tree.proofs.TableFrame.{table_block, table_rises}
 use Rattle.vac_records.specs.Items.{mem, item_in, IsNode}
 use Rattle.vac_records.specs.Represents.{IsState}
 use Rattle.vac_records.specs.Holds.{HoldsState, OnlyRead}
+use Rattle.vac_records.specs.Steps.{stood}
 use Rattle.vac_records.proofs.Counting.{some_lt}
 use Rattle.vac_records.proofs.Items.{item_found}
 use Rattle.vac_report.specs.declared.items.ItemSums.{ItemSums}
@@ -142,8 +143,8 @@ pub items_fit : (s0 s s1 s2 : View) (kind : Kind) (root key i k b : ℕ) (sums o
 items_fit s0 s s1 s2 kind root key i k b sums one holds e w f c ws =
     let small : AreSmall (items_together sums one) = small_seen (items_together sums one) ws (λ v.
     let image = v.0 in
-    let j1 = c.reads.kept.seen image v.1.sees in
-    let state = holds.under image (w.reads.kept.seen image (f.kept.seen image j1)) in
+    let j1 = stood c.reads.kept image v.1 in
+    let state = holds.under image (stood w.reads.kept image (stood f.kept image j1)) in
     small_trail (mem s0 image) (length image) state.0 state.1 kind k (i + 1) (items_together sums one)
     (step_trail s0 s s1 s2 kind root key i k b sums one e w f c image state.0 v.1.sees state.1)) in
     record {
@@ -160,7 +161,7 @@ item_end s0 s kind key i sums holds w ws none = record {
   reads = w.reads;
   small = small_seen sums ws (λ v.
       let image = v.0 in
-      let state = holds.under image (w.reads.kept.seen image v.1.sees) in
+      let state = holds.under image (stood w.reads.kept image v.1) in
       small_trail (mem s0 image) (length image) state.0 state.1 kind key i sums (w.trail image state.0 v.1.sees state.1));
   is = λ image state j h.
       let m = mem s0 image in

@@ -1,7 +1,7 @@
 -- The sums that a report is made of.
 use Rattle.std.specs.Prelude.{◌≡◌, ℕ, ◌+◌, ◌<◌, ◌≤◌, ◌^◌, List, [], ◌∷◌, length, sum_by}
 use Rattle.std.specs.FinMap.{len, values}
-use Rattle.stm_words.specs.View.{View, Sees}
+use Rattle.stm_words.specs.View.{View, Sees, Stands}
 use Rattle.tx_alloc.specs.Rows.{Rows}
 use Rattle.tx_list.specs.Lists.{IsListAt}
 use Rattle.vac_model.specs.declared.items.Kind.{Kind}
@@ -102,11 +102,12 @@ pub record SomeSums (m : ℕ → ℕ) (n customer : ℕ) : Type 0 where
   pub entries : Rows
   pub is : HasSums m n customer entries
 
--- under each image that there may be the customer's bookings have such sums. Addresses fit 32 bits.
+-- under each image of the memory's size that there may be the customer's bookings have such sums.
+-- Addresses fit 32 bits.
 pub record CanCount (s : View) (customer : ℕ) : Type 0 where
   pub small : s.size ≤ 2 ^ 32
   pub room : head_of customer < s.size
-  pub under : (image : List ℕ) → Sees s image → SomeSums (mem s image) (length image) customer
+  pub under : (image : List ℕ) → Stands s image → SomeSums (mem s image) (length image) customer
 
 -- the customer with these bookings, alone
 abbrev pub customer_alone : (ℕ → ℕ) → Rows → CustomerSums

@@ -8,8 +8,8 @@ use std::alloc::{AllocError, Global};
 use std::marker::Model;
 use std::process::Abort;
 use stm_words::Flat;
-use tx_alloc::fresh_words;
-use tx_alloc::place::MOST_BLOCKS;
+use tx_alloc::place::{LISTS, MOST_BLOCKS};
+use tx_alloc::{FreeList, fresh_words};
 use vac_audit::{audit_words, report};
 use vac_model::{Reply, Report, Sequential, Task};
 use vac_tasks::{only_reads, read_task, run_task};
@@ -47,9 +47,7 @@ impl Heap {
     }
 
     /// The reply to a task, or `None` where it cannot be asked for.
-    fn answer(&mut self, task: &Task, start: u32) -> Option<Reply>
-        requires { start < 8 }
-    {
+    fn answer(&mut self, task: &Task, start: FreeList) -> Option<Reply> {
         if !task.is_in_range() {
             return None;
         }
@@ -87,7 +85,7 @@ fn compare(rt: &impl Abort, alloc: Global, seed: u64) {
         let wanted = plain.run(&task).expect(rt, "the task is in range");
         let looked = heap.look(&task);
         assert!(rt; looked.is_none() || looked == Some(wanted), "at task {at}");
-        let start = draws.next_u32() % 8;
+        let start = FreeList::new(draws.next_u32() % LISTS);
         assert_eq!(rt; heap.answer(&task, start), Some(wanted), "at task {at}");
     }
     let wanted = plain.report();

@@ -20,7 +20,7 @@ use Rattle.vac_model.proofs.Ids.{both_true}
 use Rattle.vac_model.proofs.Kept.{le_true}
 use Rattle.vac_model.proofs.Noted.{noted, steps_more, length-steps}
 use Rattle.vac_records.specs.Items.{mem}
-use Rattle.vac_records.specs.Steps.{kept_none, kept_both}
+use Rattle.vac_records.specs.Steps.{kept_none, kept_both, stood}
 use Rattle.vac_records.specs.Represents.{IsState}
 use Rattle.vac_records.specs.Holds.{HoldsState, OnlyRead}
 use Rattle.vac_commands.specs.Entries.{LacksCustomer}
@@ -44,7 +44,7 @@ pub held_runs : {A : Type 0} (s s' : View) (f : State → State × A) (a : A) �
 held_runs s s' f a runs h = record {
   inside = omega (arith, h.inside, runs.kept.size);
   small = omega (arith, h.small, runs.kept.size);
-  under = λ image i. (let t = h.under image (runs.kept.seen image i) in ((f t.0).0, runs.state image t.0 i t.1));
+  under = λ image i. (let t = h.under image (stood runs.kept image i) in ((f t.0).0, runs.state image t.0 i.sees t.1));
 }
 
 pub ran_one : (s s' : View) (c : Command) (r : Reply) → Ran s s' c r → RanTask s s' (task.One c) r

@@ -13,6 +13,7 @@ use Rattle.vac_model.proofs.Empty.{empty-small}
 use Rattle.tx_alloc.specs.Pool.{IsEmptyHeap, IsPool, fresh_lists}
 use Rattle.vac_records.specs.Items.{mem}
 use Rattle.vac_records.specs.Holds.{HoldsState}
+use Rattle.vac_records.specs.Steps.{stood}
 use Rattle.vac_records.proofs.Fresh.{fresh_state}
 use Rattle.stm_words.specs.View.{View}
 use Rattle.vac_tasks.specs.RanTask.{RanTask}
@@ -35,7 +36,7 @@ fresh_holds xs blocks few heap pool = record {
   small = omega (arith, heap.size);
   under = λ image i. (
     empty_state blocks,
-    rw (flat_mem xs image i.fits, i.fits) (record {
+    rw (flat_mem xs image i.sees.fits, i.sees.fits) (record {
       represents = fresh_state xs blocks heap pool;
       small = empty-small blocks few;
     }),
@@ -47,5 +48,5 @@ pub held_task : (s s' : View) (t : Task) (r : Reply) → RanTask s s' t r → Ho
 held_task s s' t r ran h = record {
   inside = omega (arith, h.inside, ran.kept.size);
   small = omega (arith, h.small, ran.kept.size);
-  under = λ image i. (let t0 = h.under image (ran.kept.seen image i) in ((run t0.0 t).0, (ran.outcome image t0.0 i t0.1).state));
+  under = λ image i. (let t0 = h.under image (stood ran.kept image i) in ((run t0.0 t).0, (ran.outcome image t0.0 i.sees t0.1).state));
 }

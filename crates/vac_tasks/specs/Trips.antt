@@ -1,5 +1,5 @@
 -- What the parts of a trip do to a memory that holds a state, under every image.
-use Rattle.std.specs.Prelude.{◌≡◌, ℕ, List, Option, Some, None, IfSome, IsTrue, MatchOption, length, nat_lt, ◌||◌, Bool, is_some, if◌then◌else◌}
+use Rattle.std.specs.Prelude.{◌≡◌, ◌≢◌, ℕ, List, Option, Some, None, IfSome, IsTrue, MatchOption, length, nat_lt, ◌||◌, Bool, is_some, if◌then◌else◌}
 use Rattle.std.specs.Option.{option_map}
 use Rattle.stm_words.specs.View.{View, Sees}
 use Rattle.tx_alloc.specs.declared.pool.Block.{Block}
@@ -11,10 +11,11 @@ use Rattle.vac_model.specs.Amounts.{is_id}
 use Rattle.vac_model.specs.State.{State, Place}
 use Rattle.vac_model.specs.Step.{step, price_of}
 use Rattle.vac_model.specs.Run.{choice_of, joined_of}
+use Rattle.tx_alloc.specs.Pointer.{IsWithin}
 use Rattle.vac_records.specs.Items.{mem}
 use Rattle.vac_records.specs.Represents.{IsState}
 use Rattle.vac_records.specs.Holds.{OnlyRead}
-use Rattle.vac_commands.specs.Entries.{HasItemAt, LacksCustomer, HasCustomerAt, ItemsStay}
+use Rattle.vac_commands.specs.Entries.{item_block, customer_block, HasItemAt, ItemIsAt, CustomerIsAt, CustomerIsMissing, ItemsStay}
 use Rattle.vac_tasks.specs.declared.trip.Choice.{Choice}
 use Rattle.vac_tasks.specs.declared.trip.Choices.{Choices}
 use Rattle.vac_tasks.specs.declared.trip.Owner.{Owner}
@@ -57,6 +58,24 @@ pub record IsKnown (s : View) (kind : Kind) (c : Choice) : Type 0 where
 pub record AreKnown (s : View) (cs : Choices) : Type 0 where
   pub known : (kind : Kind) → IfSome (choice_in cs kind) (λ c. IsKnown s kind c)
 
+-- the same under each image of the memory's size, which is what a booking asks for
+pub record ChoiceIsAt (s : View) (kind : Kind) (c : Choice) : Type 0 where
+  pub id : IsTrue (is_id c.id)
+  pub at : ItemIsAt s kind c.id c.item.0.0
+
+pub record ChoicesAreAt (s : View) (cs : Choices) : Type 0 where
+  pub known : (kind : Kind) → IfSome (choice_in cs kind) (λ c. ChoiceIsAt s kind c)
+
+-- what is chosen of a kind stands in the block that is noted
+abbrev pub IsChoiceAt : {m : ℕ → ℕ} {n : ℕ} {s : State} → IsState m n s → Kind → Option Choice →
+    Type 0
+IsChoiceAt h kind choice = IfSome choice (λ c. item_block h kind c.id ≡ c.item.0.0)
+
+-- so does all that is chosen
+pub record AtChoices (cs : Choices) (m : ℕ → ℕ) (n : ℕ) (s : State) (h : IsState m n s) : Type 0
+  where
+    pub at : (kind : Kind) → IsChoiceAt h kind (choice_in cs kind)
+
 -- only reads were made, and under each image this is the item with its price, if it is there
 pub record LookedUp (s s' : View) (kind : Kind) (id : ℕ) (found : Option Choice) : Type 0 where
   pub reads : OnlyRead s s'
@@ -76,14 +95,29 @@ pub record Chosen (s s' : View) (asks : List Place) (cs : Choices) : Type 0 wher
 
 -- the block of the customer; where there is none, the customer is missing
 abbrev pub IsOwner : View → ℕ → Option Block → Type 0
-IsOwner s id block = MatchOption block (LacksCustomer s id) (λ c. HasCustomerAt s id c.0.0)
+IsOwner s id block =
+    MatchOption block (CustomerIsMissing s id) (λ c. CustomerIsAt s id c.0.0)
+
+abbrev pub IsOwnerAt : {m : ℕ → ℕ} {n : ℕ} {s : State} → IsState m n s → ℕ → Option Block → Type 0
+IsOwnerAt h id block =
+    MatchOption block (customer_block h id ≡ 0) (λ c. customer_block h id ≡ c.0.0)
+
+-- the customer and what is chosen of a kind stand in these blocks
+pub record AtPick (id : ℕ) (block : Option Block) (kind : Kind) (choice : Option Choice)
+    (m : ℕ → ℕ) (n : ℕ) (s : State) (h : IsState m n s) : Type 0 where
+  pub owner : IsOwnerAt h id block
+  pub chosen : IsChoiceAt h kind choice
 
 -- the state after the customer was asked for, and what became of the customer
 abbrev pub joined : ℕ → State → State × Joined
 joined id s = ((step s (command.NewCustomer id)).0, joined_of (step s (command.NewCustomer id)).1)
 
--- under each image the customer was asked for, and the items stand in the same blocks as before
+-- under each image the customer was asked for, this is the customer's block now, and the items
+-- stand in the same blocks as before
 pub record HasJoined (s s' : View) (id : ℕ) (owner : Owner) : Type 0 where
   pub runs : Runs s s' (joined id) owner.joined
-  pub block : IsOwner s' id owner.block
+  pub room : IsWithin s' owner.block
+  pub seat : (image : List ℕ) (state state' : State) → Sees s' image →
+      IsState (mem s image) (length image) state →
+      (h' : IsState (mem s' image) (length image) state') → IsOwnerAt h' id owner.block
   pub items : ItemsStay s s'

@@ -1,6 +1,6 @@
 //! Each command by its body.
 
-ghost use Rattle.std.specs.Prelude.{◌≡◌, ◌<◌, IfOk, IfErr, IsTrue};
+ghost use Rattle.std.specs.Prelude.{◌≡◌, IfOk, IfErr, IsTrue};
 ghost use Rattle.vac_model.specs.Ranges.{is_command};
 ghost use Rattle.vac_model.specs.Run.{refusal_of};
 ghost use Rattle.vac_records.specs.Holds.{HoldsState};
@@ -8,6 +8,7 @@ ghost use Rattle.vac_commands.specs.Ran.{Ran, Asked};
 ghost use Rattle.vac_tasks.specs.Reading.{is_question};
 
 use stm_words::{TxMem, TxRead};
+use tx_alloc::FreeList;
 use vac_commands::{
     add, bill, cancel, delete, drop_customer, drop_flight, free, new_customer, price, reserve,
 };
@@ -68,9 +69,8 @@ pub(crate) fn read_command<M: TxRead>(memory: &mut M, command: Command) -> Resul
 pub(crate) fn run_command<M: TxMem>(
     memory: &mut M,
     command: Command,
-    start: u32,
+    start: FreeList,
 ) -> Result<Reply, M::Stop>
-    requires start { start < 8 }
     requires state { HoldsState (M.view memory.old) }
     requires range { IsTrue (is_command command) }
     ensures origin { M.origin memory.new ≡ M.origin memory.old }

@@ -1,17 +1,21 @@
 //! Leaving: a bill, and the end of a customer.
 
-ghost use Rattle.std.specs.Prelude.{◌≡◌, ◌<◌, IfOk, IsTrue};
+ghost use Rattle.std.specs.Prelude.{◌≡◌, IfOk, IsTrue};
 ghost use Rattle.vac_model.specs.Ranges.{is_task};
 ghost use Rattle.vac_records.specs.Holds.{HoldsState};
 ghost use Rattle.vac_tasks.specs.RanTask.{RanTask};
 
 use stm_words::TxMem;
+use tx_alloc::FreeList;
 use vac_commands::{bill_at, drop_customer_at, find_customer};
 use vac_model::{Reply, Task};
 
 /// Answers the bill of a customer who is there, and deletes that customer.
-pub(crate) fn leave<M: TxMem>(memory: &mut M, customer: u32, start: u32) -> Result<Reply, M::Stop>
-    requires start { start < 8 }
+pub(crate) fn leave<M: TxMem>(
+    memory: &mut M,
+    customer: u32,
+    start: FreeList,
+) -> Result<Reply, M::Stop>
     requires state { HoldsState (M.view memory.old) }
     requires range { IsTrue (is_task (Task.Leave customer)) }
     ensures origin { M.origin memory.new ≡ M.origin memory.old }

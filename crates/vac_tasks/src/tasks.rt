@@ -1,6 +1,6 @@
 //! Tasks, each as the body of one transaction.
 
-ghost use Rattle.std.specs.Prelude.{◌≡◌, ◌<◌, IfOk, IfErr, IsTrue};
+ghost use Rattle.std.specs.Prelude.{◌≡◌, IfOk, IfErr, IsTrue};
 ghost use Rattle.vac_model.specs.Ranges.{is_task};
 ghost use Rattle.vac_records.specs.Holds.{HoldsState};
 ghost use Rattle.vac_tasks.specs.Reading as reading;
@@ -11,6 +11,7 @@ use crate::leave::leave;
 use crate::trip::trip;
 use crate::update::update;
 use stm_words::{TxMem, TxRead};
+use tx_alloc::FreeList;
 use vac_model::{Reply, Task};
 
 /// Whether the task is one that only reads.
@@ -41,8 +42,7 @@ pub fn read_task<M: TxRead>(memory: &mut M, task: &Task) -> Result<Reply, M::Sto
 }
 
 /// Runs a task. New entries take their blocks from free list `start` on.
-pub fn run_task<M: TxMem>(memory: &mut M, task: &Task, start: u32) -> Result<Reply, M::Stop>
-    requires start { start < 8 }
+pub fn run_task<M: TxMem>(memory: &mut M, task: &Task, start: FreeList) -> Result<Reply, M::Stop>
     requires state { HoldsState (M.view memory.old) }
     requires range { IsTrue (is_task task.now) }
     ensures origin { M.origin memory.new ≡ M.origin memory.old }

@@ -1,20 +1,19 @@
 //! Trips: of each kind the dearest of the items that were asked for, for one customer.
 
-ghost use Rattle.std.specs.Prelude.{◌≡◌, ◌<◌, IfOk, IfSome, IsTrue};
+ghost use Rattle.std.specs.Prelude.{◌≡◌, IfOk, IfSome, IsTrue};
 ghost use Rattle.std.specs.List.{list_all};
 ghost use Rattle.vac_model.specs.Amounts.{is_id};
 ghost use Rattle.vac_model.specs.Ranges.{is_task};
 ghost use Rattle.vac_model.specs.Run as rules;
 ghost use Rattle.vac_records.specs.Holds.{HoldsState};
-ghost use Rattle.vac_commands.specs.Entries.{ItemsStay, CustomersStay};
 ghost use Rattle.vac_tasks.specs.RanTask.{RanTask};
-ghost use Rattle.vac_tasks.specs.Runs.{Runs};
+ghost use Rattle.vac_tasks.specs.Runs.{RunsWhere, BlocksStay};
 ghost use Rattle.vac_tasks.specs.Trips.{priced, any_chosen, dearer_of, with_found};
-ghost use Rattle.vac_tasks.specs.Trips.{IsKnown, AreKnown, LookedUp, Chosen, IsOwner, HasJoined};
+ghost use Rattle.vac_tasks.specs.Trips.{ChoiceIsAt, ChoicesAreAt, AtPick, AtChoices, LookedUp, Chosen, IsOwner, HasJoined};
 
 use crate::commands::refusal;
 use stm_words::{TxMem, TxRead};
-use tx_alloc::Block;
+use tx_alloc::{Block, FreeList};
 use vac_commands::{add_customer, find_customer, find_item, reserve_at};
 use vac_model::{Joined, Kind, Pick, Reply, Task, TripReply, Why};
 use vac_records::price_at;
@@ -115,8 +114,7 @@ fn choose<M: TxRead>(memory: &mut M, asks: &[(Kind, u32)]) -> Result<Choices, M:
 }
 
 /// Looks for the customer once, and makes one who is missing.
-fn join<M: TxMem>(memory: &mut M, customer: u32, start: u32) -> Result<Owner, M::Stop>
-    requires start { start < 8 }
+fn join<M: TxMem>(memory: &mut M, customer: u32, start: FreeList) -> Result<Owner, M::Stop>
     requires state { HoldsState (M.view memory.old) }
     requires range { IsTrue (is_id customer) }
     ensures origin { M.origin memory.new ≡ M.origin memory.old }
@@ -148,18 +146,18 @@ fn reserve_choice<M: TxMem>(
     owner: Option<Block>,
     kind: Kind,
     choice: Option<Choice>,
-    start: u32,
+    start: FreeList,
 ) -> Result<Option<Pick>, M::Stop>
-    requires start { start < 8 }
     requires state { HoldsState (M.view memory.old) }
     requires range { IsTrue (is_id customer) }
     requires owner { IsOwner (M.view memory.old) customer owner }
-    requires known { IfSome choice (λ c. IsKnown (M.view memory.old) kind c) }
+    requires known { IfSome choice (λ c. ChoiceIsAt (M.view memory.old) kind c) }
     ensures origin { M.origin memory.new ≡ M.origin memory.old }
-    ensures answer { IfOk result (λ pick. Runs (M.view memory.old) (M.view memory.new)
-        (λ state. rules.reserve_choice state customer kind (priced choice)) pick) }
-    ensures items { IfOk result (λ _. ItemsStay (M.view memory.old) (M.view memory.new)) }
-    ensures customers { IfOk result (λ _. CustomersStay (M.view memory.old) (M.view memory.new)) }
+    ensures answer { IfOk result (λ pick. RunsWhere (M.view memory.old) (M.view memory.new)
+        (λ state. rules.reserve_choice state customer kind (priced choice)) pick
+        (AtPick customer owner kind choice)) }
+    ensures blocks { IfOk result (λ _. BlocksStay (M.view memory.old) (M.view memory.new)
+        (AtPick customer owner kind choice)) }
 {
     let Some(Choice { id, price, item }) = choice else {
         return Ok(None);
@@ -181,16 +179,15 @@ fn book_choices<M: TxMem>(
     memory: &mut M,
     customer: u32,
     choices: &Choices,
-    start: u32,
+    start: FreeList,
 ) -> Result<Reply, M::Stop>
-    requires start { start < 8 }
     requires state { HoldsState (M.view memory.old) }
     requires range { IsTrue (is_id customer) }
-    requires known { AreKnown (M.view memory.old) choices.now }
+    requires known { ChoicesAreAt (M.view memory.old) choices.now }
     ensures origin { M.origin memory.new ≡ M.origin memory.old }
-    ensures answer { IfOk result (λ reply. Runs (M.view memory.old) (M.view memory.new)
+    ensures answer { IfOk result (λ reply. RunsWhere (M.view memory.old) (M.view memory.new)
         (λ state. rules.book_choices state customer (priced choices.now.car)
-        (priced choices.now.flight) (priced choices.now.room)) reply) }
+        (priced choices.now.flight) (priced choices.now.room)) reply (AtChoices choices.now)) }
 {
     let owner = join(memory, customer, start)?;
     let block = owner.block;
@@ -209,9 +206,8 @@ pub(crate) fn trip<M: TxMem>(
     memory: &mut M,
     customer: u32,
     asks: &[(Kind, u32)],
-    start: u32,
+    start: FreeList,
 ) -> Result<Reply, M::Stop>
-    requires start { start < 8 }
     requires state { HoldsState (M.view memory.old) }
     requires range { IsTrue (is_task (Task.Trip customer asks.now)) }
     ensures origin { M.origin memory.new ≡ M.origin memory.old }

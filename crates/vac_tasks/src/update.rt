@@ -1,12 +1,13 @@
 //! Updates: changes of the tables, one after the other.
 
-ghost use Rattle.std.specs.Prelude.{◌≡◌, ◌<◌, IfOk, IsTrue};
+ghost use Rattle.std.specs.Prelude.{◌≡◌, IfOk, IsTrue};
 ghost use Rattle.vac_model.specs.Ranges.{is_task};
 ghost use Rattle.vac_records.specs.Holds.{HoldsState};
 ghost use Rattle.vac_tasks.specs.RanTask.{RanTask};
 
 use crate::commands::{refusal, run_command};
 use stm_words::TxMem;
+use tx_alloc::FreeList;
 use vac_model::limits::MOST_PARTS;
 use vac_model::{Command, Reply, Task, UpdateReply};
 
@@ -14,9 +15,8 @@ use vac_model::{Command, Reply, Task, UpdateReply};
 pub(crate) fn update<M: TxMem>(
     memory: &mut M,
     changes: &[Command],
-    start: u32,
+    start: FreeList,
 ) -> Result<Reply, M::Stop>
-    requires start { start < 8 }
     requires state { HoldsState (M.view memory.old) }
     requires range { IsTrue (is_task (Task.Update changes.now)) }
     ensures origin { M.origin memory.new ≡ M.origin memory.old }

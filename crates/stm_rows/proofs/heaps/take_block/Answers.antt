@@ -1,8 +1,8 @@
 use Rattle.stm_rows.proofs.Pools.{heap_pool, heap_took}
 use Rattle.stm_rows.proofs.heaps.take_block.Goals as goal
 
-pub take-requires-clause-pool : goal.take-requires-clause-pool
-take-requires-clause-pool g c = heap_pool _ c.requires.heap
+pub take-requires : goal.take-requires
+take-requires g c = record { pool = heap_pool _ c.requires.heap }
 
 pub returns-clause-heap : goal.returns-clause-heap
 returns-clause-heap g c = heap_took c.in_ok-taken.taken (λ b. b.0.0) _ _ _ c.in_ok-taken.ensures.answer

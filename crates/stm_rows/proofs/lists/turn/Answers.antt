@@ -10,7 +10,8 @@ insert-requires-clause-fresh g c =
 
 pub returns-in_ok-insert-in-None-clause-stock : goal.returns-in_ok-insert-in-None-clause-stock
 returns-in_ok-insert-in-None-clause-stock g c =
-    stock_inserted _ _ _ _ (stock_removed _ _ _ _ c.requires.stock c.in_ok-removed.ensures.answer) c.in_ok-insert-in-None.ensures.answer
+    stock_inserted _ _ _ _ (stock_removed _ _ _ _ c.requires.stock c.in_ok-removed.ensures.answer)
+    (stock_fresh _ _ c.args.key _ _ c.requires.stock c.in_ok-removed.ensures.answer c.in-None.is c.requires.key c.block_of.ensures) c.in_ok-insert-in-None.ensures.answer
 
 pub returns-in-Some-clause-stock : goal.returns-in-Some-clause-stock
 returns-in-Some-clause-stock g c = stock_removed _ _ _ _ c.requires.stock c.in_ok-removed.ensures.answer

@@ -8,4 +8,5 @@ insert-requires-clause-fresh g c =
 
 pub returns-in_ok-insert-in-None-clause-table : goal.returns-in_ok-insert-in-None-clause-table
 returns-in_ok-insert-in-None-clause-table g c =
-    table_put _ _ _ _ _ (table_sought _ _ _ _ _ (table_loaded _ _ _ _ _ c.requires.table c.in_ok-key.ensures.answer) c.in_ok-found.ensures.answer) (search (rules, arith)) c.in_ok-insert-in-None.ensures.answer
+    let fresh = table_fresh _ _ _ _ _ c.args.number _ c.requires.table (search (rules, arith)) refl c.in_ok-key.ensures.answer (not_found _ _ _ _ c.in-None.is c.in_ok-found.ensures.answer) in
+    table_put _ _ _ _ _ (table_sought _ _ _ _ _ (table_loaded _ _ _ _ _ c.requires.table c.in_ok-key.ensures.answer) c.in_ok-found.ensures.answer) (search (rules, arith)) fresh c.in_ok-insert-in-None.ensures.answer

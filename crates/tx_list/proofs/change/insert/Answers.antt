@@ -12,4 +12,4 @@ insert_at-requires-clause-block g c =
 
 pub returns-clause-answer : goal.returns-clause-answer
 returns-clause-answer g c =
-    hung_after _ _ _ _ _ _ _ c.requires.key c.requires.fresh c.in_ok-spot.ensures.answer c.in_ok-insert_at.ensures.answer
+    hung_after _ _ _ _ _ _ _ c.requires.key c.in_ok-spot.ensures.answer c.in_ok-insert_at.ensures.answer

@@ -1,6 +1,7 @@
 use Rattle.vac_commands.proofs.Answering.{if_ok}
-use Rattle.vac_commands.proofs.Held.{held_on, read_both, customer_at_on, ran_after}
+use Rattle.vac_commands.proofs.Held.{held_on, read_both, customer_at_on, item_found_at, customer_found_at, ran_after}
 use Rattle.vac_commands.proofs.Refusals.{reserve_needs, lacks_customer, lacks_item}
+use Rattle.vac_commands.proofs.Reserving.{served_found}
 use Rattle.vac_commands.proofs.bookings.reserve.Goals as goal
 
 pub returns-in_default-clause-answer : goal.returns-in_default-clause-answer
@@ -18,7 +19,13 @@ pub reserve_at-requires-clause-state : goal.reserve_at-requires-clause-state
 reserve_at-requires-clause-state g c = held_on _ _ (read_both _ _ _ c.in_ok-owner.ensures.reads c.in_ok-item.ensures.reads) c.requires.state
 
 pub reserve_at-requires-clause-customer : goal.reserve_at-requires-clause-customer
-reserve_at-requires-clause-customer g c = customer_at_on _ _ _ _ c.in_ok-item.ensures.reads (rw c.in-Some.is at c.in_ok-owner.ensures.answer)
+reserve_at-requires-clause-customer g c = customer_found_at _ _ _ (customer_at_on _ _ _ _ c.in_ok-item.ensures.reads (rw c.in-Some.is at c.in_ok-owner.ensures.answer))
+
+pub reserve_at-requires-clause-item : goal.reserve_at-requires-clause-item
+reserve_at-requires-clause-item g c = item_found_at _ _ _ _ (rw c.in-Some-2.is at c.in_ok-item.ensures.answer)
 
 pub returns-clause-answer : goal.returns-clause-answer
-returns-clause-answer g c = if_ok _ _ _ (λ r h. ran_after _ _ _ _ r (read_both _ _ _ c.in_ok-owner.ensures.reads c.in_ok-item.ensures.reads) h) c.reserve_at.ensures.answer
+returns-clause-answer g c =
+    if_ok _ _ _ (λ r h. ran_after _ _ _ _ r (read_both _ _ _ c.in_ok-owner.ensures.reads c.in_ok-item.ensures.reads)
+    (served_found _ _ _ _ _ _ _ _ r c.requires.range (customer_at_on _ _ _ _ c.in_ok-item.ensures.reads (rw c.in-Some.is at c.in_ok-owner.ensures.answer))
+    (rw c.in-Some-2.is at c.in_ok-item.ensures.answer) c.ranges.id.fits h).ran) c.reserve_at.ensures.answer

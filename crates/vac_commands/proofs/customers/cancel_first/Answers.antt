@@ -1,5 +1,6 @@
-use Rattle.vac_commands.proofs.Held.{held_on, customer_at_on}
-use Rattle.vac_commands.proofs.Leaving.{in_a_list, reads_of, item_not_missing, its_spot, cancel_range, one_given, customers_still}
+use Rattle.std.proofs.Common.{arith}
+use Rattle.vac_commands.proofs.Held.{held_on, item_found_at, customer_is_on}
+use Rattle.vac_commands.proofs.Leaving.{in_a_list, reads_of, item_not_missing, id_fits, its_spot, cancel_range, one_given}
 use Rattle.vac_commands.proofs.customers.cancel_first.Goals as goal
 
 pub place_at-requires-clause-booking : goal.place_at-requires-clause-booking
@@ -12,7 +13,7 @@ find_item-requires g c =
 
 pub unreachable-requires : goal.unreachable-requires
 unreachable-requires g c =
-    item_not_missing _ _ _ _ _ _ _ c.requires.state c.requires.first c.in_ok-kind.ensures.answer c.in_ok-find_item.ensures.reads
+    item_not_missing _ _ _ _ _ _ _ c.in_ok-kind.ensures.answer c.in_ok-find_item.ensures.reads c.requires.state c.requires.first
     (rw c.in-None.is at c.in_ok-find_item.ensures.answer) (g.met.M.TxRead.seen c.find_item.new.memory)
 
 pub cancel_at-requires-clause-state : goal.cancel_at-requires-clause-state
@@ -21,24 +22,24 @@ cancel_at-requires-clause-state g c =
 
 pub cancel_at-requires-clause-customer : goal.cancel_at-requires-clause-customer
 cancel_at-requires-clause-customer g c =
-    customer_at_on _ _ _ _ (reads_of _ _ _ _ _ c.in_ok-kind.ensures.answer c.in_ok-find_item.ensures.reads) c.requires.customer
+    customer_is_on _ _ _ _ (reads_of _ _ _ _ _ c.in_ok-kind.ensures.answer c.in_ok-find_item.ensures.reads) c.requires.customer
+
+pub cancel_at-requires-clause-item : goal.cancel_at-requires-clause-item
+cancel_at-requires-clause-item g c = item_found_at _ _ _ _ (rw c.in-Some.is at c.in_ok-find_item.ensures.answer)
 
 pub cancel_at-requires-clause-spot : goal.cancel_at-requires-clause-spot
 cancel_at-requires-clause-spot g c =
-    its_spot _ _ _ _ _ _ _ c.requires.state c.requires.first c.in_ok-kind.ensures.answer c.in_ok-find_item.ensures.reads c.requires.customer
+    its_spot _ _ _ _ _ _ _ c.in_ok-kind.ensures.answer c.in_ok-find_item.ensures.reads c.requires.state c.requires.first c.requires.customer
 
 pub cancel_at-requires-clause-range : goal.cancel_at-requires-clause-range
 cancel_at-requires-clause-range g c =
-    cancel_range _ _ _ _ _ _ _ c.requires.state c.requires.first c.in_ok-kind.ensures.answer c.in_ok-find_item.ensures.reads
+    cancel_range _ _ _ _ _ _ _ c.in_ok-kind.ensures.answer c.in_ok-find_item.ensures.reads c.requires.state c.requires.first
     _ c.requires.range (rw c.in-Some.is at c.in_ok-find_item.ensures.answer) (g.met.M.TxRead.seen c.find_item.new.memory)
 
 pub returns-clause-answer : goal.returns-clause-answer
 returns-clause-answer g c =
-    one_given _ _ _ _ _ _ _ c.requires.state c.requires.first c.in_ok-kind.ensures.answer c.in_ok-find_item.ensures.reads
-    _ _ _ (rw c.in-Some.is at c.in_ok-find_item.ensures.answer) c.in_ok-cancel_at-in-Some.ensures.answer
-
-pub returns-clause-customers : goal.returns-clause-customers
-returns-clause-customers g c =
-    customers_still _ _ _ _ _ _ _ c.requires.state c.requires.first c.in_ok-kind.ensures.answer c.in_ok-find_item.ensures.reads
-    _ _ _ (rw c.in-Some.is at c.in_ok-find_item.ensures.answer) c.in_ok-cancel_at-in-Some.ensures.answer
-    c.in_ok-cancel_at-in-Some.ensures.customers
+    one_given _ _ _ _ _ _ _ c.in_ok-kind.ensures.answer c.in_ok-find_item.ensures.reads
+    _ _ _ c.requires.customer.some (let low = c.requires.first.inside.0 in omega arith) (rw c.in-Some.is at c.in_ok-find_item.ensures.answer)
+    (id_fits _ _ _ _ _ _ _ c.in_ok-kind.ensures.answer c.in_ok-find_item.ensures.reads c.requires.state c.requires.first _ (rw c.in-Some.is at c.in_ok-find_item.ensures.answer) (g.met.M.TxRead.seen c.find_item.new.memory))
+    (cancel_range _ _ _ _ _ _ _ c.in_ok-kind.ensures.answer c.in_ok-find_item.ensures.reads c.requires.state c.requires.first _ c.requires.range (rw c.in-Some.is at c.in_ok-find_item.ensures.answer) (g.met.M.TxRead.seen c.find_item.new.memory))
+    c.in_ok-cancel_at-in-Some.ensures.answer

@@ -1,4 +1,5 @@
-use Rattle.vac_commands.proofs.Held.{held_on, ran_after}
+use Rattle.vac_commands.proofs.Held.{held_on, customer_found_at, ran_after}
+use Rattle.vac_commands.proofs.Billing.{ran_found}
 use Rattle.vac_commands.proofs.Parting.{nobody}
 use Rattle.vac_commands.proofs.customers.drop_customer.Goals as goal
 
@@ -8,6 +9,10 @@ returns-in-None-clause-answer g c = nobody _ _ _ c.in_ok-find_customer.ensures.r
 pub drop_customer_at-requires-clause-state : goal.drop_customer_at-requires-clause-state
 drop_customer_at-requires-clause-state g c = held_on _ _ c.in_ok-find_customer.ensures.reads c.requires.state
 
+pub drop_customer_at-requires-clause-customer : goal.drop_customer_at-requires-clause-customer
+drop_customer_at-requires-clause-customer g c = customer_found_at _ _ _ (rw c.in-Some.is at c.in_ok-find_customer.ensures.answer)
+
 pub returns-in_ok-drop_customer_at-in-Some-clause-answer : goal.returns-in_ok-drop_customer_at-in-Some-clause-answer
 returns-in_ok-drop_customer_at-in-Some-clause-answer g c =
-    ran_after _ _ _ _ _ c.in_ok-find_customer.ensures.reads c.in_ok-drop_customer_at-in-Some.ensures.answer
+    ran_after _ _ _ _ _ c.in_ok-find_customer.ensures.reads
+    (ran_found _ _ _ _ _ _ (rw c.in-Some.is at c.in_ok-find_customer.ensures.answer) c.in_ok-drop_customer_at-in-Some.ensures.answer)

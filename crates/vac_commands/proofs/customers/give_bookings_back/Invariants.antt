@@ -1,6 +1,6 @@
 use Rattle.std.proofs.Common.{◌≡◌, ◌-◌}
 use Rattle.vac_records.specs.Holds.{HoldsState}
-use Rattle.vac_commands.specs.Entries.{HasCustomerAt}
+use Rattle.vac_commands.specs.Entries.{CustomerIsAt}
 use Rattle.vac_commands.specs.CustomerSteps.{GivenBack}
 use Rattle.vac_commands.proofs.customers.give_bookings_back.Given as goal
 
@@ -8,6 +8,6 @@ abbrev pub invariant-loop : goal.invariant-loop
 invariant-loop g l = record {
   origin : g.M.TxRead.origin l.memory ≡ g.M.TxRead.origin l.fn.memory;
   state : HoldsState (g.M.TxRead.view l.memory);
-  customer : HasCustomerAt (g.M.TxRead.view l.memory) l.fn.id l.fn.customer.0.0;
-  given : GivenBack (g.M.TxRead.view l.fn.memory) (g.M.TxRead.view l.memory) l.fn.id (262144 - l.counter);
+  customer : CustomerIsAt (g.M.TxRead.view l.memory) l.fn.id l.fn.customer.0.0;
+  given : GivenBack (g.M.TxRead.view l.fn.memory) (g.M.TxRead.view l.memory) l.fn.id l.fn.customer.0.0 (262144 - l.counter);
 }

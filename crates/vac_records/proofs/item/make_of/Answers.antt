@@ -1,6 +1,5 @@
 use Rattle.std.proofs.Common.{arith}
-use Rattle.vac_records.proofs.Counting.{room_later, units_made}
-use Rattle.vac_records.proofs.Known.{stored_less}
+use Rattle.vac_records.proofs.Counting.{room_stored, units_made}
 use Rattle.vac_records.proofs.item.make_of.Goals as goal
 
 pub overflow_sub-free : goal.overflow_sub-free
@@ -8,10 +7,7 @@ overflow_sub-free g c = c.requires.units.enough
 
 pub raise-requires-clause-room : goal.raise-requires-clause-room
 raise-requires-clause-room g c =
-    let w = stored_less _ _ _ _ _ _ c.word_of.ensures c.requires.units c.in_ok-store.ensures.answer in
-    room_later _ _ _ _ _ _ _ _ w c.word_of.ensures c.word_of-2.ensures (omega arith) c.requires.units.used
+    room_stored _ _ _ _ _ _ _ _ c.in_ok-store.ensures.answer c.word_of.ensures c.word_of-2.ensures (omega arith) c.requires.units.used
 
 pub returns-clause-answer : goal.returns-clause-answer
-returns-clause-answer g c =
-    let w = stored_less _ _ _ _ _ _ c.word_of.ensures c.requires.units c.in_ok-store.ensures.answer in
-    units_made _ _ _ _ _ _ _ c.word_of.ensures c.word_of-2.ensures w c.in_ok-raise.ensures.answer
+returns-clause-answer g c = units_made _ _ _ _ _ _ _ _ c.word_of.ensures c.word_of-2.ensures c.in_ok-store.ensures.answer c.in_ok-raise.ensures.answer

@@ -1,4 +1,4 @@
-use Rattle.vac_commands.proofs.Held.{held_on}
+use Rattle.vac_commands.proofs.Held.{held_on, customer_missed}
 use Rattle.vac_tasks.proofs.Booking.{joined_there, joined_new, joined_full}
 use Rattle.vac_tasks.proofs.trip.join.Goals as goal
 
@@ -8,13 +8,15 @@ returns-in-Some-clause-answer g c = joined_there _ _ _ _ c.in_ok-block.ensures.r
 pub add_customer-requires-clause-state : goal.add_customer-requires-clause-state
 add_customer-requires-clause-state g c = held_on _ _ c.in_ok-block.ensures.reads c.requires.state
 
+pub add_customer-requires-clause-missing : goal.add_customer-requires-clause-missing
+add_customer-requires-clause-missing g c = customer_missed _ _ (rw c.in_default.is at c.in_ok-block.ensures.answer)
+
 pub returns-in-Some-2-clause-answer : goal.returns-in-Some-2-clause-answer
 returns-in-Some-2-clause-answer g c =
     let added = c.in_ok-block-2.ensures in
-    joined_new _ _ _ _ _ c.in_ok-block.ensures.reads (rw c.in-Some-2.is at added.answer) (rw c.in-Some-2.is at added.block) added.items
+    joined_new _ _ _ _ _ c.in_ok-block.ensures.reads (rw c.in_default.is at c.in_ok-block.ensures.answer) (rw c.in-Some-2.is at added.answer) (rw c.in-Some-2.is at added.block) added.items
 
 pub returns-in-None-clause-answer : goal.returns-in-None-clause-answer
 returns-in-None-clause-answer g c =
     let added = c.in_ok-block-2.ensures in
-    let reads = c.in_ok-block.ensures.reads in
-    joined_full _ _ _ _ reads (held_on _ _ reads c.requires.state) (rw c.in_default.is at c.in_ok-block.ensures.answer) (rw c.in-None.is at added.answer) added.items
+    joined_full _ _ _ _ c.in_ok-block.ensures.reads (rw c.in_default.is at c.in_ok-block.ensures.answer) (rw c.in-None.is at added.answer) added.items

@@ -1,21 +1,30 @@
-use Rattle.vac_commands.proofs.Held.{read_none, items_stay_reads, customers_stay_reads}
-use Rattle.vac_tasks.proofs.Booking.{reserved_missing, reserved}
+use Rattle.vac_model.proofs.Ids.{id_high}
+use Rattle.vac_tasks.specs.Trips.{ChoiceIsAt}
+use Rattle.vac_commands.specs.Entries.{CustomerIsAt}
+use Rattle.vac_tasks.proofs.Booking.{reserved_none, reserved_missing, reserve_range, reserved, reserved_stays, blocks_same}
 use Rattle.vac_tasks.proofs.trip.reserve_choice.Goals as goal
 
-pub returns-in_default-clause-items : goal.returns-in_default-clause-items
-returns-in_default-clause-items g c = items_stay_reads _ _ (read_none _)
+pub returns-in_default-clause-answer : goal.returns-in_default-clause-answer
+returns-in_default-clause-answer g c = reserved_none _ _ _ _ _ c.in_default.is
 
-pub returns-in_default-clause-customers : goal.returns-in_default-clause-customers
-returns-in_default-clause-customers g c = customers_stay_reads _ _ (read_none _)
+pub returns-in_default-clause-blocks : goal.returns-in_default-clause-blocks
+returns-in_default-clause-blocks g c = blocks_same _ _
 
 pub returns-in_default-owner-clause-answer : goal.returns-in_default-owner-clause-answer
-returns-in_default-owner-clause-answer g c = reserved_missing _ _ _ _ _ c.in-Some.is (rw c.in_default-owner.is at c.requires.owner)
+returns-in_default-owner-clause-answer g c = reserved_missing _ _ _ _ _ _ c.in-Some.is c.in_default-owner.is
 
-pub returns-in_default-owner-clause-items : goal.returns-in_default-owner-clause-items
-returns-in_default-owner-clause-items g c = items_stay_reads _ _ (read_none _)
-
-pub returns-in_default-owner-clause-customers : goal.returns-in_default-owner-clause-customers
-returns-in_default-owner-clause-customers g c = customers_stay_reads _ _ (read_none _)
+pub returns-in_default-owner-clause-blocks : goal.returns-in_default-owner-clause-blocks
+returns-in_default-owner-clause-blocks g c = blocks_same _ _
 
 pub returns-clause-answer : goal.returns-clause-answer
-returns-clause-answer g c = reserved _ _ _ _ _ _ _ _ c.in-Some.is c.in_ok-reply.ensures.answer c.refusal-refused.ensures
+returns-clause-answer g c =
+    let owner : CustomerIsAt (g.M.TxRead.view c.args.memory.now) c.args.customer c.in-Some-owner.owner.0.0 = rw c.in-Some-owner.is at c.requires.owner in
+    let known : ChoiceIsAt (g.M.TxRead.view c.args.memory.now) c.args.kind c.in-Some.field-0 = rw c.in-Some.is at c.requires.known in
+    reserved _ _ _ _ _ _ _ _ _ _ c.in-Some-owner.is c.in-Some.is owner.some known.at.some (id_high c.in-Some.field-0.id known.id)
+    (reserve_range c.args.customer c.args.kind c.in-Some.field-0.id c.requires.range known.id) c.in_ok-reply.ensures.answer c.refusal-refused.ensures
+
+pub returns-clause-blocks : goal.returns-clause-blocks
+returns-clause-blocks g c =
+    let owner : CustomerIsAt (g.M.TxRead.view c.args.memory.now) c.args.customer c.in-Some-owner.owner.0.0 = rw c.in-Some-owner.is at c.requires.owner in
+    let known : ChoiceIsAt (g.M.TxRead.view c.args.memory.now) c.args.kind c.in-Some.field-0 = rw c.in-Some.is at c.requires.known in
+    reserved_stays _ _ _ _ _ _ _ _ _ c.in-Some-owner.is c.in-Some.is owner.some known.at.some (id_high c.in-Some.field-0.id known.id) c.in_ok-reply.ensures.answer

@@ -1,0 +1,55 @@
+//! The eight lists of free blocks, by their numbers.
+
+ghost use Rattle.std.specs.Prelude.{◌≡◌, ◌+◌, ◌%◌, ◌<◌};
+
+use crate::place::LISTS;
+use std::marker::Model;
+
+/// One of the eight lists of free blocks: in contracts its number, which is below 8.
+#[derive(Clone, Copy, Debug, PartialEq, Eq)]
+pub struct FreeList {
+    number: u32,
+}
+
+impl Model for FreeList {
+    ghost use Rattle.std.specs.Prelude.{ℕ, ◌<◌};
+    ghost use Rattle.tx_alloc.specs.declared.place.TheConstants.{LISTS};
+
+    ghost Value = { ℕ };
+
+    ghost view = { λ list. list.number };
+
+    ghost invariant = { λ list. list.number < LISTS };
+
+    ghost inverse = { λ n. record { number = n } };
+}
+
+impl FreeList {
+    /// The list of this number.
+    #[inline]
+    pub fn new(number: u32) -> FreeList
+        requires { number < LISTS }
+        ensures { result ≡ number }
+    {
+        FreeList { number }
+    }
+
+    /// The list after this one. List 0 comes after list 7.
+    #[inline]
+    pub fn next(self) -> FreeList
+        ensures { result ≡ (self + 1) % LISTS }
+    {
+        FreeList {
+            number: (self.number + 1) % LISTS,
+        }
+    }
+
+    /// The list's number.
+    #[inline]
+    pub fn number(self) -> u32
+        ensures number { result ≡ self }
+        ensures small { result < LISTS }
+    {
+        self.number
+    }
+}
