@@ -8,4 +8,5 @@ pub mod Stops
 pub mod Naming
 pub mod Journals
 pub mod Turning
+mod Recorded
 pub mod LoadEnds

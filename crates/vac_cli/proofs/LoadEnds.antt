@@ -13,6 +13,7 @@ use Rattle.vac_cli.specs.Ending.{load_fault_line, fault_line}
 use Rattle.vac_cli.specs.Load.{NamedFault, LoadEnded, HasNoted, WroteCalls, WroteCallsInPart}
 use Rattle.vac_cli.specs.Program.{Loads}
 use Rattle.vac_cli.proofs.Turning.{each_ordered, each_in_turn}
+use Rattle.vac_cli.proofs.Recorded.{load_legal}
 
 both_first : (a b : Bool) → (a && b) ≡ true → a ≡ true
 both_first true b e = refl
@@ -47,6 +48,7 @@ wrote_calls s opening clients held holds fits has wrote = inl (
       in_turn = each_in_turn opening clients;
       written = wrote;
       in_order = wrote.merged.ordered (each_ordered s opening clients has);
+      legal = load_legal s (notes_of opening) (map notes_of clients) wrote.all has wrote.merged (each_in_turn opening clients) (wrote.merged.ordered (each_ordered s opening clients has));
     },
   ),
 )
@@ -66,6 +68,7 @@ stopped_calls s opening clients status fault held middle holds fits one has wrot
         in_turn = each_in_turn opening clients;
         written = wrote;
         in_order = wrote.merged.ordered (each_ordered s opening clients has);
+        legal = load_legal s (notes_of opening) (map notes_of clients) wrote.all has wrote.merged (each_in_turn opening clients) (wrote.merged.ordered (each_ordered s opening clients has));
       },
       (fault, line),
     ),

@@ -12,13 +12,13 @@ use Rattle.vac_manager.specs.Placed.{place_of}
 use Rattle.vac_manager.specs.declared.note.Note.{Note}
 use Rattle.vac_manager.specs.Keeping.{IsNoted}
 use Rattle.vac_history.specs.declared.journal.Journal.{Journal}
-use Rattle.vac_history.specs.Turns.{TakeTime, AreInTurn}
+use Rattle.vac_history.specs.Turns.{TakeTime, AreInTurn, EachInTurn}
 use Rattle.vac_history.specs.Order.{precedes, rank_of, list_at, AreOrdered, EachOrdered}
 use Rattle.vac_history.specs.History.{notes_of, kept_by}
 use Rattle.vac_load.specs.Lists.{Paired, none, both}
 use Rattle.vac_load.specs.Load.{InterleavedAll}
 use Rattle.vac_load.proofs.Merging.{first_sub, second_sub}
-use Rattle.vac_cli.specs.Load.{EachInTurn, HasNoted}
+use Rattle.vac_cli.specs.Load.{HasNoted}
 
 -- what stands first by three numbers, the last of which do not go back, stands first by the first two
 abbrev below : ℕ → ℕ → ℕ → ℕ → ℕ → ℕ → Bool

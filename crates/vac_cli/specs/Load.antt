@@ -9,9 +9,10 @@ use Rattle.vac_load.specs.declared.load.LoadFault.{LoadFault}
 use Rattle.vac_draws.specs.declared.settings.Settings.{Settings}
 use Rattle.vac_manager.specs.declared.note.Note.{Note}
 use Rattle.vac_manager.specs.Keeping.{IsNoted}
-use Rattle.vac_history.specs.Turns.{TakeTime, AreInTurn}
-use Rattle.vac_history.specs.Order.{list_at, AreOrdered}
-use Rattle.vac_history.specs.History.{WroteHistory, WroteHistoryPrefix}
+use Rattle.vac_history.specs.Turns.{EachInTurn}
+use Rattle.vac_history.specs.Order.{AreOrdered}
+use Rattle.vac_history.specs.History.{call_of, WroteHistory, WroteHistoryPrefix}
+use Rattle.vac_history.specs.Legal.{AreLegal}
 use Rattle.vac_load.specs.Lists.{Paired}
 use Rattle.vac_load.specs.Streams.{LoadedBySeed}
 use Rattle.vac_script.specs.Script.{AppendsPrefix}
@@ -67,12 +68,9 @@ pub record HasNoted (s : Settings) (opening : List Note) (clients : List (List N
   pub of_opening : Paired IsNoted opening loaded.opened
   pub of_clients : Paired (λ notes x. Paired IsNoted notes x.records) clients loaded.shares
 
--- no call of a client ends before it begins, and each begins when those before it are over
-abbrev pub EachInTurn : List (List Note) → Type 0
-EachInTurn kept = (place : ℕ) → TakeTime (list_at kept place) × AreInTurn (list_at kept place)
-
 -- the load was run to its end, and the history of its answered calls was written and nothing else:
--- all in the order of their records, and readers of one version in that in which they began
+-- all in the order of their records, and readers of one version in that in which they began. In
+-- this order the calls are legal, and leave the state that the load reports
 pub record WroteCalls (s : Settings) (held holds : Option (List ℕ)) : Type 0 where
   pub opening : List Note
   pub clients : List (List Note)
@@ -80,8 +78,9 @@ pub record WroteCalls (s : Settings) (held holds : Option (List ℕ)) : Type 0 w
   pub in_turn : EachInTurn (opening ∷ clients)
   pub written : WroteHistory (opening ∷ clients) held holds
   pub in_order : AreOrdered (map (λ e. e.note) written.all)
+  pub legal : AreLegal s.blocks (map call_of written.all) noted.loaded.last
 
--- the load was run to its end, and a prefix of that was written
+-- the load was run to its end, and a prefix of such a history was written
 pub record WroteCallsInPart (s : Settings) (held holds : Option (List ℕ)) : Type 0 where
   pub opening : List Note
   pub clients : List (List Note)
@@ -89,6 +88,7 @@ pub record WroteCallsInPart (s : Settings) (held holds : Option (List ℕ)) : Ty
   pub in_turn : EachInTurn (opening ∷ clients)
   pub written : WroteHistoryPrefix (opening ∷ clients) held holds
   pub in_order : AreOrdered (map (λ e. e.note) written.all)
+  pub legal : AreLegal s.blocks (map call_of written.all) noted.loaded.last
 
 -- the same where the history is written, or the two lines are
 abbrev pub LoadWrote : Bool → Settings → Option (List ℕ) → Option (List ℕ) → Type 0

@@ -4,3 +4,6 @@ pub mod Left
 pub mod Merges
 pub mod Texts
 pub mod Starts
+pub mod Exchange
+pub mod Sequence
+pub mod Legality

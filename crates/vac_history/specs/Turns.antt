@@ -1,7 +1,8 @@
 -- The times of a client's calls.
-use Rattle.std.specs.Prelude.{◌≤◌, List}
+use Rattle.std.specs.Prelude.{◌≤◌, ℕ, List}
 use Rattle.std.specs.List.{All, AllPairs}
 use Rattle.vac_manager.specs.declared.note.Note.{Note}
+use Rattle.vac_history.specs.Order.{list_at}
 
 -- no call ends before it begins
 abbrev pub TakeTime : List Note → Type 0
@@ -10,3 +11,7 @@ TakeTime notes = All (λ n. n.begin ≤ n.end) notes
 -- each call begins when those before it are over
 abbrev pub AreInTurn : List Note → Type 0
 AreInTurn notes = AllPairs (λ earlier later. earlier.end ≤ later.begin) notes
+
+-- no call of a client ends before it begins, and each begins when those before it are over
+abbrev pub EachInTurn : List (List Note) → Type 0
+EachInTurn kept = (place : ℕ) → TakeTime (list_at kept place) × AreInTurn (list_at kept place)

@@ -4,8 +4,10 @@
 mod fault;
 mod history;
 mod journal;
+mod laws;
 mod merging;
 
 pub use fault::HistoryFault;
 pub use history::write_history;
 pub use journal::Journal;
+pub use laws::{legal_up_to_precedence, ordered_calls_are_legal};

@@ -11,3 +11,4 @@ pub mod Merging
 mod Shares
 mod Joining
 pub mod Loads
+mod Eras

@@ -27,8 +27,9 @@ use Rattle.vac_load.specs.Streams.{KeptBySeed}
 use Rattle.vac_load.specs.Lists.{Paired, none, both}
 use Rattle.vac_load.specs.Keeping.{Kept, AreKept, HasKeptAdded, AllKept, none_kept, one_kept, SeatShown}
 use Rattle.vac_load.specs.Sums.{sum_of, added_up}
-use Rattle.vac_load.specs.Load.{InterleavedAll, AreKnown, Share, drawn_share, HasShare, HasKeptShare, RanAll, is_load, LoadedKept, WasOpened, WasStopped, IsTooShort, IsStopOfLoad, IsLoadFault}
+use Rattle.vac_load.specs.Load.{InterleavedAll, AreKnown, IsInRenewal, Share, drawn_share, HasShare, HasKeptShare, RanAll, is_load, LoadedKept, WasOpened, WasStopped, IsTooShort, IsStopOfLoad, IsLoadFault}
 use Rattle.vac_load.proofs.Order.{added_known}
+use Rattle.vac_load.proofs.Eras.{all_versioned}
 use Rattle.vac_load.proofs.Notes.{kept_added}
 use Rattle.vac_load.proofs.Joining.{ran_total}
 use Rattle.vac_load.proofs.Beginning.{long_opening}
@@ -81,11 +82,12 @@ pub loaded_kept : {D P : Type 0} (leads : D → ℕ → D → Type 0) (s : Setti
     Ran leads region.renewal (opening s) opener.value ready state last →
     HasKeptAdded opener.value ready before kept →
     RanAll leads s shown_of (s.rounds * s.tasks) ready.records seats after.records left t →
+    IsInRenewal region'.renewal after.records →
     region'.size ≡ region.size →
     Closes region' after words version →
     ((x : State) → Shows words x → report x ≡ r) →
     LoadedKept leads s (λ p. (shown_of p).draws) state seats t r before kept (map (λ p. (shown_of p).kept) seats) (map (λ p. (shown_of p).kept) left)
-loaded_kept leads s shown_of state last seats left stripes region region' opener ready after before kept t words version r n opens ran keeps all size closes shows =
+loaded_kept leads s shown_of state last seats left stripes region region' opener ready after before kept t words version r n opens ran keeps all in_it size closes shows =
     let added = ran.answered.added in
     let records : ready.records ≡ added = ran.answered.records ∙ ap (λ (c : CallerShown). c.value.records ++ added) opens.client_is in
     let capacity : capacity_of region' ≡ s.blocks = ap (λ (k : ℕ). (k - 16) / 8) size ∙ opens.capacity in
@@ -100,6 +102,7 @@ loaded_kept leads s shown_of state last seats left stripes region region' opener
         rest = all.rest;
         opening_first = all.behind ∙ ap (λ (l : List Record). l ++ all.rest) records;
         rounds_in_order = closes.ends.sorted;
+        versioned = all_versioned region'.renewal after.records in_it closes.versioned;
         commands = ran.commands;
         drawn = last;
         opening_is = ran.drawn;
@@ -141,6 +144,7 @@ kept_on leads s draws_of drawing state ps qs t r before after befores afters e h
     rest = h.loaded.rest;
     opening_first = h.loaded.opening_first;
     rounds_in_order = h.loaded.rounds_in_order;
+    versioned = h.loaded.versioned;
     commands = h.loaded.commands;
     drawn = h.loaded.drawn;
     opening_is = h.loaded.opening_is;

@@ -1,10 +1,11 @@
 -- What each client did, from its client before and after.
-use Rattle.std.proofs.Common.{◌≡◌, ◌∙◌, ℕ, suc, ◌+◌, ◌-◌, ◌≤◌, List, [], ◌∷◌, ◌++◌, length, All, refl, sym, ap, subst, arith}
+use Rattle.std.proofs.Common.{◌≡◌, ◌∙◌, ℕ, suc, ◌+◌, ◌-◌, ◌≤◌, List, [], ◌∷◌, ◌++◌, length, All, inl, inr, refl, sym, ap, subst, arith}
 use Rattle.atomic_table.specs.Seated.{TableId}
 use Rattle.stm_words.specs.Image.{In}
 use Rattle.stm_core.specs.Client.{Client, Record, merged}
 use Rattle.stm_core.specs.declared.limits.TheConstants.{MOST_GRANTS}
 use Rattle.stm_core.specs.Invariant.{Sorted}
+use Rattle.stm_core.proofs.Orders.{in_merged}
 use Rattle.stm_core.proofs.Whole.{merged_sorted}
 use Rattle.vac_manager.specs.Called.{CallerShown, Splits}
 use Rattle.vac_draws.specs.declared.settings.Settings.{Settings}
@@ -15,7 +16,8 @@ use Rattle.vac_draws.specs.Tasks.{task_of}
 use Rattle.vac_load.specs.Keeping.{AreKept, SeatShown}
 use Rattle.vac_load.specs.Sums.{sum_of, plus, added_up}
 use Rattle.vac_load.specs.Lists.{Paired, none, both, Interleaved}
-use Rattle.vac_load.specs.Load.{InterleavedAll, all_merged, Gathered, HasWorked, IsHired, Hired, AreKnown, Share, HasKeptShare, RanAll}
+use Rattle.vac_load.specs.Load.{InterleavedAll, all_merged, Gathered, HasWorked, IsHired, Hired, AreKnown, IsInRenewal, Share, HasKeptShare, RanAll}
+use Rattle.vac_load.proofs.Eras.{more_in}
 use Rattle.vac_load.proofs.Order.{IsLater, added_later, known_first, merged_behind}
 use Rattle.vac_load.proofs.Merging.{interleaved_alone, regrouped, merged_interleaved}
 use Rattle.vac_load.proofs.Notes.{kept_added}
@@ -114,6 +116,13 @@ within renewal floor l (x ∷ xs) s h =
     let r = regrouped m.1 (merged_interleaved l x.records s h.0.0) in
     (r.later, r.whole, (m.0, r.lasts, m.2))
 
+-- all of them are of this renewal
+of_this : {D : Type 0} (renewal floor : ℕ) (l : List Record) (xs : List (Share D)) → ((r : Record) → In r l → IsLater renewal floor r) → AreLater renewal floor xs →
+    (r : Record) → In r (all_merged (λ (x : Share D). x.records) l xs) → r.renewal ≡ renewal
+of_this renewal floor l [] f h r i = (f r i).renewal_is
+of_this renewal floor l (x ∷ xs) f h r i =
+    of_this renewal floor (merged l x.records) xs (λ y j. elim (in_merged l x.records y j) [ inl k ↦ f y k | inr k ↦ h.0.1 y k ]) h.1 r i
+
 no_sum : {X : Type 0} (f : X → ℕ) (xs : List X) → length xs ≡ 0 → sum_of f xs ≡ 0
 no_sum f [] e = refl
 no_sum f (x ∷ xs) e = absurd (omega (arith, e))
@@ -183,6 +192,26 @@ module _ {D P W R : Type 0} (leads : D → ℕ → D → Type 0) (s : Settings) 
             let busy : t.busy ≡ (tally_of first').busy + sum_of (λ r. (tally_of r).busy) others' = ap (λ (u : Tally). u.busy) g.tallies in
             omega (arith, none, quiet, busy));
       }
+
+  -- what they added is of this renewal
+  pub ran_in : (opener : CallerShown) (pairs : List P) (first : W) (others : List W) (first' : R) (others' : List R) (after : Client) (t : Tally) →
+      AreKnown renewal opener.value.floor opener.value.records →
+      Hired shown_of opener pairs client_of seat_of first others →
+      HasWorked leads s renewal (client_of first) (after_of first') (seat_of first) (last_of first') (tally_of first') →
+      Paired (λ w r. HasWorked leads s renewal (client_of w) (after_of r) (seat_of w) (last_of r) (tally_of r)) others others' →
+      Gathered (λ r. (after_of r).value.records) tally_of first' others' after.records t →
+      IsInRenewal renewal opener.value.records → IsInRenewal renewal after.records
+  ran_in opener pairs first others first' others' after t known h k ks g in_it =
+      let floor = opener.value.floor in
+      let d = did leads s renewal floor opener.table opener.value.records (shown_of h.pair) (seat_of first) (last_of first') (client_of first) (after_of first') (tally_of first') h.opening k in
+      let more = shared opener.table floor h.rest others others' h.others_are ks in
+      let rest = all_merged (λ (x : Share (SeatShown D)). x.records) d.added more.shares in
+      more_in renewal opener.value.records rest after.records in_it
+      (g.records_are
+      ∙ (ap (λ (m : List Record). all_merged (λ r. (after_of r).value.records) m others') d.records_are
+      ∙ (more.merges (opener.value.records ++ d.added)
+      ∙ merged_front renewal floor opener.value.records d.added more.shares known more.later)))
+      (of_this renewal floor d.added more.shares d.later more.later)
 
 module _ {D W R : Type 0} (leads : D → ℕ → D → Type 0) (s : Settings) (renewal : ℕ) (client_of : W → CallerShown) (seat_of : W → SeatShown D) (after_of : R → CallerShown) (last_of : R → SeatShown D) (tally_of : R → Tally) where
   pub worked_own : (table : TableId) (ws : List W) (rs : List R) → All (λ w. (client_of w).table ≡ table) ws →

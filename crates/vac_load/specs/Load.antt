@@ -25,7 +25,7 @@ use Rattle.vac_load.specs.declared.load.LoadFault.TheVariants as load
 use Rattle.vac_model.specs.declared.commands.Command.{Command}
 use Rattle.vac_model.specs.declared.replies.Report.{Report}
 use Rattle.vac_model.specs.State.{State, empty_state, report}
-use Rattle.vac_manager.specs.Legal.{IsLegal}
+use Rattle.vac_manager.specs.Legal.{IsLegal, AreVersioned}
 use Rattle.vac_draws.specs.Draws.{Drawn, times}
 use Rattle.vac_draws.specs.Tasks.{task_of, opening}
 use Rattle.vac_load.specs.Sums.{plus, added_up}
@@ -94,6 +94,16 @@ pub record IsKnown (renewal version : ℕ) (r : Record) : Type 0 where
 -- so is each of these records
 abbrev pub AreKnown : ℕ → ℕ → List Record → Type 0
 AreKnown renewal version records = (r : Record) → In r records → IsKnown renewal version r
+
+-- behind the records of earlier renewals, which have one writer a version and readers that wrote
+-- nothing, stand those of this one
+pub record IsInRenewal (renewal : ℕ) (records : List Record) : Type 0 where
+  pub past : List Record
+  pub present : List Record
+  pub records_are : records ≡ past ++ present
+  pub versioned : AreVersioned past
+  pub earlier : (r : Record) → In r past → r.renewal < renewal
+  pub now : (r : Record) → In r present → r.renewal ≡ renewal
 
 -- what one client did, in one round or in several: the records of its answered tasks, how its
 -- tasks ended, and the state that its draws were left in
@@ -203,8 +213,9 @@ IsLoadFault {D} leads s state e =
 -- what a load did: there is a history, legal from the empty state on, whose last state has the
 -- report. First come the commands of the opening, and then the tasks that were answered, and no
 -- others, one round behind the other. A client's tasks are drawn one behind the other over all
--- rounds, and those of them that were answered stand in the history in their order. The tally
--- counts all tasks of all clients in all rounds; no task of one client alone is busy
+-- rounds, and those of them that were answered stand in the history in their order. Each version
+-- has at most one writer, and a reader wrote nothing. The tally counts all tasks of all clients in
+-- all rounds; no task of one client alone is busy
 pub record Loaded {D P : Type 0} (leads : D → ℕ → D → Type 0) (s : Settings) (draws_of : P → D)
     (state : D) (pairs : List P) (t : Tally) (r : Report) : Type 0 where
   pub history : List Record
@@ -215,6 +226,7 @@ pub record Loaded {D P : Type 0} (leads : D → ℕ → D → Type 0) (s : Setti
   pub rest : List Record
   pub opening_first : history ≡ opened ++ rest
   pub rounds_in_order : Sorted history
+  pub versioned : AreVersioned history
   pub commands : List Command
   pub drawn : D
   pub opening_is : Drawn leads (opening s) state commands drawn

@@ -8,7 +8,7 @@ ghost use Rattle.vac_draws.specs.Setting.{is_settings};
 ghost use Rattle.vac_draws.specs.declared.settings.TheConstants.{MOST_TASKS, MOST_CLIENTS};
 ghost use Rattle.vac_load.specs.Lists.{Paired};
 ghost use Rattle.vac_load.specs.Keeping.{shown};
-ghost use Rattle.vac_load.specs.Load.{Gathered, Hired, AreKnown, RanAll};
+ghost use Rattle.vac_load.specs.Load.{Gathered, Hired, AreKnown, IsInRenewal, RanAll};
 
 use crate::counts::Counts;
 use crate::load::LoadFault;
@@ -146,11 +146,13 @@ pub(crate) fn run_clients<
     requires settings { is_settings settings.now ≡ true }
     requires number { vec_len seats ≡ settings.now.clients }
     requires known { AreKnown manager.now.renewal client.value.floor client.value.records }
+    requires era { IsInRenewal manager.now.renewal client.value.records }
     ensures own { IfOk result (λ r. r.client.table ≡ manager.now.table) }
     ensures alone { IfOk result (λ r. HasAllGrants r.client.value) }
     ensures ran { IfOk result (λ r. RanAll D.leads settings.now (shown K.notes)
         settings.now.tasks client.value.records seats.items
         r.client.value.records r.seats.items r.tally) }
+    ensures era { IfOk result (λ r. IsInRenewal manager.now.renewal r.client.value.records) }
     ensures number { IfOk result (λ r. vec_len r.seats ≡ settings.now.clients) }
     ensures refused { IfErr result (λ fault.
         (fault ≡ LoadFault.Memory) ⊎ (fault ≡ LoadFault.Spawn)) }

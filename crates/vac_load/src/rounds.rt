@@ -8,7 +8,7 @@ ghost use Rattle.vac_load.specs.Looping.{total};
 ghost use Rattle.vac_draws.specs.Setting.{is_settings};
 ghost use Rattle.vac_draws.specs.declared.settings.TheConstants.{MOST_CLIENTS, MOST_ROUNDS, MOST_TASKS};
 ghost use Rattle.vac_load.specs.Keeping.{shown};
-ghost use Rattle.vac_load.specs.Load.{AreKnown, RanAll, RanMore};
+ghost use Rattle.vac_load.specs.Load.{AreKnown, IsInRenewal, RanAll, RanMore};
 
 use crate::gathering::{Round, run_clients};
 use crate::load::LoadFault;
@@ -74,6 +74,7 @@ fn go_on<R: Threads + Wait, D: Draws + Send + Drop, G: Gate + Send + Drop, K: Ke
     requires settings { is_settings settings.now ≡ true }
     requires number { vec_len progress.round.seats ≡ settings.now.clients }
     requires few { total progress.round.tally ≤ MOST_CLIENTS * (MOST_ROUNDS * MOST_TASKS) }
+    requires era { IsInRenewal progress.manager.renewal progress.round.client.value.records }
     ensures own { IfOk result (λ r. r.round.client.table ≡ r.manager.table) }
     ensures alone { IfOk result (λ r. HasAllGrants r.round.client.value) }
     ensures renewals { IfOk result (λ r. r.manager.renewal ≡ progress.manager.renewal + 1) }
@@ -82,6 +83,7 @@ fn go_on<R: Threads + Wait, D: Draws + Send + Drop, G: Gate + Send + Drop, K: Ke
     ensures ran { IfOk result (λ r. RanMore D.leads settings.now (shown K.notes)
         progress.round.client.value.records progress.round.seats.items progress.round.tally
         r.round.client.value.records r.round.seats.items r.round.tally) }
+    ensures era { IfOk result (λ r. IsInRenewal r.manager.renewal r.round.client.value.records) }
     ensures refused { IfErr result (λ fault.
         (fault ≡ LoadFault.Memory) ⊎ (fault ≡ LoadFault.Spawn)) }
 {
@@ -128,12 +130,14 @@ pub(crate) fn run_rounds<
     requires settings { is_settings settings.now ≡ true }
     requires number { vec_len seats ≡ settings.now.clients }
     requires known { AreKnown manager.renewal client.value.floor client.value.records }
+    requires era { IsInRenewal manager.renewal client.value.records }
     ensures own { IfOk result (λ r. r.round.client.table ≡ r.manager.table) }
     ensures alone { IfOk result (λ r. HasAllGrants r.round.client.value) }
     ensures size { IfOk result (λ r. r.manager.size ≡ manager.size) }
     ensures ran { IfOk result (λ r. RanAll D.leads settings.now (shown K.notes)
         (settings.now.rounds * settings.now.tasks) client.value.records seats.items
         r.round.client.value.records r.round.seats.items r.round.tally) }
+    ensures era { IfOk result (λ r. IsInRenewal r.manager.renewal r.round.client.value.records) }
     ensures number { IfOk result (λ r. vec_len r.round.seats ≡ settings.now.clients) }
     ensures refused { IfErr result (λ fault.
         (fault ≡ LoadFault.Memory) ⊎ (fault ≡ LoadFault.Spawn)) }

@@ -16,7 +16,7 @@ use Rattle.stm_attempt.specs.declared.conflict.Stop.{Stop}
 use Rattle.vac_model.specs.declared.tasks.Task.{Task}
 use Rattle.vac_model.specs.declared.replies.Reply.{Reply}
 use Rattle.vac_model.specs.Code.{code}
-use Rattle.vac_manager.specs.Called.{IsUnplaced, Adds, Tried}
+use Rattle.vac_manager.specs.Called.{IsUnplaced, Adds, AddsReader, Spares, Tried, changes_nothing}
 use Rattle.vac_manager.specs.declared.placed.Place.{Place}
 use Rattle.vac_manager.specs.Placed.{AddsAt, WasPlaced, place_of}
 
@@ -97,6 +97,12 @@ abbrev pub wrote_in : List (ℕ × ℕ) → Bool
 wrote_in [] = false
 wrote_in (p ∷ ps) = true
 
+-- where it wrote nothing, its record is a reader's
+record_reader : (region : RegionShown) (tag : List ℕ) (v : Client) (pairs : List (ℕ × ℕ)) (version : ℕ) → wrote_in pairs ≡ false →
+    let r = commit_record region tag v pairs version in (r.writer ≡ false) × (r.writes ≡ [])
+record_reader region tag v [] version e = (refl, refl)
+record_reader region tag v (p ∷ ps) version e = absurd (let n : true ≡ false = e in cc)
+
 -- a place by its parts
 abbrev pub place_at : ℕ → ℕ → Bool → Place
 place_at renewal version wrote = record { renewal = renewal; version = version; wrote = wrote }
@@ -117,6 +123,7 @@ pub record Decided (region : RegionShown) (t : Task) (r : Reply) (place : Place)
   pub tried : Tried {E = Stop} region t v v' (Ok r)
   pub placed : AddsAt region.renewal (code t r) place v v'
   pub unplaced : IsUnplaced v'
+  pub reader : place.wrote ≡ false → AddsReader v v'
 
 pub committed : (region region' : RegionShown) (t : Task) (r : Reply) (pairs : List (ℕ × ℕ)) (rv version : ℕ) (c c0 : ClientShown) (v1 v2 v' : Client) → region'.renewal ≡ region.renewal → AreEarlier region.renewal rv c.value.records → IsUnplaced c.value →
     c0 ≡ acted region begin rv c → still v1 ≡ still c0.value → c.value.floor ≤ rv → HasCommitted region' (code t r) pairs v1 v2 version → v' ≡ v2 → Decided region t r (place_at region.renewal version (wrote_in pairs)) c.value v'
@@ -170,7 +177,10 @@ committed region region' t r pairs rv version c c0 v1 v2 v' renewed earlier unpl
       adds = adds;
       place_is = ap (λ (n : ℕ). place_at n version (wrote_in pairs)) (sym renewed) ∙ sym (record_place region' (code t r) v1 pairs version done.versioned);
     } in
-    subst (λ (x : Client). Decided region t r place c.value x) (sym end) (record { tried = tried; placed = placed; unplaced = every })
+    let reader : wrote_in pairs ≡ false → AddsReader c.value v2 = λ e.
+    let q = record_reader region' (code t r) v1 pairs version e in
+    record { added = added; reader = q.0; wrote = q.1; records = records } in
+    subst (λ (x : Client). Decided region t r place c.value x) (sym end) (record { tried = tried; placed = placed; unplaced = every; reader = reader })
 
 -- the same of a task that only read
 pub finished : (region region' : RegionShown) (t : Task) (r : Reply) (rv n : ℕ) (c c0 : ClientShown) (c1 c2 : ClientShown) (v' : Client) → region'.renewal ≡ region.renewal → AreEarlier region.renewal rv c.value.records → IsUnplaced c.value →
@@ -230,3 +240,14 @@ placed_since region t v w w' (Ok reply) (Some place) same low h =
     record { adds = adds; place_is = h.place_is }
 placed_since region t v w w' (Ok reply) None same low h = absurd h
 placed_since region t v w w' (Err stop) place same low h = h ∙ same
+
+-- the same of the reader's record of a command that changes nothing
+pub spared_since : (t : Task) (v w w' : Client) (end : Result Reply Stop) → w.records ≡ v.records → Spares t end w w' → Spares t end v w'
+spared_since t v w w' (Ok reply) same h = λ e.
+    let a = h e in
+    record { added = a.added; reader = a.reader; wrote = a.wrote; records = a.records ∙ ap (λ (rs : List Record). rs ++ (a.added ∷ [])) same }
+spared_since t v w w' (Err stop) same h = tt
+
+-- an attempt with nothing to write adds a reader's record
+pub spared : (t : Task) (r : Reply) (pairs : List (ℕ × ℕ)) (v v' : Client) → (changes_nothing t r ≡ true → pairs ≡ []) → (wrote_in pairs ≡ false → AddsReader v v') → Spares {E = Stop} t (Ok r) v v'
+spared t r pairs v v' none reader = λ e. reader (ap (λ (ps : List (ℕ × ℕ)). wrote_in ps) (none e))

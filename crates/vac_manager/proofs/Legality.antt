@@ -1,5 +1,5 @@
 -- A serial list of lawful records is legal.
-use Rattle.std.proofs.Common.{◌≡◌, ◌∙◌, ℕ, List, [], ◌∷◌, false, refl, sym, ap, subst, zero}
+use Rattle.std.proofs.Common.{◌≡◌, ◌∙◌, ℕ, List, [], ◌∷◌, false, length, refl, sym, ap, subst, zero}
 use Rattle.stm_words.specs.Image.{In, laid}
 use Rattle.stm_words.proofs.Paired.{in_later}
 use Rattle.stm_core.specs.Client.{Client, Record}
@@ -9,9 +9,14 @@ use Rattle.stm_region.specs.Told.{Decides}
 use Rattle.stm_attempt.specs.Committing.{WasDecided}
 use Rattle.vac_model.specs.State.{State, empty_state}
 use Rattle.vac_model.specs.Run.{run}
-use Rattle.vac_manager.specs.Law.{Shows, IsFitting, IsLawful}
+use Rattle.vac_records.proofs.Single.{one_state}
+use Rattle.vac_manager.specs.Law.{words_of, Shows, IsFitting, IsLawful}
 use Rattle.vac_manager.specs.Legal.{Runs, IsLegal, capacity_of, WasLegal}
 use Rattle.vac_manager.specs.Called.{IsOpened}
+
+-- an image represents one state
+same_shown : (image : List ℕ) (s s' : State) → Shows image s → Shows image s' → s ≡ s'
+same_shown image s s' h g = one_state (words_of image) (length image) [] [] s s' h.represents g.represents
 
 pub legal : (image : List ℕ) (s : State) (rs : List Record) → Shows image s → Serial image rs → ((r : Record) → In r rs → IsLawful r.tag r.reads r.writes) →
     (last : State) × (IsLegal s rs last × Shows (image_after image rs) last)
@@ -20,7 +25,15 @@ legal image s (r ∷ rs) h serial lawful =
     let l = lawful r (zero, refl) in
     let o = l.runs image s h serial.0 in
     let after = (run s l.task).0 in
-    let step : Runs r s after = record { task = l.task; reply = l.reply; range = l.range; told = l.told; runs = λ i. (after, o.reply_is i) } in
+    let step : Runs r s after = record {
+      task = l.task;
+      reply = l.reply;
+      range = l.range;
+      told = l.told;
+      runs = λ i. (after, o.reply_is i);
+      steady = λ e.
+          same_shown image after s (subst (λ (ws : List (ℕ × ℕ)). Shows (laid image ws) after) e o.state) h;
+    } in
     let rest = legal (laid image r.writes) after rs o.state serial.1 (λ x i. lawful x (in_later x r rs i)) in
     (rest.0, ((after, step, rest.1.0), rest.1.1))
 

@@ -5,3 +5,4 @@ pub mod Openings
 pub mod Adding
 pub mod Placing
 pub mod Histories
+pub mod Versions

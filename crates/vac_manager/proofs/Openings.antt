@@ -14,6 +14,7 @@ use Rattle.vac_manager.specs.Legal.{capacity_of}
 use Rattle.vac_manager.specs.Called.{IsOpened}
 use Rattle.vac_manager.specs.Opening.{Opens, Closes}
 use Rattle.vac_manager.proofs.Legality.{legal}
+use Rattle.vac_manager.proofs.Versions.{versioned}
 
 -- the words of a fresh heap, all of whose blocks are free
 pub record IsFresh (words : List ℕ) (n : ℕ) : Type 0 where
@@ -67,7 +68,13 @@ opens region client xs ys n last stripes e h is c =
 closes_in : (region : RegionShown) (v : Client) (words : List ℕ) (version : ℕ) → IsOpened region → Ends (λ (tag : List ℕ) reads writes. IsLawful tag reads writes) region v words version → Closes region v words version
 closes_in region v words version h k =
     let l = legal region.first (empty_state (capacity_of region)) v.records h.shown k.serial k.abides in
-    record { ends = k; last = l.0; legal = l.1.0; shown = subst (λ (zs : List ℕ). Shows zs l.0) (sym k.newest) l.1.1 }
+    record {
+      ends = k;
+      last = l.0;
+      legal = l.1.0;
+      shown = subst (λ (zs : List ℕ). Shows zs l.0) (sym k.newest) l.1.1;
+      versioned = versioned region v words version k;
+    }
 
 pub closes : (region region' : RegionShown) (v v' : Client) (words : List ℕ) (version : ℕ) → IsOpened region → Ends (λ (tag : List ℕ) reads writes. IsLawful tag reads writes) region v words version → region' ≡ region → v' ≡ v → Closes region' v' words version
 closes region region' v v' words version h k e f =

@@ -1,6 +1,7 @@
 -- Attempts, one after the other, and why they stopped.
-use Rattle.std.proofs.Common.{◌≡◌, inl, inr, ℕ, ◌+◌, ◌≤◌, true, false, eqb, List, Ok, Err, ap, ◌∙◌, arith, refl, subst, sym}
+use Rattle.std.proofs.Common.{◌≡◌, ◌≢◌, [], inl, inr, ℕ, ◌+◌, ◌≤◌, true, false, eqb, List, Ok, Err, ap, ◌∙◌, arith, refl, subst, sym}
 use Rattle.stm_core.specs.Client.{Client}
+use Rattle.stm_core.proofs.Lists.{by_bool}
 use Rattle.stm_logs.specs.Log.{LogValue, log_pairs}
 use Rattle.stm_core.specs.Event.{begin, finish}
 use Rattle.stm_core.specs.declared.limits.TheConstants.{MOST_GRANTS}
@@ -17,7 +18,7 @@ use Rattle.vac_model.specs.declared.replies.Reply.{Reply}
 use Rattle.vac_tasks.specs.Reading.{only_reads}
 use Rattle.vac_model.specs.Code.{code}
 use Rattle.vac_manager.specs.Law.{IsLawful}
-use Rattle.vac_manager.specs.Called.{Tried, WasShown, IsStop, IsNear, HasAllGrants}
+use Rattle.vac_manager.specs.Called.{Tried, WasShown, IsStop, IsNear, HasAllGrants, changes_nothing}
 
 -- of so many tries this many are left, and all others met a conflict
 pub record Trying (v v' : Client) (left tries : ℕ) : Type 0 where
@@ -36,11 +37,15 @@ shown_by_read region region' conflict v v' same h e =
     inl (subst (λ (r : RegionShown). ∥ ((address : ℕ) × IsReadConflict (stripe_of r.stripes) address conflict v') ∥₁) same
     (subst (λ (c : Client). ∥ ((address : ℕ) × IsReadConflict (stripe_of region'.stripes) address conflict c) ∥₁) (sym e) h))
 
+-- a task with something to write is no command that changes nothing
+changing : (t : Task) (r : Reply) (pairs : List (ℕ × ℕ)) → (changes_nothing t r ≡ true → pairs ≡ []) → pairs ≢ [] → changes_nothing t r ≡ false
+changing t r pairs none some = by_bool (changes_nothing t r) (λ e. absurd (some (none e))) (λ e. e)
+
 -- why a commit stopped
-stop_is : (region : RegionShown) (log : LogValue) (t : Task) (r : Reply) (s : Stop) (v v' : Client) → only_reads t ≡ false → IsLawful (code t r) v.attempt.reads (log_pairs log) → HasStopped region log s v v' → IsStop region t s v'
-stop_is region log t r stop.Memory v v' writes l h = writes
-stop_is region log t r (stop.Conflict conflict) v v' writes l h = inr (log, h.shown)
-stop_is region log t r (stop.Spent version) v v' writes l h = (
+stop_is : (region : RegionShown) (log : LogValue) (t : Task) (r : Reply) (s : Stop) (v v' : Client) → only_reads t ≡ false → IsLawful (code t r) v.attempt.reads (log_pairs log) → (changes_nothing t r ≡ true → log_pairs log ≡ []) → HasStopped region log s v v' → IsStop region t s v'
+stop_is region log t r stop.Memory v v' writes l none h = writes
+stop_is region log t r (stop.Conflict conflict) v v' writes l none h = inr (log, h.shown)
+stop_is region log t r (stop.Spent version) v v' writes l none h = (
   writes,
   record {
     version_is = h.shown.0;
@@ -49,14 +54,15 @@ stop_is region log t r (stop.Spent version) v v' writes l h = (
       reply = r;
       writes = log_pairs log;
       some = h.written;
+      changing = changing t r (log_pairs log) none h.written;
       lawful = subst (λ (rs : List (ℕ × ℕ)). IsLawful (code t r) rs (log_pairs log)) (sym h.same.reads) l;
     };
   },
 )
 
-pub commit_stop : (region region' : RegionShown) (log : LogValue) (t : Task) (reply : Reply) (s : Stop) (v w w' : Client) → region' ≡ region → only_reads t ≡ false → IsLawful (code t reply) v.attempt.reads (log_pairs log) → HasStopped region' log s v w → w' ≡ w → IsStop region t s w'
-commit_stop region region' log t reply s v w w' same writes l h e =
-    subst (λ (x : Client). IsStop region t s x) (sym e) (subst (λ (r : RegionShown). IsStop r t s w) same (stop_is region' log t reply s v w writes l h))
+pub commit_stop : (region region' : RegionShown) (log : LogValue) (t : Task) (reply : Reply) (s : Stop) (v w w' : Client) → region' ≡ region → only_reads t ≡ false → IsLawful (code t reply) v.attempt.reads (log_pairs log) → (changes_nothing t reply ≡ true → log_pairs log ≡ []) → HasStopped region' log s v w → w' ≡ w → IsStop region t s w'
+commit_stop region region' log t reply s v w w' same writes l none h e =
+    subst (λ (x : Client). IsStop region t s x) (sym e) (subst (λ (r : RegionShown). IsStop r t s w) same (stop_is region' log t reply s v w writes l none h))
 
 -- what an attempt of a client that is alone began with
 module _ (region : RegionShown) (rv : ℕ) (c c0 : ClientShown) (v : Client) (begun : c0 ≡ acted region begin rv c) (same : still v ≡ still c0.value) (alone : c.value.grants ≡ 63 → rv ≡ c.value.floor) (all : HasAllGrants c.value) where

@@ -1,6 +1,7 @@
 -- What a call of a manager does to its client's value, and why it may not be made.
 use Rattle.std.specs.Prelude.{◌≡◌, ℕ, ◌+◌, ◌*◌, ◌%◌, ◌<◌, ◌≤◌, ◌⊎◌, Bool, false, ◌&&◌, nat_le}
 use Rattle.std.specs.Prelude.{List, [], ◌∷◌, ◌++◌, Result, Ok, Err, ◌≢◌, ◌↔◌, IfOk, IfErr, IsErrOf}
+use Rattle.std.specs.Prelude.{true, is_some, is_none, ◌||◌, ◌==◌}
 use Rattle.atomic_table.specs.Seated.{TableId}
 use Rattle.stm_words.specs.Image.{In}
 use Rattle.stm_core.specs.declared.limits.TheConstants.{MOST_WORDS, MOST_GRANTS}
@@ -15,10 +16,13 @@ use Rattle.stm_attempt.specs.Conflicts.{IsReadConflict, IsCommitConflict}
 use Rattle.stm_attempt.specs.declared.conflict.Conflict.{Conflict}
 use Rattle.stm_attempt.specs.declared.conflict.Stop.{Stop}
 use Rattle.stm_attempt.specs.declared.conflict.Stop.TheVariants as stop
+use Rattle.vac_model.specs.declared.commands.Command.{Command}
+use Rattle.vac_model.specs.declared.commands.Command.TheVariants as command
 use Rattle.vac_model.specs.declared.tasks.Task.{Task}
+use Rattle.vac_model.specs.declared.tasks.Task.TheVariants as task
 use Rattle.vac_model.specs.declared.replies.Reply.{Reply}
 use Rattle.vac_model.specs.State.{State, empty_state}
-use Rattle.vac_model.specs.Run.{run}
+use Rattle.vac_model.specs.Run.{run, refusal_of}
 use Rattle.vac_model.specs.Ranges.{is_task}
 use Rattle.vac_model.specs.Code.{code}
 use Rattle.vac_manager.specs.declared.fault.Fault.{Fault}
@@ -57,6 +61,40 @@ is_try_count tries = nat_le 1 tries && nat_le tries MOST_TRIES
 -- the task can be asked for, with so many tries
 abbrev pub is_call : Task → ℕ → Bool
 is_call t tries = is_task t && is_try_count tries
+
+-- the command has nothing to change in any state: a question, an Add of no units without a price, a
+-- Delete of no units
+abbrev pub has_no_change : Command → Bool
+has_no_change (command.Add kind id num price) = num == 0 && is_none price
+has_no_change (command.Delete kind id num) = num == 0
+has_no_change (command.DropFlight id) = false
+has_no_change (command.NewCustomer id) = false
+has_no_change (command.DropCustomer id) = false
+has_no_change (command.Free kind id) = true
+has_no_change (command.Price kind id) = true
+has_no_change (command.Bill id) = true
+has_no_change (command.Reserve customer kind id num) = false
+has_no_change (command.Cancel customer kind id) = false
+has_no_change command.Audit = true
+
+-- the task is a single command, which was refused or has nothing to change
+abbrev pub changes_nothing : Task → Reply → Bool
+changes_nothing (task.One c) reply = is_some (refusal_of reply) || has_no_change c
+changes_nothing (task.Trip customer asks) reply = false
+changes_nothing (task.Leave customer) reply = false
+changes_nothing (task.Update changes) reply = false
+
+-- exactly one record was added, as the last one, and it is a reader's: it wrote nothing
+pub record AddsReader (v v' : Client) : Type 0 where
+  pub added : Record
+  pub reader : added.writer ≡ false
+  pub wrote : added.writes ≡ []
+  pub records : v'.records ≡ v.records ++ (added ∷ [])
+
+-- a command that is refused, or has nothing to change, adds a reader's record
+abbrev pub Spares : {E : Type 0} → Task → Result Reply E → Client → Client → Type 0
+Spares t (Ok reply) v v' = changes_nothing t reply ≡ true → AddsReader v v'
+Spares t (Err e) v v' = Unit {0}
 
 -- exactly one record was added, as the last one, with this tag, by the last attempt: of this
 -- renewal and of no version below the floor, and behind the writer of that version
@@ -110,11 +148,13 @@ WasShown region conflict v =
     ⊎ ((log : LogValue) × IsCommitConflict (stripe_of region.stripes) log conflict v)
 
 -- the client's attempt of the task was to write something: the record of the task and some reply,
--- with what the attempt has read and these writes, would have been lawful
+-- with what the attempt has read and these writes, would have been lawful; and it is no command
+-- that is refused so, or has nothing to change
 pub record WouldWrite (t : Task) (v : Client) : Type 0 where
   pub reply : Reply
   pub writes : List (ℕ × ℕ)
   pub some : writes ≢ []
+  pub changing : changes_nothing t reply ≡ false
   pub lawful : IsLawful (code t reply) v.attempt.reads writes
 
 -- the clock was found at the last version, and there was something to write
@@ -203,6 +243,7 @@ pub record HasCalled (region : RegionShown) (t : Task) (tries : ℕ) (result : R
   pub free_handed : IsFreeHanded c'.value
   pub arguments : IsErrOf result fault.Arguments ↔ (is_call t tries ≡ false)
   pub records : Records region t result c.value c'.value
+  pub spares : Spares t result c.value c'.value
   pub attempts : Attempts tries c.value.attempt.number c'.value.attempt.number result
   pub once : HasAllGrants c.value
       → Attempts 1 c.value.attempt.number c'.value.attempt.number result

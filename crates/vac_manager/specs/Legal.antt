@@ -1,5 +1,5 @@
 -- Histories of tasks: when a list of records is what running tasks one after the other gives.
-use Rattle.std.specs.Prelude.{◌≡◌, ℕ, ◌-◌, ◌/◌, List, [], ◌∷◌, IsTrue, false}
+use Rattle.std.specs.Prelude.{◌≡◌, ℕ, ◌-◌, ◌/◌, List, [], ◌∷◌, IsTrue, true, false}
 use mathlib.Core.Option.{some}
 use lib.ListN.{get_elem?}
 use Rattle.stm_words.specs.Image.{In}
@@ -16,13 +16,15 @@ use Rattle.vac_model.specs.Ranges.{is_task}
 use Rattle.vac_model.specs.Code.{code}
 use Rattle.vac_manager.specs.Law.{Shows, IsLawful}
 
--- from the state s the record's task gives the record's reply and the state s'
+-- from the state s the record's task gives the record's reply and the state s', which is s where
+-- the record wrote nothing
 pub record Runs (r : Record) (s s' : State) : Type 0 where
   pub task : Task
   pub reply : Reply
   pub range : IsTrue (is_task task)
   pub told : r.tag ≡ code task reply
   pub runs : run s task ≡ (s', reply)
+  pub steady : r.writes ≡ [] → s' ≡ s
 
 -- run from s, each record's task gives its reply, and the last state is this one
 abbrev pub IsLegal : State → List Record → State → Type 0
@@ -35,6 +37,21 @@ abbrev pub SerialIsLegal : Type 0
 SerialIsLegal = (image : List ℕ) (s : State) (rs : List Record) → Shows image s → Serial image rs
     → ((r : Record) → In r rs → IsLawful r.tag r.reads r.writes)
     → (last : State) × (IsLegal s rs last × Shows (image_after image rs) last)
+
+-- they are not two writers of one version
+abbrev pub AreNoRivals : Record → Record → Type 0
+AreNoRivals x r = x.renewal ≡ r.renewal → x.version ≡ r.version → x.writer ≡ true →
+    r.writer ≡ true → ⊥
+
+-- each version has at most one writer
+abbrev pub HaveOneWriter : List Record → Type 0
+HaveOneWriter [] = Unit {0}
+HaveOneWriter (x ∷ xs) = ((r : Record) → In r xs → AreNoRivals x r) × HaveOneWriter xs
+
+-- each version has at most one writer, and a reader wrote nothing
+pub record AreVersioned (rs : List Record) : Type 0 where
+  pub writers : HaveOneWriter rs
+  pub readers : (r : Record) → In r rs → r.writer ≡ false → r.writes ≡ []
 
 -- how many entries there is room for in a manager's region
 abbrev pub capacity_of : RegionShown → ℕ

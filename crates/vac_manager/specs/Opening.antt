@@ -1,6 +1,6 @@
 -- How a manager begins and ends.
 use Rattle.std.specs.Prelude.{◌≡◌, ℕ, ◌+◌, ◌*◌, Bool, ◌&&◌, nat_le, nat_lt, List}
-use Rattle.stm_core.specs.Client.{Client}
+use Rattle.stm_core.specs.Client.{Client, of_renewal}
 use Rattle.stm_core.specs.Event.{opener}
 use Rattle.stm_region.specs.Shown.{RegionShown}
 use Rattle.stm_region.specs.Closed.{Ends}
@@ -9,7 +9,7 @@ use Rattle.vac_model.specs.State.{State, empty_state}
 use Rattle.stm_core.specs.declared.limits.TheConstants.{MOST_STRIPES}
 use Rattle.stm_words.specs.declared.version.TheConstants.{VERSION_LIMIT}
 use Rattle.vac_manager.specs.Law.{Shows, IsLawful}
-use Rattle.vac_manager.specs.Legal.{IsLegal, capacity_of}
+use Rattle.vac_manager.specs.Legal.{IsLegal, AreVersioned, capacity_of}
 use Rattle.vac_manager.specs.Called.{CallerShown}
 
 -- a heap has 1 to 262,144 blocks
@@ -44,9 +44,11 @@ pub record Opens (blocks last stripes : ℕ) (region : RegionShown) (client : Ca
   pub client_is : client ≡ record { table = region.table; value = opener; start = 0; next = 1 }
 
 -- the words and the version are the last ones of the region; the closing client's records are
--- legal from the empty state, and the words represent their last state
+-- legal from the empty state, and the words represent their last state; those of this renewal have
+-- one writer a version, and readers that wrote nothing
 pub record Closes (region : RegionShown) (v : Client) (words : List ℕ) (version : ℕ) : Type 0 where
   pub ends : Ends (λ (tag : List ℕ) reads writes. IsLawful tag reads writes) region v words version
   pub last : State
   pub legal : IsLegal (empty_state (capacity_of region)) v.records last
   pub shown : Shows words last
+  pub versioned : AreVersioned (of_renewal region.renewal v.records)

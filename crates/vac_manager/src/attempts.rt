@@ -1,13 +1,13 @@
 //! One task by as many attempts as it takes.
 
-ghost use Rattle.std.specs.Prelude.{◌≡◌, ◌<◌, ◌≤◌, IfOk, IfErr, IsOk, IsTrue, false};
+ghost use Rattle.std.specs.Prelude.{◌≡◌, ◌≤◌, IfOk, IfErr, IsOk, IsTrue, false};
 ghost use Rattle.stm_core.specs.Core.{IsFreeHanded};
 ghost use Rattle.vac_model.specs.declared.limits.TheConstants.{MOST_TRIES};
 ghost use Rattle.vac_model.specs.Ranges.{is_task};
 ghost use Rattle.vac_tasks.specs.Reading as reading;
 ghost use Rattle.vac_manager.specs.Legal.{WasLegal};
 ghost use Rattle.vac_manager.specs.Called.{HasAllGrants, IsOpened, IsUnplaced, Tried, Repeated};
-ghost use Rattle.vac_manager.specs.Called.{WasShown, IsStop, IsNoConflict, IsNear, IsCount};
+ghost use Rattle.vac_manager.specs.Called.{Spares, WasShown, IsStop, IsNoConflict, IsNear, IsCount};
 ghost use Rattle.vac_manager.specs.Placed.{WasPlaced, Tallies, nothing_done};
 
 use crate::law::ManagerLaw;
@@ -16,6 +16,7 @@ use crate::told::Told;
 use crossbeam_utils::Backoff;
 use stm_attempt::{Attempt, Conflict, Gate, Logs, Point, ReadAttempt, Stop};
 use stm_region::{Client, Region};
+use tx_alloc::FreeList;
 use vac_model::{Reply, Task};
 use vac_tasks::{only_reads, read_task, run_task};
 
@@ -39,6 +40,7 @@ fn try_reading<G: Gate>(
     ensures tried { Tried region.now task.now client.old.value client.new.value result }
     ensures placed { WasPlaced region.now task.now result place.new
         client.old.value client.new.value }
+    ensures spares { Spares task.now result client.old.value client.new.value }
     ensures legal { IfOk result (λ _. WasLegal region.now client.new.value) }
     ensures stopped { IfErr result (λ conflict. WasShown region.now conflict client.new.value) }
     ensures lone { HasAllGrants client.old.value → IsOk result }
@@ -74,7 +76,7 @@ fn try_writing<G: Gate>(
     client: &mut Client<ManagerLaw>,
     logs: &mut Logs,
     task: &Task,
-    start: u32,
+    start: FreeList,
     gate: &mut G,
     place: &mut Option<Place>,
 ) -> Result<Reply, Stop>
@@ -84,13 +86,13 @@ fn try_writing<G: Gate>(
     requires unplaced { IsUnplaced client.old.value }
     requires range { IsTrue (is_task task.now) }
     requires writes { reading.only_reads task.now ≡ false }
-    requires start { start < 8 }
     ensures own { client.new.table ≡ client.old.table }
     ensures free_handed { IsFreeHanded client.new.value }
     ensures unplaced { IsUnplaced client.new.value }
     ensures tried { Tried region.now task.now client.old.value client.new.value result }
     ensures placed { WasPlaced region.now task.now result place.new
         client.old.value client.new.value }
+    ensures spares { Spares task.now result client.old.value client.new.value }
     ensures legal { IfOk result (λ _. WasLegal region.now client.new.value) }
     ensures stopped { IfErr result (λ stop. IsStop region.now task.now stop client.new.value) }
     ensures lone { HasAllGrants client.old.value → IfErr result (λ stop. IsNoConflict stop) }
@@ -132,7 +134,7 @@ fn try_once<G: Gate>(
     client: &mut Client<ManagerLaw>,
     logs: &mut Logs,
     task: &Task,
-    start: u32,
+    start: FreeList,
     gate: &mut G,
     place: &mut Option<Place>,
 ) -> Result<Reply, Stop>
@@ -141,13 +143,13 @@ fn try_once<G: Gate>(
     requires opened { IsOpened region.now }
     requires unplaced { IsUnplaced client.old.value }
     requires range { IsTrue (is_task task.now) }
-    requires start { start < 8 }
     ensures own { client.new.table ≡ client.old.table }
     ensures free_handed { IsFreeHanded client.new.value }
     ensures unplaced { IsUnplaced client.new.value }
     ensures tried { Tried region.now task.now client.old.value client.new.value result }
     ensures placed { WasPlaced region.now task.now result place.new
         client.old.value client.new.value }
+    ensures spares { Spares task.now result client.old.value client.new.value }
     ensures legal { IfOk result (λ _. WasLegal region.now client.new.value) }
     ensures stopped { IfErr result (λ stop. IsStop region.now task.now stop client.new.value) }
     ensures lone { HasAllGrants client.old.value → IfErr result (λ stop. IsNoConflict stop) }
@@ -172,7 +174,7 @@ pub(crate) fn run_in_attempts<G: Gate>(
     client: &mut Client<ManagerLaw>,
     logs: &mut Logs,
     task: &Task,
-    start: u32,
+    start: FreeList,
     tries: u32,
     gate: &mut G,
     traced: &mut Traced,
@@ -182,7 +184,6 @@ pub(crate) fn run_in_attempts<G: Gate>(
     requires opened { IsOpened region.now }
     requires unplaced { IsUnplaced client.old.value }
     requires range { IsTrue (is_task task.now) }
-    requires start { start < 8 }
     requires some { 1 ≤ tries }
     requires few { tries ≤ MOST_TRIES }
     requires none { traced.old.effort ≡ nothing_done }
@@ -193,6 +194,7 @@ pub(crate) fn run_in_attempts<G: Gate>(
         client.old.value.attempt.number client.new.value.attempt.number result }
     ensures placed { WasPlaced region.now task.now result traced.new.place
         client.old.value client.new.value }
+    ensures spares { Spares task.now result client.old.value client.new.value }
     ensures took { Tallies region.now client.old.value client.new.value
         result traced.new.effort }
     ensures repeated { Repeated region.now task.now tries

@@ -4,6 +4,7 @@ use crate::law::ManagerLaw;
 use std::marker::Model;
 use stm_attempt::Logs;
 use stm_region::Client as RegionClient;
+use tx_alloc::FreeList;
 
 /// A client of a manager: the right to call it, from one thread at a time. Between calls it holds
 /// no lock. Contracts see which region it is of, its value, and its two free lists.
@@ -12,13 +13,12 @@ pub struct Client {
     pub(crate) client: RegionClient<ManagerLaw>,
     pub(crate) logs: Logs,
     // The free list that its new entries take their blocks from.
-    pub(crate) start: u32,
+    pub(crate) start: FreeList,
     // The same of the next client that it splits off.
-    pub(crate) next: u32,
+    pub(crate) next: FreeList,
 }
 
 impl Model for Client {
-    ghost use Rattle.std.specs.Prelude.{◌<◌};
     ghost use Rattle.stm_core.specs.Core.{IsFreeHanded};
     ghost use Rattle.vac_manager.specs.Called.{CallerShown, IsUnplaced};
 
@@ -31,6 +31,5 @@ impl Model for Client {
       next = c.next;
     } };
 
-    ghost invariant = { λ c. IsFreeHanded c.client.value × (c.start < 8) × (c.next < 8)
-        × IsUnplaced c.client.value };
+    ghost invariant = { λ c. IsFreeHanded c.client.value × IsUnplaced c.client.value };
 }

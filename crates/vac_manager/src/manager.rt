@@ -19,12 +19,9 @@ use std::marker::Model;
 use stm_attempt::{Gate, Logs, NoGate};
 use stm_region::{MOST_STRIPES, Region, RegionFault};
 use stm_words::{VERSION_LIMIT, Version};
-use tx_alloc::fresh_words;
+use tx_alloc::{FreeList, fresh_words};
 use vac_model::limits::{MOST_BLOCKS, MOST_TRIES};
 use vac_model::{Reply, Task};
-
-/// How many lists of free blocks there are.
-const LISTS: u32 = 8;
 
 /// A manager that was not closed, with its client and the reason.
 type Kept = (Manager, Client, RegionFault);
@@ -93,8 +90,8 @@ impl Manager {
         let client = Client {
             client,
             logs: Logs::new(alloc),
-            start: 0,
-            next: 1,
+            start: FreeList::new(0),
+            next: FreeList::new(1),
         };
         Ok((Manager { alloc, region }, client))
     }
@@ -197,7 +194,7 @@ impl Manager {
     {
         let other = self.region.split(&mut client.client)?;
         let start = client.next;
-        client.next = (start + 1) % LISTS;
+        client.next = start.next();
         Ok(Client {
             client: other,
             logs: Logs::new(self.alloc),

@@ -3,7 +3,7 @@ use Rattle.vac_manager.specs.Called.{CallerShown}
 use Rattle.vac_load.specs.Keeping.{shown}
 use Rattle.vac_load.proofs.Joining.{few}
 use Rattle.vac_load.proofs.Pairs.{paired_length}
-use Rattle.vac_load.proofs.Shares.{ran_all, worked_own, worked_grants, worked_tasks}
+use Rattle.vac_load.proofs.Shares.{ran_all, ran_in, worked_own, worked_grants, worked_tasks}
 use Rattle.vac_load.proofs.gathering.run_clients.Goals as goal
 
 pub gather_all-requires : goal.gather_all-requires
@@ -35,3 +35,7 @@ returns-clause-number g c =
     let same = paired_length _ _ _ c.in_ok-crew-2.ensures.others in
     let handed = paired_length _ _ _ c.gather_all.ensures.seats in
     omega (arith, c.in_ok-crew.ensures.number, same, handed, c.requires.number)
+
+pub returns-clause-era : goal.returns-clause-era
+returns-clause-era g c = ran_in g.D.Draws.leads c.args.settings.now c.args.manager.now.renewal (shown g.K.Keep.notes) (λ w. w.client) (λ w. shown g.K.Keep.notes w.seat) (λ r. r.worker.client) (λ r. shown g.K.Keep.notes r.worker.seat) (λ r. r.tally) c.args.client _ _ _ _ _ c.gather_all.result.client.value _
+    c.requires.known c.in_ok-crew.ensures.hired c.in_ok-crew-2.ensures.first c.in_ok-crew-2.ensures.others c.gather_all.ensures.gathered c.requires.era

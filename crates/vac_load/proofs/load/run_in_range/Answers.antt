@@ -4,11 +4,17 @@ use Rattle.vac_load.specs.Keeping.{shown}
 use Rattle.vac_load.specs.Load.{IsStopOfLoad}
 use Rattle.vac_load.proofs.Opened.{handed_on}
 use Rattle.vac_load.proofs.Loads.{loaded_kept, opened_known, was_opened, was_stopped, stop_behind}
+use Rattle.vac_load.proofs.Eras.{opened_in}
 use Rattle.vac_load.proofs.load.run_in_range.Goals as goal
 
 pub run_rounds-requires-clause-known : goal.run_rounds-requires-clause-known
 run_rounds-requires-clause-known g c = λ _ _.
     opened_known g.D.Draws.leads c.in-Ok.manager.renewal _ c.in-Ok.client.value c.open_kept.new.client.value c.args.opening.now c.open_kept.new.draws
+    (ap (λ (x : CallerShown). x.value.records) c.in-Ok.ensures.ok.client_is) c.in_default-open_kept.ensures.ran
+
+pub run_rounds-requires-clause-era : goal.run_rounds-requires-clause-era
+run_rounds-requires-clause-era g c = λ _ _.
+    opened_in g.D.Draws.leads c.in-Ok.manager.renewal _ c.in-Ok.client.value c.open_kept.new.client.value c.args.opening.now c.open_kept.new.draws
     (ap (λ (x : CallerShown). x.value.records) c.in-Ok.ensures.ok.client_is) c.in_default-open_kept.ensures.ran
 
 pub returns-clause-kept : goal.returns-clause-kept
@@ -17,7 +23,7 @@ returns-clause-kept g c =
     rw c.apart.ensures.tally (loaded_kept g.D.Draws.leads c.args.settings.now (shown g.K.Keep.notes) c.args.opening.now c.open_kept.new.draws c.args.seats.items c.in_ok-progress.progress.round.seats.items (min (16 + 8 * c.args.settings.now.blocks) 1048576)
     c.in-Ok.manager c.in_ok-progress.progress.manager c.in-Ok.client c.open_kept.new.client.value c.in_ok-progress.progress.round.client.value (g.K.Keep.notes c.args.keep.now) (g.K.Keep.notes c.open_kept.new.keep)
     c.in_ok-progress.progress.round.tally c.in-Ok-close.words.items c.in-Ok-close.field-0-1 c.report_of-report.result n
-    (search rules) (search rules) c.in_default-open_kept.ensures.kept (search rules) (search rules) (search rules) c.report_of-report.ensures)
+    (search rules) (search rules) c.in_default-open_kept.ensures.kept (search rules) c.in_ok-progress.ensures.era (search rules) (search rules) c.report_of-report.ensures)
 
 pub returns-in_default-clause-stopped : goal.returns-in_default-clause-stopped
 returns-in_default-clause-stopped g c = inl refl

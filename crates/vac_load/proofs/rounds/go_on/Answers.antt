@@ -5,6 +5,7 @@ use Rattle.vac_manager.specs.Called.{CallerShown}
 use Rattle.vac_load.specs.Keeping.{shown}
 use Rattle.vac_load.specs.Load.{RanAll}
 use Rattle.vac_load.proofs.Joining.{ran_total, few, few_each, renewed_known}
+use Rattle.vac_load.proofs.Eras.{renewed_in}
 use Rattle.vac_load.proofs.rounds.go_on.Goals as goal
 
 pub run_clients-requires-clause-own : goal.run_clients-requires-clause-own
@@ -17,6 +18,11 @@ pub run_clients-requires-clause-known : goal.run_clients-requires-clause-known
 run_clients-requires-clause-known g c = λ _ _.
     renewed_known c.args.progress.manager c.in-Ok.renewed.0 c.args.progress.round.client c.in-Ok.renewed.1 _ c.in-Ok.ensures.words
     (ap (λ (r : RegionShown). r.renewal) c.in-Ok.ensures.manager) (ap (λ (x : CallerShown). x.value.records) c.in-Ok.ensures.client)
+
+pub run_clients-requires-clause-era : goal.run_clients-requires-clause-era
+run_clients-requires-clause-era g c = λ _ _.
+    renewed_in c.args.progress.manager c.in-Ok.renewed.0 c.args.progress.round.client c.in-Ok.renewed.1 _ c.in-Ok.ensures.words
+    (ap (λ (r : RegionShown). r.renewal) c.in-Ok.ensures.manager) (ap (λ (x : CallerShown). x.value.records) c.in-Ok.ensures.client) c.requires.era
 
 pub plus-requires : goal.plus-requires
 plus-requires g c =

@@ -12,6 +12,7 @@ rounds-init g c =
       alone = c.in_ok-round.ensures.alone;
       renewals = omega (arith, c.requires.renewals);
       number = c.in_ok-round.ensures.number;
+      era = c.in_ok-round.ensures.era;
       size = refl;
       ran = subst (λ (n : ℕ). RanAll g.D.Draws.leads c.args.settings.now (shown g.K.Keep.notes) n c.args.client.value.records c.args.seats.items c.in_ok-round.round.client.value.records c.in_ok-round.round.seats.items c.in_ok-round.round.tally) one c.in_ok-round.ensures.ran;
     }
@@ -30,6 +31,7 @@ rounds-preserved g c = record {
   alone = c.in_ok-progress.ensures.alone;
   renewals = omega (arith, c.in_ok-progress.ensures.renewals, c.rounds.invariant.renewals);
   number = c.in_ok-progress.ensures.number;
+  era = c.in_ok-progress.ensures.era;
   size = c.in_ok-progress.ensures.size ∙ c.rounds.invariant.size;
   ran = ran_more g.D.Draws.leads c.args.settings.now (shown g.K.Keep.notes) c.rounds.done _ _ _ _ _ _ _ _ c.rounds.invariant.ran c.in_ok-progress.ensures.ran;
 }

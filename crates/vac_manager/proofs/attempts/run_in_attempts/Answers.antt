@@ -1,5 +1,5 @@
 use Rattle.std.proofs.Common.{rules}
-use Rattle.vac_manager.proofs.Adding.{placed_since}
+use Rattle.vac_manager.proofs.Adding.{placed_since, spared_since}
 use Rattle.vac_manager.proofs.Placing.{met_next, tallied_last}
 use Rattle.vac_manager.proofs.attempts.run_in_attempts.Goals as goal
 
@@ -25,3 +25,7 @@ returns-in_default-clause-took g c =
 pub returns-in_default-3-clause-placed : goal.returns-in_default-3-clause-placed
 returns-in_default-3-clause-placed g c =
     placed_since c.args.region.now c.args.task.now c.args.client.now.value c.tries.client.value c.try_once-answer.new.client.value c.try_once-answer.result c.try_once-answer.new.place c.tries.invariant.trying.records c.tries.invariant.trying.floor c.try_once-answer.ensures.placed
+
+pub returns-in_default-3-clause-spares : goal.returns-in_default-3-clause-spares
+returns-in_default-3-clause-spares g c =
+    spared_since c.args.task.now c.args.client.now.value c.tries.client.value c.try_once-answer.new.client.value c.try_once-answer.result c.tries.invariant.trying.records c.try_once-answer.ensures.spares

@@ -52,3 +52,8 @@ pub returns-clause-placed : goal.returns-clause-placed
 returns-clause-placed g c =
     placed_as _ _ _ _ _ _ _ _ _ _ (finished c.args.region.now c.read_task-answer.new.memory.region.now c.args.task.now c.in-Ok.reply _ _ _ _ c.read_task-answer.new.memory.client.now _ _ (ap (λ (o : Origin). o.region.renewal) c.in-Ok.ensures.origin ∙ ap (λ (r : RegionShown). r.renewal) c.begin-attempt.ensures.region) c.begin-attempt.ensures.earlier c.requires.unplaced c.begin-attempt.ensures.value
     (ap (λ (o : Origin). o.client.value) c.in-Ok.ensures.origin) c.begin-attempt.ensures.version c.finish-version.ensures.client.1 c.finish-version.ensures.free_handed.1 (search rules)).placed (search rules) (search rules) refl
+
+pub returns-clause-spares : goal.returns-clause-spares
+returns-clause-spares g c = λ _.
+    (finished c.args.region.now c.read_task-answer.new.memory.region.now c.args.task.now c.in-Ok.reply _ _ _ _ c.read_task-answer.new.memory.client.now _ _ (ap (λ (o : Origin). o.region.renewal) c.in-Ok.ensures.origin ∙ ap (λ (r : RegionShown). r.renewal) c.begin-attempt.ensures.region) c.begin-attempt.ensures.earlier c.requires.unplaced c.begin-attempt.ensures.value
+    (ap (λ (o : Origin). o.client.value) c.in-Ok.ensures.origin) c.begin-attempt.ensures.version c.finish-version.ensures.client.1 c.finish-version.ensures.free_handed.1 (search rules)).reader refl

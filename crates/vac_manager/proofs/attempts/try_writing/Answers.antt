@@ -1,8 +1,8 @@
 use Rattle.std.proofs.Common.{rules, ap, ◌∙◌}
 use Rattle.stm_region.specs.Shown.{RegionShown}
 use Rattle.stm_attempt.specs.Meaning.{Origin}
-use Rattle.vac_manager.proofs.Adding.{committed, placed_as, wrote_is, unplaced_begun, unplaced_stopped}
-use Rattle.vac_manager.proofs.Lawful.{holds_begun, lawful}
+use Rattle.vac_manager.proofs.Adding.{committed, placed_as, spared, wrote_is, unplaced_begun, unplaced_stopped}
+use Rattle.vac_manager.proofs.Lawful.{holds_begun, lawful, wrote_nothing}
 use Rattle.vac_manager.proofs.Legality.{committed_legal}
 use Rattle.vac_manager.proofs.Trying.{shown_by_read, commit_stop, near_begun, near_committed, near_stopped}
 use Rattle.vac_manager.proofs.attempts.try_writing.Goals as goal
@@ -29,6 +29,7 @@ pub returns-in-Err-clause-stopped : goal.returns-in-Err-clause-stopped
 returns-in-Err-clause-stopped g c =
     commit_stop _ _ _ _ c.in-Ok.reply _ _ _ _ (ap (λ (o : Origin). o.region) c.run_task-answer.ensures.origin ∙ c.begin-attempt.ensures.region) c.requires.writes
     (lawful _ _ _ _ _ _ _ _ _ _ _ _ _ _ c.begin-attempt.ensures.empty.2 c.begin-attempt.ensures.empty.1 c.requires.range c.run_task-answer.ensures.origin c.in-Ok.ensures.answer)
+    (wrote_nothing _ _ _ _ _ _ _ _ _ _ _ _ _ _ c.begin-attempt.ensures.empty.2 c.begin-attempt.ensures.empty.1 c.requires.writes c.run_task-answer.ensures.origin c.in-Ok.ensures.answer)
     (c.in-Err.ensures.refused (search rules)) (search rules)
 
 pub returns-in-Ok-commit-clause-tried : goal.returns-in-Ok-commit-clause-tried
@@ -71,3 +72,9 @@ pub returns-in-Ok-commit-clause-placed : goal.returns-in-Ok-commit-clause-placed
 returns-in-Ok-commit-clause-placed g c =
     placed_as _ _ _ _ _ _ _ _ _ _ (committed c.args.region.now c.run_task-answer.new.memory.region.now _ _ _ _ _ _ _ c.run_task-answer.new.memory.client.now.value _ _ (ap (λ (o : Origin). o.region.renewal) c.run_task-answer.ensures.origin ∙ ap (λ (r : RegionShown). r.renewal) c.begin-attempt.ensures.region) c.begin-attempt.ensures.earlier c.requires.unplaced c.begin-attempt.ensures.value
     (ap (λ (o : Origin). o.client.value) c.run_task-answer.ensures.origin) c.begin-attempt.ensures.version c.in-Ok-commit.ensures.ok (search rules)).placed (search rules) (search rules) (wrote_is c.run_task-answer.new.memory.client.now.value _ _ _ _ (search rules) (search rules) c.in-Ok-commit.ensures.ok.versioned)
+
+pub returns-in-Ok-commit-clause-spares : goal.returns-in-Ok-commit-clause-spares
+returns-in-Ok-commit-clause-spares g c =
+    spared c.args.task.now c.in-Ok.reply _ c.args.client.now.value _ (wrote_nothing _ _ _ _ _ _ _ _ _ _ _ _ _ _ c.begin-attempt.ensures.empty.2 c.begin-attempt.ensures.empty.1 c.requires.writes c.run_task-answer.ensures.origin c.in-Ok.ensures.answer)
+    (committed c.args.region.now c.run_task-answer.new.memory.region.now c.args.task.now c.in-Ok.reply _ _ _ _ _ c.run_task-answer.new.memory.client.now.value _ _ (ap (λ (o : Origin). o.region.renewal) c.run_task-answer.ensures.origin ∙ ap (λ (r : RegionShown). r.renewal) c.begin-attempt.ensures.region) c.begin-attempt.ensures.earlier c.requires.unplaced c.begin-attempt.ensures.value
+    (ap (λ (o : Origin). o.client.value) c.run_task-answer.ensures.origin) c.begin-attempt.ensures.version c.in-Ok-commit.ensures.ok (search rules)).reader

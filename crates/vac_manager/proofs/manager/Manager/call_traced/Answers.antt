@@ -10,6 +10,7 @@ returns-clause-called g c = record {
   free_handed = search rules;
   arguments = search rules;
   records = search rules;
+  spares = search rules;
   attempts = search rules;
   once = search rules;
   next = search rules;

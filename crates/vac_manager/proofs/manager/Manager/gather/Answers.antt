@@ -1,4 +1,4 @@
-use Rattle.std.proofs.Common.{rules, ◌<◌}
+use Rattle.std.proofs.Common.{rules}
 use Rattle.stm_core.specs.Core.{IsFreeHanded}
 use Rattle.vac_manager.proofs.Adding.{unplaced_joined}
 use Rattle.vac_manager.proofs.Openings.{only_of}
@@ -10,6 +10,5 @@ returns-clause-only c = only_of _ _ _ _ _ c.gather.ensures.only (search rules) (
 pub invariant_of-client : goal.invariant_of-client
 invariant_of-client c =
     let free : IsFreeHanded c.gather.new.client.value = search rules in
-    let starts : (c.client.inside.start < 8) × (c.client.inside.next < 8) = search rules in
     let unplaced = unplaced_joined c.client.inside.client.value c.other.inside.client.value c.gather.new.client.value (search rules) (search rules) (search rules) in
-    (free, starts.0, starts.1, unplaced)
+    (free, unplaced)

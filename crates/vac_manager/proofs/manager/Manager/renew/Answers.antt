@@ -1,4 +1,4 @@
-use Rattle.std.proofs.Common.{rules, ℕ, List, ◌<◌}
+use Rattle.std.proofs.Common.{rules, ℕ, List}
 use Rattle.stm_core.specs.Core.{IsFreeHanded}
 use Rattle.stm_region.specs.Closed.{Ends}
 use Rattle.vac_manager.specs.Law.{IsLawful}
@@ -13,9 +13,8 @@ returns-in-Ok-clause-words c =
 pub invariant_of-client : goal.invariant_of-client
 invariant_of-client c =
     let free : IsFreeHanded c.in-Ok.client.value = search rules in
-    let starts : (c.client.inside.start < 8) × (c.client.inside.next < 8) = search rules in
     let unplaced = unplaced_still c.client.inside.client.value c.in-Ok.client.value (search rules) (search rules) in
-    (free, starts.0, starts.1, unplaced)
+    (free, unplaced)
 
 pub returns-in-Err-Closed-clause-refused : goal.returns-in-Err-Closed-clause-refused
 returns-in-Err-Closed-clause-refused c =

@@ -1,4 +1,4 @@
-use Rattle.std.proofs.Common.{rules, ◌+◌, ◌%◌, ◌<◌}
+use Rattle.std.proofs.Common.{rules}
 use Rattle.stm_core.specs.Core.{IsFreeHanded}
 use Rattle.vac_manager.proofs.Adding.{unplaced_still}
 use Rattle.vac_manager.proofs.manager.Manager.split.Goals as goal
@@ -6,6 +6,5 @@ use Rattle.vac_manager.proofs.manager.Manager.split.Goals as goal
 pub invariant_of-client-2 : goal.invariant_of-client-2
 invariant_of-client-2 c =
     let free : IsFreeHanded c.split.new.client.value = search rules in
-    let starts : (c.client.inside.start < 8) × ((c.client.inside.next + 1) % 8 < 8) = search rules in
     let unplaced = unplaced_still c.client.inside.client.value c.split.new.client.value (search rules) (search rules) in
-    (free, starts.0, starts.1, unplaced)
+    (free, unplaced)

@@ -1,0 +1,53 @@
+-- When the calls of a history are legal in the order in which they are written.
+use Rattle.std.specs.Prelude.{◌≡◌, ◌↔◌, ℕ, List, [], ◌∷◌, ◌++◌, map}
+use Rattle.stm_core.specs.Client.{Record}
+use Rattle.stm_core.specs.Invariant.{Sorted}
+use Rattle.vac_model.specs.State.{State, empty_state}
+use Rattle.vac_manager.specs.Legal.{IsLegal, AreVersioned}
+use Rattle.vac_manager.specs.declared.note.Note.{Note}
+use Rattle.vac_manager.specs.Keeping.{IsNoted}
+use Rattle.vac_judge.specs.Call.{Call}
+use Rattle.vac_judge.specs.Laws.{GiveReplies, TakeTime, AreSequential, KeepPrecedence}
+use Rattle.vac_judge.specs.Laws.{IsLinearization, state_after}
+use Rattle.vac_history.specs.Turns.{EachInTurn}
+use Rattle.vac_history.specs.Order.{Entry, AreOrdered, IsMerged}
+use Rattle.vac_history.specs.History.{call_of}
+
+-- each call is that of one of the records, and each record has one call, in any order
+abbrev pub AreCallsOf : List Note → List Record → Type 0
+AreCallsOf [] records = records ≡ []
+AreCallsOf (n ∷ notes) records =
+    (first : List Record) × (r : Record) × (more : List Record) × (records ≡ first ++ r ∷ more)
+    × IsNoted n r × AreCallsOf notes (first ++ more)
+
+-- the calls are those of a history of records, one for each: it is legal for a system of n blocks
+-- and leaves this state, stands in order, and has one writer a version and readers that wrote
+-- nothing
+pub record AreRecorded (n : ℕ) (all : List Entry) (last : State) : Type 0 where
+  pub history : List Record
+  pub legal : IsLegal (empty_state n) history last
+  pub sorted : Sorted history
+  pub versioned : AreVersioned history
+  pub calls : AreCallsOf (map (λ e. e.note) all) history
+
+-- the calls are legal in this order for a system of n blocks, as far as that does not rest on what
+-- the times of two clients say of each other: run one after the other they give their replies and
+-- leave this state; no call ends before it begins; and each client's calls do not overlap and stand
+-- in their order
+pub record AreLegal (n : ℕ) (calls : List Call) (last : State) : Type 0 where
+  pub replies : GiveReplies (empty_state n) calls
+  pub leaves : state_after (empty_state n) calls ≡ last
+  pub times : TakeTime calls
+  pub clients : AreSequential calls
+
+-- calls that are written in the order of their records, each client's in turn, are legal in it
+abbrev pub OrderedCallsAreLegal : Type 0
+OrderedCallsAreLegal = (n : ℕ) (kept : List (List Note)) (all : List Entry) (last : State) →
+    AreRecorded n all last → IsMerged kept all → EachInTurn kept →
+    AreOrdered (map (λ e. e.note) all) → AreLegal n (map call_of all) last
+
+-- such an order is a linearization exactly where no call that had ended before another began
+-- stands behind it
+abbrev pub LegalUpToPrecedence : Type 0
+LegalUpToPrecedence = (n : ℕ) (calls : List Call) (last : State) → AreLegal n calls last →
+    IsLinearization n calls ↔ KeepPrecedence calls
