@@ -1,6 +1,5 @@
 mod Words
 mod Booking
 mod Serving
-mod Gathering
 mod Rounding
 mod Running

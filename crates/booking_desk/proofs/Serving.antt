@@ -13,33 +13,36 @@ use Rattle.vac_manager.specs.Called.{CallerShown, Adds, Attempts}
 use Rattle.booking_desk.specs.declared.desk.Desk.{Desk}
 use Rattle.booking_desk.specs.declared.settings.DeskSettings.{DeskSettings}
 use Rattle.booking_desk.specs.Trips.{trip_of}
-use Rattle.booking_desk.specs.Desks.{asked, AreTrips, Serves}
+use Rattle.booking_desk.specs.Desks.{asked, AreTrips, MayServe, session_of, Serves, HasServed}
 use Rattle.booking_desk.proofs.Booking.{ascend_more, ascend_on, are_both, in_none, in_both, in_one, booked_none, same_desk}
 
-pub serves_none : (region : RegionShown) (s : DeskSettings) (d : Desk) (c : CallerShown) → asked d ≤ s.trips → Serves region s d d c c
-serves_none region s d c few = record {
-  client = refl;
+pub serves_none : (s : DeskSettings) (d : Desk) (y : SessionShown) → MayServe s d → Serves s d d y y
+serves_none s d y may = record {
+  session = refl;
   grants = refl;
-  within = few;
+  may = may;
   done = record { trips = []; records = [] };
   booked = booked_none d;
-  records = sym (append-nil c.value.records);
+  records = sym (append-nil y.client.value.records);
   renewals = λ r i. absurd (in_none r i);
   attempts = omega arith;
 }
 
--- a call left its client's place and grants, and made some attempts
-pub record Called (w w' : CallerShown) : Type 0 where
-  pub client : w' ≡ record w { value = w'.value }
-  pub grants : w'.value.grants ≡ w.value.grants
-  pub attempts : w.value.attempt.number ≤ w'.value.attempt.number
+-- a call left all but its client's value, and made some attempts
+pub record Called (z z' : SessionShown) : Type 0 where
+  pub session : z' ≡ record z { client = record z.client { value = z'.client.value } }
+  pub grants : z'.client.value.grants ≡ z.client.value.grants
+  pub attempts : z.client.value.attempt.number ≤ z'.client.value.attempt.number
+
+on : (y z z' : SessionShown) → z ≡ record y { client = record y.client { value = z.client.value } } → Called z z' → z' ≡ record y { client = record y.client { value = z'.client.value } }
+on y z z' e k = k.session ∙ ap (λ (x : SessionShown). record x { client = record x.client { value = z'.client.value } }) e
 
 -- a call that ended the round
-pub serves_same : (region : RegionShown) (s : DeskSettings) (d e : Desk) (c w w' : CallerShown) → Serves region s d e c w → Called w w' → w'.value.records ≡ w.value.records → Serves region s d e c w'
-serves_same region s d e c w w' h k same = record {
-  client = k.client ∙ ap (λ (x : CallerShown). record x { value = w'.value }) h.client;
+pub serves_same : (s : DeskSettings) (d e : Desk) (y z z' : SessionShown) → Serves s d e y z → Called z z' → z'.client.value.records ≡ z.client.value.records → Serves s d e y z'
+serves_same s d e y z z' h k same = record {
+  session = on y z z' h.session k;
   grants = k.grants ∙ h.grants;
-  within = h.within;
+  may = h.may;
   done = h.done;
   booked = h.booked;
   records = same ∙ h.records;
@@ -51,12 +54,12 @@ one_more : (n k : ℕ) → (n + 1) * k ≡ n * k + k
 one_more n k = grind arith
 
 -- a trip was given up
-pub serves_busy : (region : RegionShown) (s : DeskSettings) (d e : Desk) (c w w' : CallerShown) → Serves region s d e c w → asked e < s.trips → Called w w' → w'.value.records ≡ w.value.records →
-    w'.value.attempt.number ≡ w.value.attempt.number + s.asks * 16 → Serves region s d (record e { given_up = e.given_up + 1 }) c w'
-serves_busy region s d e c w w' h less k same cost = record {
-  client = k.client ∙ ap (λ (x : CallerShown). record x { value = w'.value }) h.client;
+pub serves_busy : (s : DeskSettings) (d e : Desk) (y z z' : SessionShown) → Serves s d e y z → asked e < s.trips → Called z z' → z'.client.value.records ≡ z.client.value.records →
+    z'.client.value.attempt.number ≡ z.client.value.attempt.number + s.asks * 16 → Serves s d (record e { given_up = e.given_up + 1 }) y z'
+serves_busy s d e y z z' h less k same cost = record {
+  session = on y z z' h.session k;
   grants = k.grants ∙ h.grants;
-  within = omega (arith, less);
+  may = record { number = h.may.number; within = omega (arith, less) };
   done = h.done;
   booked = record {
     same = h.booked.same;
@@ -71,15 +74,15 @@ serves_busy region s d e c w w' h less k same cost = record {
 }
 
 -- a trip was booked
-pub serves_booked : (region : RegionShown) (s : DeskSettings) (d e : Desk) (c w w' : CallerShown) (reply : Reply) → Serves region s d e c w → asked e < s.trips → Called w w' →
-    Adds region.renewal (code (trip_of e.number (asked e)) reply) w.value w'.value → Serves region s d (record e { booked = e.booked + 1 }) c w'
-serves_booked region s d e c w w' reply h less k a =
+serves_booked : (s : DeskSettings) (d e : Desk) (y z z' : SessionShown) (reply : Reply) → Serves s d e y z → asked e < s.trips → Called z z' →
+    Adds y.manager.renewal (code (trip_of e.number (asked e)) reply) z.client.value z'.client.value → Serves s d (record e { booked = e.booked + 1 }) y z'
+serves_booked s d e y z z' reply h less k a =
     let one : AreTrips e.number (asked e ∷ []) (a.added ∷ []) = ((reply, a.tag_is), tt) in
     let more : asked e < e.booked + 1 + e.given_up = omega arith in
     record {
-      client = k.client ∙ ap (λ (x : CallerShown). record x { value = w'.value }) h.client;
+      session = on y z z' h.session k;
       grants = k.grants ∙ h.grants;
-      within = omega (arith, less);
+      may = record { number = h.may.number; within = omega (arith, less) };
       done = record { trips = h.done.trips ++ (asked e ∷ []); records = h.done.records ++ (a.added ∷ []) };
       booked = record {
         same = h.booked.same;
@@ -88,25 +91,34 @@ serves_booked region s d e c w w' reply h less k a =
         given_up = h.booked.given_up;
         are_of = are_both d.number h.done.trips (asked e ∷ []) h.done.records (a.added ∷ []) h.booked.are_of (same_desk e.number d.number (asked e ∷ []) (a.added ∷ []) h.booked.same one);
       };
-      records = a.records ∙ (ap (λ (l : List Record). l ++ (a.added ∷ [])) h.records ∙ append_assoc c.value.records h.done.records (a.added ∷ []));
+      records = a.records ∙ (ap (λ (l : List Record). l ++ (a.added ∷ [])) h.records ∙ append_assoc y.client.value.records h.done.records (a.added ∷ []));
       renewals = λ r i. elim (in_both h.done.records (a.added ∷ []) r i) [
         | inl j ↦ h.renewals r j
-        | inr j ↦ subst (λ (x : Record). x.renewal ≡ region.renewal) (in_one a.added r j) a.renewal_is
+        | inr j ↦ subst (λ (x : Record). x.renewal ≡ y.manager.renewal) (in_one a.added r j) a.renewal_is
       ];
       attempts = omega (arith, h.attempts, k.attempts);
     }
 
--- a call that leaves all but its client's value
-pub called : (y y' : SessionShown) → y' ≡ record y { client = record y.client { value = y'.client.value } } → y'.client.value.grants ≡ y.client.value.grants → y.client.value.attempt.number ≤ y'.client.value.attempt.number → Called y.client y'.client
-called y y' e g n = record { client = ap (λ (x : SessionShown). x.client) e; grants = g; attempts = n }
-
 -- a task was answered that is the desk's next trip
-pub next_booked : (region now : RegionShown) (s : DeskSettings) (d e : Desk) (c w w' : CallerShown) (t : Task) (reply : Reply) → now ≡ region → Serves region s d e c w → asked e < s.trips → Called w w' →
-    t ≡ trip_of e.number (asked e) → Adds now.renewal (code t reply) w.value w'.value → Serves region s d (record e { booked = e.booked + 1 }) c w'
-next_booked region now s d e c w w' t reply same h less k trip a =
-    serves_booked region s d e c w w' reply h less k
-    (subst (λ (x : Task). Adds region.renewal (code x reply) w.value w'.value) trip
-    (subst (λ (r : RegionShown). Adds r.renewal (code t reply) w.value w'.value) same a))
+pub next_booked : (s : DeskSettings) (d e : Desk) (y z z' : SessionShown) (t : Task) (reply : Reply) → Serves s d e y z → asked e < s.trips → Called z z' →
+    t ≡ trip_of e.number (asked e) → Adds z.manager.renewal (code t reply) z.client.value z'.client.value → Serves s d (record e { booked = e.booked + 1 }) y z'
+next_booked s d e y z z' t reply h less k trip a =
+    serves_booked s d e y z z' reply h less k
+    (subst (λ (x : Task). Adds y.manager.renewal (code x reply) z.client.value z'.client.value) trip
+    (subst (λ (n : ℕ). Adds n (code t reply) z.client.value z'.client.value) (ap (λ (x : SessionShown). x.manager.renewal) h.session) a))
+
+-- the clock was found at its last version
+pub served_spent : (s : DeskSettings) (d e : Desk) (y z z' : SessionShown) → Serves s d e y z → Called z z' → z'.client.value.records ≡ z.client.value.records → z'.client.value.attempt.next_from ≡ z.manager.last → HasServed s d e y z'
+served_spent s d e y z z' h k same spent = record {
+  serves = serves_same s d e y z z' h k same;
+  why = inr (spent ∙ ap (λ (x : SessionShown). x.manager.last) h.session);
+}
+
+-- the session ended, and its client is with the same manager
+pub served_out : (s : DeskSettings) (d e : Desk) (region : RegionShown) (c c' : CallerShown) (z : SessionShown) → HasServed s d e (session_of region c) z → c' ≡ z.client → HasServed s d e (session_of region c) (session_of region c')
+served_out s d e region c c' z h same =
+    let all : z ≡ session_of region c' = h.serves.session ∙ ap (λ (x : CallerShown). session_of region (record c { value = x.value })) (sym same) ∙ sym (ap (λ (x : CallerShown). session_of region x) (same ∙ ap (λ (x : SessionShown). x.client) h.serves.session ∙ ap (λ (x : CallerShown). record c { value = x.value }) (sym same))) in
+    subst (λ (x : SessionShown). HasServed s d e (session_of region c) x) all h
 
 -- no call takes attempts back
 pub grows : (tries before now : ℕ) (result : Result Reply Fault) → Attempts tries before now result → before ≤ now

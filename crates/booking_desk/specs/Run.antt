@@ -1,5 +1,6 @@
 -- What the desks leave in the end.
-use Rattle.std.specs.Prelude.{◌≡◌, ℕ, ◌≤◌, ◌⊎◌, List, [], ◌∷◌, length}
+use Rattle.std.specs.Prelude.{◌≡◌, ℕ, ◌≤◌, ◌⊎◌, List, [], ◌∷◌, length, All}
+use Rattle.std.specs.List.{AllZip}
 use Rattle.stm_core.specs.Client.{Client, Record}
 use Rattle.stm_region.specs.Shown.{RegionShown}
 use Rattle.vac_model.specs.declared.replies.Reply.{Reply}
@@ -8,18 +9,13 @@ use Rattle.vac_model.specs.State.{report}
 use Rattle.vac_manager.specs.Legal.{capacity_of}
 use Rattle.vac_manager.specs.Called.{HasAllGrants}
 use Rattle.vac_manager.specs.Opening.{Closes}
-use Rattle.booking_desk.specs.declared.desk.Desks.{Desks}
+use Rattle.booking_desk.specs.declared.desk.Desk.{Desk}
 use Rattle.booking_desk.specs.declared.settings.DeskSettings.{DeskSettings}
+use Rattle.booking_desk.specs.declared.rounds.Progress.{Progress}
 use Rattle.booking_desk.specs.declared.run.DeskReport.{DeskReport}
 use Rattle.booking_desk.specs.Trips.{stock_of}
-use Rattle.booking_desk.specs.Desks.{AreWithin, new_desk, left_of}
+use Rattle.booking_desk.specs.Desks.{asked, new_desks, MayServe}
 use Rattle.booking_desk.specs.Rounds.{WentOn, booked_by}
-
--- the manager's clock is at its begin, and no call was made of it
-pub record IsNew (region : RegionShown) (v : Client) : Type 0 where
-  pub records : v.records ≡ []
-  pub floor : v.floor ≡ 0
-  pub last : 1 ≤ region.last
 
 -- the record is of the stock, with so many units of each item, and of some reply
 abbrev pub IsStock : ℕ → Record → Type 0
@@ -30,22 +26,29 @@ abbrev pub IsStocked : ℕ → List Record → Type 0
 IsStocked units records = (r : Record) × IsStock units r × (records ≡ r ∷ [])
 
 -- first comes the record of the stock. Behind it stand those of the trips that are booked, and no
--- others: of each desk in the order of their numbers, each once
-pub record Went (s : DeskSettings) (ds : Desks) (records : List Record) : Type 0 where
+-- others: of each of the four desks in the order of their numbers, each once
+pub record Went (s : DeskSettings) (ds : List Desk) (records : List Record) : Type 0 where
   pub stock : Record
   pub stock_is : IsStock s.units stock
   pub rest : List Record
   pub stock_first : records ≡ stock ∷ rest
-  pub first : WentOn (new_desk 0) ds.first rest
-  pub second : WentOn (new_desk 1) ds.second rest
-  pub third : WentOn (new_desk 2) ds.third rest
-  pub fourth : WentOn (new_desk 3) ds.fourth rest
+  pub each : AllZip (WentOn rest) new_desks ds
   pub number : length rest ≡ booked_by ds
 
+-- the desks after so many rounds, as many renewals of the manager, which has room for so many
+-- entries and whose one client is alone
+pub record AreOn (s : DeskSettings) (p : Progress) : Type 0 where
+  pub own : p.client.table ≡ p.manager.table
+  pub alone : HasAllGrants p.client.value
+  pub room : capacity_of p.manager ≡ s.blocks
+  pub renewals : p.manager.renewal ≡ p.rounds
+  pub most : p.rounds ≤ s.rounds
+  pub within : All (MayServe s) p.desks.items
+  pub went : Went s p.desks.items p.client.value.records
+
 -- no trip is left, or all rounds were run
-pub record IsEnded (s : DeskSettings) (ds : Desks) (rounds : ℕ) : Type 0 where
-  pub most : rounds ≤ s.rounds
-  pub why : (left_of s.trips ds ≡ 0) ⊎ (rounds ≡ s.rounds)
+abbrev pub AreEnded : DeskSettings → List Desk → ℕ → Type 0
+AreEnded s ds rounds = All (λ d. asked d ≡ s.trips) ds ⊎ (rounds ≡ s.rounds)
 
 -- what the desks leave: a manager that its last client, which was alone, closed with these words.
 -- So that client's records are one history, legal from the empty state, and its last state has the
@@ -59,6 +62,7 @@ pub record Desked (s : DeskSettings) (r : DeskReport) : Type 0 where
   pub alone : HasAllGrants client
   pub room : capacity_of region ≡ s.blocks
   pub shown : report closes.last ≡ r.report
-  pub went : Went s r.desks client.records
-  pub within : AreWithin s.trips r.desks
-  pub ended : IsEnded s r.desks r.rounds
+  pub went : Went s r.desks.items client.records
+  pub within : All (MayServe s) r.desks.items
+  pub most : r.rounds ≤ s.rounds
+  pub ended : AreEnded s r.desks.items r.rounds

@@ -1,8 +1,12 @@
 //! A desk: which trips it has asked for, and how they ended.
 
-ghost use Rattle.std.specs.Prelude.{◌≡◌, ◌≤◌};
-ghost use Rattle.booking_desk.specs.Desks.{asked, new_desk, new_desks, left_of, AreWithin};
-ghost use Rattle.booking_desk.specs.declared.settings.TheConstants.{MOST_TRIPS};
+ghost use Rattle.std.specs.Prelude.{◌≡◌, ◌<◌, ◌^◌, true, nat_lt, IfOk, All};
+ghost use Rattle.std.specs.List.{list_any};
+ghost use Rattle.booking_desk.specs.Setting.{is_settings};
+ghost use Rattle.booking_desk.specs.Desks.{asked, new_desk, new_desks, MayServe};
+
+use crate::settings::DeskSettings;
+use std::alloc::{AllocError, Global};
 
 /// A desk, which asks for its trips one after the other, from number 0 on: so many were booked and
 /// so many given up, and the others are left.
@@ -27,44 +31,28 @@ impl Desk {
             given_up: 0,
         }
     }
+
+    /// How many trips it has asked for, which is the number of the next one.
+    pub fn asked(&self) -> u32
+        requires { asked self.now < 2 ^ 32 }
+        ensures { result ≡ asked self.now }
+    {
+        self.booked + self.given_up
+    }
 }
 
-/// The four desks.
-#[derive(Clone, Copy, Debug, PartialEq, Eq)]
-pub struct Desks {
-    pub first: Desk,
-    pub second: Desk,
-    pub third: Desk,
-    pub fourth: Desk,
+/// The desks before the first round.
+pub(crate) fn new_desks(alloc: Global) -> Result<Vec<Desk>, AllocError>
+    ensures { IfOk result (λ desks. desks.items ≡ new_desks) }
+{
+    Ok(vec![in alloc; Desk::new(0), Desk::new(1), Desk::new(2), Desk::new(3)]?)
 }
 
-impl Desks {
-    /// The desks before the first round.
-    pub(crate) fn new() -> Desks
-        ensures { result ≡ new_desks }
-    {
-        Desks {
-            first: Desk::new(0),
-            second: Desk::new(1),
-            third: Desk::new(2),
-            fourth: Desk::new(3),
-        }
-    }
-
-    /// How many trips are left, of so many for each desk.
-    pub fn left(&self, trips: u32) -> u32
-        requires within { AreWithin trips self.now }
-        requires few { trips ≤ MOST_TRIPS }
-        ensures { result ≡ left_of trips self.now }
-    {
-        let Desks {
-            first,
-            second,
-            third,
-            fourth,
-        } = *self;
-        let booked = first.booked + second.booked + third.booked + fourth.booked;
-        let given_up = first.given_up + second.given_up + third.given_up + fourth.given_up;
-        4 * trips - booked - given_up
-    }
+/// Whether a trip of some desk is left.
+pub(crate) fn is_left(desks: &[Desk], settings: DeskSettings) -> bool
+    requires settings { is_settings settings ≡ true }
+    requires desks { All (MayServe settings) desks.now }
+    ensures { result ≡ list_any (λ d. nat_lt (asked d) settings.trips) desks.now }
+{
+    desks.iter().any(|desk| desk.asked() < settings.trips)
 }

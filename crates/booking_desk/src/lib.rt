@@ -8,10 +8,9 @@ mod report;
 mod rounds;
 mod run;
 mod settings;
-mod threads;
 mod trips;
 
-pub use desk::{Desk, Desks};
+pub use desk::Desk;
 pub use run::{DeskFault, DeskReport, run_desks};
 pub use settings::{DeskSettings, MOST_ASKS, MOST_ROUNDS, MOST_TRIPS};
 pub use trips::{DESKS, ITEMS, PRICE};

@@ -1,28 +1,26 @@
 //! The desks from the opening of their manager to its end.
 
 ghost use Rattle.std.specs.Prelude.{◌≡◌, ◌⊎◌, ◌↔◌, true, false, IfOk, IfErr, IsErrOf};
-ghost use Rattle.vac_manager.specs.Called.{HasAllGrants};
 ghost use Rattle.booking_desk.specs.Setting.{is_settings};
-ghost use Rattle.booking_desk.specs.Desks.{AreWithin};
-ghost use Rattle.booking_desk.specs.Run.{IsNew, IsStocked, IsEnded, Went, Desked};
+ghost use Rattle.booking_desk.specs.Run.{AreOn, AreEnded, Desked};
 
-use crate::desk::Desks;
+use crate::desk::{Desk, is_left, new_desks};
 use crate::report::report_of;
-use crate::rounds::{Progress, Round, go_on};
+use crate::rounds::{Progress, go_on};
 use crate::settings::DeskSettings;
 use crate::trips::stock;
 use std::alloc::Global;
 use std::thread::Threads;
 use stm_region::RegionFault;
 use thiserror::Error;
-use vac_manager::{Client, Fault, Manager};
+use vac_manager::{Fault, Manager};
 use vac_model::Report;
 
 /// What the desks leave: how far each of them is, after how many rounds, and the report of the
 /// words.
-#[derive(Clone, Copy, Debug, PartialEq, Eq)]
+#[derive(Debug, Drop, PartialEq, Eq)]
 pub struct DeskReport {
-    pub desks: Desks,
+    pub desks: Vec<Desk>,
     pub rounds: u32,
     pub report: Report,
 }
@@ -38,29 +36,52 @@ pub enum DeskFault {
     Memory,
 }
 
-/// Adds the stock, as the first task of the manager.
-fn add_stock(
-    alloc: Global,
-    manager: &Manager,
-    client: &mut Client,
-    settings: DeskSettings,
-) -> Result<(), DeskFault>
-    requires own { client.old.table ≡ manager.now.table }
-    requires alone { HasAllGrants client.old.value }
-    requires new { IsNew manager.now client.old.value }
+/// Opens a manager, and adds the stock as its first task.
+fn open(alloc: Global, settings: DeskSettings) -> Result<Progress, DeskFault>
     requires settings { is_settings settings ≡ true }
-    ensures client { client.new ≡ record client.old { value = client.new.value } }
-    ensures grants { HasAllGrants client.new.value }
-    ensures stocked { IfOk result (λ _. IsStocked settings.units client.new.value.records) }
+    ensures on { IfOk result (λ r. AreOn settings r) }
     ensures refused { IfErr result (λ fault. fault ≡ DeskFault.Memory) }
 {
     let Ok(task) = stock(alloc, settings.units) else {
         return Err(DeskFault::Memory);
     };
-    match manager.call(client, &task, 1) {
-        Ok(_) => Ok(()),
-        Err(Fault::Memory) => Err(DeskFault::Memory),
-        Err(_) => unreachable!(),
+    let Ok(desks) = new_desks(alloc) else {
+        return Err(DeskFault::Memory);
+    };
+    let Ok((manager, mut client)) = Manager::new(alloc, settings.blocks, settings.last) else {
+        return Err(DeskFault::Memory);
+    };
+    match manager.call(&mut client, &task, 1) {
+        Ok(_) => Ok(Progress {
+            manager,
+            client,
+            desks,
+            rounds: 0,
+        }),
+        Err(fault) => {
+            prove!(fault == Fault::Memory);
+            Err(DeskFault::Memory)
+        }
+    }
+}
+
+/// Closes the manager, and answers what the desks leave.
+fn close(progress: Progress, settings: DeskSettings) -> Result<DeskReport, DeskFault>
+    requires on { AreOn settings progress }
+    requires ended { AreEnded settings progress.desks.items progress.rounds }
+    ensures ran { IfOk result (λ r. Desked settings r) }
+    ensures refused { IfErr result (λ fault. fault ≡ DeskFault.Memory) }
+{
+    match progress.manager.close(progress.client) {
+        Ok((words, _)) => Ok(DeskReport {
+            desks: progress.desks,
+            rounds: progress.rounds,
+            report: report_of(words),
+        }),
+        Err((_, _, fault)) => {
+            prove!(fault == RegionFault::Memory);
+            Err(DeskFault::Memory)
+        }
     }
 }
 
@@ -69,71 +90,16 @@ fn run_rounds<R: Threads + Sync>(
     rt: &R,
     alloc: Global,
     settings: DeskSettings,
-    manager: Manager,
-    client: Client,
-) -> Result<Progress, DeskFault>
-    requires own { client.table ≡ manager.table }
-    requires alone { HasAllGrants client.value }
-    requires renewals { manager.renewal ≡ 0 }
-    requires settings { is_settings settings ≡ true }
-    requires stocked { IsStocked settings.units client.value.records }
-    ensures own { IfOk result (λ r. r.round.client.table ≡ r.manager.table) }
-    ensures alone { IfOk result (λ r. HasAllGrants r.round.client.value) }
-    ensures size { IfOk result (λ r. r.manager.size ≡ manager.size) }
-    ensures within { IfOk result (λ r. AreWithin settings.trips r.round.desks) }
-    ensures ended { IfOk result (λ r. IsEnded settings r.round.desks r.rounds) }
-    ensures went { IfOk result (λ r. Went settings r.round.desks r.round.client.value.records) }
-    ensures refused { IfErr result (λ fault. fault ≡ DeskFault.Memory) }
-{
-    let round = Round {
-        client,
-        desks: Desks::new(),
-    };
-    let mut progress = Progress {
-        manager,
-        round,
-        rounds: 0,
-    };
-    'rounds: while progress.rounds < settings.rounds
-        && progress.round.desks.left(settings.trips) > 0
-    {
-        progress = go_on(rt, alloc, settings, progress)?;
-    }
-    Ok(progress)
-}
-
-/// Runs the desks with settings that are in their ranges.
-fn run_in_range<R: Threads + Sync>(
-    rt: &R,
-    alloc: Global,
-    settings: DeskSettings,
 ) -> Result<DeskReport, DeskFault>
     requires settings { is_settings settings ≡ true }
     ensures ran { IfOk result (λ r. Desked settings r) }
     ensures refused { IfErr result (λ fault. fault ≡ DeskFault.Memory) }
 {
-    let Ok((manager, mut client)) = Manager::new(alloc, settings.blocks, settings.last) else {
-        return Err(DeskFault::Memory);
-    };
-    add_stock(alloc, &manager, &mut client, settings)?;
-    let progress = run_rounds(rt, alloc, settings, manager, client)?;
-    let Progress {
-        manager,
-        round,
-        rounds,
-    } = progress;
-    let words = match manager.close(round.client) {
-        Ok((words, _)) => words,
-        Err((_, _, fault)) => {
-            prove!(fault == RegionFault::Memory);
-            return Err(DeskFault::Memory);
-        }
-    };
-    Ok(DeskReport {
-        desks: round.desks,
-        rounds,
-        report: report_of(words),
-    })
+    let mut progress = open(alloc, settings)?;
+    'rounds: while progress.rounds < settings.rounds && is_left(&progress.desks, settings) {
+        progress = go_on(rt, alloc, settings, progress)?;
+    }
+    close(progress, settings)
 }
 
 /// Opens a manager with a stock, and lets four desks book their trips in threads of their own, in
@@ -152,5 +118,5 @@ pub fn run_desks<R: Threads + Sync + AllocGlobal>(
     if !settings.is_in_range() {
         return Err(DeskFault::Arguments);
     }
-    run_in_range(rt, rt.alloc(), settings)
+    run_rounds(rt, rt.alloc(), settings)
 }

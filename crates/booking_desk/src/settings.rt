@@ -37,14 +37,11 @@ impl DeskSettings {
     pub fn is_in_range(&self) -> bool
         ensures { result ≡ is_settings self.now }
     {
-        1 <= self.blocks
-            && self.blocks <= MOST_BLOCKS
-            && 1 <= self.last
-            && self.last < VERSION_LIMIT
+        (1..=MOST_BLOCKS).contains(&self.blocks)
+            && (1..VERSION_LIMIT).contains(&self.last)
             && self.units <= MOST_AMOUNT
             && self.trips <= MOST_TRIPS
-            && 1 <= self.asks
-            && self.asks <= MOST_ASKS
+            && (1..=MOST_ASKS).contains(&self.asks)
             && self.rounds <= MOST_ROUNDS
     }
 }

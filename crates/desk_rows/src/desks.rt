@@ -1,6 +1,8 @@
 //! Desks that book their trips, beside the results that are stored here.
 
-use booking_desk::{Desk, DeskFault, DeskReport, DeskSettings, Desks, run_desks};
+use booking_desk::{Desk, DeskFault, DeskReport, DeskSettings, run_desks};
+use std::alloc::{AllocError, Global};
+use std::test::Fail;
 use vac_model::Report;
 
 /// How many trips each desk has to book.
@@ -32,14 +34,9 @@ fn done(number: u32) -> Desk {
 
 /// What is stored of a run in which all trips were booked, with so many units in all and so many
 /// of them in use, after these rounds.
-fn stored(units: u64, used: u64, rounds: u32) -> DeskReport {
-    DeskReport {
-        desks: Desks {
-            first: done(0),
-            second: done(1),
-            third: done(2),
-            fourth: done(3),
-        },
+fn stored(alloc: Global, units: u64, used: u64, rounds: u32) -> Result<DeskReport, AllocError> {
+    Ok(DeskReport {
+        desks: vec![in alloc; done(0), done(1), done(2), done(3)]?,
         rounds,
         report: Report {
             cars: 2,
@@ -52,50 +49,47 @@ fn stored(units: u64, used: u64, rounds: u32) -> DeskReport {
             total: units,
             billed: used.wrapping_mul(50),
         },
-    }
+    })
 }
 
 #[test]
-fn all_trips_on_one_clock(rt: HostRuntime) {
-    let found = run_desks(&rt, settings(LAST, 100));
-    assert_eq!(rt; found, Ok(stored(600, 300, 1)));
+fn all_trips_on_one_clock(rt: HostRuntime) -> Result<(), Fail> {
+    let found = run_desks(&rt, settings(LAST, 100))?;
+    assert_eq!(rt; found, stored(rt.alloc(), 600, 300, 1)?);
+    Ok(())
 }
 
 #[test]
-fn all_trips_on_many_clocks(rt: HostRuntime) {
-    let Ok(found) = run_desks(&rt, settings(7, 100)) else {
-        panic!(rt; "the desks stopped")
-    };
+fn all_trips_on_many_clocks(rt: HostRuntime) -> Result<(), Fail> {
+    let found = run_desks(&rt, settings(7, 100))?;
     assert!(rt; found.rounds >= 15);
-    assert_eq!(rt; found, stored(600, 300, found.rounds));
+    let rounds = found.rounds;
+    assert_eq!(rt; found, stored(rt.alloc(), 600, 300, rounds)?);
+    Ok(())
 }
 
 #[test]
-fn all_trips_with_too_few_units(rt: HostRuntime) {
-    let found = run_desks(&rt, settings(LAST, 10));
-    assert_eq!(rt; found, Ok(stored(60, 60, 1)));
+fn all_trips_with_too_few_units(rt: HostRuntime) -> Result<(), Fail> {
+    let found = run_desks(&rt, settings(LAST, 10))?;
+    assert_eq!(rt; found, stored(rt.alloc(), 60, 60, 1)?);
+    Ok(())
 }
 
 #[test]
-fn one_round_on_a_clock_that_ends_at_three(rt: HostRuntime) {
+fn one_round_on_a_clock_that_ends_at_three(rt: HostRuntime) -> Result<(), Fail> {
     let settings = DeskSettings {
         rounds: 1,
         ..settings(3, 100)
     };
-    let Ok(found) = run_desks(&rt, settings) else {
-        panic!(rt; "the desks stopped")
-    };
-    let Desks {
-        first,
-        second,
-        third,
-        fourth,
-    } = found.desks;
-    let booked = [first.booked, second.booked, third.booked, fourth.booked];
-    let booked = booked.iter().fold(0u32, |sum, n| sum.wrapping_add(*n));
+    let found = run_desks(&rt, settings)?;
+    let booked = found
+        .desks
+        .iter()
+        .fold(0u32, |sum, desk| sum.wrapping_add(desk.booked));
     assert_eq!(rt; found.rounds, 1);
     assert!(rt; booked <= 3);
     assert_eq!(rt; found.report.customers, u64::from(booked));
+    Ok(())
 }
 
 #[test]

@@ -1,10 +1,13 @@
-use Rattle.std.proofs.Common.{ap}
+use Rattle.std.proofs.Common.{refl, ap}
 use Rattle.stm_region.specs.Shown.{RegionShown}
-use Rattle.vac_manager.specs.Called.{CallerShown}
-use Rattle.booking_desk.proofs.Rounding.{renewed_old}
+use Rattle.booking_desk.specs.Desks.{session_of}
+use Rattle.booking_desk.proofs.Running.{may_run, on_more}
 use Rattle.booking_desk.proofs.rounds.go_on.Goals as goal
 
-pub run_round-requires-clause-old : goal.run_round-requires-clause-old
-run_round-requires-clause-old g c κs within =
-    renewed_old c.args.progress.manager c.in-Ok.renewed.0 c.args.progress.round.client c.in-Ok.renewed.1 _ c.in-Ok.ensures.words
-    (ap (λ (r : RegionShown). r.renewal) c.in-Ok.ensures.manager) (ap (λ (x : CallerShown). x.value.records) c.in-Ok.ensures.client)
+pub serve_all-requires-clause-may : goal.serve_all-requires-clause-may
+serve_all-requires-clause-may g c κs within = may_run c.args.settings c.args.progress c.in-Ok.renewed.0 c.in-Ok.renewed.1 _ c.requires.on c.in-Ok.ensures.words (ap (λ (x : RegionShown). x.renewal) c.in-Ok.ensures.manager) c.in-Ok.ensures.client
+
+pub returns-clause-on : goal.returns-clause-on
+returns-clause-on g c =
+    on_more c.args.settings c.args.progress _ c.in-Ok.renewed.0 c.in-Ok.renewed.1 (session_of c.in-Ok.renewed.0 c.in_ok-round.round.client) c.requires.on c.requires.rounds
+    (ap (λ (x : RegionShown). x.size) c.in-Ok.ensures.manager) (ap (λ (x : RegionShown). x.renewal) c.in-Ok.ensures.manager) c.in-Ok.ensures.client c.in_ok-round.ensures.ran refl refl refl
