@@ -1,0 +1,184 @@
+#!/usr/bin/env python3
+"""Proves and builds the program, from crates/vacation, and the libraries that it stands on: side by side,
+those with the longest chain behind them first. Its argument is how many processors it may use; it prints a
+line for each library that is done, and builds only what is not built already.
+
+`rt all check` and `rt run` would do the same with one job a crate, so that most processors stand still
+while the last crates of the chain are proved. Here the crate that most others wait for gets those that are
+free. No work is kept between runs, as `rt check` keeps it: over kept work a second job gains nothing. A
+library is built with its statements alone, as the gate builds it, so that the crates above load less; since
+other commands want its proofs too, it stands apart from theirs, in out/start/. Crates, their sums and the
+words of each call are those of the kit's own module."""
+
+import hashlib
+import importlib.util
+import os
+import secrets
+import subprocess
+import sys
+import tempfile
+from concurrent.futures import FIRST_COMPLETED, ThreadPoolExecutor, wait
+from importlib.machinery import SourceFileLoader
+from shutil import rmtree, which
+
+MOST_JOBS = 4
+
+# What a crate costs besides its lines of code, in such lines: what stands below it is loaded first.
+LOADING = 100
+
+
+def kit_module():
+    """The module that the command rt stands on."""
+    sys.dont_write_bytecode = True
+    path = os.path.join(os.path.dirname(os.path.realpath(which("rt"))), "rtlib.py")
+    loader = SourceFileLoader("rtlib", path)
+    module = importlib.util.module_from_spec(importlib.util.spec_from_loader("rtlib", loader))
+    sys.modules["rtlib"] = module
+    loader.exec_module(module)
+    return module
+
+
+def text_of(path):
+    """The text of a file, or none."""
+    try:
+        with open(path, encoding="utf-8") as file:
+            return file.read()
+    except FileNotFoundError:
+        return ""
+
+
+def cost_of(crate):
+    """What a crate costs, by the lines of its code."""
+    folder = f"{crate.folder}/src"
+    return LOADING + sum(text_of(f"{folder}/{file}").count("\n") for file in os.listdir(folder))
+
+
+class Building:
+    """The libraries that are left to prove, those that are being proved, and the program above them."""
+
+    def __init__(self, kit, processors):
+        self.kit, self.processors = kit, processors
+        here = os.getcwd()
+        self.program = kit.Crate(here, kit.root_above(here) or here, {})
+        self.libraries = self.program.below()
+        self.held = kit.lock([*self.libraries, self.program])
+        for crate in [*self.libraries, self.program]:
+            kit.stop_on_links(crate.folder)
+            kit.stop_on_text(crate, "check")
+        self.left = []
+        if not all(crate.is_built() for crate in self.libraries):
+            for crate in self.libraries:
+                crate.rlib = f"{crate.folder}/out/start/{crate.name}.rlib"
+            self.left = self.unbuilt()
+        self.all, self.running, self.failed = len(self.left), {}, False
+
+    @staticmethod
+    def mark(crate):
+        """The file that says of what a library was built."""
+        return f"{os.path.dirname(crate.rlib)}/stamp"
+
+    def sum(self, crate):
+        """The sum of a library's text, and of the very builds that it stands on."""
+        parts = [crate.stamp(), *[text_of(self.mark(below)) for below in crate.deps]]
+        return hashlib.sha256(repr(parts).encode()).hexdigest()
+
+    def unbuilt(self):
+        """The libraries that are not built of what stands here now, those with the longest chain first."""
+        left = []
+        for crate in self.libraries:
+            is_built = os.path.isdir(crate.rlib) and text_of(self.mark(crate)).startswith(self.sum(crate))
+            if not is_built or set(crate.below()) & set(left):
+                left.append(crate)
+        chains = {crate: cost_of(crate) for crate in left}
+        for crate in reversed(left):
+            for below in set(crate.below()) & set(left):
+                chains[below] = max(chains[below], cost_of(below) + chains[crate])
+        return sorted(left, key=lambda crate: -chains[crate])
+
+    def prove(self, crate, jobs):
+        """Proves one library from nothing. Returns whether it is proved."""
+        folder = os.path.dirname(crate.rlib)
+        rmtree(folder, ignore_errors=True)
+        os.makedirs(folder)
+        words = [*crate.words(["--jobs", str(jobs)], keeps=False), "--statements"]
+        stands_on = self.sum(crate)
+        if crate.call(self.kit.RATTLE, "build", *words, "-o", crate.rlib) or self.sum(crate) != stands_on:
+            return False
+        with open(self.mark(crate), "w", encoding="utf-8") as mark:
+            mark.write(f"{stands_on} {secrets.token_hex(8)}")
+        return True
+
+    def start(self, pool):
+        """Starts what may be proved now. The first, for which the longest chain waits, gets two processors,
+        and all that are free where nothing else may be proved; the others get one each."""
+        waits = set(self.left) | {crate for crate, _ in self.running.values()}
+        ready = [crate for crate in self.left if not waits & set(crate.below())]
+        for place, crate in enumerate(ready):
+            free = self.processors - sum(jobs for _, jobs in self.running.values())
+            if free <= 0:
+                return
+            wanted = MOST_JOBS if len(ready) == 1 else 2 if place == 0 else 1
+            jobs = min(wanted, free)
+            self.left.remove(crate)
+            crate.out = tempfile.TemporaryFile("w+", errors="replace")
+            self.running[pool.submit(self.prove, crate, jobs)] = crate, jobs
+
+    def finish(self):
+        """Waits for a library and says how it ended."""
+        for future in wait(self.running, return_when=FIRST_COMPLETED).done:
+            crate, _ = self.running.pop(future)
+            if future.result():
+                done = len(self.left) + len(self.running)
+                print(f"vacation: proved {crate.name}, {done} left", flush=True)
+            else:
+                self.failed = True
+                self.tell(crate)
+
+    @staticmethod
+    def tell(crate):
+        """What the toolchain said of a crate that is not proved."""
+        crate.out.seek(0)
+        print(f"vacation: {crate.name} is not proved\n{crate.out.read()}", flush=True)
+
+    def prove_libraries(self):
+        """Returns whether all libraries are proved."""
+        with ThreadPoolExecutor(self.processors) as pool:
+            while (self.left and not self.failed) or self.running:
+                if not self.failed:
+                    self.start(pool)
+                self.finish()
+        return not self.failed
+
+    def link(self):
+        """Proves, compiles and links the program. Returns whether that could be done."""
+        program, kit = self.program, self.kit
+        made = f"out/{program.name}"
+        os.makedirs("out", exist_ok=True)
+        program.out = tempfile.TemporaryFile("w+", errors="replace")
+        jobs = min(MOST_JOBS, self.processors)
+        words = ["--target", "x86_64-unknown-linux-gnu", "--toolchain", f"{kit.KIT}/toolchain"]
+        words += ["-o", f"{made}.new", f"{made}.o", f"{kit.KIT}/c/libos_c.a", f"{kit.KIT}/c/liblibc_c.a"]
+        if program.compile(["--jobs", str(jobs)], f"{made}.o") or program.call(f"{kit.KIT}/bin/rattle-link", *words):
+            self.tell(program)
+            return False
+        ran = subprocess.run([f"{made}.new", "run"], stdin=subprocess.DEVNULL, check=False)
+        if ran.returncode == 0:
+            os.replace(f"{made}.new", made)
+        return ran.returncode == 0
+
+
+def main():
+    """Status 0: the program is built. 1: something is not proved. 3: the kit's module is another than the
+    one known here."""
+    try:
+        kit = kit_module()
+        kit.guarded()
+        building = Building(kit, max(1, int(sys.argv[1])))
+    except (AttributeError, ImportError, OSError, TypeError) as fault:
+        print(f"vacation: {fault}", flush=True)
+        sys.exit(3)
+    sys.exit(0 if building.prove_libraries() and building.link() else 1)
+
+
+if __name__ == "__main__":
+    main()
