@@ -76,9 +76,10 @@ fn two_words_share_a_lock(rt: HostRuntime) -> Result<(), Fail> {
 #[test]
 fn locks_come_with_their_words(rt: HostRuntime) -> Result<(), Fail> {
     let mut log = new_log(rt.alloc());
-    for (addr, value) in [(9, 1), (6, 2), (5, 3), (9, 4)] {
-        put(&mut log, 4, addr, value)?;
-    }
+    put(&mut log, 4, 9, 1)?;
+    put(&mut log, 4, 6, 2)?;
+    put(&mut log, 4, 5, 3)?;
+    put(&mut log, 4, 9, 4)?;
     let mut found = Vec::new(rt.alloc());
     for (lock, words) in log.by_lock() {
         for (addr, value) in words {
