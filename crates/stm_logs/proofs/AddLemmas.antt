@@ -1,6 +1,7 @@
 -- A node enters the index and is chained.
 use Rattle.std.proofs.Common.{◌≡◌, ℕ, suc, ◌+◌, ◌<◌, ◌≤◌, nat_eq, List, [], ◌∷◌, length, refl, sym, ap, ◌∙◌, arith}
 use Rattle.stm_logs.specs.declared.nodes.Node.{Node}
+use Rattle.stm_logs.specs.declared.nodes.TheConstants.{TOP}
 use Rattle.stm_logs.specs.Nodes.{at}
 use Rattle.stm_logs.specs.Index.{is_lock_node, HasNone, SameNode, IsIndexed, IsTaken, home, taken, Entered}
 use Rattle.stm_logs.specs.Tree.{Least, IsTree, IsWaiting, SameKeys, Linked, IsReady, Added}
@@ -51,6 +52,7 @@ tree_kept ns ns' n same t =
     let lock : (e : ℕ) → e ≤ n → is_lock_node (at ns' e) ≡ is_lock_node (at ns e) = λ e m. ap (λ p. nat_eq p 0) (same e m).parent in
     record {
       root = (same 0 (omega arith)).parent ∙ t.root;
+      top = (same 0 (omega arith)).number ∙ t.top;
       parents = λ e z m.
           let h = t.parents e z m in let p = (same e m).parent in
           (omega (arith, h.0, p), ap (λ j. (at ns' j).parent) p ∙ (same _ (omega (arith, h.0))).parent ∙ h.1);
@@ -126,9 +128,10 @@ indexed_none ns some limit free = record {
   reached = λ e z m. absurd (omega arith);
 }
 
-pub tree_none : (ns : List Node) → (at ns 0).parent ≡ 0 → (at ns 0).first ≡ 0 → (at ns 0).recent ≡ 0 → IsTree ns 0
-tree_none ns root first recent = record {
+pub tree_none : (ns : List Node) → (at ns 0).parent ≡ 0 → (at ns 0).number ≡ TOP → (at ns 0).first ≡ 0 → (at ns 0).recent ≡ 0 → IsTree ns 0
+tree_none ns root top first recent = record {
   root = root;
+  top = top;
   parents = λ e z m. absurd (omega arith);
   alone = λ e f z m. absurd (omega arith);
   first = λ l m.

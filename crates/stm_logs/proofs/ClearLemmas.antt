@@ -19,6 +19,7 @@ cleared_more old new n e q c is l =
       len = len ∙ c.len;
       places = λ i. places i ∙ c.places i;
       parents = λ i. field_kept (λ x. x.parent) new q y l refl i ∙ c.parents i;
+      numbers = λ i. field_kept (λ x. x.number) new q y l refl i ∙ c.numbers i;
       left = λ p k t. elim (same_or p q) [
         | inl at_q ↦ absurd (omega (arith, ap (λ j. (at more j).slot) at_q, ap (λ x. x.slot) (put_here new q y l)))
         | inr ne ↦ (
@@ -43,4 +44,4 @@ cleared_log old new n log c =
       | inl is ↦ s ∙ is
       | inr ne ↦ (let h = c.left q (omega (arith, len)) (omega arith) in absurd (omega (arith, h.0, h.1)))
     ])
-    (ap (λ x. x.parent) root ∙ c.parents 0 ∙ log.ready.tree.root) (ap (λ x. x.first) root) (ap (λ x. x.recent) root)
+    (ap (λ x. x.parent) root ∙ c.parents 0 ∙ log.ready.tree.root) (ap (λ x. x.number) root ∙ c.numbers 0 ∙ log.ready.tree.top) (ap (λ x. x.first) root) (ap (λ x. x.recent) root)

@@ -7,6 +7,7 @@ use Rattle.std.proofs.lemmas.Bool.Decides.{nat_tests}
 use Rattle.std.proofs.lemmas.Bool.{cases_lt}
 use Rattle.stm_words.specs.View.{Words}
 use Rattle.stm_logs.specs.declared.nodes.Node.{Node}
+use Rattle.stm_logs.specs.declared.nodes.TheConstants.{TOP}
 use Rattle.stm_logs.specs.Nodes.{Block, at}
 use Rattle.stm_logs.specs.Log.{LogValue, empty_log}
 use Rattle.stm_logs.specs.Index.{is_lock_node, home, HasKey, HasNone, SameNode, IsIndexed, IsFound, IsTaken, Answers, Entered}
@@ -124,6 +125,25 @@ lock_entered ns new n lock a = record {
   taken = a.taken;
 }
 
+pub lock_entered_at : (ns new : List Node) (n m lock l : ℕ) → Added ns new n 0 lock 0 → m ≡ n + 1 → l ≡ n + 1 → HasLock ns n new m lock l
+lock_entered_at ns new n m lock l a count position =
+    subst (λ i. HasLock ns n new m lock i) (sym position) (subst (λ k. HasLock ns n new k lock (n + 1)) (sym count) (lock_entered ns new n lock a))
+
+pub lock_there : (ns : List Node) (n l : ℕ) → IsReady ns n → 0 < l → l ≤ n → (at ns l).parent ≡ 0 → HasLock ns n ns n (at ns l).number l
+lock_there ns n l ready some inside above = record {
+  ready = ready;
+  len = refl;
+  sights = λ e m. record { value = refl; number = refl; parent = refl };
+  more = omega arith;
+  once = omega arith;
+  entered = λ less. absurd (omega (arith, less));
+  some = some;
+  inside = inside;
+  above = above;
+  lock_is = refl;
+  taken = λ q t. t;
+}
+
 -- ---- a word enters below its lock
 lock_value : (ns mid : List Node) (n m lock l : ℕ) → IsTree ns n → HasLock ns n mid m lock l → log_value mid m ≡ log_value ns n
 lock_value ns mid n m lock l t h = elim (same_or m n) [
@@ -200,9 +220,9 @@ word_log ns mid new n m lock l a v log h w =
     }
 
 -- ---- a block without nodes
-pub none_log : (ns : List Node) → 4 ≤ length ns → length ns ≤ 2147483648 → ((q : ℕ) → q < length ns → (at ns q).slot ≡ 0) → (at ns 0).parent ≡ 0 → (at ns 0).first ≡ 0 → (at ns 0).recent ≡ 0 → IsLog ns 0
-none_log ns some limit free root first recent = record {
-  ready = record { indexed = indexed_none ns (omega arith) limit free; tree = tree_none ns root first recent };
+pub none_log : (ns : List Node) → 4 ≤ length ns → length ns ≤ 2147483648 → ((q : ℕ) → q < length ns → (at ns q).slot ≡ 0) → (at ns 0).parent ≡ 0 → (at ns 0).number ≡ TOP → (at ns 0).first ≡ 0 → (at ns 0).recent ≡ 0 → IsLog ns 0
+none_log ns some limit free root top first recent = record {
+  ready = record { indexed = indexed_none ns (omega arith) limit free; tree = tree_none ns root top first recent };
   places = some;
   used = λ l z m. absurd (omega arith);
 }

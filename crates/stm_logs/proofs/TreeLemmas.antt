@@ -4,7 +4,8 @@ use Rattle.std.proofs.lemmas.Bool.{cases_lt}
 use Rattle.stm_logs.specs.declared.nodes.Node.{Node}
 use Rattle.stm_logs.specs.Nodes.{at}
 use Rattle.stm_logs.specs.Index.{is_lock_node}
-use Rattle.stm_logs.specs.Tree.{Least, IsBefore, IsWaiting, SameKeys, Linked, with_next, with_first, with_recent}
+use Rattle.stm_logs.specs.declared.nodes.TheConstants.{TOP}
+use Rattle.stm_logs.specs.Tree.{Least, IsTree, IsBefore, IsWaiting, SameKeys, Linked, with_next, with_first, with_recent}
 use Rattle.stm_logs.proofs.NodeLemmas.{same_or, put_here, put_other, field_kept}
 
 least_more : (ns : List Node) (n l low p : ℕ) → Least ns n l low p
@@ -144,6 +145,7 @@ linked_first ns ns' n l w c next_other next_here first_here front =
     record {
       tree = record {
         root = root_kept ns ns' n l w c;
+        top = (c.same 0).number ∙ w.tree.top;
         parents = parents_kept ns ns' n l w c;
         alone = alone_kept ns ns' n l w c;
         first = λ e m. elim (same_or e l) [
@@ -205,6 +207,7 @@ linked_behind ns ns' n l b w c is_before next_other next_here next_before first_
     record {
       tree = record {
         root = root_kept ns ns' n l w c;
+        top = (c.same 0).number ∙ w.tree.top;
         parents = parents_kept ns ns' n l w c;
         alone = alone_kept ns ns' n l w c;
         first = λ e m. elim (same_or e l) [
@@ -350,3 +353,42 @@ behind_linked ns n l b room w before =
     (field_kept (λ x. x.next) two l u ll refl (n + 1) ∙ ap (λ x. x.next) (put_other one b (n + 1) z other) ∙ ap (λ x. x.next) (put_here ns (n + 1) y room))
     (field_kept (λ x. x.next) two l u ll refl b ∙ ap (λ x. x.next) (put_here one b z lb))
     (firsts l)
+
+-- a node with a number below another is not the root, whose number is the greatest
+pub not_root : (ns : List Node) (n e x : ℕ) → IsTree ns n → (at ns e).number < x → x ≤ TOP → 0 < e
+not_root ns n e x t less most = elim (same_or e 0) [
+  | inl is ↦ absurd (omega (arith, less, most, ap (λ j. (at ns j).number) is, t.top))
+  | inr ne ↦ omega arith
+]
+
+-- the last node has no child
+childless : (ns : List Node) (n : ℕ) → IsTree ns n → (at ns n).first ≡ 0
+childless ns n t = elim (same_or (at ns n).first 0) [
+  | inl none ↦ none
+  | inr ne ↦ (
+      let some = (t.first n (omega arith)).some (omega arith) in
+      let p = t.parents (at ns n).first (omega arith) some.0 in
+      absurd (omega (arith, p.0, some.0, some.1)))
+]
+
+-- the node that waits is the first child of the last one
+pub only_linked : (ns : List Node) (n : ℕ) → n + 1 < length ns → IsWaiting ns n n → (at ns (n + 1)).next ≡ 0
+    → Linked ns (set ns n (with_first (at ns n) (n + 1))) n
+only_linked ns n room w next =
+    let z : Node = with_first (at ns n) (n + 1) in
+    let l : n < length ns = omega arith in
+    let end : List Node = set ns n z in
+    let first = childless ns n w.tree in
+    linked_first ns end n n w (record {
+      len = length-set ns n z;
+      same = keys_put ns n z l (keys_itself _ _ _ _);
+      first_other = λ e ne. ap (λ x. x.first) (put_other ns n e z ne);
+      recent_other = λ e ne. ap (λ x. x.recent) (put_other ns n e z ne);
+      recent_here = λ some.
+          let r : (at end n).recent ≡ n + 1 = ap (λ x. x.recent) (put_here ns n z l) in
+          (omega (arith, r), ap (λ j. (at ns j).parent) r ∙ w.child);
+    })
+    (λ e ne. field_kept (λ x. x.next) ns n z l refl e)
+    (field_kept (λ x. x.next) ns n z l refl (n + 1) ∙ next ∙ sym first)
+    (ap (λ x. x.first) (put_here ns n z l))
+    (λ some. absurd (omega (arith, first)))

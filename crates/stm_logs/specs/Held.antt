@@ -79,5 +79,6 @@ pub record Cleared (old new : List Node) (n e : ℕ) : Type 0 where
   pub len : length new ≡ length old
   pub places : (i : ℕ) → (at new i).place ≡ (at old i).place
   pub parents : (i : ℕ) → (at new i).parent ≡ (at old i).parent
+  pub numbers : (i : ℕ) → (at new i).number ≡ (at old i).number
   pub left : (q : ℕ) → q < length new → IsTaken new q
       → (e < (at new q).slot) × ((at new q).slot ≤ n) × ((at new ((at new q).slot)).place ≡ q)

@@ -2,12 +2,13 @@
 -- order in which they entered.
 use Rattle.std.specs.Prelude.{◌≡◌, ℕ, List, length, slice_index_or, slice_set}
 use Rattle.stm_logs.specs.declared.nodes.Node.{Node}
+use Rattle.stm_logs.specs.declared.nodes.TheConstants.{TOP}
 
 -- a node before anything was put there
 abbrev pub blank : Node
 blank = record {
   value = 0;
-  number = 0;
+  number = TOP;
   parent = 0;
   first = 0;
   recent = 0;

@@ -5,6 +5,7 @@ use Prim.Native.Nat.{zero, suc}
 use Rattle.std.specs.FinMap.{FinMap, empty, insert}
 use Rattle.std.specs.Ordering.{nat_cmp}
 use Rattle.stm_logs.specs.declared.nodes.Node.{Node}
+use Rattle.stm_logs.specs.declared.nodes.TheConstants.{TOP}
 use Rattle.stm_logs.specs.Nodes.{Block, at}
 use Rattle.stm_logs.specs.Index.{is_lock_node, HasNone, IsIndexed, IsTaken, SameNode}
 use Rattle.stm_logs.specs.Log.{LogValue}
@@ -18,9 +19,10 @@ pub record Least (ns : List Node) (n l low p : ℕ) : Type 0 where
       → (f : ℕ) → 0 < f → f ≤ n → (at ns f).parent ≡ l → low ≤ (at ns f).number
       → (at ns p).number ≤ (at ns f).number
 
--- nodes 1 to n are a tree below the root
+-- nodes 1 to n are a tree below the root, whose number is the greatest
 pub record IsTree (ns : List Node) (n : ℕ) : Type 0 where
   pub root : (at ns 0).parent ≡ 0
+  pub top : (at ns 0).number ≡ TOP
   pub parents : (e : ℕ) → 0 < e → e ≤ n
       → ((at ns e).parent < e) × ((at ns ((at ns e).parent)).parent ≡ 0)
   pub alone : (e f : ℕ) → 0 < e → e ≤ n → 0 < f → f ≤ n

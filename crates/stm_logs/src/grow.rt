@@ -48,7 +48,7 @@ fn copy<A: Allocator>(old: &Nodes<A>, new: &mut Nodes<A>)
     for e in 0..old.count() {
         let node = *old.get(e + 1);
         let place = probe(new, node.parent == 0, node.number);
-        enter(new, place, node);
+        enter(new, e + 1, place, node);
         new.set_count(e + 1);
     }
 }

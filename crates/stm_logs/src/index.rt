@@ -78,15 +78,15 @@ pub(crate) fn find<A: Allocator>(nodes: &Nodes<A>, is_lock: bool, number: u32) -
 /// A node enters behind the others and at the free place of the index that its key led to. It
 /// is not counted yet.
 #[inline]
-pub(crate) fn enter<A: Allocator>(nodes: &mut Nodes<A>, place: usize, node: Node)
+pub(crate) fn enter<A: Allocator>(nodes: &mut Nodes<A>, position: usize, place: usize, node: Node)
     requires indexed { IsIndexed nodes.old.list nodes.old.count }
     requires room { nodes.old.count + 1 < length nodes.old.list }
+    requires position { position ≡ nodes.old.count + 1 }
     requires place { Answers nodes.old.list nodes.old.count (is_lock_node node) node.number place }
     requires free { (at nodes.old.list place).slot ≡ 0 }
     ensures entered { Entered nodes.old.list nodes.new.list nodes.old.count node }
     ensures count { nodes.new.count ≡ nodes.old.count }
 {
-    let position = nodes.count() + 1;
     let old = *nodes.get(position);
     nodes.put(
         position,

@@ -8,9 +8,6 @@ use crate::finger::{nearer, point};
 use crate::nodes::{Node, Nodes};
 use std::alloc::Allocator;
 
-/// The nodes of a log whose chains are so short that a walk needs no finger.
-const SHORT: usize = 128;
-
 #[inline]
 fn set_next<A: Allocator>(nodes: &mut Nodes<A>, e: usize, next: usize)
     requires inside { e < length nodes.old.list }
@@ -60,28 +57,6 @@ fn set_recent<A: Allocator>(nodes: &mut Nodes<A>, e: usize, recent: usize)
     );
 }
 
-/// A child of the parent with a smaller number, to walk on from: the last that was chained, or the
-/// first. 0 where the number comes before them all.
-#[inline]
-fn start<A: Allocator>(nodes: &Nodes<A>, parent: usize, number: u32) -> usize
-    requires tree { IsTree nodes.now.list nodes.now.count }
-    requires room { nodes.now.count < length nodes.now.list }
-    requires parent { parent ≤ nodes.now.count }
-    ensures below { 0 < result → IsBelow nodes.now.list nodes.now.count parent number result }
-    ensures front { result ≡ 0 → ComesFirst nodes.now.list parent number }
-{
-    let above = nodes.get(parent);
-    let recent = above.recent as usize;
-    let first = above.first as usize;
-    if recent != 0 && nodes.get(recent).number < number {
-        recent
-    } else if first != 0 && nodes.get(first).number < number {
-        first
-    } else {
-        0
-    }
-}
-
 /// From a child with a smaller number, the last child with a smaller number.
 #[inline]
 fn walk<A: Allocator>(nodes: &Nodes<A>, parent: usize, start: usize, number: u32) -> usize
@@ -91,37 +66,49 @@ fn walk<A: Allocator>(nodes: &Nodes<A>, parent: usize, start: usize, number: u32
     ensures { IsBefore nodes.now.list nodes.now.count parent number result }
 {
     let mut before = start;
+    let mut next = nodes.get(start).next as usize;
     loop {
-        let next = nodes.get(before).next as usize;
-        if next == 0 {
-            return before;
-        }
-        if number <= nodes.get(next).number {
+        let node = nodes.get(next);
+        if number <= node.number {
             return before;
         }
         before = next;
+        next = node.next as usize;
     }
 }
 
-/// Chains the node that has just entered, and is not counted yet, below its parent.
+/// Chains the node that has just entered, and is not counted yet, below its parent, in a long log
+/// by fingers.
 #[inline]
-pub(crate) fn link<A: Allocator>(nodes: &mut Nodes<A>, parent: usize)
+pub(crate) fn link<A: Allocator>(
+    nodes: &mut Nodes<A>,
+    parent: usize,
+    child: usize,
+    number: u32,
+    is_long: bool,
+)
     requires waits { IsWaiting nodes.old.list nodes.old.count parent }
     requires room { nodes.old.count + 1 < length nodes.old.list }
     requires limit { length nodes.old.list ≤ 2147483648 }
+    requires child { child ≡ nodes.old.count + 1 }
+    requires number { number ≡ (at nodes.old.list child).number }
     ensures linked { Linked nodes.old.list nodes.new.list nodes.old.count }
     ensures count { nodes.new.count ≡ nodes.old.count }
 {
-    let child = nodes.count() + 1;
-    let number = nodes.get(child).number;
-    let start = start(nodes, parent, number);
-    if start == 0 {
+    let above = nodes.get(parent);
+    let recent = above.recent as usize;
+    let first = above.first as usize;
+    let is_behind = nodes.get(recent).number < number;
+    if !is_behind && number <= nodes.get(first).number {
         link_first(nodes, parent, child);
-    } else if nodes.count() <= SHORT || comes_next(nodes, start, number) {
+        return;
+    }
+    let start = if is_behind { recent } else { first };
+    if !is_long || comes_next(nodes, start, number) {
         let before = walk(nodes, parent, start, number);
         link_behind(nodes, parent, before, child);
     } else {
-        link_far(nodes, parent, start, child);
+        link_far(nodes, parent, start, child, number);
     }
 }
 
@@ -135,22 +122,43 @@ fn comes_next<A: Allocator>(nodes: &Nodes<A>, before: usize, number: u32) -> boo
         → number ≤ (at nodes.now.list ((at nodes.now.list before).next)).number }
 {
     let next = nodes.get(before).next as usize;
-    next == 0 || number <= nodes.get(next).number
+    number <= nodes.get(next).number
 }
 
-/// Chains a child behind one that may be far before it.
-#[cold]
-fn link_far<A: Allocator>(nodes: &mut Nodes<A>, parent: usize, start: usize, child: usize)
+/// Chains the node that has just entered, and is not counted yet, as the first child of the node
+/// before it.
+#[inline]
+pub(crate) fn link_only<A: Allocator>(nodes: &mut Nodes<A>, parent: usize, child: usize)
     requires waits { IsWaiting nodes.old.list nodes.old.count parent }
     requires room { nodes.old.count + 1 < length nodes.old.list }
     requires limit { length nodes.old.list ≤ 2147483648 }
     requires child { child ≡ nodes.old.count + 1 }
-    requires start { IsBelow nodes.old.list nodes.old.count parent (at nodes.old.list child).number
-        start }
+    requires last { parent ≡ nodes.old.count }
+    requires next { (at nodes.old.list child).next ≡ 0 }
     ensures linked { Linked nodes.old.list nodes.new.list nodes.old.count }
     ensures count { nodes.new.count ≡ nodes.old.count }
 {
-    let number = nodes.get(child).number;
+    set_first(nodes, parent, child);
+}
+
+/// Chains a child behind one that may be far before it.
+#[cold]
+fn link_far<A: Allocator>(
+    nodes: &mut Nodes<A>,
+    parent: usize,
+    start: usize,
+    child: usize,
+    number: u32,
+)
+    requires waits { IsWaiting nodes.old.list nodes.old.count parent }
+    requires room { nodes.old.count + 1 < length nodes.old.list }
+    requires limit { length nodes.old.list ≤ 2147483648 }
+    requires child { child ≡ nodes.old.count + 1 }
+    requires number { number ≡ (at nodes.old.list child).number }
+    requires start { IsBelow nodes.old.list nodes.old.count parent number start }
+    ensures linked { Linked nodes.old.list nodes.new.list nodes.old.count }
+    ensures count { nodes.new.count ≡ nodes.old.count }
+{
     let start = nearer(nodes, parent, start, number);
     let before = walk(nodes, parent, start, number);
     link_behind(nodes, parent, before, child);

@@ -32,10 +32,14 @@ pub(crate) struct Node {
     pub(crate) finger: u32,
 }
 
+/// The number of a place without a node, and of the root: none is greater, so that a search along a
+/// chain ends at the root, to which the last node leads.
+pub(crate) const TOP: u32 = 4_294_967_295;
+
 /// An empty place.
 pub(crate) const BLANK: Node = Node {
     value: 0,
-    number: 0,
+    number: TOP,
     parent: 0,
     first: 0,
     recent: 0,

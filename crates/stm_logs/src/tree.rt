@@ -12,10 +12,13 @@ ghost use Rattle.stm_logs.specs.Refusals.{OrSame};
 use crate::chain::{ByLock, Locks, Words};
 use crate::grow::{grown, is_full};
 use crate::index::{enter, find, probe};
-use crate::link::link;
+use crate::link::{link, link_only};
 use crate::nodes::{BLANK, Node, Nodes};
 use std::alloc::{AllocError, Allocator};
 use std::marker::Model;
+
+/// The nodes of a log whose chains are so short that a walk needs no finger.
+const SHORT: usize = 128;
 
 /// The places of a first block.
 const PLACES: usize = 64;
@@ -260,9 +263,105 @@ fn put_roomy<A: Allocator>(nodes: &mut Nodes<A>, place: usize, number: u32, lock
     requires new { HasNone nodes.old.list nodes.old.count false number }
     ensures { HasMore number lock value nodes.old nodes.new }
 {
-    let parent = lock_node(nodes, lock);
+    if nodes.count() < SHORT {
+        put_word(nodes, place, number, lock, value, false);
+    } else {
+        put_long(nodes, place, number, lock, value);
+    }
+}
+
+/// Puts a word that is not there into a long log, where there is room for it and its lock.
+#[cold]
+fn put_long<A: Allocator>(nodes: &mut Nodes<A>, place: usize, number: u32, lock: u32, value: u64)
+    requires log { IsLog nodes.old.list nodes.old.count }
+    requires room { nodes.old.count + 2 < length nodes.old.list }
+    requires place { Answers nodes.old.list nodes.old.count false number place }
+    requires new { HasNone nodes.old.list nodes.old.count false number }
+    ensures { HasMore number lock value nodes.old nodes.new }
+{
+    put_word(nodes, place, number, lock, value, true);
+}
+
+/// Puts a word that is not there, where there is room for it and its lock, in a long log by
+/// fingers.
+#[inline(always)]
+fn put_word<A: Allocator>(
+    nodes: &mut Nodes<A>,
+    place: usize,
+    number: u32,
+    lock: u32,
+    value: u64,
+    is_long: bool,
+)
+    requires log { IsLog nodes.old.list nodes.old.count }
+    requires room { nodes.old.count + 2 < length nodes.old.list }
+    requires place { Answers nodes.old.list nodes.old.count false number place }
+    requires new { HasNone nodes.old.list nodes.old.count false number }
+    ensures { HasMore number lock value nodes.old nodes.new }
+{
+    let (lock_place, there) = spot_of(nodes, lock);
+    if there != 0 {
+        put_below(nodes, place, there, number, value, is_long);
+        return;
+    }
+    put_with_lock(nodes, lock_place, place, number, lock, value, is_long);
+}
+
+/// The place of the index for a lock, and the node that it leads to, or 0.
+#[inline]
+fn spot_of<A: Allocator>(nodes: &Nodes<A>, lock: u32) -> (usize, usize)
+    requires { IsIndexed nodes.now.list nodes.now.count }
+    ensures place { Answers nodes.now.list nodes.now.count true lock result.0 }
+    ensures there { result.1 ≡ (at nodes.now.list result.0).slot }
+{
+    let place = probe(nodes, true, lock);
+    (place, nodes.get(place).slot as usize)
+}
+
+/// Puts a word that is not there below the node of its lock. There are few such where there are
+/// about as many locks as words.
+#[cold]
+fn put_below<A: Allocator>(
+    nodes: &mut Nodes<A>,
+    place: usize,
+    parent: usize,
+    number: u32,
+    value: u64,
+    is_long: bool,
+)
+    requires log { IsLog nodes.old.list nodes.old.count }
+    requires room { nodes.old.count + 2 < length nodes.old.list }
+    requires parent { (0 < parent) × (parent ≤ nodes.old.count)
+        × ((at nodes.old.list parent).parent ≡ 0) }
+    requires place { Answers nodes.old.list nodes.old.count false number place }
+    requires new { HasNone nodes.old.list nodes.old.count false number }
+    ensures { HasMore number (at nodes.old.list parent).number value nodes.old nodes.new }
+{
+    add(nodes, place, parent, number, value, is_long);
+}
+
+/// Puts a word that is not there, and whose lock is not there either.
+#[inline(always)]
+fn put_with_lock<A: Allocator>(
+    nodes: &mut Nodes<A>,
+    lock_place: usize,
+    place: usize,
+    number: u32,
+    lock: u32,
+    value: u64,
+    is_long: bool,
+)
+    requires log { IsLog nodes.old.list nodes.old.count }
+    requires room { nodes.old.count + 2 < length nodes.old.list }
+    requires lock_place { Answers nodes.old.list nodes.old.count true lock lock_place }
+    requires free { (at nodes.old.list lock_place).slot ≡ 0 }
+    requires place { Answers nodes.old.list nodes.old.count false number place }
+    requires new { HasNone nodes.old.list nodes.old.count false number }
+    ensures { HasMore number lock value nodes.old nodes.new }
+{
+    let parent = add(nodes, lock_place, 0, lock, 0, is_long);
     let place = place_of_word(nodes, place, number);
-    add(nodes, place, parent, number, value);
+    add_first(nodes, place, parent, number, value);
 }
 
 /// The place of the index where a word enters, which is the given one if that is free.
@@ -281,30 +380,21 @@ fn place_of_word<A: Allocator>(nodes: &Nodes<A>, place: usize, number: u32) -> u
     }
 }
 
-/// The node of a lock, which enters where it is not there.
+/// A node enters below the last one, as its first child, and at its place of the index.
 #[inline]
-fn lock_node<A: Allocator>(nodes: &mut Nodes<A>, lock: u32) -> usize
-    requires log { IsLog nodes.old.list nodes.old.count }
-    requires room { nodes.old.count + 2 < length nodes.old.list }
-    ensures { HasLock nodes.old.list nodes.old.count nodes.new.list nodes.new.count lock result }
-{
-    let place = probe(nodes, true, lock);
-    let there = nodes.get(place).slot as usize;
-    if there != 0 {
-        return there;
-    }
-    add(nodes, place, 0, lock, 0);
-    nodes.count()
-}
-
-/// A node enters below its parent, and at its place of the index.
-#[inline]
-fn add<A: Allocator>(nodes: &mut Nodes<A>, place: usize, parent: usize, number: u32, value: u64)
+fn add_first<A: Allocator>(
+    nodes: &mut Nodes<A>,
+    place: usize,
+    parent: usize,
+    number: u32,
+    value: u64,
+)
     requires ready { IsReady nodes.old.list nodes.old.count }
     requires room { nodes.old.count + 1 < length nodes.old.list }
-    requires parent { (parent ≤ nodes.old.count) × ((at nodes.old.list parent).parent ≡ 0) }
-    requires place { Answers nodes.old.list nodes.old.count (nat_eq parent 0) number place }
-    requires new { HasNone nodes.old.list nodes.old.count (nat_eq parent 0) number }
+    requires last { (parent ≡ nodes.old.count) × (0 < parent) }
+    requires parent { (at nodes.old.list parent).parent ≡ 0 }
+    requires place { Answers nodes.old.list nodes.old.count false number place }
+    requires new { HasNone nodes.old.list nodes.old.count false number }
     ensures added { Added nodes.old.list nodes.new.list nodes.old.count parent number value }
     ensures count { nodes.new.count ≡ nodes.old.count + 1 }
 {
@@ -314,8 +404,40 @@ fn add<A: Allocator>(nodes: &mut Nodes<A>, place: usize, parent: usize, number: 
         parent: parent as u32,
         ..BLANK
     };
-    enter(nodes, place, node);
-    link(nodes, parent);
-    let count = nodes.count() + 1;
-    nodes.set_count(count);
+    let position = parent + 1;
+    enter(nodes, position, place, node);
+    link_only(nodes, parent, position);
+    nodes.set_count(position);
+}
+
+/// A node enters below its parent, and at its place of the index.
+#[inline]
+fn add<A: Allocator>(
+    nodes: &mut Nodes<A>,
+    place: usize,
+    parent: usize,
+    number: u32,
+    value: u64,
+    is_long: bool,
+) -> usize
+    requires ready { IsReady nodes.old.list nodes.old.count }
+    requires room { nodes.old.count + 1 < length nodes.old.list }
+    requires parent { (parent ≤ nodes.old.count) × ((at nodes.old.list parent).parent ≡ 0) }
+    requires place { Answers nodes.old.list nodes.old.count (nat_eq parent 0) number place }
+    requires new { HasNone nodes.old.list nodes.old.count (nat_eq parent 0) number }
+    ensures added { Added nodes.old.list nodes.new.list nodes.old.count parent number value }
+    ensures count { nodes.new.count ≡ nodes.old.count + 1 }
+    ensures position { result ≡ nodes.old.count + 1 }
+{
+    let node = Node {
+        value,
+        number,
+        parent: parent as u32,
+        ..BLANK
+    };
+    let position = nodes.count() + 1;
+    enter(nodes, position, place, node);
+    link(nodes, parent, position, number, is_long);
+    nodes.set_count(position);
+    position
 }

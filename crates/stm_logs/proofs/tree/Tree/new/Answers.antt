@@ -11,4 +11,4 @@ invariant_of-result g c =
     let len : length s.list ≡ 64 = blank.0 in
     let none : s.count ≡ 0 = blank.1 in
     let root = blank.2 0 in
-    subst (λ n. IsLog s.list n) (sym none) (none_log s.list (omega arith) (omega arith) (λ q _. ap (λ x. x.slot) (blank.2 q)) (ap (λ x. x.parent) root) (ap (λ x. x.first) root) (ap (λ x. x.recent) root))
+    subst (λ n. IsLog s.list n) (sym none) (none_log s.list (omega arith) (omega arith) (λ q _. ap (λ x. x.slot) (blank.2 q)) (ap (λ x. x.parent) root) (ap (λ x. x.number) root) (ap (λ x. x.first) root) (ap (λ x. x.recent) root))
