@@ -20,7 +20,7 @@ const WORDS: usize = 976;
 /// The block that has this key written from the start.
 fn block_of(key: Key) -> Block
     requires { IsStockKey key }
-    ensures { result.0.0 ≡ stock_block (40 * key.kind + key.id) }
+    ensures { result ≡ stock_block (40 * key.kind + key.id) }
 {
     Block(Addr(16 + 8 * (IDS * key.kind as u32 + key.id as u32)))
 }

@@ -4,6 +4,7 @@ ghost use Rattle.vac_records.specs.Items.{IsNode};
 
 use std::test::Fail;
 use stm_words::{Addr, Flat, TxMem};
+use tx_alloc::Block;
 use vac_model::Booking;
 use vac_records::{
     Item, add_total, booking_at, free_at, init_customer, init_item, item_at, place, price_at,
@@ -11,8 +12,8 @@ use vac_records::{
 };
 
 /// An item of 100 units at 50, then 5 more units, then another price.
-fn make_and_change<M: TxMem>(memory: &mut M, node: Addr) -> Result<Item, M::Stop>
-    requires { IsNode (M.view memory.old) node.0 }
+fn make_and_change<M: TxMem>(memory: &mut M, node: Block) -> Result<Item, M::Stop>
+    requires { IsNode (M.view memory.old) node }
     ensures origin { M.origin memory.new ≡ M.origin memory.old }
     ensures size { IfOk result (λ _. (M.view memory.new).size ≡ (M.view memory.old).size) }
 {
@@ -23,8 +24,8 @@ fn make_and_change<M: TxMem>(memory: &mut M, node: Addr) -> Result<Item, M::Stop
 }
 
 /// The numbers of an item, read one by one.
-fn numbers<M: TxMem>(memory: &mut M, node: Addr) -> Result<(u64, u64, u64, u64), M::Stop>
-    requires { IsNode (M.view memory.old) node.0 }
+fn numbers<M: TxMem>(memory: &mut M, node: Block) -> Result<(u64, u64, u64, u64), M::Stop>
+    requires { IsNode (M.view memory.old) node }
     ensures { M.origin memory.new ≡ M.origin memory.old }
 {
     let used = used_at(memory, node)?;
@@ -37,7 +38,7 @@ fn numbers<M: TxMem>(memory: &mut M, node: Addr) -> Result<(u64, u64, u64, u64),
 #[test]
 fn an_item_in_plain_memory(rt: HostRuntime) -> Result<(), Fail> {
     let mut flat = Flat::new(vec![in rt.alloc(); 9u64; 24]?);
-    let Ok(item) = make_and_change(&mut flat, Addr(8));
+    let Ok(item) = make_and_change(&mut flat, Block(Addr(8)));
     let expected = Item {
         used: 0,
         free: 105,
@@ -45,7 +46,7 @@ fn an_item_in_plain_memory(rt: HostRuntime) -> Result<(), Fail> {
         price: 80,
     };
     assert_eq!(rt; item, expected);
-    let Ok(read) = numbers(&mut flat, Addr(8));
+    let Ok(read) = numbers(&mut flat, Block(Addr(8)));
     assert_eq!(rt; read, (0, 105, 105, 80));
     // The links of the block and all words outside are as they were.
     let words = flat.words();
@@ -63,8 +64,8 @@ fn an_item_in_plain_memory(rt: HostRuntime) -> Result<(), Fail> {
 }
 
 /// A customer without bookings; and the block's words, read as a booking's.
-fn make_customer<M: TxMem>(memory: &mut M, node: Addr) -> Result<(Booking, u64, u64), M::Stop>
-    requires { IsNode (M.view memory.old) node.0 }
+fn make_customer<M: TxMem>(memory: &mut M, node: Block) -> Result<(Booking, u64, u64), M::Stop>
+    requires { IsNode (M.view memory.old) node }
     ensures { M.origin memory.new ≡ M.origin memory.old }
 {
     init_customer(memory, node, 3)?;
@@ -77,7 +78,7 @@ fn make_customer<M: TxMem>(memory: &mut M, node: Addr) -> Result<(Booking, u64, 
 #[test]
 fn a_customer_in_plain_memory(rt: HostRuntime) -> Result<(), Fail> {
     let mut flat = Flat::new(vec![in rt.alloc(); 9u64; 24]?);
-    let Ok(read) = make_customer(&mut flat, Addr(8));
+    let Ok(read) = make_customer(&mut flat, Block(Addr(8)));
     assert_eq!(rt; read, (Booking { units: 0, sum: 9 }, 0, 9));
     // The key, the head of the bookings and the spare words are written, and nothing else.
     let words = flat.words();

@@ -39,14 +39,14 @@ read s s' k w h = record { size = k.size ∙ h.size; under = λ image i. rw w (h
 pub nulls_loaded : (s s' : View) (a v : ℕ) → Nulls s → Loaded s s' a v → Nulls s'
 nulls_loaded s s' a v h l = read s s' l.kept l.writes h
 
-pub nulls_took : {B : Type 0} (taken : Option B) (address : B → ℕ) (s s' : View) (start : ℕ) → Nulls s → MatchOption taken (NoneFree s s') (λ b. Taken s s' start (address b)) → Nulls s'
-nulls_took None address s s' start h t = read s s' t.kept t.writes h
-nulls_took (Some b) address s s' start h t = record {
+pub nulls_took : (taken : Option ℕ) (s s' : View) (start : ℕ) → Nulls s → MatchOption taken (NoneFree s s') (λ b. Taken s s' start b) → Nulls s'
+nulls_took None s s' start h t = read s s' t.kept t.writes h
+nulls_took (Some b) s s' start h t = record {
   size = t.kept.size ∙ h.size;
   under = λ image i.
       let i0 = stood t.kept image i in
       let g = t.taking image (λ (i : ℕ). []) (λ (x : ℕ). 1) 10 i.sees (null_pool (mem s image) (length image) (i0.size ∙ h.size) (h.under image i0)) in
-      let none : 0 ≡ length (address b ∷ g.rest) = ap (λ (xs : List ℕ). length xs) g.first in
+      let none : 0 ≡ length (b ∷ g.rest) = ap (λ (xs : List ℕ). length xs) g.first in
       absurd (omega (arith, none));
 }
 

@@ -25,9 +25,9 @@ pub heap_pool : (s : View) → Holds IsHeapOfTen 96 s → HasPool s
 heap_pool s h = record { small = omega (arith, h.size_is); under = λ image i. (h.under image i.sees).pool }
 
 -- either answer of a call of take
-pub heap_took : {B : Type 0} (taken : Option B) (address : B → ℕ) (s s' : View) (start : ℕ) → MatchOption taken (NoneFree s s') (λ b. Taken s s' start (address b)) → Carries IsHeapOfTen IsHeapOfTen s s'
-heap_took None address s s' start t = λ image i h. rw t.writes h
-heap_took (Some b) address s s' start t = λ image i h. record {
+pub heap_took : (taken : Option ℕ) (s s' : View) (start : ℕ) → MatchOption taken (NoneFree s s') (λ b. Taken s s' start b) → Carries IsHeapOfTen IsHeapOfTen s s'
+heap_took None s s' start t = λ image i h. rw t.writes h
+heap_took (Some b) s s' start t = λ image i h. record {
   size = h.size;
   pool = record {
     free = _;

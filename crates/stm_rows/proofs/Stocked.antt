@@ -5,7 +5,6 @@ use Rattle.std.proofs.lemmas.Bool.{cases_lt}
 use Rattle.stm_words.specs.Plain.{flat_view, numbered}
 use Rattle.stm_words.specs.PlainSeen.{get_at}
 use Rattle.stm_words.specs.View.{View, Kept, memory}
-use Rattle.tx_alloc.specs.declared.pool.Block.{Block}
 use Rattle.tx_alloc.specs.Pointer.{pointer}
 use Rattle.tx_alloc.specs.Pool.{IsBlock}
 use Rattle.tx_alloc.specs.Rows.{Rows, times, put_row, block_at, Relinks}
@@ -36,7 +35,7 @@ stock_read s s' k w h = record {
   under = λ image i. rw w (h.under image (stood k image i));
 }
 
-pub stock_removed : (s s' : View) (key : ℕ) (removed : Option Block) → HasStock s → Removed s s' 5 key removed → HasStock s'
+pub stock_removed : (s s' : View) (key : ℕ) (removed : Option ℕ) → HasStock s → Removed s s' 5 key removed → HasStock s'
 stock_removed s s' key removed h d = record {
   size = omega (arith, h.size, d.kept.size);
   under = λ image i.
@@ -71,7 +70,7 @@ stock_inserted s s' key b h fresh d = record {
 }
 
 -- the block of a key that the list does not have can be hung in
-pub stock_fresh : (s s' : View) (key : Key) (b : ℕ) (removed : Option Block) → HasStock s → Removed s s' 5 (code_of key) removed → removed ≡ None → IsStockKey key → b ≡ stock_block (40 * key.kind + key.id) → IsFresh s' 5 key b
+pub stock_fresh : (s s' : View) (key : Key) (b : ℕ) (removed : Option ℕ) → HasStock s → Removed s s' 5 (code_of key) removed → removed ≡ None → IsStockKey key → b ≡ stock_block (40 * key.kind + key.id) → IsFresh s' 5 key b
 stock_fresh s s' key b removed h d gone k e = record {
   under = λ image rs i l.
       let w = d.none gone in

@@ -16,7 +16,7 @@ use vac_records::{
     Kind, bill, book, book_more, booking_at, booking_of, init_customer, sum_at, unbook, units_at,
 };
 
-const CUSTOMER: Addr = Addr(24);
+const CUSTOMER: Block = Block(Addr(24));
 
 const BOOKING: Block = Block(Addr(32));
 
@@ -40,7 +40,7 @@ fn bill_and_extend<M: TxMem>(memory: &mut M) -> Result<u64, M::Stop>
     ensures booking { IfOk result (λ _. HasOneBooking (M.view memory.new) flight_key 5 310) }
 {
     let total = bill(memory, CUSTOMER)?;
-    book_more(memory, BOOKING.0, 2, 80)?;
+    book_more(memory, BOOKING, 2, 80)?;
     Ok(total)
 }
 
@@ -50,9 +50,9 @@ fn read_booking<M: TxMem>(memory: &mut M) -> Result<(Booking, [u64; 2]), M::Stop
     ensures origin { M.origin memory.new ≡ M.origin memory.old }
     ensures booking { IfOk result (λ _. HasOneBooking (M.view memory.new) flight_key 5 310) }
 {
-    let booking = booking_at(memory, BOOKING.0)?;
-    let units = units_at(memory, BOOKING.0)?;
-    let sum = sum_at(memory, BOOKING.0)?;
+    let booking = booking_at(memory, BOOKING)?;
+    let units = units_at(memory, BOOKING)?;
+    let sum = sum_at(memory, BOOKING)?;
     Ok((booking, [units, sum]))
 }
 

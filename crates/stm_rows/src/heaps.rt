@@ -6,7 +6,7 @@ ghost use Rattle.tx_alloc.specs.Pool.{HasPool};
 ghost use Rattle.stm_rows.specs.Laws.{Holds, IsHeapOfTen};
 
 use crate::attempts::version;
-use crate::words::has_words;
+use crate::words::{has_words, place_of};
 use std::alloc::Global;
 use std::test::Fail;
 use stm_attempt::{Attempt, Logs, NoGate};
@@ -148,17 +148,17 @@ fn take_and_give<M: TxMem>(
 }
 
 /// Moves two blocks to list 7, and takes the first from there.
-fn move_two<M: TxMem>(memory: &mut M) -> Result<[Option<Block>; 3], M::Stop>
+fn move_two<M: TxMem>(memory: &mut M) -> Result<[Option<Addr>; 3], M::Stop>
     requires pool { HasPool (M.view memory.old) }
     ensures origin { M.origin memory.new ≡ M.origin memory.old }
 {
     let one = take_and_give(memory, FreeList::new(1), FreeList::new(7))?;
     let two = take_and_give(memory, FreeList::new(3), FreeList::new(7))?;
     let three = take(memory, FreeList::new(7))?;
-    Ok([one, two, three])
+    Ok([place_of(one), place_of(two), place_of(three)])
 }
 
-type Taken = Option<([Option<Block>; 3], bool)>;
+type Taken = Option<([Option<Addr>; 3], bool)>;
 
 fn move_two_in_an_attempt(
     region: &Region<HeapLaw>,
@@ -190,7 +190,6 @@ fn blocks_of_plain_memory_and_of_a_region(rt: HostRuntime) -> Result<(), Fail> {
         move_two_in_an_attempt(&region, &mut client, &mut logs, &words)
     };
     assert_eq!(rt; taken, Some((expected, true)));
-    let blocks = [Addr(24), Addr(40), Addr(40)];
-    assert_eq!(rt; expected, blocks.map(|addr| Some(Block(addr))));
+    assert_eq!(rt; expected, [Some(Addr(24)), Some(Addr(40)), Some(Addr(40))]);
     Ok(())
 }

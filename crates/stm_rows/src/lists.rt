@@ -3,7 +3,7 @@ ghost use Rattle.std.specs.Prelude.{◌≡◌, ◌+◌, ◌*◌, ◌<◌, IfOk};
 ghost use Rattle.stm_core.specs.Core.{IsFreeHanded};
 ghost use Rattle.tx_list.specs.Stock.{IsStock, IsStockKey, HasStock, stock_block, stock_word};
 
-use crate::words::has_words;
+use crate::words::{has_words, place_of};
 use std::alloc::{AllocError, Global};
 use std::test::Fail;
 use stm_attempt::{Attempt, Logs};
@@ -38,7 +38,7 @@ const WORDS: usize = 976;
 /// The block that has this key written from the start.
 fn block_of(key: Key) -> Block
     requires { IsStockKey key }
-    ensures { result.0.0 ≡ stock_block (40 * key.kind + key.id) }
+    ensures { result ≡ stock_block (40 * key.kind + key.id) }
 {
     Block(Addr(16 + 8 * (IDS * key.kind as u32 + key.id as u32)))
 }
@@ -96,8 +96,8 @@ fn look<M: TxRead>(memory: &mut M, key: Key) -> Result<Option<Block>, M::Stop>
     Ok(found)
 }
 
-/// The first two blocks of the list.
-fn first_and_next<M: TxRead>(memory: &mut M) -> Result<[Option<Block>; 2], M::Stop>
+/// Where the first two blocks of the list are.
+fn first_and_next<M: TxRead>(memory: &mut M) -> Result<[Option<Addr>; 2], M::Stop>
     requires stock { HasStock (M.view memory.old) }
     ensures origin { M.origin memory.new ≡ M.origin memory.old }
     ensures stock { IfOk result (λ _. HasStock (M.view memory.new)) }
@@ -107,7 +107,7 @@ fn first_and_next<M: TxRead>(memory: &mut M) -> Result<[Option<Block>; 2], M::St
         None => Ok([None, None]),
         Some(block) => {
             let two = next(memory, block)?;
-            Ok([one, two])
+            Ok([Some(block.addr()), place_of(two)])
         }
     }
 }
@@ -116,18 +116,18 @@ const FLIGHT: Key = Key { kind: 1, id: 7 };
 
 const ROOM: Key = Key { kind: 2, id: 39 };
 
-type Answers = ([Option<Block>; 4], [Option<Block>; 2]);
+type Answers = ([Option<Addr>; 4], [Option<Addr>; 2]);
 
 /// Hangs in a room and a flight, and takes the room out.
 fn change<M: TxMem>(memory: &mut M) -> Result<Answers, M::Stop>
     requires stock { HasStock (M.view memory.old) }
     ensures origin { M.origin memory.new ≡ M.origin memory.old }
 {
-    let none = turn(memory, ROOM)?;
-    let new = turn(memory, FLIGHT)?;
+    let none = place_of(turn(memory, ROOM)?);
+    let new = place_of(turn(memory, FLIGHT)?);
     let both = first_and_next(memory)?;
-    let gone = turn(memory, ROOM)?;
-    let found = look(memory, FLIGHT)?;
+    let gone = place_of(turn(memory, ROOM)?);
+    let found = place_of(look(memory, FLIGHT)?);
     Ok(([none, new, gone, found], both))
 }
 
@@ -170,8 +170,8 @@ fn a_list_of_plain_memory_and_of_a_region(rt: HostRuntime) -> Result<(), Fail> {
         change_in_an_attempt(&region, &mut client, &mut logs, &words)
     };
     assert_eq!(rt; answers, Some((expected, true)));
-    let flight = Some(Block(Addr(16 + 8 * 47)));
-    let room = Some(Block(Addr(16 + 8 * 119)));
+    let flight = Some(Addr(16 + 8 * 47));
+    let room = Some(Addr(16 + 8 * 119));
     assert_eq!(rt; expected, ([None, None, room, flight], [flight, room]));
     Ok(())
 }

@@ -9,12 +9,13 @@ use std::test::Fail;
 use stm_attempt::{Attempt, Logs};
 use stm_region::{Client, Region};
 use stm_words::{Addr, Flat, Law, TxMem, TxRead};
+use tx_alloc::Block;
 use vac_records::{
     Item, add_total, cancel, free_at, init_item, item_at, make, price_at, set_price, sub_total,
     total_at, used_at,
 };
 
-const ITEM: Addr = Addr(16);
+const ITEM: Block = Block(Addr(16));
 
 /// An image fits where it has 96 words, and a record is lawful where it keeps fitting images that
 /// agree with its reads.

@@ -2,6 +2,7 @@
 ghost use Rattle.std.specs.Prelude.{◌≡◌, ◌≤◌};
 
 use stm_words::{Addr, TxRead};
+use tx_alloc::Block;
 
 /// Whether the first words are these.
 pub(crate) fn has_words<M: TxRead>(
@@ -18,4 +19,12 @@ pub(crate) fn has_words<M: TxRead>(
         same = same && words.get(addr as usize) == Some(&word);
     }
     Ok(same)
+}
+
+/// Where a block is, if there is one.
+pub(crate) fn place_of(block: Option<Block>) -> Option<Addr> {
+    match block {
+        Some(block) => Some(block.addr()),
+        None => None,
+    }
 }

@@ -2,13 +2,12 @@
 use Rattle.std.specs.Prelude.{ℕ, ◌+◌, ◌≤◌, Option, Some, None}
 use Rattle.stm_words.specs.View.{View}
 use Rattle.tx_alloc.specs.declared.place.TheConstants.{FIRST_BLOCK, BLOCK_WORDS}
-use Rattle.tx_alloc.specs.declared.pool.Block.{Block}
 
-abbrev pub pointer : Option Block → ℕ
+abbrev pub pointer : Option ℕ → ℕ
 pointer None = 0
-pointer (Some b) = b.0.0
+pointer (Some b) = b
 
 -- a block that was found lies within the memory
-abbrev pub IsWithin : View → Option Block → Type 0
+abbrev pub IsWithin : View → Option ℕ → Type 0
 IsWithin s None = Unit {0}
-IsWithin s (Some b) = (FIRST_BLOCK ≤ b.0.0) × (b.0.0 + BLOCK_WORDS ≤ s.size)
+IsWithin s (Some b) = (FIRST_BLOCK ≤ b) × (b + BLOCK_WORDS ≤ s.size)

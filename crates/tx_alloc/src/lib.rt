@@ -7,13 +7,15 @@
 //! to the next free block of its list.
 #![tactic(auto)]
 
+mod block;
 mod fresh;
 mod list;
 pub mod place;
 mod pool;
 mod rows;
 
+pub use block::Block;
 pub use fresh::fresh_words;
 pub use list::FreeList;
-pub use pool::{Block, give, take};
+pub use pool::{give, take};
 pub use rows::rows_are_a_map;

@@ -3,13 +3,10 @@
 ghost use Rattle.std.specs.Prelude.{◌≡◌, ◌<◌, IfOk, MatchOption};
 ghost use Rattle.tx_alloc.specs.Pool.{HasPool, HasUsed, NoneFree, Taken, Given};
 
+use crate::block::Block;
 use crate::list::FreeList;
 use crate::place::{FIRST_HEAD, LISTS};
 use stm_words::{Addr, TxMem, load, store};
-
-/// A block, by its first word.
-#[derive(Clone, Copy, Debug, PartialEq, Eq)]
-pub struct Block(pub Addr);
 
 /// Takes the first block of the first list that has one. The lists are looked at from `start` on,
 /// and list 0 follows list 7. `None` says that all eight are empty.
@@ -21,7 +18,7 @@ pub fn take<M: TxMem>(memory: &mut M, start: FreeList) -> Result<Option<Block>, 
     ensures origin { M.origin memory.new ≡ M.origin memory.old }
     ensures answer { IfOk result (λ taken. MatchOption taken
         (NoneFree (M.view memory.old) (M.view memory.new))
-        (λ block. Taken (M.view memory.old) (M.view memory.new) start block.0.0)) }
+        (λ block. Taken (M.view memory.old) (M.view memory.new) start block)) }
 {
     let list = start.number();
     for i in 0..LISTS {
@@ -40,17 +37,17 @@ pub fn take<M: TxMem>(memory: &mut M, start: FreeList) -> Result<Option<Block>, 
 /// Gives back a block that is taken and that nothing leads to any more. It becomes the first of
 /// list `start`.
 pub fn give<M: TxMem>(memory: &mut M, start: FreeList, block: Block) -> Result<(), M::Stop>
-    requires used { HasUsed (M.view memory.old) block.0.0 }
+    requires used { HasUsed (M.view memory.old) block }
     ensures origin { M.origin memory.new ≡ M.origin memory.old }
     ensures list { start < LISTS }
     ensures answer { IfOk result (λ _.
-        Given (M.view memory.old) (M.view memory.new) start block.0.0) }
+        Given (M.view memory.old) (M.view memory.new) start block) }
 {
-    let Block(addr) = block;
+    let word = block.addr();
     let list = start.number();
     let head = Addr(FIRST_HEAD + list);
     let first = load(memory, head)?;
-    store(memory, addr, first)?;
-    store(memory, head, addr.0 as u64)?;
+    store(memory, word, first)?;
+    store(memory, head, word.0 as u64)?;
     Ok(())
 }

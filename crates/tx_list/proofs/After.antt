@@ -3,7 +3,6 @@ use Rattle.std.proofs.Common.{◌≡◌, ◌≢◌, inl, inr, ℕ, ◌<◌, [], 
 use Rattle.std.proofs.lemmas.Bool.Decides.{nat_tests}
 use Rattle.stm_words.specs.Seen.{same_or}
 use Rattle.stm_words.specs.View.{View}
-use Rattle.tx_alloc.specs.declared.pool.Block.{Block}
 use Rattle.tx_alloc.specs.Rows.{Rows, times}
 use Rattle.tx_alloc.specs.Steps.{mem, stood}
 use Rattle.tx_list.specs.Bookings.{first_block, block_behind}
@@ -22,24 +21,24 @@ behind_has ((k, a) ∷ rs) b c e ne =
       | inr q ↦ (let at : c ≡ block_behind rs b = grind (arith, nat_tests) in omega (arith, behind_has rs b c at ne))
     ]
 
-pub first_booking : (s s' : View) (head : ℕ) (found : Option Block) (b : Block) → HasList s head → First s s' head found → found ≡ Some b → HasBooking s' b.0.0
+pub first_booking : (s s' : View) (head : ℕ) (found : Option ℕ) (b : ℕ) → HasList s head → First s s' head found → found ≡ Some b → HasBooking s' b
 first_booking s s' head found b h f e =
-    let g = subst (λ (o : Option Block). First s s' head o) e f in
+    let g = subst (λ (o : Option ℕ). First s s' head o) e f in
     record {
       small = omega (arith, h.small, g.kept.size);
       under = λ image i.
           let t = h.under image (stood g.kept image i) in
-          let has = first_has t.entries b.0.0 (g.is image t.entries i.sees t.is) (omega (arith, g.within.0)) in
+          let has = first_has t.entries b (g.is image t.entries i.sees t.is) (omega (arith, g.within.0)) in
           rw g.writes (record { start = mem s image head; entries = t.entries; list = t.is.list; has = has });
     }
 
-pub next_booking : (s s' : View) (a : ℕ) (found : Option Block) (b : Block) → HasBooking s a → Next s s' a found → found ≡ Some b → HasBooking s' b.0.0
+pub next_booking : (s s' : View) (a : ℕ) (found : Option ℕ) (b : ℕ) → HasBooking s a → Next s s' a found → found ≡ Some b → HasBooking s' b
 next_booking s s' a found b h f e =
-    let g = subst (λ (o : Option Block). Next s s' a o) e f in
+    let g = subst (λ (o : Option ℕ). Next s s' a o) e f in
     record {
       small = omega (arith, h.small, g.kept.size);
       under = λ image i.
           let t = h.under image (stood g.kept image i) in
-          let has = behind_has t.entries a b.0.0 (g.is image t.start t.entries i.sees t.list t.has) (omega (arith, g.within.0)) in
+          let has = behind_has t.entries a b (g.is image t.start t.entries i.sees t.list t.has) (omega (arith, g.within.0)) in
           rw g.writes (record { start = t.start; entries = t.entries; list = t.list; has = has });
     }

@@ -4,7 +4,6 @@ use Rattle.std.proofs.lemmas.Bool.Decides.{nat_tests}
 use Rattle.std.proofs.lemmas.Bool.{cases_lt}
 use Rattle.stm_words.specs.Seen.{some_le, same_or}
 use Rattle.stm_words.specs.View.{View, Stands, Loaded, Stored, IsWrite}
-use Rattle.tx_alloc.specs.declared.pool.Block.{Block}
 use Rattle.tx_alloc.specs.Pointer.{pointer, IsWithin}
 use Rattle.tx_alloc.specs.Rows.{Rows, times, put_row, cut_row, block_at, Relinks}
 use Rattle.tx_alloc.specs.Steps.{mem, kept_none, kept_both, write_at_start}
@@ -149,7 +148,7 @@ cut_relinks m m' head key rs w = record {
   ]);
 }
 
-some_none : (b : Block) → Some b ≡ None → ⊥
+some_none : (b : ℕ) → Some b ≡ None → ⊥
 some_none b e = cc
 
 -- nothing is taken out at a spot without a booking
@@ -167,18 +166,18 @@ unhung_none s spot e = record {
       };
 }
 
-pub unhung_some : (s s1 s2 : View) (next : ℕ) (b : Block) (spot : Spot) → spot.entry ≡ Some b → IsWithin s spot.entry → Loaded s s1 (b.0.0 + 3) next → Stored s1 s2 spot.link.0 next → Unhung s s2 spot (Some b)
+pub unhung_some : (s s1 s2 : View) (next : ℕ) (b : ℕ) (spot : Spot) → spot.entry ≡ Some b → IsWithin s spot.entry → Loaded s s1 (b + 3) next → Stored s1 s2 spot.link.0 next → Unhung s s2 spot (Some b)
 unhung_some s s1 s2 next b spot e within l w =
-    let inside : IsWithin s (Some b) = subst (λ (o : Option Block). IsWithin s o) e within in
-    let some : b.0.0 ≢ 0 = omega (arith, inside.0) in
+    let inside : IsWithin s (Some b) = subst (λ (o : Option ℕ). IsWithin s o) e within in
+    let some : b ≢ 0 = omega (arith, inside.0) in
     record {
       kept = kept_both s s1 s2 l.kept w.kept;
       none = λ z. absurd (some_none b z);
       within = (inside.0, omega (arith, inside.1, l.kept.size, w.kept.size));
       removal = λ image seen head key rs h p.
-          let is : b.0.0 ≡ block_at rs key = sym (ap pointer e) ∙ p.entry in
-          let leads : mem s image (link_of head rs key) ≡ b.0.0 = link_leads (mem s image) (length image) head 0 key rs h.list.linked (λ z. some (is ∙ z)) ∙ sym is in
-          let behind : mem s image (b.0.0 + 3) ≡ next = l.answer image (w.kept.seen image seen) in
+          let is : b ≡ block_at rs key = sym (ap pointer e) ∙ p.entry in
+          let leads : mem s image (link_of head rs key) ≡ b = link_leads (mem s image) (length image) head 0 key rs h.list.linked (λ z. some (is ∙ z)) ∙ sym is in
+          let behind : mem s image (b + 3) ≡ next = l.answer image (w.kept.seen image seen) in
           let put : IsWrite (mem s image) (mem s2 image) spot.link.0 next = write_at_start s s1 s2 spot.link.0 next l.writes w image seen in
           let cuts : Cuts (mem s image) (mem s2 image) (link_of head rs key) = subst (λ (x : ℕ). Cuts (mem s image) (mem s2 image) x) p.link (record {
             here = put.here ∙ (sym behind ∙ ap (λ (x : ℕ). mem s image (x + 3)) (sym (ap (mem s image) p.link ∙ leads)));
@@ -186,13 +185,13 @@ unhung_some s s1 s2 next b spot e within l w =
           }) in
           record {
             is = is;
-            list = cut_list (mem s image) (mem s2 image) (length image) head key b.0.0 rs h (sym is) some cuts;
+            list = cut_list (mem s image) (mem s2 image) (length image) head key b rs h (sym is) some cuts;
             relinks = cut_relinks (mem s image) (mem s2 image) head key rs cuts;
           };
     }
 
 -- a booking that was taken out after a search left the list
-pub unhung_after : (s s1 s2 : View) (head key : ℕ) (spot : Spot) (o : Option Block) → Sought s s1 head key spot → Unhung s1 s2 spot o → Removed s s2 head key o
+pub unhung_after : (s s1 s2 : View) (head key : ℕ) (spot : Spot) (o : Option ℕ) → Sought s s1 head key spot → Unhung s1 s2 spot o → Removed s s2 head key o
 unhung_after s s1 s2 head key spot o k v = record {
   kept = kept_both s s1 s2 k.kept v.kept;
   none = λ e. v.none e ∙ k.writes;

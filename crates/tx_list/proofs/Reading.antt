@@ -30,7 +30,7 @@ followed_in s s' link p has l ne ws =
       small = omega (arith, room, l.kept.size, has.small);
     }
 
-pub followed_some : (s s' : View) (link p : ℕ) → Leads s link → Loaded s s' link p → p ≢ 0 → ∥ ((image : List ℕ) × Stands s' image) ∥₁ → Followed s s' link (Some (record { 0 = record { 0 = p } }))
+pub followed_some : (s s' : View) (link p : ℕ) → Leads s link → Loaded s s' link p → p ≢ 0 → ∥ ((image : List ℕ) × Stands s' image) ∥₁ → Followed s s' link (Some p)
 followed_some s s' link p has l ne ws = let i = followed_in s s' link p has l ne ws in record {
   kept = l.kept;
   writes = l.writes;

@@ -5,7 +5,6 @@ use Rattle.std.specs.declared.cmp.Ordering.TheVariants.{Less, Equal, Greater}
 use Rattle.stm_words.specs.Seen.{some_le}
 use Rattle.stm_words.specs.View.{View, Sees, Stands, Kept, Loaded}
 use Rattle.tx_alloc.specs.Pool.{IsBlock}
-use Rattle.tx_alloc.specs.declared.pool.Block.{Block}
 use Rattle.tx_alloc.specs.Rows.{Rows}
 use Rattle.tx_alloc.specs.Steps.{mem, kept_none, kept_both, stood, at_start}
 use Rattle.tx_list.specs.Bookings.{code_of, place_code}
@@ -73,7 +72,7 @@ seek_below s0 s s1 s2 head key link low p order k has l r ne less ws =
     let c : low ≤ place_code (mem s0 w.0) p = a.above in
     omega (arith, b, c))
 
-abbrev pub spot : ℕ → ℕ → Option Block → Spot
+abbrev pub spot : ℕ → ℕ → Option ℕ → Spot
 spot link word entry = record { link = record { 0 = link }; word = word; entry = entry }
 
 -- the list ends here
@@ -92,7 +91,7 @@ seek_end s0 s s1 head key link low p k l z =
     }
 
 -- the block here has the key
-pub seek_here : (s0 s s1 s2 : View) (head : ℕ) (key : Key) (link low p : ℕ) (order : Ordering) → Seeking s0 s head (code_of key) link low → Loaded s s1 link p → Compared s1 s2 p key order → p ≢ 0 → Inside s1 p → order ≡ Equal → Sought s0 s2 head (code_of key) (spot link p (Some (record { 0 = record { 0 = p } })))
+pub seek_here : (s0 s s1 s2 : View) (head : ℕ) (key : Key) (link low p : ℕ) (order : Ordering) → Seeking s0 s head (code_of key) link low → Loaded s s1 link p → Compared s1 s2 p key order → p ≢ 0 → Inside s1 p → order ≡ Equal → Sought s0 s2 head (code_of key) (spot link p (Some p))
 seek_here s0 s s1 s2 head key link low p order k l r ne i same =
     let ended : (image : List ℕ) (rs : Rows) → Sees s2 image → IsListAt (mem s0 image) (length image) head rs → Ended head link p (code_of key) rs = λ image rs seen h.
     let t = seek_at s0 s s1 s2 head key link low p order k l r ne image rs seen h in

@@ -1,16 +1,14 @@
 -- A spot that was sought, and how long it stays one.
-use Rattle.std.proofs.Common.{◌≡◌, inl, inr, ℕ, ◌+◌, ◌<◌, ◌≤◌, ◌≢◌, List, length, Option, Some, None, sym, ap, ◌∙◌, arith}
+use Rattle.std.proofs.Common.{◌≡◌, inl, inr, ℕ, ◌<◌, ◌≢◌, List, length, Some, sym, ap, ◌∙◌, arith}
 use Rattle.stm_words.specs.View.{View, Sees}
-use Rattle.tx_alloc.specs.declared.pool.Block.{Block}
-use Rattle.tx_alloc.specs.Rows.{Rows, times, block_at, SameLinks}
+use Rattle.tx_alloc.specs.Rows.{Rows, times, SameLinks}
 use Rattle.tx_alloc.specs.Steps.{mem}
-use Rattle.tx_list.specs.Bookings.{IsList, place_code, link_of}
+use Rattle.tx_list.specs.Bookings.{place_code}
 use Rattle.tx_list.specs.declared.search.Spot.{Spot}
 use Rattle.tx_list.specs.Lists.{IsListAt, Found}
 use Rattle.tx_list.specs.Search.{Sought, SpotAt}
-use Rattle.tx_list.proofs.Frame.{list_frame, list_one}
 use Rattle.tx_list.proofs.Links.{link_is}
-use Rattle.tx_list.proofs.Trail.{Ended, trail_start, trail_here}
+use Rattle.tx_list.proofs.Trail.{trail_start, trail_here}
 
 -- the spot that a search came to is the key's
 pub sought_spot : (s s' : View) (head key : ℕ) (spot : Spot) → Sought s s' head key spot → (image : List ℕ) (rs : Rows) → Sees s' image → IsListAt (mem s image) (length image) head rs → SpotAt (mem s image) head key spot rs
@@ -42,7 +40,7 @@ spot_stays m m' head key spot rs u p = record {
 
 -- the spot of the first booking is the head
 pub first_spot : (m : ℕ → ℕ) (n head b key : ℕ) (rs : Rows) → IsListAt m n head rs → m head ≡ b → b ≢ 0 → place_code m b ≡ key →
-    SpotAt m head key (record { link = record { 0 = head }; word = b; entry = Some (record { 0 = record { 0 = b } }) }) rs
+    SpotAt m head key (record { link = record { 0 = head }; word = b; entry = Some b }) rs
 first_spot m n head b key rs h at some is =
     let ended = trail_here m n head head 0 key b rs (trail_start m n head key rs h.list.linked) at some is in
     record { link = ended.link_is; word = at; entry = ended.entry_is }

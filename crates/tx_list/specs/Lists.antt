@@ -2,7 +2,6 @@
 use Rattle.std.specs.Prelude.{◌≡◌, ◌⊎◌, ℕ, ◌+◌, ◌<◌, ◌≤◌, ◌^◌, List, length, Option, None}
 use Rattle.stm_words.specs.View.{View, Sees, Stands, Kept}
 use Rattle.tx_alloc.specs.declared.place.TheConstants.{BLOCK_WORDS}
-use Rattle.tx_alloc.specs.declared.pool.Block.{Block}
 use Rattle.tx_alloc.specs.Pointer.{pointer, IsWithin}
 use Rattle.tx_alloc.specs.Pool.{IsBlock}
 use Rattle.tx_alloc.specs.Rows.{Rows, times, put_row, cut_row, block_at, Relinks}
@@ -32,7 +31,7 @@ pub record HasList (s : View) (head : ℕ) : Type 0 where
   pub under : (image : List ℕ) → Stands s image → SomeList (mem s image) (length image) head
 
 -- only reads were made, and the answer is the block at the key
-pub record Found (s s' : View) (head key : ℕ) (found : Option Block) : Type 0 where
+pub record Found (s s' : View) (head key : ℕ) (found : Option ℕ) : Type 0 where
   pub kept : Kept s s'
   pub writes : s'.writes ≡ s.writes
   pub within : IsWithin s' found
@@ -40,7 +39,7 @@ pub record Found (s s' : View) (head key : ℕ) (found : Option Block) : Type 0 
       IsListAt (mem s image) (length image) head rs → pointer found ≡ block_at rs key
 
 -- only reads were made, and the answer is the first block
-pub record First (s s' : View) (head : ℕ) (found : Option Block) : Type 0 where
+pub record First (s s' : View) (head : ℕ) (found : Option ℕ) : Type 0 where
   pub kept : Kept s s'
   pub writes : s'.writes ≡ s.writes
   pub within : IsWithin s' found
@@ -60,7 +59,7 @@ pub record HasBooking (s : View) (b : ℕ) : Type 0 where
   pub under : (image : List ℕ) → Stands s image → SomeBooking (mem s image) (length image) b
 
 -- only reads were made, and the answer is the block behind b in each list that has b
-pub record Next (s s' : View) (b : ℕ) (found : Option Block) : Type 0 where
+pub record Next (s s' : View) (b : ℕ) (found : Option ℕ) : Type 0 where
   pub kept : Kept s s'
   pub writes : s'.writes ≡ s.writes
   pub within : IsWithin s' found
@@ -98,14 +97,14 @@ pub record Inserted (s s' : View) (head : ℕ) (key : Key) (b : ℕ) : Type 0 wh
 
 -- the row of the key is gone, if there was one, and the answer is its block. No word was changed
 -- but the head and the words of the list's blocks that lead on.
-pub record IsRemoval (m m' : ℕ → ℕ) (n head key : ℕ) (removed : Option Block) (rs : Rows) : Type 0
+pub record IsRemoval (m m' : ℕ → ℕ) (n head key : ℕ) (removed : Option ℕ) (rs : Rows) : Type 0
   where
     pub is : pointer removed ≡ block_at rs key
     pub list : IsListAt m' n head (cut_row rs key)
     pub relinks : Relinks m m' NEXT head rs
 
 -- the booking of the key left the list, if there was one. Nothing was written where there was none.
-pub record Removed (s s' : View) (head key : ℕ) (removed : Option Block) : Type 0 where
+pub record Removed (s s' : View) (head key : ℕ) (removed : Option ℕ) : Type 0 where
   pub kept : Kept s s'
   pub none : removed ≡ None → s'.writes ≡ s.writes
   pub within : IsWithin s' removed

@@ -3,7 +3,6 @@ use Rattle.std.specs.Prelude.{◌≡◌, ◌≢◌, ℕ, ◌+◌, ◌<◌, ◌�
 use Rattle.std.specs.declared.cmp.Ordering.{Ordering}
 use Rattle.std.specs.Ordering.{nat_cmp, ordering_then}
 use Rattle.stm_words.specs.View.{View, Sees, Stands, Kept}
-use Rattle.tx_alloc.specs.declared.pool.Block.{Block}
 use Rattle.tx_alloc.specs.Pointer.{pointer, IsWithin}
 use Rattle.tx_alloc.specs.Pool.{IsBlock}
 use Rattle.tx_alloc.specs.Rows.{Rows, block_at}
@@ -33,7 +32,7 @@ pub record Leads (s : View) (link : ℕ) : Type 0 where
       IsBlock (length image) (mem s image link)
 
 -- only reads were made, and the word at the link leads to the answer
-pub record Followed (s s' : View) (link : ℕ) (found : Option Block) : Type 0 where
+pub record Followed (s s' : View) (link : ℕ) (found : Option ℕ) : Type 0 where
   pub kept : Kept s s'
   pub writes : s'.writes ≡ s.writes
   pub within : IsWithin s' found
@@ -67,7 +66,7 @@ pub record Hung (s s' : View) (spot : Spot) (b : ℕ) : Type 0 where
       IsInsertion (mem s image) (mem s' image) (length image) head (code_of key) b rs
 
 -- the booking at a spot, if it had one, left each list in which this was the spot of a key
-pub record Unhung (s s' : View) (spot : Spot) (removed : Option Block) : Type 0 where
+pub record Unhung (s s' : View) (spot : Spot) (removed : Option ℕ) : Type 0 where
   pub kept : Kept s s'
   pub none : removed ≡ None → s'.writes ≡ s.writes
   pub within : IsWithin s' removed

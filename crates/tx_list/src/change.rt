@@ -18,10 +18,10 @@ use tx_alloc::place::BLOCK_WORDS;
 pub fn insert<M: TxMem>(memory: &mut M, head: Addr, key: Key, block: Block) -> Result<(), M::Stop>
     requires list { HasList (M.view memory.old) head.0 }
     requires key { IsKey key }
-    requires fresh { IsFresh (M.view memory.old) head.0 key block.0.0 }
+    requires fresh { IsFresh (M.view memory.old) head.0 key block }
     ensures origin { M.origin memory.new ≡ M.origin memory.old }
     ensures answer { IfOk result (λ _.
-        Inserted (M.view memory.old) (M.view memory.new) head.0 key block.0.0) }
+        Inserted (M.view memory.old) (M.view memory.new) head.0 key block) }
 {
     let spot = seek(memory, head, key)?;
     insert_at(memory, spot, block)?;
@@ -32,15 +32,14 @@ pub fn insert<M: TxMem>(memory: &mut M, head: Addr, key: Key, block: Block) -> R
 /// a list that was walked by `seek`, and not changed since, is not walked again.
 pub fn insert_at<M: TxMem>(memory: &mut M, spot: Spot, block: Block) -> Result<(), M::Stop>
     requires small { (M.view memory.old).size ≤ 2 ^ 32 }
-    requires block { block.0.0 + BLOCK_WORDS ≤ (M.view memory.old).size }
+    requires block { block + BLOCK_WORDS ≤ (M.view memory.old).size }
     requires link { spot.link.0 < (M.view memory.old).size }
     ensures origin { M.origin memory.new ≡ M.origin memory.old }
     ensures answer { IfOk result (λ _.
-        Hung (M.view memory.old) (M.view memory.new) spot block.0.0) }
+        Hung (M.view memory.old) (M.view memory.new) spot block) }
 {
-    let Block(addr) = block;
-    store(memory, Addr(addr.0 + NEXT), spot.word)?;
-    store(memory, spot.link, addr.0 as u64)?;
+    store(memory, block.word(NEXT), spot.word)?;
+    store(memory, spot.link, block.addr().0 as u64)?;
     Ok(())
 }
 
@@ -71,7 +70,7 @@ pub fn remove_at<M: TxMem>(memory: &mut M, spot: Spot) -> Result<Option<Block>, 
     match spot.entry {
         None => Ok(None),
         Some(block) => {
-            let next = load(memory, Addr(block.0.0 + NEXT))?;
+            let next = load(memory, block.word(NEXT))?;
             store(memory, spot.link, next)?;
             Ok(Some(block))
         }

@@ -5,7 +5,8 @@ ghost use Rattle.tx_list.specs.Search.{Compared};
 
 use crate::place::{ID, KIND};
 use std::cmp::Ordering;
-use stm_words::{Addr, TxRead, load};
+use stm_words::{TxRead, load};
+use tx_alloc::Block;
 use tx_alloc::place::BLOCK_WORDS;
 
 /// The kind and the id of what is booked, as a booking's words have them.
@@ -22,20 +23,20 @@ pub struct Key {
 #[inline]
 pub(crate) fn compare_key<M: TxRead>(
     memory: &mut M,
-    block: Addr,
+    block: Block,
     key: Key,
 ) -> Result<Ordering, M::Stop>
     requires small { (M.view memory.old).size ≤ 2 ^ 32 }
-    requires block { block.0 + BLOCK_WORDS ≤ (M.view memory.old).size }
+    requires block { block + BLOCK_WORDS ≤ (M.view memory.old).size }
     ensures origin { M.origin memory.new ≡ M.origin memory.old }
     ensures answer { IfOk result (λ order.
-        Compared (M.view memory.old) (M.view memory.new) block.0 key order) }
+        Compared (M.view memory.old) (M.view memory.new) block key order) }
 {
-    let kind = load(memory, Addr(block.0 + KIND))?;
+    let kind = load(memory, block.word(KIND))?;
     let by_kind = kind.cmp(&key.kind);
     if by_kind != Ordering::Equal {
         return Ok(by_kind);
     }
-    let id = load(memory, Addr(block.0 + ID))?;
+    let id = load(memory, block.word(ID))?;
     Ok(id.cmp(&key.id))
 }

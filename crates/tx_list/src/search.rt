@@ -49,14 +49,13 @@ pub fn first<M: TxRead>(memory: &mut M, head: Addr) -> Result<Option<Block>, M::
 
 /// The booking behind the one in this block.
 pub fn next<M: TxRead>(memory: &mut M, block: Block) -> Result<Option<Block>, M::Stop>
-    requires booking { HasBooking (M.view memory.old) block.0.0 }
+    requires booking { HasBooking (M.view memory.old) block }
     ensures origin { M.origin memory.new ≡ M.origin memory.old }
     ensures answer { IfOk result (λ found.
-        Next (M.view memory.old) (M.view memory.new) block.0.0 found) }
+        Next (M.view memory.old) (M.view memory.new) block found) }
     ensures stopped { IfErr result (λ stop. M.stopped_for memory.new stop) }
 {
-    let Block(addr) = block;
-    let found = follow(memory, Addr(addr.0 + NEXT))?;
+    let found = follow(memory, block.word(NEXT))?;
     Ok(found)
 }
 
@@ -95,7 +94,7 @@ pub fn seek<M: TxRead>(memory: &mut M, head: Addr, key: Key) -> Result<Spot, M::
                 entry: None,
             });
         }
-        let block = Addr(word as u32);
+        let block = Block(Addr(word as u32));
         let order = compare_key(memory, block, key)?;
         match order {
             Ordering::Less => {}
@@ -103,7 +102,7 @@ pub fn seek<M: TxRead>(memory: &mut M, head: Addr, key: Key) -> Result<Spot, M::
                 return Ok(Spot {
                     link,
                     word,
-                    entry: Some(Block(block)),
+                    entry: Some(block),
                 });
             }
             Ordering::Greater => {
@@ -115,6 +114,6 @@ pub fn seek<M: TxRead>(memory: &mut M, head: Addr, key: Key) -> Result<Spot, M::
             }
         }
         passed += 1;
-        link = Addr(block.0 + NEXT);
+        link = block.word(NEXT);
     }
 }

@@ -5,11 +5,10 @@ use Rattle.std.proofs.Math.Pow.{pow_mono}
 use Rattle.std.proofs.Math.Nat.{pow-suc, pow-zero}
 use Rattle.stm_words.specs.Seen.{same_or}
 use Rattle.tx_alloc.specs.Pool.{IsBlock}
-use Rattle.tx_alloc.specs.Rows.{Rows, times, cut_row, block_at, SameLinks, IsFrom}
+use Rattle.tx_alloc.specs.Rows.{Rows, times, block_at, SameLinks, IsFrom}
 use Rattle.tx_tree.specs.Tree.{Tree, leaf, node, rows, height}
 use Rattle.tx_tree.specs.Hangs.{Hangs}
 use Rattle.tx_tree.specs.Table.{IsTable, Descends}
-use Rattle.tx_alloc.proofs.Order.{cut_absent}
 use Rattle.tx_tree.proofs.Shapes.{height_log}
 use Rattle.tx_tree.proofs.Zipped.{hangs_frame, has_block}
 use Rattle.tx_tree.proofs.Seeking.{has_times}

@@ -62,7 +62,7 @@ pub record FoundAt (s s' : View) (root key b : ℕ) : Type 0 where
 -- the row of an entry, if there is one
 abbrev pub row_of : Option Entry → Option (ℕ × ℕ)
 row_of None = None
-row_of (Some entry) = Some (entry.key, entry.block.0.0)
+row_of (Some entry) = Some (entry.key, entry.block)
 
 -- the first of the rows with a key above this one
 abbrev pub row_above : Rows → ℕ → Option (ℕ × ℕ)

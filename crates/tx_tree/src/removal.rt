@@ -90,7 +90,7 @@ pub fn remove<M: TxMem>(memory: &mut M, root: Addr, key: u64) -> Result<Option<B
     ensures origin { M.origin memory.new ≡ M.origin memory.old }
     ensures answer { IfOk result (λ taken. MatchOption taken
         (Found (M.view memory.old) (M.view memory.new) root.0 key 0)
-        (λ block. Removed (M.view memory.old) (M.view memory.new) root.0 key block.0.0)) }
+        (λ block. Removed (M.view memory.old) (M.view memory.new) root.0 key block)) }
 {
     let mut path = Path::new();
     let (depth, node) = seek(memory, root.0, key, &mut path)?;

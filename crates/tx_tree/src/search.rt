@@ -24,7 +24,7 @@ pub fn find<M: TxRead>(memory: &mut M, root: Addr, key: u64) -> Result<Option<Bl
     ensures origin { M.origin memory.new ≡ M.origin memory.old }
     ensures answer { IfOk result (λ found. MatchOption found
         (Found (M.view memory.old) (M.view memory.new) root.0 key 0)
-        (λ block. FoundAt (M.view memory.old) (M.view memory.new) root.0 key block.0.0)) }
+        (λ block. FoundAt (M.view memory.old) (M.view memory.new) root.0 key block)) }
     ensures stopped { IfErr result (λ stop. M.stopped_for memory.new stop) }
 {
     let mut link = root.0;

@@ -12,7 +12,6 @@ use Rattle.vac_model.specs.Step.{done, step, given_back}
 use Rattle.vac_model.proofs.States.{item_of-with_bookings}
 use Rattle.vac_model.proofs.Balance.{some_same}
 use Rattle.vac_model.proofs.Holdings.{units-used}
-use Rattle.tx_alloc.specs.declared.pool.Block.{Block}
 use Rattle.tx_list.specs.declared.search.Spot.{Spot}
 use Rattle.tx_alloc.specs.Pool.{IsBlock, IsUsed, IsGiving, HasUsed, Given}
 use Rattle.tx_alloc.specs.Rows.{Rows, block_at}
@@ -109,7 +108,7 @@ module _ (m m1 : ℕ → ℕ) (n : ℕ) (s : State) (h : IsState m n s) (custome
 
 -- the calls, under each image
 module _ (s s1 : View) (customer owner : ℕ) (kind : Kind) (id item : ℕ) (spot : Spot) where
-  its_unbooking : (taken : Option (Block × ℕ)) → UnbookedAt s s1 spot taken → (image : List ℕ) (state : State) → Sees s1 image → (h : IsState (mem s image) (length image) state) → AtSpot customer owner kind id item spot (mem s image) (length image) state h →
+  its_unbooking : (taken : Option (ℕ × ℕ)) → UnbookedAt s s1 spot taken → (image : List ℕ) (state : State) → Sees s1 image → (h : IsState (mem s image) (length image) state) → AtSpot customer owner kind id item spot (mem s image) (length image) state h →
       IsUnbooking (mem s image) (mem s1 image) (length image) owner (kind, id) taken (h.represents.parts.lists owner)
   its_unbooking taken u image state i h p =
       u.unbooking image i owner (kind, id) (h.represents.parts.lists owner) (its_list (mem s image) (length image) state h customer owner kind id item p.here) p.at
@@ -121,8 +120,8 @@ module _ (s s1 : View) (customer owner : ℕ) (kind : Kind) (id item : ℕ) (spo
       let gone = not_booked (mem s image) (length image) state h customer owner kind id item p.here o (sym (its_unbooking None u image state i h p).is) in
       rw (o.there, there, gone) refl)
 
-  module _ (x : Block) (units : ℕ) (u : UnbookedAt s s1 spot (Some (x, units))) where
-    some : x.0.0 ≢ 0
+  module _ (x : ℕ) (units : ℕ) (u : UnbookedAt s s1 spot (Some (x, units))) where
+    some : x ≢ 0
     some = let w = u.within in omega (arith, w.0)
 
     its_cut : (image : List ℕ) (state : State) → Sees s1 image → (h : IsState (mem s image) (length image) state) → AtSpot customer owner kind id item spot (mem s image) (length image) state h → ListCut (mem s image) (mem s1 image) (length image) owner (h.represents.parts.lists owner) (place_key (kind, id))
@@ -142,7 +141,7 @@ module _ (s s1 : View) (customer owner : ℕ) (kind : Kind) (id item : ℕ) (spo
               let t = held.under image i0 in
               let p = at_size image t.0 i0 t.1 in
               let r = its_unbooking (Some (x, units)) u image t.0 i.sees t.1 p in
-              units_are_used (mem s image) (mem s1 image) (length image) t.0 t.1 customer owner kind id item x.0.0 units p.here (sym r.is) some (its_cut image t.0 i.sees t.1 p) r.units;
+              units_are_used (mem s image) (mem s1 image) (length image) t.0 t.1 customer owner kind id item x units p.here (sym r.is) some (its_cut image t.0 i.sees t.1 p) r.units;
         };
         free = record {
           fits = λ image i.
@@ -150,11 +149,11 @@ module _ (s s1 : View) (customer owner : ℕ) (kind : Kind) (id item : ℕ) (spo
               let t = held.under image i0 in
               let p = at_size image t.0 i0 t.1 in
               let r = its_unbooking (Some (x, units)) u image t.0 i.sees t.1 p in
-              units_fit (mem s image) (mem s1 image) (length image) t.0 t.1 customer owner kind id item x.0.0 units p.here (sym r.is) some (its_cut image t.0 i.sees t.1 p) r.units;
+              units_fit (mem s image) (mem s1 image) (length image) t.0 t.1 customer owner kind id item x units p.here (sym r.is) some (its_cut image t.0 i.sees t.1 p) r.units;
         };
       }
 
-      pub used_now : (s2 : View) → ItemChanged s1 s2 item (λ y. given_back y units) → HasUsed s2 x.0.0
+      pub used_now : (s2 : View) → ItemChanged s1 s2 item (λ y. given_back y units) → HasUsed s2 x
       used_now s2 w = record {
         small = omega (arith, held.small, u.kept.size, w.kept.size);
         under = λ image i.
@@ -163,12 +162,12 @@ module _ (s s1 : View) (customer owner : ℕ) (kind : Kind) (id item : ℕ) (spo
             let t = held.under image i0 in
             let p = at_size image t.0 i0 t.1 in
             let k = its_unbooking (Some (x, units)) u image t.0 i1.sees t.1 p in
-            let r = in_hand (mem s image) (mem s1 image) (length image) t.0 t.1 customer owner kind id item x.0.0 units p.here (sym k.is) some (its_cut image t.0 i1.sees t.1 p) k.units
+            let r = in_hand (mem s image) (mem s1 image) (length image) t.0 t.1 customer owner kind id item x units p.here (sym k.is) some (its_cut image t.0 i1.sees t.1 p) k.units
             (mem s2 image) (w.changed image i.sees) in
             record { free = r.0; used = r.1.0; count = r.1.1.0; is = r.1.1.1 };
       }
 
-    pub cancel_done : (s2 s3 : View) (start : ℕ) → start < 8 → ItemChanged s1 s2 item (λ y. given_back y units) → Given s2 s3 start x.0.0 → Serves s s3 (command.Cancel customer kind id) reply.Done (AtSpot customer owner kind id item spot)
+    pub cancel_done : (s2 s3 : View) (start : ℕ) → start < 8 → ItemChanged s1 s2 item (λ y. given_back y units) → Given s2 s3 start x → Serves s s3 (command.Cancel customer kind id) reply.Done (AtSpot customer owner kind id item spot)
     cancel_done s2 s3 start low w v = record {
       kept = kept_both s s2 s3 (kept_both s s1 s2 u.kept w.kept) v.kept;
       untouched = tt;
@@ -177,6 +176,6 @@ module _ (s s1 : View) (customer owner : ℕ) (kind : Kind) (id item : ℕ) (spo
           let i2 = v.kept.seen image i in
           let i1 = w.kept.seen image i2 in
           let r = its_unbooking (Some (x, units)) u image state i1 h p in
-          cancelled (mem s image) (mem s1 image) (length image) state h customer owner kind id item x.0.0 units p.here (sym r.is) some (its_cut image state i1 h p) r.units
+          cancelled (mem s image) (mem s1 image) (length image) state h customer owner kind id item x units p.here (sym r.is) some (its_cut image state i1 h p) r.units
           (mem s2 image) (w.changed image i2) (mem s3 image) start low (λ free used count z. v.giving image free used count i z);
     }

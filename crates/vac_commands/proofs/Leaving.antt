@@ -16,7 +16,6 @@ use Rattle.vac_model.specs.State.{State, Bookings, Place, item_of, bookings_of}
 use Rattle.vac_model.specs.Step.{Outcome}
 use Rattle.vac_model.proofs.Balance.{some_same}
 use Rattle.vac_model.proofs.Views.{not_some}
-use Rattle.tx_alloc.specs.declared.pool.Block.{Block}
 use Rattle.tx_alloc.specs.Rows.{Rows, times}
 use Rattle.tx_alloc.proofs.Times.{times_first}
 use Rattle.tx_list.specs.Bookings.{IsList, place_code, first_block}
@@ -100,7 +99,7 @@ code_is m n b place t is =
 
 -- the spot of the first booking
 abbrev head_spot : ℕ → ℕ → Spot
-head_spot c b = record { link = record { 0 = head_of c }; word = b; entry = Some (record { 0 = record { 0 = b } }) }
+head_spot c b = record { link = record { 0 = head_of c }; word = b; entry = Some b }
 
 head_spot_at : (m : ℕ → ℕ) (n : ℕ) (state : State) (h : IsState m n state) (id c b : ℕ) (place : Place) → customer_block h id ≡ c → c ≢ 0 → b ≢ 0 → m (head_of c) ≡ b → SomeBooking m n b → place_in m b ≡ place →
     SpotAt m (head_of c) (place_key place) (head_spot c b) (h.represents.parts.lists c)
@@ -248,22 +247,22 @@ first_has m n state h id c b seat c_some some is =
       },
     )
 
-pub first_found_at : (s s1 : View) (id c head : ℕ) (block : Block) → head ≡ c + 4 → c ≢ 0 → First s s1 head (Some block) →
+pub first_found_at : (s s1 : View) (id c head : ℕ) (block : ℕ) → head ≡ c + 4 → c ≢ 0 → First s s1 head (Some block) →
     (image : List ℕ) (state : State) → Sees s1 image → (h : IsState (mem s1 image) (length image) state) → customer_block h id ≡ c →
-    (mem s1 image (head_of c) ≡ block.0.0) × HasFirst (mem s1 image) (length image) state id block.0.0
+    (mem s1 image (head_of c) ≡ block) × HasFirst (mem s1 image) (length image) state id block
 first_found_at s s1 id c head block e c_some f image state i =
     subst (λ (ws : Words). (h : IsState (memory image ws) (length image) state) → customer_block h id ≡ c →
-    (memory image ws (head_of c) ≡ block.0.0) × HasFirst (memory image ws) (length image) state id block.0.0) (sym f.writes) (λ h seat.
+    (memory image ws (head_of c) ≡ block) × HasFirst (memory image ws) (length image) state id block) (sym f.writes) (λ h seat.
     let m = mem s image in
     let n = length image in
-    let some : block.0.0 ≢ 0 = (let w = f.within in let low = w.0 in omega arith) in
+    let some : block ≢ 0 = (let w = f.within in let low = w.0 in omega arith) in
     let rows = h.represents.parts.lists c in
     let list = owner_list m n state h id c seat c_some in
-    let is : block.0.0 ≡ first_block rows = f.is image rows i (subst (λ (z : ℕ). IsListAt m n z rows) (sym e) list) in
-    first_has m n state h id c block.0.0 seat c_some some is)
+    let is : block ≡ first_block rows = f.is image rows i (subst (λ (z : ℕ). IsListAt m n z rows) (sym e) list) in
+    first_has m n state h id c block seat c_some some is)
 
-pub starts_at : (s s1 : View) (id c head : ℕ) (block : Block) → head ≡ c + 4 → HoldsState s1 → CustomerIsAt s1 id c →
-    First s s1 head (Some block) → StartsAt s1 id c block.0.0
+pub starts_at : (s s1 : View) (id c head : ℕ) (block : ℕ) → head ≡ c + 4 → HoldsState s1 → CustomerIsAt s1 id c →
+    First s s1 head (Some block) → StartsAt s1 id c block
 starts_at s s1 id c head block e held at f = record {
   inside = f.within;
   leads = λ image i.

@@ -4,7 +4,6 @@ use Rattle.std.specs.FinMap.{get}
 use Rattle.stm_words.specs.View.{View, Words, Sees, Stands, memory}
 use Rattle.vac_model.specs.declared.items.Kind.{Kind}
 use Rattle.vac_model.specs.State.{State, Place, item_of}
-use Rattle.tx_alloc.specs.declared.pool.Block.{Block}
 use Rattle.tx_alloc.specs.Pointer.{pointer, IsWithin}
 use Rattle.tx_alloc.specs.Pool.{IsBlock}
 use Rattle.tx_list.specs.declared.search.Spot.{Spot}
@@ -132,9 +131,9 @@ spot_held s s' customer owner place spot c f = record {
       (owner_list (mem s image) (length image) state h customer owner (c.at image state (stood f.kept image i) h) c.some));
 }
 
-pub booking_held : (s : View) (owner : ℕ) (place : Place) (spot : Spot) (b : Block) → spot.entry ≡ Some b → HasSpot s owner place spot → HasBookingAt s owner place b.0.0
+pub booking_held : (s : View) (owner : ℕ) (place : Place) (spot : Spot) (b : ℕ) → spot.entry ≡ Some b → HasSpot s owner place spot → HasBookingAt s owner place b
 booking_held s owner place spot b e p = record {
-  inside = subst (λ (o : Option Block). IsWithin s o) e p.within;
+  inside = subst (λ (o : Option ℕ). IsWithin s o) e p.within;
   at = λ image state i h. sym (p.at image state i h).entry ∙ ap pointer e;
 }
 

@@ -12,7 +12,6 @@ use Rattle.vac_model.specs.declared.replies.Reply.TheVariants as reply
 use Rattle.vac_model.specs.Ranges.{is_command}
 use Rattle.vac_model.specs.State.{State, Bookings, item_of, bookings_of}
 use Rattle.vac_model.specs.Step.{refused, step}
-use Rattle.tx_alloc.specs.declared.pool.Block.{Block}
 use Rattle.tx_alloc.specs.Pointer.{pointer}
 use Rattle.tx_list.specs.Search.{Sought}
 use Rattle.tx_list.specs.declared.search.Spot.{Spot}
@@ -47,11 +46,11 @@ sold_out s s1 customer owner kind id item num v l less = reads_serve s s1 (comma
     sold_step state customer kind id num o.bookings (item_in (mem s image) item) o.there there (omega (arith, less, l.answer image i)))
 
 -- the booking that was found, or the spot of the one that was not
-pub reserved_some : (s s2 s3 s4 : View) (customer owner : ℕ) (kind : Kind) (id item : ℕ) (spot : Spot) (b : Block) (c : Command) (r : Reply) → OnlyRead s s2 → Sought s2 s3 (head_of owner) (place_key (kind, id)) spot → spot.entry ≡ Some b →
-    Serves s3 s4 c r (AtBooking customer owner kind id item b.0.0) → Serves s s4 c r (AtBlocks customer owner kind id item)
+pub reserved_some : (s s2 s3 s4 : View) (customer owner : ℕ) (kind : Kind) (id item : ℕ) (spot : Spot) (b : ℕ) (c : Command) (r : Reply) → OnlyRead s s2 → Sought s2 s3 (head_of owner) (place_key (kind, id)) spot → spot.entry ≡ Some b →
+    Serves s3 s4 c r (AtBooking customer owner kind id item b) → Serves s s4 c r (AtBlocks customer owner kind id item)
 reserved_some s s2 s3 s4 customer owner kind id item spot b c r reads f is v =
-    serves_where s s4 c r (AtBlocks customer owner kind id item) (AtBooking customer owner kind id item b.0.0)
-    (serves_after s s3 s4 c r (AtBooking customer owner kind id item b.0.0) (read_both s s2 s3 reads (sought_only s2 s3 (head_of owner) (place_key (kind, id)) spot f)) v)
+    serves_where s s4 c r (AtBlocks customer owner kind id item) (AtBooking customer owner kind id item b)
+    (serves_after s s3 s4 c r (AtBooking customer owner kind id item b) (read_both s s2 s3 reads (sought_only s2 s3 (head_of owner) (place_key (kind, id)) spot f)) v)
     (λ image state i h e.
     record { here = e; is = sym (spot_at s s2 s3 customer owner kind id item spot reads f image state (v.kept.seen image i) h e).entry ∙ ap pointer is })
 

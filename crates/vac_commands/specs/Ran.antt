@@ -10,7 +10,6 @@ use Rattle.vac_model.specs.declared.replies.Reply.{Reply}
 use Rattle.vac_model.specs.declared.replies.Reply.TheVariants as reply
 use Rattle.vac_model.specs.State.{State, bookings_of, without_item, without_customer}
 use Rattle.vac_model.specs.Step.{Outcome, step}
-use Rattle.tx_alloc.specs.declared.pool.Block.{Block}
 use Rattle.vac_records.specs.Items.{mem}
 use Rattle.vac_records.specs.Represents.{Represents, IsState}
 
@@ -59,7 +58,7 @@ pub record Asked (s s' : View) (c : Command) (r : Reply) : Type 0 where
   pub writes : s'.writes ≡ s.writes
 
 -- the reply to a NewCustomer that was not refused for the customer's being there
-abbrev pub joining : Option Block → Reply
+abbrev pub joining : Option ℕ → Reply
 joining None = reply.No Full
 joining (Some block) = reply.Done
 

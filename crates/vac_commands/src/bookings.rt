@@ -64,21 +64,21 @@ pub fn reserve_at<M: TxMem>(
     start: FreeList,
 ) -> Result<Reply, M::Stop>
     requires state { HoldsState (M.view memory.old) }
-    requires customer { CustomerIsAt (M.view memory.old) customer owner.0.0 }
-    requires item { ItemIsAt (M.view memory.old) kind id item.0.0 }
+    requires customer { CustomerIsAt (M.view memory.old) customer owner }
+    requires item { ItemIsAt (M.view memory.old) kind id item }
     requires range { IsTrue (is_command (Command.Reserve customer kind id num)) }
     ensures origin { M.origin memory.new ≡ M.origin memory.old }
     ensures answer { IfOk result (λ reply. Serves (M.view memory.old) (M.view memory.new)
         (Command.Reserve customer kind id num) reply
-        (AtBlocks customer owner.0.0 kind id item.0.0)) }
+        (AtBlocks customer owner kind id item)) }
 {
-    let free = free_at(memory, item.0)?;
+    let free = free_at(memory, item)?;
     if free < num as u64 {
         return Ok(Reply::No(Why::SoldOut));
     }
-    let price = price_at(memory, item.0)?;
+    let price = price_at(memory, item)?;
     let offer = Offer { free, price };
-    let spot = spot_of(memory, owner.0, kind, id)?;
+    let spot = spot_of(memory, owner, kind, id)?;
     match spot.entry {
         Some(booking) => {
             extend_booking(memory, customer, owner, kind, id, item, num, offer, booking)
@@ -103,21 +103,21 @@ fn extend_booking<M: TxMem>(
     booking: Block,
 ) -> Result<Reply, M::Stop>
     requires state { HoldsState (M.view memory.old) }
-    requires customer { CustomerIsAt (M.view memory.old) customer owner.0.0 }
-    requires item { ItemIsAt (M.view memory.old) kind id item.0.0 }
-    requires offered { IsOffered (M.view memory.old) item.0.0 num offer }
-    requires booking { HasBookingAt (M.view memory.old) owner.0.0 (kind, id) booking.0.0 }
+    requires customer { CustomerIsAt (M.view memory.old) customer owner }
+    requires item { ItemIsAt (M.view memory.old) kind id item }
+    requires offered { IsOffered (M.view memory.old) item num offer }
+    requires booking { HasBookingAt (M.view memory.old) owner (kind, id) booking }
     requires range { IsTrue (is_command (Command.Reserve customer kind id num)) }
     ensures origin { M.origin memory.new ≡ M.origin memory.old }
     ensures answer { IfOk result (λ reply. Serves (M.view memory.old) (M.view memory.new)
         (Command.Reserve customer kind id num) reply
-        (AtBooking customer owner.0.0 kind id item.0.0 booking.0.0)) }
+        (AtBooking customer owner kind id item booking)) }
 {
-    if units_at(memory, booking.0)? + num as u64 > MOST_UNITS {
+    if units_at(memory, booking)? + num as u64 > MOST_UNITS {
         return Ok(Reply::No(Why::UnitLimit));
     }
-    book_more(memory, booking.0, num, offer.price)?;
-    make_of(memory, item.0, num, offer.free)?;
+    book_more(memory, booking, num, offer.price)?;
+    make_of(memory, item, num, offer.free)?;
     Ok(Reply::Done)
 }
 
@@ -136,22 +136,22 @@ fn add_booking<M: TxMem>(
     start: FreeList,
 ) -> Result<Reply, M::Stop>
     requires state { HoldsState (M.view memory.old) }
-    requires customer { CustomerIsAt (M.view memory.old) customer owner.0.0 }
-    requires item { ItemIsAt (M.view memory.old) kind id item.0.0 }
-    requires offered { IsOffered (M.view memory.old) item.0.0 num offer }
+    requires customer { CustomerIsAt (M.view memory.old) customer owner }
+    requires item { ItemIsAt (M.view memory.old) kind id item }
+    requires offered { IsOffered (M.view memory.old) item num offer }
     requires missing { spot.entry ≡ None }
-    requires spot { HasSpot (M.view memory.old) owner.0.0 (kind, id) spot }
+    requires spot { HasSpot (M.view memory.old) owner (kind, id) spot }
     requires range { IsTrue (is_command (Command.Reserve customer kind id num)) }
     ensures origin { M.origin memory.new ≡ M.origin memory.old }
     ensures answer { IfOk result (λ reply. Serves (M.view memory.old) (M.view memory.new)
         (Command.Reserve customer kind id num) reply
-        (AtSpot customer owner.0.0 kind id item.0.0 spot)) }
+        (AtSpot customer owner kind id item spot)) }
 {
     let Some(block) = take(memory, start)? else {
         return Ok(Reply::No(Why::Full));
     };
     book_at(memory, spot, block, kind, id, num, offer.price)?;
-    make_of(memory, item.0, num, offer.free)?;
+    make_of(memory, item, num, offer.free)?;
     Ok(Reply::Done)
 }
 
@@ -176,7 +176,7 @@ pub fn cancel<M: TxMem>(
     let Some(item) = find_item(memory, kind, id)? else {
         return Ok(Reply::No(Why::NoItem));
     };
-    let spot = spot_of(memory, owner.0, kind, id)?;
+    let spot = spot_of(memory, owner, kind, id)?;
     cancel_at(memory, customer, owner, kind, id, item, spot, start)
 }
 
@@ -193,19 +193,19 @@ pub(crate) fn cancel_at<M: TxMem>(
     start: FreeList,
 ) -> Result<Reply, M::Stop>
     requires state { HoldsState (M.view memory.old) }
-    requires customer { CustomerIsAt (M.view memory.old) customer owner.0.0 }
-    requires item { ItemIsAt (M.view memory.old) kind id item.0.0 }
-    requires spot { HasSpot (M.view memory.old) owner.0.0 (kind, id) spot }
+    requires customer { CustomerIsAt (M.view memory.old) customer owner }
+    requires item { ItemIsAt (M.view memory.old) kind id item }
+    requires spot { HasSpot (M.view memory.old) owner (kind, id) spot }
     requires range { IsTrue (is_command (Command.Cancel customer kind id)) }
     ensures origin { M.origin memory.new ≡ M.origin memory.old }
     ensures answer { IfOk result (λ reply. Serves (M.view memory.old) (M.view memory.new)
         (Command.Cancel customer kind id) reply
-        (AtSpot customer owner.0.0 kind id item.0.0 spot)) }
+        (AtSpot customer owner kind id item spot)) }
 {
-    let Some((booking, units)) = unbook_at(memory, spot)? else {
+    let Some(taken) = unbook_at(memory, spot)? else {
         return Ok(Reply::No(Why::NotBooked));
     };
-    give_units_back(memory, item.0, units)?;
-    give(memory, start, booking)?;
+    give_units_back(memory, item, taken.1)?;
+    give(memory, start, taken.0)?;
     Ok(Reply::Done)
 }

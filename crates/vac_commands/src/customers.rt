@@ -11,7 +11,7 @@ ghost use Rattle.vac_commands.specs.Ran.{Ran, Asked, CustomerGone, joining};
 
 use crate::bookings::cancel_at;
 use crate::find::{CUSTOMERS, find_customer, find_item};
-use stm_words::{Addr, TxMem, TxRead, load};
+use stm_words::{TxMem, TxRead, load};
 use tx_alloc::place::MOST_BLOCKS;
 use tx_alloc::{Block, FreeList, give, take};
 use tx_list::Spot;
@@ -52,13 +52,13 @@ pub fn add_customer<M: TxMem>(
     ensures answer { IfOk result (λ added. RanOn (M.view memory.old) (M.view memory.new)
         id 0 (Command.NewCustomer id) (joining added)) }
     ensures block { IfOk result (λ added. MatchOption added (Unit {0})
-        (λ c. HasSeat (M.view memory.old) (M.view memory.new) id c.0.0)) }
+        (λ c. HasSeat (M.view memory.old) (M.view memory.new) id c)) }
     ensures items { IfOk result (λ _. ItemsStayOn (M.view memory.old) (M.view memory.new) id 0) }
 {
     let Some(block) = take(memory, start)? else {
         return Ok(None);
     };
-    init_customer(memory, block.0, id)?;
+    init_customer(memory, block, id)?;
     tx_tree::insert(memory, CUSTOMERS, id as u64, block)?;
     Ok(Some(block))
 }
@@ -83,14 +83,14 @@ pub fn bill<M: TxRead>(memory: &mut M, id: u32) -> Result<Option<u64>, M::Stop>
 /// The same at the customer's block.
 pub fn bill_at<M: TxRead>(memory: &mut M, id: u32, customer: Block) -> Result<u64, M::Stop>
     requires state { HoldsState (M.view memory.old) }
-    requires customer { CustomerIsAt (M.view memory.old) id customer.0.0 }
+    requires customer { CustomerIsAt (M.view memory.old) id customer }
     ensures origin { M.origin memory.new ≡ M.origin memory.old }
     ensures answer { IfOk result (λ n. RanOn (M.view memory.old) (M.view memory.new)
-        id customer.0.0 (Command.Bill id) (Reply.Number (Some n))) }
+        id customer (Command.Bill id) (Reply.Number (Some n))) }
     ensures writes { IfOk result (λ _. (M.view memory.new).writes ≡ (M.view memory.old).writes) }
     ensures stopped { IfErr result (λ stop. M.stopped_for memory.new stop) }
 {
-    let bill = vac_records::bill(memory, customer.0)?;
+    let bill = vac_records::bill(memory, customer)?;
     Ok(bill)
 }
 
@@ -120,11 +120,11 @@ pub fn drop_customer_at<M: TxMem>(
     start: FreeList,
 ) -> Result<(), M::Stop>
     requires state { HoldsState (M.view memory.old) }
-    requires customer { CustomerIsAt (M.view memory.old) id customer.0.0 }
+    requires customer { CustomerIsAt (M.view memory.old) id customer }
     requires range { IsTrue (is_command (Command.DropCustomer id)) }
     ensures origin { M.origin memory.new ≡ M.origin memory.old }
     ensures answer { IfOk result (λ _. RanOn (M.view memory.old) (M.view memory.new)
-        id customer.0.0 (Command.DropCustomer id) Reply.Done) }
+        id customer (Command.DropCustomer id) Reply.Done) }
 {
     give_bookings_back(memory, id, customer, start)?;
     remove_customer(memory, id, start)?;
@@ -140,13 +140,13 @@ fn give_bookings_back<M: TxMem>(
     start: FreeList,
 ) -> Result<(), M::Stop>
     requires state { HoldsState (M.view memory.old) }
-    requires customer { CustomerIsAt (M.view memory.old) id customer.0.0 }
+    requires customer { CustomerIsAt (M.view memory.old) id customer }
     requires range { IsTrue (is_command (Command.DropCustomer id)) }
     ensures origin { M.origin memory.new ≡ M.origin memory.old }
     ensures answer { IfOk result (λ _. GivenBack (M.view memory.old) (M.view memory.new)
-        id customer.0.0 0) }
+        id customer 0) }
 {
-    let head = Addr(customer.0.0 + place::BOOKINGS);
+    let head = customer.word(place::BOOKINGS);
     for _ in 0..MOST_BLOCKS {
         let Some(booking) = tx_list::first(memory, head)? else {
             return Ok(());
@@ -166,20 +166,20 @@ fn cancel_first<M: TxMem>(
     start: FreeList,
 ) -> Result<(), M::Stop>
     requires state { HoldsState (M.view memory.old) }
-    requires customer { CustomerIsAt (M.view memory.old) id customer.0.0 }
-    requires first { StartsAt (M.view memory.old) id customer.0.0 booking.0.0 }
+    requires customer { CustomerIsAt (M.view memory.old) id customer }
+    requires first { StartsAt (M.view memory.old) id customer booking }
     requires range { IsTrue (is_command (Command.DropCustomer id)) }
     ensures origin { M.origin memory.new ≡ M.origin memory.old }
     ensures answer { IfOk result (λ _. OneGivenBack (M.view memory.old) (M.view memory.new)
-        id customer.0.0 booking.0.0) }
+        id customer booking) }
 {
     let (kind, item_id) = place_at(memory, booking)?;
     match find_item(memory, kind, item_id)? {
         None => unreachable!(),
         Some(item) => {
             let spot = Spot {
-                link: Addr(customer.0.0 + place::BOOKINGS),
-                word: booking.0.0 as u64,
+                link: customer.word(place::BOOKINGS),
+                word: booking.addr().0 as u64,
                 entry: Some(booking),
             };
             cancel_at(memory, id, customer, kind, item_id, item, spot, start)?;
@@ -190,14 +190,14 @@ fn cancel_first<M: TxMem>(
 
 /// The item that is booked.
 fn place_at<M: TxRead>(memory: &mut M, booking: Block) -> Result<(Kind, u32), M::Stop>
-    requires booking { HasBooking (M.view memory.old) booking.0.0 }
-    requires room { booking.0.0 + 8 ≤ (M.view memory.old).size }
+    requires booking { HasBooking (M.view memory.old) booking }
+    requires room { booking + 8 ≤ (M.view memory.old).size }
     ensures origin { M.origin memory.new ≡ M.origin memory.old }
     ensures answer { IfOk result (λ item.
-        PlaceRead (M.view memory.old) (M.view memory.new) booking.0.0 item) }
+        PlaceRead (M.view memory.old) (M.view memory.new) booking item) }
 {
-    let number = load(memory, Addr(booking.0.0 + tx_list::place::KIND))?;
-    let id = load(memory, Addr(booking.0.0 + tx_list::place::ID))?;
+    let number = load(memory, booking.word(tx_list::place::KIND))?;
+    let id = load(memory, booking.word(tx_list::place::ID))?;
     Ok((kind_from(number), id as u32))
 }
 

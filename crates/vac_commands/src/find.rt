@@ -31,7 +31,7 @@ pub fn find_item<M: TxRead>(memory: &mut M, kind: Kind, id: u32) -> Result<Optio
     ensures reads { IfOk result (λ _. OnlyRead (M.view memory.old) (M.view memory.new)) }
     ensures answer { IfOk result (λ found. MatchOption found
         (LacksItem (M.view memory.new) kind id)
-        (λ b. HasItemAt (M.view memory.new) kind id b.0.0)) }
+        (λ b. HasItemAt (M.view memory.new) kind id b)) }
     ensures stopped { IfErr result (λ stop. M.stopped_for memory.new stop) }
 {
     let found = tx_tree::find(memory, root_of(kind), id as u64)?;
@@ -45,7 +45,7 @@ pub fn find_customer<M: TxRead>(memory: &mut M, id: u32) -> Result<Option<Block>
     ensures reads { IfOk result (λ _. OnlyRead (M.view memory.old) (M.view memory.new)) }
     ensures answer { IfOk result (λ found. MatchOption found
         (LacksCustomer (M.view memory.new) id)
-        (λ c. HasCustomerAt (M.view memory.new) id c.0.0)) }
+        (λ c. HasCustomerAt (M.view memory.new) id c)) }
     ensures stopped { IfErr result (λ stop. M.stopped_for memory.new stop) }
 {
     let found = tx_tree::find(memory, CUSTOMERS, id as u64)?;

@@ -10,7 +10,7 @@ ghost use Rattle.vac_commands.specs.ItemSteps.{PriceGiven};
 ghost use Rattle.vac_commands.specs.Ran.{Ran, Asked, ItemGone};
 
 use crate::find::{find_item, root_of};
-use stm_words::{Addr, TxMem, TxRead};
+use stm_words::{TxMem, TxRead};
 use tx_alloc::{Block, FreeList, give, take};
 use vac_model::limits::MOST_TOTAL;
 use vac_model::{Command, Kind, Reply, Why};
@@ -29,7 +29,7 @@ pub fn free<M: TxRead>(memory: &mut M, kind: Kind, id: u32) -> Result<Option<u64
     match find_item(memory, kind, id)? {
         None => Ok(None),
         Some(item) => {
-            let free = free_at(memory, item.0)?;
+            let free = free_at(memory, item)?;
             Ok(Some(free))
         }
     }
@@ -46,7 +46,7 @@ pub fn price<M: TxRead>(memory: &mut M, kind: Kind, id: u32) -> Result<Option<u6
     match find_item(memory, kind, id)? {
         None => Ok(None),
         Some(item) => {
-            let price = price_at(memory, item.0)?;
+            let price = price_at(memory, item)?;
             Ok(Some(price))
         }
     }
@@ -78,19 +78,19 @@ fn add_new<M: TxMem>(
     let Some(block) = taken else {
         return Ok(Reply::No(Why::Full));
     };
-    init_item(memory, block.0, id, num, price)?;
+    init_item(memory, block, id, num, price)?;
     tx_tree::insert(memory, root_of(kind), id as u64, block)?;
     Ok(Reply::Done)
 }
 
 /// Adds units to an item. Where there are none to add, nothing is written.
 #[inline]
-fn add_units<M: TxMem>(memory: &mut M, node: Addr, num: u32) -> Result<(), M::Stop>
-    requires node { IsNode (M.view memory.old) node.0 }
-    requires room { HasRoom (M.view memory.old) node.0 num }
+fn add_units<M: TxMem>(memory: &mut M, node: Block, num: u32) -> Result<(), M::Stop>
+    requires node { IsNode (M.view memory.old) node }
+    requires room { HasRoom (M.view memory.old) node num }
     ensures origin { M.origin memory.new ≡ M.origin memory.old }
     ensures answer { IfOk result (λ _.
-        UnitsAdded (M.view memory.old) (M.view memory.new) node.0 num) }
+        UnitsAdded (M.view memory.old) (M.view memory.new) node num) }
     ensures idle { num ≡ 0 → IfOk result (λ _.
         (M.view memory.new).writes ≡ (M.view memory.old).writes) }
 {
@@ -102,11 +102,11 @@ fn add_units<M: TxMem>(memory: &mut M, node: Addr, num: u32) -> Result<(), M::St
 
 /// Replaces the price of an item, where one is given.
 #[inline]
-fn replace_price<M: TxMem>(memory: &mut M, node: Addr, price: Option<u32>) -> Result<(), M::Stop>
-    requires { IsNode (M.view memory.old) node.0 }
+fn replace_price<M: TxMem>(memory: &mut M, node: Block, price: Option<u32>) -> Result<(), M::Stop>
+    requires { IsNode (M.view memory.old) node }
     ensures origin { M.origin memory.new ≡ M.origin memory.old }
     ensures answer { IfOk result (λ _.
-        PriceGiven (M.view memory.old) (M.view memory.new) node.0 price) }
+        PriceGiven (M.view memory.old) (M.view memory.new) node price) }
     ensures idle { price ≡ None → IfOk result (λ _.
         (M.view memory.new).writes ≡ (M.view memory.old).writes) }
 {
@@ -127,18 +127,18 @@ fn add_more<M: TxMem>(
     item: Block,
 ) -> Result<Reply, M::Stop>
     requires state { HoldsState (M.view memory.old) }
-    requires item { HasItemAt (M.view memory.old) kind id item.0.0 }
+    requires item { HasItemAt (M.view memory.old) kind id item }
     requires range { IsTrue (is_command (Command.Add kind id num price)) }
     ensures origin { M.origin memory.new ≡ M.origin memory.old }
     ensures answer { IfOk result (λ reply. Ran (M.view memory.old) (M.view memory.new)
         (Command.Add kind id num price) reply) }
 {
-    let total = total_at(memory, item.0)?;
+    let total = total_at(memory, item)?;
     if total + num as u64 > MOST_TOTAL {
         return Ok(Reply::No(Why::TotalLimit));
     }
-    add_units(memory, item.0, num)?;
-    replace_price(memory, item.0, price)?;
+    add_units(memory, item, num)?;
+    replace_price(memory, item, price)?;
     Ok(Reply::Done)
 }
 
@@ -187,11 +187,11 @@ fn remove_item<M: TxMem>(
 
 /// Takes free units away from an item. Where there are none to take, nothing is written.
 #[inline]
-fn take_units<M: TxMem>(memory: &mut M, node: Addr, num: u32) -> Result<(), M::Stop>
-    requires node { IsNode (M.view memory.old) node.0 }
-    requires free { HasFree (M.view memory.old) node.0 num }
+fn take_units<M: TxMem>(memory: &mut M, node: Block, num: u32) -> Result<(), M::Stop>
+    requires node { IsNode (M.view memory.old) node }
+    requires free { HasFree (M.view memory.old) node num }
     ensures origin { M.origin memory.new ≡ M.origin memory.old }
-    ensures answer { IfOk result (λ _. ItemChanged (M.view memory.old) (M.view memory.new) node.0
+    ensures answer { IfOk result (λ _. ItemChanged (M.view memory.old) (M.view memory.new) node
         (λ item. deleted item num)) }
     ensures idle { num ≡ 0 → IfOk result (λ _.
         (M.view memory.new).writes ≡ (M.view memory.old).writes) }
@@ -221,13 +221,13 @@ pub fn delete<M: TxMem>(
     let Some(item) = found else {
         return Ok(Reply::No(Why::NoItem));
     };
-    let free = free_at(memory, item.0)?;
+    let free = free_at(memory, item)?;
     if free < num as u64 {
         return Ok(Reply::No(Why::NotFree));
     }
-    let total = total_at(memory, item.0)?;
+    let total = total_at(memory, item)?;
     if total > num as u64 {
-        take_units(memory, item.0, num)?;
+        take_units(memory, item, num)?;
         return Ok(Reply::Done);
     }
     remove_item(memory, kind, id, start)?;
@@ -245,7 +245,7 @@ pub fn drop_flight<M: TxMem>(memory: &mut M, id: u32, start: FreeList) -> Result
     let Some(flight) = found else {
         return Ok(Reply::No(Why::NoItem));
     };
-    let used = used_at(memory, flight.0)?;
+    let used = used_at(memory, flight)?;
     if used > 0 {
         return Ok(Reply::No(Why::InUse));
     }

@@ -1,25 +1,21 @@
 -- The effects of commands on bookings.
-use Rattle.std.proofs.Common.{◌≡◌, ◌≢◌, ◌⊎◌, inl, inr, ℕ, ◌+◌, ◌*◌, ◌^◌, ◌<◌, ◌≤◌, List, [], ◌∷◌, Option, Some, None, not, nat_eq, false, refl, sym, ap, ◌∙◌, subst, arith, zero-add, zero, suc}
+use Rattle.std.proofs.Common.{◌≡◌, ◌≢◌, inl, inr, ℕ, ◌+◌, ◌*◌, ◌^◌, ◌<◌, ◌≤◌, List, ◌∷◌, Some, None, not, nat_eq, false, refl, sym, ap, ◌∙◌, subst, arith, zero-add, zero, suc}
 use Rattle.std.proofs.lemmas.Bool.{cases_lt}
 use Rattle.std.proofs.lemmas.Bool.Decides.{nat_tests}
-use Rattle.std.specs.declared.cmp.Ordering.{Ordering}
 use Rattle.std.specs.declared.cmp.Ordering.TheVariants.{Less, Equal, Greater}
 use Rattle.std.specs.Ordering.{nat_cmp, eq_by_cmp, ordering_then}
 use Rattle.std.specs.Cmp.{nat_cmp_total, nat_cmp_is}
 use Rattle.std.specs.FinMap.{entries, insert, remove, find, put, get, get-entries, entries-insert}
 use Rattle.std.specs.FinMap.Entries.{where_key}
 use Rattle.stm_words.specs.Seen.{same_or}
-use Rattle.vac_model.specs.declared.items.Kind.{Kind}
-use Rattle.vac_model.specs.declared.items.Booking.{Booking}
 use Rattle.vac_model.specs.State.{State, Bookings, Place, place_cmp, kind_number}
 use Rattle.vac_model.proofs.Places.{place_cmp_total, place_cmp-IsAntisymmetric}
-use Rattle.tx_alloc.specs.Pool.{IsBlock, held, with_at}
+use Rattle.tx_alloc.specs.Pool.{IsBlock, with_at}
 use Rattle.tx_alloc.specs.Rows.{Rows, times, put_row, cut_row, block_at, Relinks}
 use Rattle.tx_alloc.proofs.Times.{times_put, times_cut}
 use Rattle.tx_alloc.proofs.Sums.{with_here, with_else}
 use Rattle.tx_list.specs.Bookings.{IsList}
 use Rattle.vac_records.specs.Bookings.{kind_of, place_in, booking_in, place_key}
-use Rattle.vac_records.specs.Heap.{Parts, IsHeap}
 use Rattle.vac_records.specs.Represents.{items_in, bookings_in, customers_in, opened, Represents}
 use Rattle.vac_records.specs.Laws.{Stays, BookingFound, BookingMissing, BookingInserted, BookingReplaced, BookingRemoved, IsCustomerAt}
 use Rattle.vac_records.proofs.Keyed.{HasRow, Matches, entries_remove, find_absent, find_present, put_absent, put_present, cut_present, row_at, row_times, two_rows}
@@ -30,10 +26,9 @@ use Rattle.vac_records.proofs.Overs.{over_has, over_two}
 use Rattle.vac_records.proofs.Hang.{booked}
 use Rattle.vac_records.proofs.Unhang.{unbooked}
 use Rattle.vac_records.proofs.Hang as booking
-use Rattle.vac_records.proofs.Unhang as unbooking
 use Rattle.vac_records.proofs.Payload.{booked_law}
 use Rattle.vac_records.proofs.Frames.{Entry, items_frame, bookings_frame, booking_same, opened_put}
-use Rattle.vac_records.proofs.Shifts.{in_table, in_list, table_not_out, list_not_out, tables_apart, list_not_table, table_once, out_first, shifts_customers}
+use Rattle.vac_records.proofs.Shifts.{in_table, in_list, table_not_out, tables_apart, list_not_table, table_once, out_first, shifts_customers}
 use Rattle.vac_records.proofs.Customers.{shelf, shelf_matches, entries_at}
 
 pub kind_back : (x : ℕ) → x < 3 → kind_number (kind_of x) ≡ x

@@ -1,20 +1,14 @@
 -- What the calls on blocks, tables and lists ask for, where a memory represents a state.
-use Rattle.std.proofs.Common.{◌≡◌, ◌≢◌, ◌⊎◌, inl, inr, ℕ, ◌+◌, ◌*◌, ◌<◌, ◌≤◌, List, [], ◌∷◌, length, map, sum_by, refl, sym, ap, ◌∙◌, subst, arith}
+use Rattle.std.proofs.Common.{◌≡◌, ◌≢◌, inl, inr, ℕ, List, [], ◌∷◌, length, map, sum_by, refl, sym, ap, ◌∙◌, arith}
 use Rattle.std.proofs.lemmas.Bool.{cases_lt}
 use Rattle.std.proofs.lemmas.List.Sums.{sum_by-cons}
-use Rattle.std.specs.FinMap.{entries, values}
 use Rattle.vac_model.specs.declared.items.Booking.{Booking}
-use Rattle.vac_model.specs.State.{State, Bookings, Place, bill_of}
-use Rattle.tx_alloc.specs.Pool.{IsBlock, sum_below}
-use Rattle.tx_alloc.specs.Rows.{Rows, times}
+use Rattle.tx_alloc.specs.Rows.{Rows}
 use Rattle.tx_alloc.proofs.Sums.{sum_has}
-use Rattle.tx_tree.specs.Table.{Table}
-use Rattle.tx_list.specs.Lists.{IsListAt, IsOutside}
-use Rattle.vac_records.specs.Bookings.{place_in, booking_in}
-use Rattle.vac_records.specs.Customers.{head_of, sum_in}
-use Rattle.vac_records.specs.Heap.{Parts, used_in, count_in, over, IsHeap}
-use Rattle.vac_records.specs.Represents.{bookings_in, Represents}
-use Rattle.vac_records.specs.Laws.{IsCustomerAt, PoolThere, HandThere, TableThere, ListThere, BillThere}
+use Rattle.vac_records.specs.Bookings.{booking_in}
+use Rattle.vac_records.specs.Customers.{sum_in}
+use Rattle.vac_records.specs.Represents.{bookings_in}
+use Rattle.vac_records.specs.Laws.{PoolThere, HandThere, TableThere, ListThere, BillThere}
 use Rattle.vac_records.proofs.Customers.{entries_at}
 use Rattle.vac_records.proofs.Frames.{Entry}
 use Rattle.vac_records.proofs.Hands.{out_used}

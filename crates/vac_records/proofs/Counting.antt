@@ -1,13 +1,13 @@
 -- Words that are raised and lowered, and the numbers of an item.
-use Rattle.std.proofs.Common.{◌≡◌, ◌≢◌, ◌⊎◌, inl, inr, ℕ, ◌+◌, ◌-◌, ◌<◌, ◌≤◌, ◌^◌, List, refl, sym, ap, ◌∙◌, subst, arith}
+use Rattle.std.proofs.Common.{◌≡◌, ◌≢◌, inl, inr, ℕ, ◌+◌, ◌-◌, ◌<◌, ◌≤◌, ◌^◌, List, sym, ap, ◌∙◌, subst, arith}
 use Rattle.std.proofs.lemmas.Bool.{cases_lt}
 use Rattle.std.proofs.lemmas.Grind.{not_there}
 use Rattle.stm_words.specs.Seen.{some_le}
-use Rattle.stm_words.specs.View.{View, Sees, Stands, Kept, Loaded, Stored, IsWrite}
+use Rattle.stm_words.specs.View.{View, Sees, Stands, Loaded, Stored, IsWrite}
 use Rattle.vac_model.specs.declared.items.Item.{Item}
 use Rattle.vac_model.specs.Step.{deleted, taken, given_back, added}
-use Rattle.std.specs.Prelude.{Option, None}
-use Rattle.vac_records.specs.Items.{mem, item_in, RoomAt, EnoughAt, Shifted, HasRoom, HasMore, UnitsAdded, HasFree, CanMake, CanCancel, IsItemNow, ItemChanged, ItemChangedOf}
+use Rattle.std.specs.Prelude.{None}
+use Rattle.vac_records.specs.Items.{mem, item_in, RoomAt, EnoughAt, Shifted, HasMore, UnitsAdded, IsItemNow, ItemChanged, ItemChangedOf}
 use Rattle.vac_records.specs.Steps.{kept_both, stood, write_at_start}
 
 -- a sum that fits under some image fits

@@ -1,25 +1,24 @@
 -- The effects of commands on customers.
-use Rattle.std.proofs.Common.{◌≡◌, ◌≢◌, ◌⊎◌, inl, inr, ℕ, ◌+◌, ◌<◌, ◌≤◌, List, [], ◌∷◌, map, Option, Some, None, not, nat_eq, false, zero-add, refl, sym, ap, ◌∙◌, subst, arith}
+use Rattle.std.proofs.Common.{◌≡◌, ◌≢◌, ◌⊎◌, inl, inr, ℕ, ◌+◌, ◌<◌, List, [], ◌∷◌, map, Option, Some, None, not, nat_eq, false, zero-add, refl, sym, ap, ◌∙◌, subst, arith}
 use Rattle.std.specs.Option.{option_map}
 use Rattle.std.specs.Ordering.{nat_cmp, eq_by_cmp}
 use Rattle.std.specs.Cmp.{nat_cmp_total}
-use Rattle.std.specs.FinMap.{entries, empty, insert, remove, find, put, get, get-entries, entries-insert, nat_cmp-IsAntisymmetric}
+use Rattle.std.specs.FinMap.{entries, empty, insert, remove, find, put, get-entries, entries-insert, nat_cmp-IsAntisymmetric}
 use Rattle.std.specs.FinMap.Entries.{where_key}
 use Rattle.std.proofs.lemmas.Bool.Decides.{nat_tests}
 use Rattle.stm_words.specs.Seen.{same_or}
-use Rattle.vac_model.specs.declared.items.Booking.{Booking}
-use Rattle.vac_model.specs.State.{State, Bookings, Customers, Place, place_cmp, bookings_of}
+use Rattle.vac_model.specs.State.{State, Bookings, place_cmp, bookings_of}
 use Rattle.vac_model.proofs.Views.{entries-empty}
-use Rattle.tx_alloc.specs.Pool.{IsBlock, held, with_at}
-use Rattle.tx_alloc.specs.Rows.{Rows, times, put_row, cut_row, block_at}
+use Rattle.tx_alloc.specs.Pool.{with_at}
+use Rattle.tx_alloc.specs.Rows.{Rows, times, put_row, cut_row}
 use Rattle.tx_alloc.proofs.Times.{times_put, times_cut}
 use Rattle.tx_alloc.proofs.Sums.{with_here, with_else}
 use Rattle.tx_alloc.proofs.Outside.{outside_links}
 use Rattle.vac_records.specs.Bookings.{place_in, booking_in}
 use Rattle.vac_records.specs.Heap.{Parts, IsHeap}
 use Rattle.vac_records.specs.Represents.{items_in, bookings_in, customers_in, opened, Represents}
-use Rattle.vac_records.specs.Laws.{CustomerFound, CustomerMissing, CustomerInserted, CustomerRemoved, HasBookings, IsCustomerAt}
-use Rattle.vac_records.proofs.Keyed.{HasRow, Matches, entries_remove, find_absent, find_present, put_absent, cut_present, row_at, row_times}
+use Rattle.vac_records.specs.Laws.{CustomerFound, CustomerMissing, CustomerInserted, CustomerRemoved, IsCustomerAt}
+use Rattle.vac_records.proofs.Keyed.{Matches, entries_remove, find_absent, find_present, put_absent, cut_present}
 use Rattle.tx_tree.proofs.TableFrame.{table_rises}
 use Rattle.vac_records.proofs.TableRows.{table_some}
 use Rattle.vac_records.proofs.Insert.{inserted}

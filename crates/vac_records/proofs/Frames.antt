@@ -1,8 +1,7 @@
 -- Entries that are read off words that are as before, and the customers of a state with their
 -- bookings opened.
-use Rattle.std.proofs.Common.{◌≡◌, ◌≢◌, ◌⊎◌, inl, inr, ℕ, ◌+◌, ◌<◌, ◌≤◌, Bool, cond, List, [], ◌∷◌, map, length, sum_by, Option, Some, None, true, false, refl, sym, ap, ◌∙◌, subst, arith, add-zero, IsTrue}
+use Rattle.std.proofs.Common.{◌≡◌, ◌≢◌, ℕ, ◌+◌, ◌<◌, ◌≤◌, Bool, cond, List, [], ◌∷◌, map, length, sum_by, Some, true, false, refl, ap, arith, add-zero}
 use Rattle.std.specs.Option.{option_map}
-use Rattle.std.specs.declared.cmp.Ordering.{Ordering}
 use Rattle.std.specs.declared.cmp.Ordering.TheVariants.{Less, Equal, Greater}
 use Rattle.std.specs.Ordering.{nat_cmp, eq_by_cmp}
 use Rattle.std.specs.FinMap.{entries, same_entries_map, find, put, len, len-entries}
@@ -16,7 +15,7 @@ use Rattle.vac_records.specs.Items.{item_in}
 use Rattle.vac_records.specs.Bookings.{kind_of, place_in, booking_in}
 use Rattle.vac_records.specs.Heap.{over}
 use Rattle.vac_records.specs.Represents.{items_in, bookings_in, customers_in, opened}
-use Rattle.vac_records.proofs.Keyed.{HasRow, map_same, row_times}
+use Rattle.vac_records.proofs.Keyed.{map_same, row_times}
 
 abbrev pub Entry : Type 0
 Entry = Place × Booking

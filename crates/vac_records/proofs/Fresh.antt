@@ -1,17 +1,15 @@
 -- The words of an empty heap represent the state with no entries.
-use Rattle.std.proofs.Common.{◌≡◌, ◌≢◌, ℕ, ◌+◌, ◌*◌, ◌<◌, ◌≤◌, List, [], ◌∷◌, map, length, slice_index, refl, sym, ap, ◌∙◌, arith}
+use Rattle.std.proofs.Common.{◌≡◌, ℕ, ◌+◌, ◌<◌, List, [], length, slice_index, refl, ap, arith}
 use Rattle.std.specs.FinMap.{entries}
 use Rattle.std.specs.Ordering.{nat_cmp}
 use Rattle.vac_model.specs.declared.items.Kind.{Kind}
 use Rattle.vac_model.specs.declared.items.Kind.TheVariants.{Car, Flight, Room}
-use Rattle.vac_model.specs.State.{State, Bookings, table_of, empty_state}
+use Rattle.vac_model.specs.State.{table_of, empty_state}
 use Rattle.vac_model.proofs.Views.{entries-empty}
-use Rattle.tx_alloc.specs.Pool.{IsPool, IsEmptyHeap, fresh_lists}
-use Rattle.tx_alloc.specs.Rows.{Rows}
-use Rattle.tx_tree.specs.Table.{IsTable}
+use Rattle.tx_alloc.specs.Pool.{IsEmptyHeap, fresh_lists}
 use Rattle.tx_tree.proofs.TableFrame.{table_empty}
-use Rattle.vac_records.specs.Heap.{Parts, used_in, count_in, IsHeap}
-use Rattle.vac_records.specs.Represents.{items_in, opened, Represents}
+use Rattle.vac_records.specs.Heap.{Parts, used_in, count_in}
+use Rattle.vac_records.specs.Represents.{opened}
 use Rattle.vac_records.specs.Laws.{FreshState}
 use Rattle.vac_records.proofs.Insert.{pool_as}
 

@@ -1,11 +1,8 @@
 -- Blocks are taken, given back and written while they are in hand: the state stays.
-use Rattle.std.proofs.Common.{◌≡◌, ◌≢◌, ◌⊎◌, inl, inr, ℕ, ◌+◌, ◌<◌, ◌≤◌, List, [], ◌∷◌, length, refl, sym, ap, ◌∙◌, subst, arith}
+use Rattle.std.proofs.Common.{◌≡◌, ◌≢◌, inl, inr, ℕ, ◌+◌, List, ◌∷◌, length, refl, ap, arith}
 use Rattle.std.proofs.lemmas.Bool.{cases_lt}
-use Rattle.vac_model.specs.State.{State}
-use Rattle.tx_alloc.specs.Pool.{IsBlock, held, with_at, with_block, IsPool, IsTaking, IsGiving, IsUsed}
-use Rattle.tx_alloc.specs.Rows.{times}
+use Rattle.tx_alloc.specs.Pool.{IsBlock, held, with_at, with_block, IsUsed}
 use Rattle.vac_records.specs.Heap.{Parts, used_in, count_in, IsHeap}
-use Rattle.vac_records.specs.Represents.{Represents}
 use Rattle.vac_records.specs.Laws.{BlockTaken, BlockGiven, BlockWritten}
 use Rattle.vac_records.proofs.Insert.{pool_as}
 use Rattle.vac_records.proofs.Take.{take_law, write_law, give_law}

@@ -1,18 +1,13 @@
 -- A booking is hung into a customer's list, and taken out of it.
-use Rattle.std.proofs.Common.{◌≡◌, ◌≢◌, ◌⊎◌, inl, inr, ℕ, ◌+◌, ◌*◌, ◌<◌, ◌≤◌, ◌^◌, List, length, Option, Some, None, refl, sym, ap, ◌∙◌, subst, arith, add-zero}
+use Rattle.std.proofs.Common.{◌≡◌, ◌≢◌, inl, inr, ℕ, ◌+◌, ◌<◌, ◌≤◌, ◌^◌, length, Option, Some, None, refl, sym, ap, ◌∙◌, subst, arith, add-zero}
 use Rattle.std.proofs.lemmas.Bool.{cases_lt}
-use Rattle.stm_words.specs.Seen.{same_or}
-use Rattle.stm_words.specs.View.{View, Kept, Loaded}
+use Rattle.stm_words.specs.View.{View, Loaded}
 use Rattle.vac_model.specs.declared.items.Kind.{Kind}
 use Rattle.vac_model.specs.State.{Place, kind_number}
-use Rattle.tx_alloc.specs.declared.pool.Block.{Block}
-use Rattle.tx_alloc.specs.Pointer.{pointer, IsWithin}
-use Rattle.tx_alloc.specs.Pool.{IsBlock}
-use Rattle.tx_alloc.specs.Rows.{Rows, times, put_row, cut_row, block_at, Relinks}
+use Rattle.tx_alloc.specs.Rows.{Rows, times, block_at, Relinks}
 use Rattle.tx_list.specs.declared.key.Key.{Key}
-use Rattle.tx_list.specs.Bookings.{IsList, code_of}
 use Rattle.tx_list.specs.declared.search.Spot.{Spot}
-use Rattle.tx_list.specs.Lists.{IsListAt, IsOutside, Fresh}
+use Rattle.tx_list.specs.Lists.{IsListAt, Fresh}
 use Rattle.tx_list.specs.Search.{Sought, SpotAt, Hung, Unhung}
 use Rattle.tx_list.proofs.Frame.{list_frame, list_block}
 use Rattle.tx_list.proofs.Spots.{Unmoved, sought_spot, spot_stays}
@@ -94,27 +89,27 @@ units_same m m' n customer key b rows at r e some =
     let ba = list_block m n (m (head_of customer)) a rows at.list oa in
     elim (cases_lt b a) [ inl below ↦ inl (omega (arith, ba.1.1, bb.1.1)) | inr above ↦ inr (omega (arith, ba.1.1, bb.1.1)) ])
 
-pub unbooked_some : (s s1 s2 : View) (spot : Spot) (found : Option Block) (block : Block) (units : ℕ) → found ≡ Some block → Unhung s s1 spot found → Loaded s1 s2 (block.0.0 + 4) units → UnbookedAt s s2 spot (Some (block, units))
+pub unbooked_some : (s s1 s2 : View) (spot : Spot) (found : Option ℕ) (block : ℕ) (units : ℕ) → found ≡ Some block → Unhung s s1 spot found → Loaded s1 s2 (block + 4) units → UnbookedAt s s2 spot (Some (block, units))
 unbooked_some s s1 s2 spot found block units is v l =
-    let u = subst (λ (z : Option Block). Unhung s s1 spot z) is v in
+    let u = subst (λ (z : Option ℕ). Unhung s s1 spot z) is v in
     record {
       kept = kept_both s s1 s2 u.kept l.kept;
-      none = λ e. absurd (let z : ◌≡◌ {A = Option (Block × ℕ)} (Some (block, units)) None = e in cc);
+      none = λ e. absurd (let z : ◌≡◌ {A = Option (ℕ × ℕ)} (Some (block, units)) None = e in cc);
       within = (let w = u.within in (w.0, omega (arith, w.1, l.kept.size)));
       unbooking = λ image i customer place rows listed p.
           let r = u.removal image (l.kept.seen image i) (head_of customer) (place_key place) rows listed p in
-          let some : block.0.0 ≢ 0 = (let w = u.within in λ z. absurd (omega (arith, z, w.0))) in
+          let some : block ≢ 0 = (let w = u.within in λ z. absurd (omega (arith, z, w.0))) in
           record {
             is = r.is;
-            units = sym (units_same (mem s image) (mem s1 image) (length image) customer (place_key place) block.0.0 rows listed r.relinks r.is some) ∙ l.answer image i;
+            units = sym (units_same (mem s image) (mem s1 image) (length image) customer (place_key place) block rows listed r.relinks r.is some) ∙ l.answer image i;
             list = rw l.writes r.list;
             relinks = rw l.writes r.relinks;
           };
     }
 
-pub unbooked_none : (s s1 : View) (spot : Spot) (found : Option Block) → found ≡ None → Unhung s s1 spot found → UnbookedAt s s1 spot None
+pub unbooked_none : (s s1 : View) (spot : Spot) (found : Option ℕ) → found ≡ None → Unhung s s1 spot found → UnbookedAt s s1 spot None
 unbooked_none s s1 spot found is v =
-    let u = subst (λ (z : Option Block). Unhung s s1 spot z) is v in
+    let u = subst (λ (z : Option ℕ). Unhung s s1 spot z) is v in
     record {
       kept = u.kept;
       none = λ _. u.none refl;
@@ -125,7 +120,7 @@ unbooked_none s s1 spot found is v =
     }
 
 -- a booking that was taken out at the spot that a search came to
-pub unbooked_sought : (s s1 s2 : View) (customer : ℕ) (place : Place) (spot : Spot) (taken : Option (Block × ℕ)) → Sought s s1 (head_of customer) (place_key place) spot →
+pub unbooked_sought : (s s1 s2 : View) (customer : ℕ) (place : Place) (spot : Spot) (taken : Option (ℕ × ℕ)) → Sought s s1 (head_of customer) (place_key place) spot →
     UnbookedAt s1 s2 spot taken → Unbooked s s2 customer place taken
 unbooked_sought s s1 s2 customer place spot taken k v = record {
   kept = kept_both s s1 s2 k.kept v.kept;
@@ -139,5 +134,5 @@ unbooked_sought s s1 s2 customer place spot taken k v = record {
 }
 
 -- the block that was taken out is a block of the memory
-pub taken_node : (s s1 : View) (spot : Spot) (block : Block) → s.size ≤ 2 ^ 32 → Unhung s s1 spot (Some block) → IsNode s1 block.0.0
+pub taken_node : (s s1 : View) (spot : Spot) (block : ℕ) → s.size ≤ 2 ^ 32 → Unhung s s1 spot (Some block) → IsNode s1 block
 taken_node s s1 spot block small v = let w = v.within in record { inside = w.1; small = omega (arith, small, v.kept.size) }

@@ -1,24 +1,23 @@
 -- The effects of commands on items.
-use Rattle.std.proofs.Common.{◌≡◌, ◌≢◌, ◌⊎◌, inl, inr, ℕ, ◌+◌, ◌<◌, ◌≤◌, List, [], ◌∷◌, Option, Some, None, not, refl, sym, ap, ◌∙◌, subst, arith}
+use Rattle.std.proofs.Common.{◌≡◌, ◌≢◌, ◌⊎◌, inl, inr, ℕ, ◌+◌, ◌<◌, ◌≤◌, List, [], ◌∷◌, not, refl, sym, ap, ◌∙◌, subst, arith}
 use Rattle.std.proofs.lemmas.Bool.{cases_lt}
 use Rattle.std.specs.Ordering.{nat_cmp, eq_by_cmp}
 use Rattle.std.specs.FinMap.Entries.{where_key}
 use Rattle.std.specs.Cmp.{nat_cmp_total}
 use Rattle.std.specs.FinMap.{entries, insert, remove, find, put, get-entries, entries-insert, nat_cmp-IsAntisymmetric}
 use Rattle.stm_words.specs.Seen.{same_or}
-use Rattle.vac_model.specs.declared.items.Kind.{Kind}
 use Rattle.vac_model.specs.declared.items.Item.{Item}
-use Rattle.vac_model.specs.State.{State, Table, kind_number, table_of, item_of, with_item, without_item}
-use Rattle.tx_alloc.specs.Pool.{IsBlock, held, with_at}
-use Rattle.tx_alloc.specs.Rows.{Rows, times, put_row, cut_row, block_at}
+use Rattle.vac_model.specs.State.{Table, kind_number, table_of}
+use Rattle.tx_alloc.specs.Pool.{IsBlock, with_at}
+use Rattle.tx_alloc.specs.Rows.{Rows, times, put_row, cut_row}
 use Rattle.tx_alloc.proofs.Times.{times_cut}
 use Rattle.tx_alloc.proofs.Sums.{with_here, with_else}
-use Rattle.tx_alloc.proofs.Outside.{outside_block, outside_links}
+use Rattle.tx_alloc.proofs.Outside.{outside_links}
 use Rattle.vac_records.specs.Items.{item_in}
 use Rattle.vac_records.specs.Heap.{Parts, IsHeap}
-use Rattle.vac_records.specs.Represents.{items_in, bookings_in, customers_in, Represents}
+use Rattle.vac_records.specs.Represents.{items_in, bookings_in, customers_in}
 use Rattle.vac_records.specs.Laws.{ItemFound, ItemMissing, ItemInserted, ItemReplaced, ItemRemoved}
-use Rattle.vac_records.proofs.Keyed.{HasRow, Matches, entries_remove, find_absent, find_present, put_absent, put_present, cut_present, row_at, row_times, two_rows, map_same}
+use Rattle.vac_records.proofs.Keyed.{HasRow, Matches, entries_remove, find_absent, find_present, put_absent, put_present, cut_present, row_at, row_times, two_rows}
 use Rattle.tx_tree.proofs.TableFrame.{table_rises}
 use Rattle.vac_records.proofs.TableRows.{table_some}
 use Rattle.vac_records.proofs.Insert.{inserted}

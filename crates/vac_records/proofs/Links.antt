@@ -1,8 +1,8 @@
 -- What a list of bookings says of its rows.
-use Rattle.std.proofs.Common.{◌≡◌, ◌≢◌, ◌⊎◌, inl, inr, ℕ, ◌+◌, ◌*◌, ◌^◌, ◌<◌, ◌≤◌, List, [], ◌∷◌, refl, sym, ap, ◌∙◌, subst, arith, add-zero}
+use Rattle.std.proofs.Common.{◌≡◌, ◌≢◌, inl, inr, ℕ, ◌+◌, ◌*◌, ◌^◌, ◌<◌, [], ◌∷◌, refl, subst, arith, add-zero}
 use Rattle.tx_alloc.specs.Pool.{IsBlock}
 use Rattle.tx_alloc.specs.Rows.{Rows, times}
-use Rattle.tx_list.specs.Bookings.{Linked, IsList, IsBooked, place_code}
+use Rattle.tx_list.specs.Bookings.{Linked, IsList}
 use Rattle.tx_list.proofs.Frame.{SameBooking, linked_frame}
 pub use Rattle.tx_list.proofs.Frame.{list_one}
 use Rattle.vac_records.proofs.Keyed.{HasRow}

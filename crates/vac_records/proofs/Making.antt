@@ -1,10 +1,8 @@
 -- Five stores make an item.
-use Rattle.std.proofs.Common.{◌≡◌, ◌≢◌, inl, inr, ℕ, ◌+◌, ◌<◌, ◌≤◌, ◌^◌, List, sym, ap, ◌∙◌, subst, arith}
-use Rattle.std.proofs.lemmas.Bool.{cases_lt}
-use Rattle.std.proofs.lemmas.Grind.{not_there}
-use Rattle.stm_words.specs.View.{View, Loaded, Stored, IsWrite}
-use Rattle.vac_records.specs.Items.{mem, HasRoom, IsNewItem, HasMore, ItemMade, UnitsAdded}
-use Rattle.vac_records.specs.Steps.{kept_both, write_at_start}
+use Rattle.std.proofs.Common.{◌≡◌, ◌≢◌, inl, inr, ℕ, ◌+◌, ◌<◌, ◌≤◌, sym, ap, ◌∙◌, arith}
+use Rattle.stm_words.specs.View.{View, Stored, IsWrite}
+use Rattle.vac_records.specs.Items.{mem, IsNewItem, ItemMade}
+use Rattle.vac_records.specs.Steps.{kept_both}
 
 new_item_by : (m m1 m2 m3 m4 m5 : ℕ → ℕ) (node key num price a b c d e : ℕ) → a ≡ node → b ≡ node + 4 → c ≡ node + 5 → d ≡ node + 6 → e ≡ node + 7 →
     IsWrite m m1 a key → IsWrite m1 m2 b 0 → IsWrite m2 m3 c num → IsWrite m3 m4 d num → IsWrite m4 m5 e price → IsNewItem m m5 node key num price

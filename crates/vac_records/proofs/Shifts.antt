@@ -1,23 +1,18 @@
 -- A memory that represents a state, and what has to be shown of another one.
-use Rattle.std.proofs.Common.{◌≡◌, ◌≢◌, ◌⊎◌, inl, inr, ℕ, ◌+◌, ◌<◌, ◌≤◌, List, [], ◌∷◌, length, refl, sym, ap, ◌∙◌, subst, arith, zero-add}
-use Rattle.std.proofs.lemmas.Bool.Decides.{nat_tests}
-use Rattle.std.specs.Ordering.{nat_cmp}
+use Rattle.std.proofs.Common.{◌≡◌, ◌≢◌, ◌⊎◌, inl, inr, ℕ, ◌+◌, ◌<◌, ◌≤◌, List, [], ◌∷◌, length, refl, sym, ap, ◌∙◌, arith}
 use Rattle.std.specs.FinMap.{entries}
 use Rattle.stm_words.specs.Seen.{same_or}
 use Rattle.vac_model.specs.declared.items.Kind.{Kind}
 use Rattle.vac_model.specs.declared.items.Kind.TheVariants.{Car, Flight, Room}
-use Rattle.vac_model.specs.declared.items.Item.{Item}
-use Rattle.vac_model.specs.State.{State, Table, Bookings, Customers, Place, kind_number, table_of, with_table}
+use Rattle.vac_model.specs.State.{State, Table, Customers, kind_number, table_of, with_table}
 use Rattle.tx_alloc.specs.Pool.{IsBlock, held, with_at}
-use Rattle.tx_alloc.specs.Rows.{Rows, times, block_at, IsFrom}
-use Rattle.tx_alloc.proofs.Sums.{with_here, with_else, sum_has, sum_two}
+use Rattle.tx_alloc.specs.Rows.{Rows, times}
+use Rattle.tx_alloc.proofs.Sums.{with_else, sum_has, sum_two}
 use Rattle.tx_alloc.proofs.Chains.{held_first}
 use Rattle.tx_tree.proofs.TableFrame.{table_block}
 use Rattle.tx_list.proofs.Frame.{list_block}
-use Rattle.vac_records.specs.Items.{item_in}
-use Rattle.vac_records.specs.Heap.{Parts, over, used_in, count_in, IsHeap}
-use Rattle.vac_records.specs.Represents.{items_in, bookings_in, customers_in, opened, Represents}
-use Rattle.vac_records.proofs.Keyed.{HasRow, Matches, row_times, row_at}
+use Rattle.vac_records.specs.Heap.{Parts, used_in, count_in, IsHeap}
+use Rattle.vac_records.specs.Represents.{items_in, customers_in, opened, Represents}
 use Rattle.vac_records.proofs.Overs.{over_has, over_else}
 use Rattle.vac_records.proofs.Insert.{pool_as}
 use Rattle.vac_records.proofs.Frames.{items_frame, bookings_frame, customers_frame}

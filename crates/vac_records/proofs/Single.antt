@@ -1,25 +1,23 @@
 -- A memory represents at most one state, by its words alone, and the state's size is counted by its
 -- blocks.
-use Rattle.std.proofs.Common.{◌≡◌, ◌≢◌, ◌⊎◌, inl, inr, ℕ, ◌+◌, ◌*◌, ◌<◌, ◌≤◌, List, [], ◌∷◌, length, map, sum_by, refl, sym, ap, ◌∙◌, subst, arith}
-use Rattle.std.specs.FinMap.{FinMap, entries, same_entries_map, len, len-entries, values}
+use Rattle.std.proofs.Common.{◌≡◌, ℕ, ◌+◌, ◌<◌, ◌≤◌, List, [], ◌∷◌, length, sum_by, sym, ap, ◌∙◌, subst, arith}
+use Rattle.std.specs.FinMap.{entries, same_entries_map, len, len-entries, values}
 use Rattle.vac_records.specs.Items.{item_in}
 use Rattle.vac_model.specs.declared.items.Kind.{Kind}
 use Rattle.vac_model.specs.declared.items.Kind.TheVariants.{Car, Flight, Room}
-use Rattle.vac_model.specs.State.{State, Table, Bookings, Customers, Place, kind_number, table_of, size}
-use Rattle.tx_alloc.specs.Pool.{IsBlock, held, sum_below, with_at, IsPool}
+use Rattle.vac_model.specs.State.{State, Bookings, kind_number, table_of, size}
+use Rattle.tx_alloc.specs.Pool.{sum_below}
 use Rattle.tx_alloc.specs.Rows.{Rows, times}
 use Rattle.tx_alloc.proofs.Moves.{pool_within}
 use Rattle.tx_alloc.proofs.Sums.{sum_none}
-use Rattle.tx_tree.proofs.TableFrame.{table_frame, table_block}
+use Rattle.tx_tree.proofs.TableFrame.{table_frame}
 use Rattle.vac_records.proofs.TableRows.{table_one}
-use Rattle.tx_list.proofs.Frame.{list_frame, list_block}
-use Rattle.vac_records.specs.Bookings.{place_in, booking_in}
+use Rattle.tx_list.proofs.Frame.{list_frame}
 use Rattle.vac_records.specs.Heap.{Parts, over, used_in, count_in, IsHeap}
-use Rattle.vac_records.specs.Represents.{items_in, bookings_in, customers_in, opened, Represents}
+use Rattle.vac_records.specs.Represents.{items_in, bookings_in, customers_in, Represents}
 use Rattle.vac_records.specs.Laws.{OneState, OneShape, SameWords, NoneLeft, SomeLeft}
 use Rattle.vac_records.proofs.Links.{list_one}
-use Rattle.vac_records.proofs.Keyed.{HasRow, map_same, row_times}
-use Rattle.vac_records.proofs.Frames.{Entry, items_frame, bookings_frame, customers_frame, lengths, lengths_opened, lengths_customers, length_same, opened_one}
+use Rattle.vac_records.proofs.Frames.{items_frame, bookings_frame, customers_frame, lengths, lengths_opened, lengths_customers, length_same, opened_one}
 use Rattle.vac_records.proofs.Shifts.{kind_small, in_table, in_list, keeps}
 
 module _ (m : ℕ → ℕ) (n : ℕ) (out out' : List ℕ) (s s' : State) (h : Represents m n out s) (g : Represents m n out' s') where

@@ -2,7 +2,7 @@
 use Rattle.std.proofs.Common.{◌≡◌, ◌≢◌, ◌⊎◌, inl, inr, ℕ, ◌+◌, ◌<◌, ◌≤◌, List, ◌∷◌, refl, ap, arith, add-zero}
 use Rattle.std.proofs.lemmas.Bool.{cases_lt}
 use Rattle.tx_alloc.specs.Pool.{IsBlock, held, with_at, with_block, IsTaking, IsGiving}
-use Rattle.tx_alloc.proofs.Sums.{sum_has, sum_two}
+use Rattle.tx_alloc.proofs.Sums.{sum_has}
 use Rattle.tx_alloc.proofs.Chains.{held_first, free_block}
 use Rattle.tx_alloc.specs.Rows.{times}
 use Rattle.tx_tree.specs.Table.{IsTable}

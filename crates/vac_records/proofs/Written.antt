@@ -1,15 +1,11 @@
 -- Stores that make a customer and a booking, and what is added to a booking.
-use Rattle.std.proofs.Common.{◌≡◌, ◌≢◌, ◌⊎◌, inl, inr, ℕ, ◌+◌, ◌*◌, ◌<◌, ◌≤◌, ◌^◌, List, refl, sym, ap, ◌∙◌, subst, arith}
+use Rattle.std.proofs.Common.{◌≡◌, ◌≢◌, ◌⊎◌, inl, inr, ℕ, ◌+◌, ◌*◌, ◌<◌, ◌≤◌, sym, ap, ◌∙◌, arith}
 use Rattle.stm_words.specs.Seen.{same_or}
-use Rattle.stm_words.specs.View.{View, Loaded, Stored, IsWrite}
-use Rattle.vac_model.specs.declared.items.Booking.{Booking}
+use Rattle.stm_words.specs.View.{View, Stored, IsWrite}
 use Rattle.vac_model.specs.State.{Place, kind_number}
-use Rattle.vac_model.specs.Step.{new_booking, extended}
-use Rattle.vac_records.specs.Bookings.{booking_in}
-use Rattle.vac_records.specs.Items.{mem, Shifted}
-use Rattle.vac_records.specs.Customers.{IsNewCustomer, CustomerMade, IsNewBooking, BookingMade, BookingRead, IsBookingNow, BookingChanged}
-use Rattle.vac_records.specs.Steps.{kept_both, at_start}
-use Rattle.vac_records.proofs.Counting.{TwoWords, two_words}
+use Rattle.vac_records.specs.Items.{mem}
+use Rattle.vac_records.specs.Customers.{IsNewCustomer, CustomerMade, IsNewBooking, BookingMade}
+use Rattle.vac_records.specs.Steps.{kept_both}
 
 -- the three spare words are cleared, and nothing else
 pub record Cleared (m m' : ℕ → ℕ) (node : ℕ) : Type 0 where

@@ -2,11 +2,9 @@
 -- are key, left, right, colour, head of the bookings, and three spare ones.
 use Rattle.std.specs.Prelude.{◌≡◌, ◌≢◌, ◌⊎◌, ℕ, ◌+◌, ◌*◌, ◌<◌, ◌≤◌, ◌^◌, List, [], ◌∷◌, length, Option, Some, None}
 use Rattle.stm_words.specs.View.{View, Sees, Stands, Kept}
-use Rattle.vac_model.specs.declared.items.Kind.{Kind}
 use Rattle.vac_model.specs.declared.items.Booking.{Booking}
 use Rattle.vac_model.specs.State.{Place, kind_number}
 use Rattle.vac_model.specs.Step.{new_booking}
-use Rattle.tx_alloc.specs.declared.pool.Block.{Block}
 use Rattle.tx_alloc.specs.Pointer.{pointer, IsWithin}
 use Rattle.tx_alloc.specs.Pool.{IsBlock}
 use Rattle.tx_alloc.specs.Rows.{Rows, times, put_row, cut_row, block_at, Relinks}
@@ -111,18 +109,18 @@ pub record BookedAt (s s' : View) (spot : Spot) (place : Place) (num price b : �
       IsBooked (mem s image) (mem s' image) (length image) customer rows place num price b
 
 -- a booking that left its list: its block and its units
-abbrev pub UnitsOf : (ℕ → ℕ) → Option (Block × ℕ) → Type 0
+abbrev pub UnitsOf : (ℕ → ℕ) → Option (ℕ × ℕ) → Type 0
 UnitsOf m None = Unit {0}
-UnitsOf m (Some taken) = m (taken.0.0.0 + 4) ≡ taken.1
+UnitsOf m (Some taken) = m (taken.0 + 4) ≡ taken.1
 
-abbrev pub block_of : Option (Block × ℕ) → Option Block
+abbrev pub block_of : Option (ℕ × ℕ) → Option ℕ
 block_of None = None
 block_of (Some taken) = Some taken.0
 
 -- the booking of the place left the list of these rows, if it was there, and the answer is its
 -- block with its units. No word was changed but those that lead on.
 pub record IsUnbooking (m m' : ℕ → ℕ) (n customer : ℕ) (place : Place)
-    (taken : Option (Block × ℕ)) (rows : Rows) : Type 0 where
+    (taken : Option (ℕ × ℕ)) (rows : Rows) : Type 0 where
   pub is : pointer (block_of taken) ≡ block_at rows (place_key place)
   pub units : UnitsOf m taken
   pub list : IsListAt m' n (head_of customer) (cut_row rows (place_key place))
@@ -131,7 +129,7 @@ pub record IsUnbooking (m m' : ℕ → ℕ) (n customer : ℕ) (place : Place)
 -- under each image the booking of the place left the customer's list. Nothing was written where it
 -- was not there.
 pub record Unbooked (s s' : View) (customer : ℕ) (place : Place)
-    (taken : Option (Block × ℕ)) : Type 0 where
+    (taken : Option (ℕ × ℕ)) : Type 0 where
   pub kept : Kept s s'
   pub none : taken ≡ None → s'.writes ≡ s.writes
   pub within : IsWithin s' (block_of taken)
@@ -140,7 +138,7 @@ pub record Unbooked (s s' : View) (customer : ℕ) (place : Place)
       IsUnbooking (mem s image) (mem s' image) (length image) customer place taken rows
 
 -- the booking at a spot left each customer's list in which this was the spot of a place
-pub record UnbookedAt (s s' : View) (spot : Spot) (taken : Option (Block × ℕ)) : Type 0 where
+pub record UnbookedAt (s s' : View) (spot : Spot) (taken : Option (ℕ × ℕ)) : Type 0 where
   pub kept : Kept s s'
   pub none : taken ≡ None → s'.writes ≡ s.writes
   pub within : IsWithin s' (block_of taken)

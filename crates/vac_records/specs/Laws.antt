@@ -1,19 +1,18 @@
 -- What an image says of the one state that it represents, and what each change of a memory makes
 -- of that state.
-use Rattle.std.specs.Prelude.{◌≡◌, ◌≢◌, ◌⊎◌, ℕ, ◌+◌, ◌^◌, ◌<◌, ◌≤◌, List, [], ◌∷◌, Some, None, length, slice_index, sum_by}
+use Rattle.std.specs.Prelude.{◌≡◌, ◌≢◌, ◌⊎◌, ℕ, ◌+◌, ◌^◌, ◌<◌, ◌≤◌, List, [], ◌∷◌, Some, None, length, slice_index}
 use Rattle.std.specs.FinMap.{empty, get, insert, remove, entries}
 use Rattle.vac_model.specs.declared.items.Kind.{Kind}
-use Rattle.vac_model.specs.declared.items.Item.{Item}
 use Rattle.vac_model.specs.State.{State, Bookings, Place, kind_number, empty_state, item_of, with_item, without_item, bookings_of, with_bookings, without_customer, size, bill_of}
 use Rattle.tx_alloc.specs.Pool.{IsBlock, IsTaking, IsGiving, IsUsed, IsPool, IsEmptyHeap, fresh_lists}
-use Rattle.tx_alloc.specs.Rows.{Rows, times, put_row, cut_row, block_at, Relinks}
+use Rattle.tx_alloc.specs.Rows.{Rows, put_row, cut_row, block_at, Relinks}
 use Rattle.tx_tree.specs.Table.{IsTable, Table}
 use Rattle.tx_list.specs.Bookings.{IsList}
 use Rattle.tx_list.specs.Lists.{IsListAt}
 use Rattle.vac_records.specs.Items.{item_in}
 use Rattle.vac_records.specs.Bookings.{place_key, place_in, booking_in}
 use Rattle.vac_records.specs.Customers.{head_of, sum_in}
-use Rattle.vac_records.specs.Heap.{Parts, used_in, count_in}
+use Rattle.vac_records.specs.Heap.{used_in, count_in}
 use Rattle.vac_records.specs.Represents.{Represents, bookings_in}
 
 -- a block came into the i-th table under this key

@@ -7,8 +7,9 @@ ghost use Rattle.vac_model.specs.Step.{extended};
 ghost use Rattle.vac_records.specs.Items.{IsNode};
 ghost use Rattle.vac_records.specs.Customers.{BookingMade, BookingRead, BookingChanged, CanExtend};
 
-use crate::word::{raise, word_of};
-use stm_words::{Addr, TxMem, TxRead, load, store};
+use crate::word::raise;
+use stm_words::{TxMem, TxRead, load, store};
+use tx_alloc::Block;
 use tx_list::{Key, place};
 use vac_model::{Booking, Kind};
 
@@ -33,26 +34,26 @@ pub fn key_of(kind: Kind, id: u32) -> Key
 /// block into a list is left to the list; the spare words are 0.
 pub(crate) fn init_booking<M: TxMem>(
     memory: &mut M,
-    node: Addr,
+    node: Block,
     kind: Kind,
     id: u32,
     num: u32,
     price: u64,
 ) -> Result<(), M::Stop>
-    requires node { IsNode (M.view memory.old) node.0 }
+    requires node { IsNode (M.view memory.old) node }
     requires sum { num * price < 2 ^ 64 }
     ensures origin { M.origin memory.new ≡ M.origin memory.old }
-    ensures answer { IfOk result (λ _. BookingMade (M.view memory.old) (M.view memory.new) node.0
+    ensures answer { IfOk result (λ _. BookingMade (M.view memory.old) (M.view memory.new) node
         (kind, id) num price) }
 {
     let key = key_of(kind, id);
-    store(memory, word_of(node, place::KIND), key.kind)?;
-    store(memory, word_of(node, place::ID), key.id)?;
-    store(memory, word_of(node, place::SUM), num as u64 * price)?;
-    store(memory, word_of(node, place::UNITS), num as u64)?;
-    store(memory, word_of(node, FIRST_SPARE), 0)?;
-    store(memory, word_of(node, FIRST_SPARE + 1), 0)?;
-    store(memory, word_of(node, FIRST_SPARE + 2), 0)?;
+    store(memory, node.word(place::KIND), key.kind)?;
+    store(memory, node.word(place::ID), key.id)?;
+    store(memory, node.word(place::SUM), num as u64 * price)?;
+    store(memory, node.word(place::UNITS), num as u64)?;
+    store(memory, node.word(FIRST_SPARE), 0)?;
+    store(memory, node.word(FIRST_SPARE + 1), 0)?;
+    store(memory, node.word(FIRST_SPARE + 2), 0)?;
     Ok(())
 }
 
@@ -60,11 +61,11 @@ pub(crate) fn init_booking<M: TxMem>(
 pub(crate) const FIRST_SPARE: u32 = 5;
 
 /// The booking of the block.
-pub fn booking_at<M: TxRead>(memory: &mut M, node: Addr) -> Result<Booking, M::Stop>
-    requires { IsNode (M.view memory.old) node.0 }
+pub fn booking_at<M: TxRead>(memory: &mut M, node: Block) -> Result<Booking, M::Stop>
+    requires { IsNode (M.view memory.old) node }
     ensures origin { M.origin memory.new ≡ M.origin memory.old }
     ensures answer { IfOk result (λ booking.
-        BookingRead (M.view memory.old) (M.view memory.new) node.0 booking) }
+        BookingRead (M.view memory.old) (M.view memory.new) node booking) }
 {
     let units = units_at(memory, node)?;
     let sum = sum_at(memory, node)?;
@@ -73,38 +74,38 @@ pub fn booking_at<M: TxRead>(memory: &mut M, node: Addr) -> Result<Booking, M::S
 
 /// How many units the booking has.
 #[inline]
-pub fn units_at<M: TxRead>(memory: &mut M, node: Addr) -> Result<u64, M::Stop>
-    requires { IsNode (M.view memory.old) node.0 }
+pub fn units_at<M: TxRead>(memory: &mut M, node: Block) -> Result<u64, M::Stop>
+    requires { IsNode (M.view memory.old) node }
     ensures origin { M.origin memory.new ≡ M.origin memory.old }
     ensures answer { IfOk result (λ v.
-        Loaded (M.view memory.old) (M.view memory.new) (node.0 + 4) v) }
+        Loaded (M.view memory.old) (M.view memory.new) (node + 4) v) }
     ensures stopped { IfErr result (λ stop. M.stopped_for memory.new stop) }
 {
-    load(memory, word_of(node, place::UNITS))
+    load(memory, node.word(place::UNITS))
 }
 
 /// The prices of the booking's units, each as it was when the unit was booked, added up.
 #[inline]
-pub fn sum_at<M: TxRead>(memory: &mut M, node: Addr) -> Result<u64, M::Stop>
-    requires { IsNode (M.view memory.old) node.0 }
+pub fn sum_at<M: TxRead>(memory: &mut M, node: Block) -> Result<u64, M::Stop>
+    requires { IsNode (M.view memory.old) node }
     ensures origin { M.origin memory.new ≡ M.origin memory.old }
     ensures answer { IfOk result (λ v.
-        Loaded (M.view memory.old) (M.view memory.new) (node.0 + 2) v) }
+        Loaded (M.view memory.old) (M.view memory.new) (node + 2) v) }
     ensures stopped { IfErr result (λ stop. M.stopped_for memory.new stop) }
 {
-    load(memory, word_of(node, place::SUM))
+    load(memory, node.word(place::SUM))
 }
 
 /// Adds units at the price of now to a booking. The units that it has keep their prices.
-pub fn book_more<M: TxMem>(memory: &mut M, node: Addr, num: u32, price: u64) -> Result<(), M::Stop>
-    requires node { IsNode (M.view memory.old) node.0 }
+pub fn book_more<M: TxMem>(memory: &mut M, node: Block, num: u32, price: u64) -> Result<(), M::Stop>
+    requires node { IsNode (M.view memory.old) node }
     requires sum { num * price < 2 ^ 64 }
-    requires room { CanExtend (M.view memory.old) node.0 num price }
+    requires room { CanExtend (M.view memory.old) node num price }
     ensures origin { M.origin memory.new ≡ M.origin memory.old }
-    ensures answer { IfOk result (λ _. BookingChanged (M.view memory.old) (M.view memory.new) node.0
+    ensures answer { IfOk result (λ _. BookingChanged (M.view memory.old) (M.view memory.new) node
         (λ b. extended b num price)) }
 {
-    raise(memory, word_of(node, place::SUM), num as u64 * price)?;
-    raise(memory, word_of(node, place::UNITS), num as u64)?;
+    raise(memory, node.word(place::SUM), num as u64 * price)?;
+    raise(memory, node.word(place::UNITS), num as u64)?;
     Ok(())
 }

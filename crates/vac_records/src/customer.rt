@@ -10,8 +10,7 @@ ghost use Rattle.vac_records.specs.Customers.{head_of, CustomerMade, CanBook, Bo
 
 use crate::booking::{FIRST_SPARE, init_booking, key_of, sum_at, units_at};
 use crate::place;
-use crate::word::word_of;
-use stm_words::{Addr, TxMem, TxRead, store};
+use stm_words::{TxMem, TxRead, store};
 use tx_alloc::Block;
 use tx_alloc::place::MOST_BLOCKS;
 use tx_list::{Spot, insert_at, remove_at, seek};
@@ -19,51 +18,51 @@ use vac_model::Kind;
 
 /// Makes the block a customer with this key and without bookings. The words that link the block
 /// into a table are left to the table; the spare words are 0.
-pub fn init_customer<M: TxMem>(memory: &mut M, node: Addr, key: u32) -> Result<(), M::Stop>
-    requires { IsNode (M.view memory.old) node.0 }
+pub fn init_customer<M: TxMem>(memory: &mut M, node: Block, key: u32) -> Result<(), M::Stop>
+    requires { IsNode (M.view memory.old) node }
     ensures origin { M.origin memory.new ≡ M.origin memory.old }
     ensures answer { IfOk result (λ _.
-        CustomerMade (M.view memory.old) (M.view memory.new) node.0 key) }
+        CustomerMade (M.view memory.old) (M.view memory.new) node key) }
 {
-    store(memory, word_of(node, place::KEY), key as u64)?;
-    store(memory, word_of(node, place::BOOKINGS), 0)?;
-    store(memory, word_of(node, FIRST_SPARE), 0)?;
-    store(memory, word_of(node, FIRST_SPARE + 1), 0)?;
-    store(memory, word_of(node, FIRST_SPARE + 2), 0)?;
+    store(memory, node.word(place::KEY), key as u64)?;
+    store(memory, node.word(place::BOOKINGS), 0)?;
+    store(memory, node.word(FIRST_SPARE), 0)?;
+    store(memory, node.word(FIRST_SPARE + 1), 0)?;
+    store(memory, node.word(FIRST_SPARE + 2), 0)?;
     Ok(())
 }
 
 /// The block of the customer's booking of an item.
 pub fn booking_of<M: TxRead>(
     memory: &mut M,
-    customer: Addr,
+    customer: Block,
     kind: Kind,
     id: u32,
 ) -> Result<Option<Block>, M::Stop>
-    requires customer { IsNode (M.view memory.old) customer.0 }
-    requires list { HasList (M.view memory.old) (head_of customer.0) }
+    requires customer { IsNode (M.view memory.old) customer }
+    requires list { HasList (M.view memory.old) (head_of customer) }
     ensures origin { M.origin memory.new ≡ M.origin memory.old }
     ensures answer { IfOk result (λ found. Found (M.view memory.old) (M.view memory.new)
-        (head_of customer.0) (place_key (kind, id)) found) }
+        (head_of customer) (place_key (kind, id)) found) }
 {
-    let found = tx_list::find(memory, word_of(customer, place::BOOKINGS), key_of(kind, id))?;
+    let found = tx_list::find(memory, customer.word(place::BOOKINGS), key_of(kind, id))?;
     Ok(found)
 }
 
 /// Where the booking of an item stands in the customer's list, or would stand.
 pub fn spot_of<M: TxRead>(
     memory: &mut M,
-    customer: Addr,
+    customer: Block,
     kind: Kind,
     id: u32,
 ) -> Result<Spot, M::Stop>
-    requires customer { IsNode (M.view memory.old) customer.0 }
-    requires list { HasList (M.view memory.old) (head_of customer.0) }
+    requires customer { IsNode (M.view memory.old) customer }
+    requires list { HasList (M.view memory.old) (head_of customer) }
     ensures origin { M.origin memory.new ≡ M.origin memory.old }
     ensures answer { IfOk result (λ spot. Sought (M.view memory.old) (M.view memory.new)
-        (head_of customer.0) (place_key (kind, id)) spot) }
+        (head_of customer) (place_key (kind, id)) spot) }
 {
-    let spot = seek(memory, word_of(customer, place::BOOKINGS), key_of(kind, id))?;
+    let spot = seek(memory, customer.word(place::BOOKINGS), key_of(kind, id))?;
     Ok(spot)
 }
 
@@ -71,21 +70,21 @@ pub fn spot_of<M: TxRead>(
 /// in no structure, and becomes the booking.
 pub fn book<M: TxMem>(
     memory: &mut M,
-    customer: Addr,
+    customer: Block,
     block: Block,
     kind: Kind,
     id: u32,
     num: u32,
     price: u64,
 ) -> Result<(), M::Stop>
-    requires customer { IsNode (M.view memory.old) customer.0 }
-    requires block { IsNode (M.view memory.old) block.0.0 }
-    requires list { HasList (M.view memory.old) (head_of customer.0) }
-    requires loose { CanBook (M.view memory.old) customer.0 (kind, id) block.0.0 }
+    requires customer { IsNode (M.view memory.old) customer }
+    requires block { IsNode (M.view memory.old) block }
+    requires list { HasList (M.view memory.old) (head_of customer) }
+    requires loose { CanBook (M.view memory.old) customer (kind, id) block }
     requires sum { num * price < 2 ^ 64 }
     ensures origin { M.origin memory.new ≡ M.origin memory.old }
-    ensures answer { IfOk result (λ _. Booked (M.view memory.old) (M.view memory.new) customer.0
-        (kind, id) num price block.0.0) }
+    ensures answer { IfOk result (λ _. Booked (M.view memory.old) (M.view memory.new) customer
+        (kind, id) num price block) }
 {
     let spot = spot_of(memory, customer, kind, id)?;
     book_at(memory, spot, block, kind, id, num, price)?;
@@ -102,14 +101,14 @@ pub fn book_at<M: TxMem>(
     num: u32,
     price: u64,
 ) -> Result<(), M::Stop>
-    requires block { IsNode (M.view memory.old) block.0.0 }
+    requires block { IsNode (M.view memory.old) block }
     requires link { spot.link.0 < (M.view memory.old).size }
     requires sum { num * price < 2 ^ 64 }
     ensures origin { M.origin memory.new ≡ M.origin memory.old }
     ensures answer { IfOk result (λ _. BookedAt (M.view memory.old) (M.view memory.new) spot
-        (kind, id) num price block.0.0) }
+        (kind, id) num price block) }
 {
-    init_booking(memory, block.0, kind, id, num, price)?;
+    init_booking(memory, block, kind, id, num, price)?;
     insert_at(memory, spot, block)?;
     Ok(())
 }
@@ -118,15 +117,15 @@ pub fn book_at<M: TxMem>(
 /// it has. `None` says that there is none.
 pub fn unbook<M: TxMem>(
     memory: &mut M,
-    customer: Addr,
+    customer: Block,
     kind: Kind,
     id: u32,
 ) -> Result<Option<(Block, u64)>, M::Stop>
-    requires customer { IsNode (M.view memory.old) customer.0 }
-    requires list { HasList (M.view memory.old) (head_of customer.0) }
+    requires customer { IsNode (M.view memory.old) customer }
+    requires list { HasList (M.view memory.old) (head_of customer) }
     ensures origin { M.origin memory.new ≡ M.origin memory.old }
     ensures answer { IfOk result (λ taken. Unbooked (M.view memory.old) (M.view memory.new)
-        customer.0 (kind, id) taken) }
+        customer (kind, id) taken) }
 {
     let spot = spot_of(memory, customer, kind, id)?;
     let taken = unbook_at(memory, spot)?;
@@ -145,27 +144,27 @@ pub fn unbook_at<M: TxMem>(memory: &mut M, spot: Spot) -> Result<Option<(Block, 
     match remove_at(memory, spot)? {
         None => Ok(None),
         Some(block) => {
-            let units = units_at(memory, block.0)?;
+            let units = units_at(memory, block)?;
             Ok(Some((block, units)))
         }
     }
 }
 
 /// The customer's bill: the sums of all bookings, added up.
-pub fn bill<M: TxRead>(memory: &mut M, customer: Addr) -> Result<u64, M::Stop>
-    requires { CanBill (M.view memory.old) customer.0 }
+pub fn bill<M: TxRead>(memory: &mut M, customer: Block) -> Result<u64, M::Stop>
+    requires { CanBill (M.view memory.old) customer }
     ensures origin { M.origin memory.new ≡ M.origin memory.old }
     ensures answer { IfOk result (λ total.
-        Billed (M.view memory.old) (M.view memory.new) customer.0 total) }
+        Billed (M.view memory.old) (M.view memory.new) customer total) }
     ensures stopped { IfErr result (λ stop. M.stopped_for memory.new stop) }
 {
-    let mut next = tx_list::first(memory, word_of(customer, place::BOOKINGS))?;
+    let mut next = tx_list::first(memory, customer.word(place::BOOKINGS))?;
     let mut total = 0;
     for _ in 0..MOST_BLOCKS {
         match next {
             None => return Ok(total),
             Some(block) => {
-                total += sum_at(memory, block.0)?;
+                total += sum_at(memory, block)?;
                 next = tx_list::next(memory, block)?;
             }
         }

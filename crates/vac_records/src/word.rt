@@ -1,18 +1,9 @@
 //! Words of a block.
 
-ghost use Rattle.std.specs.Prelude.{◌≡◌, ◌+◌, ◌-◌, ◌<◌, ◌^◌, IfOk};
+ghost use Rattle.std.specs.Prelude.{◌≡◌, ◌+◌, ◌-◌, ◌<◌, IfOk};
 ghost use Rattle.vac_records.specs.Items.{RoomAt, EnoughAt, Shifted};
 
 use stm_words::{Addr, TxMem, load, store};
-
-/// The word of a block at this place.
-#[inline]
-pub(crate) fn word_of(node: Addr, place: u32) -> Addr
-    requires { node.0 + place < 2 ^ 32 }
-    ensures { result.0 ≡ node.0 + place }
-{
-    Addr(node.0 + place)
-}
 
 /// Adds a number to a word.
 #[inline]

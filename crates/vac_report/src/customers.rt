@@ -5,6 +5,7 @@ ghost use Rattle.vac_records.specs.Holds.{HoldsState};
 ghost use Rattle.vac_report.specs.Sums.{CustomersFit, customers_together, CanCount, CustomerCounted, CustomersSummed};
 
 use stm_words::{Addr, TxRead};
+use tx_alloc::Block;
 use tx_alloc::place::MOST_BLOCKS;
 use vac_records::place::BOOKINGS;
 use vac_records::{sum_at, units_at};
@@ -35,22 +36,22 @@ impl CustomerSums {
 }
 
 /// The one customer of a block, with all bookings.
-fn sums_of_customer<M: TxRead>(memory: &mut M, customer: Addr) -> Result<CustomerSums, M::Stop>
-    requires { CanCount (M.view memory.old) customer.0 }
+fn sums_of_customer<M: TxRead>(memory: &mut M, customer: Block) -> Result<CustomerSums, M::Stop>
+    requires { CanCount (M.view memory.old) customer }
     ensures origin { M.origin memory.new ≡ M.origin memory.old }
     ensures answer { IfOk result (λ sums.
-        CustomerCounted (M.view memory.old) (M.view memory.new) customer.0 sums) }
+        CustomerCounted (M.view memory.old) (M.view memory.new) customer sums) }
     ensures stopped { IfErr result (λ stop. M.stopped_for memory.new stop) }
 {
-    let mut next = tx_list::first(memory, Addr(customer.0 + BOOKINGS))?;
+    let mut next = tx_list::first(memory, customer.word(BOOKINGS))?;
     let mut units = 0;
     let mut billed = 0;
     for _ in 0..MOST_BLOCKS {
         match next {
             None => break,
             Some(block) => {
-                units += units_at(memory, block.0)?;
-                billed += sum_at(memory, block.0)?;
+                units += units_at(memory, block)?;
+                billed += sum_at(memory, block)?;
                 next = tx_list::next(memory, block)?;
             }
         }
@@ -80,7 +81,7 @@ pub(crate) fn sum_customers<M: TxRead>(memory: &mut M) -> Result<CustomerSums, M
         match tx_tree::least_above(memory, CUSTOMERS, key)? {
             None => return Ok(sums),
             Some(entry) => {
-                sums = sums.plus(sums_of_customer(memory, entry.block.0)?);
+                sums = sums.plus(sums_of_customer(memory, entry.block)?);
                 key = entry.key;
             }
         }

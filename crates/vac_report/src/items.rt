@@ -7,6 +7,7 @@ ghost use Rattle.vac_records.specs.Holds.{HoldsState};
 ghost use Rattle.vac_report.specs.Sums.{ItemsFit, items_together, ItemCounted, ItemsSummed};
 
 use stm_words::{Addr, TxRead};
+use tx_alloc::Block;
 use tx_alloc::place::MOST_BLOCKS;
 use vac_model::Kind;
 use vac_records::{free_at, total_at, used_at};
@@ -47,11 +48,11 @@ fn root_of(kind: Kind) -> Addr
 }
 
 /// The one item of a block.
-fn sums_of_item<M: TxRead>(memory: &mut M, node: Addr) -> Result<ItemSums, M::Stop>
-    requires { IsNode (M.view memory.old) node.0 }
+fn sums_of_item<M: TxRead>(memory: &mut M, node: Block) -> Result<ItemSums, M::Stop>
+    requires { IsNode (M.view memory.old) node }
     ensures origin { M.origin memory.new ≡ M.origin memory.old }
     ensures answer { IfOk result (λ sums.
-        ItemCounted (M.view memory.old) (M.view memory.new) node.0 sums) }
+        ItemCounted (M.view memory.old) (M.view memory.new) node sums) }
     ensures stopped { IfErr result (λ stop. M.stopped_for memory.new stop) }
 {
     let used = used_at(memory, node)?;
@@ -85,7 +86,7 @@ pub(crate) fn sum_items<M: TxRead>(memory: &mut M, kind: Kind) -> Result<ItemSum
         match tx_tree::least_above(memory, root, key)? {
             None => return Ok(sums),
             Some(entry) => {
-                sums = sums.plus(sums_of_item(memory, entry.block.0)?);
+                sums = sums.plus(sums_of_item(memory, entry.block)?);
                 key = entry.key;
             }
         }

@@ -4,7 +4,6 @@ use Rattle.std.specs.Prelude.{IfSome, IsTrue, MatchOption, is_some, ◌||◌, if
 use Rattle.std.proofs.lemmas.Bool.{cases_lt}
 use Rattle.std.specs.FinMap.{empty}
 use Rattle.stm_words.specs.View.{View, Sees, Stands, Kept}
-use Rattle.tx_alloc.specs.declared.pool.Block.{Block}
 use Rattle.vac_model.specs.declared.items.Kind.{Kind}
 use Rattle.vac_model.specs.declared.items.Kind.TheVariants.{Car, Flight, Room}
 use Rattle.vac_model.specs.declared.commands.Command.TheVariants as command
@@ -61,11 +60,11 @@ joined_step : (state : State) (id : ℕ) (r : Reply) → step state (command.New
 joined_step state id r e = ap (λ (o : Outcome). (o.0, joined_of o.1)) e
 
 -- the customer is there
-pub joined_there : (s s' : View) (id : ℕ) (c : Block) → OnlyRead s s' → HasCustomerAt s' id c.0.0 →
+pub joined_there : (s s' : View) (id : ℕ) (c : ℕ) → OnlyRead s s' → HasCustomerAt s' id c →
     HasJoined s s' id (record { joined = Refused Exists; block = Some c })
 joined_there s s' id c reads at = record {
   runs = runs_same s s' (joined id) (Refused Exists) reads (λ image state i h.
-      let b = customer_is s' id c.0.0 at image state i (state_on s s' image state reads.writes h) in
+      let b = customer_is s' id c at image state i (state_on s s' image state reads.writes h) in
       joined_step state id (reply.No Exists) (exists_step state id b.bookings b.there));
   room = at.inside;
   seat = λ image state state' i h h'. at.at image state' i h';
@@ -73,7 +72,7 @@ joined_there s s' id c reads at = record {
 }
 
 -- what a command did after reads
-runs_joined : (s s1 s2 : View) (id : ℕ) (added : Option Block) → OnlyRead s s1 → Ran s1 s2 (command.NewCustomer id) (joining added) →
+runs_joined : (s s1 s2 : View) (id : ℕ) (added : Option ℕ) → OnlyRead s s1 → Ran s1 s2 (command.NewCustomer id) (joining added) →
     Runs s s2 (joined id) (joined_of (joining added))
 runs_joined s s1 s2 id added reads ran = record {
   kept = kept_both s s1 s2 reads.kept ran.kept;
@@ -95,7 +94,7 @@ items_missing s s' id lacks kept stays = record {
 }
 
 -- the customer is new
-pub joined_new : (s s1 s2 : View) (id : ℕ) (c : Block) → OnlyRead s s1 → LacksCustomer s1 id → RanOn s1 s2 id 0 (command.NewCustomer id) (joining (Some c)) → HasSeat s1 s2 id c.0.0 →
+pub joined_new : (s s1 s2 : View) (id : ℕ) (c : ℕ) → OnlyRead s s1 → LacksCustomer s1 id → RanOn s1 s2 id 0 (command.NewCustomer id) (joining (Some c)) → HasSeat s1 s2 id c →
     ItemsStayOn s1 s2 id 0 → HasJoined s s2 id (record { joined = Added; block = Some c })
 joined_new s s1 s2 id c reads lacks ran at stays = record {
   runs = runs_joined s s1 s2 id (Some c) reads (ran_missing s1 s2 id (command.NewCustomer id) (joining (Some c)) lacks ran);
@@ -148,10 +147,10 @@ abbrev picks : ℕ → Kind → Option Choice → State → State × Option Pick
 picks id kind o state = reserve_choice state id kind (priced o)
 
 -- nothing was chosen
-pub reserved_none : (s : View) (id : ℕ) (block : Option Block) (kind : Kind) (o : Option Choice) → o ≡ None → RunsWhere s s (picks id kind o) None (AtPick id block kind o)
+pub reserved_none : (s : View) (id : ℕ) (block : Option ℕ) (kind : Kind) (o : Option Choice) → o ≡ None → RunsWhere s s (picks id kind o) None (AtPick id block kind o)
 reserved_none s id block kind o e = rw e (record { kept = kept_none s; state = λ image state i h p. h; answer = λ image state i h p. refl })
 
-pub reserved_missing : (s : View) (id : ℕ) (kind : Kind) (block : Option Block) (o : Option Choice) (c : Choice) → o ≡ Some c → block ≡ None →
+pub reserved_missing : (s : View) (id : ℕ) (kind : Kind) (block : Option ℕ) (o : Option Choice) (c : Choice) → o ≡ Some c → block ≡ None →
     RunsWhere s s (picks id kind o) (Some (record { id = c.id; price = c.price; refused = Some NoCustomer })) (AtPick id block kind o)
 reserved_missing s id kind block o c e none =
     let pick : Option Pick = Some (record { id = c.id; price = c.price; refused = Some NoCustomer }) in
@@ -171,10 +170,10 @@ blocks_same s P = record {
 }
 
 -- where the pick's customer and item stand in the blocks, the command was run
-pick_here : (m : ℕ → ℕ) (n : ℕ) (state : State) (h : IsState m n state) (id : ℕ) (kind : Kind) (block : Option Block) (o : Option Choice) (b : Block) (c : Choice) → block ≡ Some b → o ≡ Some c → b.0.0 ≢ 0 → c.item.0.0 ≢ 0 → c.id < 2 ^ 32 →
-    AtPick id block kind o m n state h → Here h id b.0.0 kind c.id c.item.0.0
+pick_here : (m : ℕ → ℕ) (n : ℕ) (state : State) (h : IsState m n state) (id : ℕ) (kind : Kind) (block : Option ℕ) (o : Option Choice) (b : ℕ) (c : Choice) → block ≡ Some b → o ≡ Some c → b ≢ 0 → c.item ≢ 0 → c.id < 2 ^ 32 →
+    AtPick id block kind o m n state h → Here h id b kind c.id c.item
 pick_here m n state h id kind block o b c is_b is_c b_some c_some small p = record {
-  owner_is = subst (λ (x : Option Block). IsOwnerAt h id x) is_b p.owner;
+  owner_is = subst (λ (x : Option ℕ). IsOwnerAt h id x) is_b p.owner;
   owner_some = b_some;
   item_is = subst (λ (x : Option Choice). IsChoiceAt h kind x) is_c p.chosen;
   item_some = c_some;
@@ -184,8 +183,8 @@ pick_here m n state h id kind block o b c is_b is_c b_some c_some small p = reco
 pub reserve_range : (id : ℕ) (kind : Kind) (item : ℕ) → IsTrue (is_id id) → IsTrue (is_id item) → IsTrue (is_command (command.Reserve id kind item 1))
 reserve_range id kind item a b = rw (a, b) refl
 
-pub reserved : (s s' : View) (id : ℕ) (kind : Kind) (block : Option Block) (o : Option Choice) (b : Block) (c : Choice) (r : Reply) (why : Option Why) → block ≡ Some b → o ≡ Some c → b.0.0 ≢ 0 → c.item.0.0 ≢ 0 → c.id < 2 ^ 32 →
-    IsTrue (is_command (command.Reserve id kind c.id 1)) → Serves s s' (command.Reserve id kind c.id 1) r (AtBlocks id b.0.0 kind c.id c.item.0.0) → why ≡ refusal_of r →
+pub reserved : (s s' : View) (id : ℕ) (kind : Kind) (block : Option ℕ) (o : Option Choice) (b : ℕ) (c : Choice) (r : Reply) (why : Option Why) → block ≡ Some b → o ≡ Some c → b ≢ 0 → c.item ≢ 0 → c.id < 2 ^ 32 →
+    IsTrue (is_command (command.Reserve id kind c.id 1)) → Serves s s' (command.Reserve id kind c.id 1) r (AtBlocks id b kind c.id c.item) → why ≡ refusal_of r →
     RunsWhere s s' (picks id kind o) (Some (record { id = c.id; price = c.price; refused = why })) (AtPick id block kind o)
 reserved s s' id kind block o b c r why is_b is_c b_some c_some small range v w =
     let out : (image : List ℕ) (state : State) → Sees s' image → (h : IsState (mem s image) (length image) state) → AtPick id block kind o (mem s image) (length image) state h → IsOutcome (mem s' image) (length image) (step state (command.Reserve id kind c.id 1)) r = λ image state i h p.
@@ -197,8 +196,8 @@ reserved s s' id kind block o b c r why is_b is_c b_some c_some small range v w 
       answer = λ image state i h p. rw (is_c, w) (ap (λ (x : Reply). Some (record { id = c.id; price = c.price; refused = refusal_of x })) (out image state i h p).reply_is);
     }
 
-pub reserved_stays : (s s' : View) (id : ℕ) (kind : Kind) (block : Option Block) (o : Option Choice) (b : Block) (c : Choice) (r : Reply) → block ≡ Some b → o ≡ Some c → b.0.0 ≢ 0 → c.item.0.0 ≢ 0 → c.id < 2 ^ 32 →
-    Serves s s' (command.Reserve id kind c.id 1) r (AtBlocks id b.0.0 kind c.id c.item.0.0) → BlocksStay s s' (AtPick id block kind o)
+pub reserved_stays : (s s' : View) (id : ℕ) (kind : Kind) (block : Option ℕ) (o : Option Choice) (b : ℕ) (c : Choice) (r : Reply) → block ≡ Some b → o ≡ Some c → b ≢ 0 → c.item ≢ 0 → c.id < 2 ^ 32 →
+    Serves s s' (command.Reserve id kind c.id 1) r (AtBlocks id b kind c.id c.item) → BlocksStay s s' (AtPick id block kind o)
 reserved_stays s s' id kind block o b c r is_b is_c b_some c_some small v =
     let lands : (image : List ℕ) (state : State) → Sees s' image → (h : IsState (mem s image) (length image) state) → AtPick id block kind o (mem s image) (length image) state h → Lands h (mem s' image) (command.Reserve id kind c.id 1) r = λ image state i h p.
     v.lands image state i h (pick_here (mem s image) (length image) state h id kind block o b c is_b is_c b_some c_some small p) in
@@ -212,18 +211,18 @@ choice_moves : {m m' : ℕ → ℕ} {n n' : ℕ} {s s' : State} → (h : IsState
 choice_moves h h' kind None same at = tt
 choice_moves h h' kind (Some c) same at = same kind c.id ∙ at
 
-owner_moves : {m m' : ℕ → ℕ} {n n' : ℕ} {s s' : State} → (h : IsState m n s) (h' : IsState m' n' s') (id : ℕ) (block : Option Block) → ((id : ℕ) → customer_block h' id ≡ customer_block h id) → IsOwnerAt h id block → IsOwnerAt h' id block
+owner_moves : {m m' : ℕ → ℕ} {n n' : ℕ} {s s' : State} → (h : IsState m n s) (h' : IsState m' n' s') (id : ℕ) (block : Option ℕ) → ((id : ℕ) → customer_block h' id ≡ customer_block h id) → IsOwnerAt h id block → IsOwnerAt h' id block
 owner_moves h h' id None same at = same id ∙ at
 owner_moves h h' id (Some c) same at = same id ∙ at
 
 -- a memory on which what was chosen can be booked
-pub record Ready (s : View) (id : ℕ) (block : Option Block) (cs : Choices) : Type 0 where
+pub record Ready (s : View) (id : ℕ) (block : Option ℕ) (cs : Choices) : Type 0 where
   pub state : HoldsState s
   pub owner : IsOwner s id block
   pub known : ChoicesAreAt s cs
 
 -- what is so at the size is so of each state there
-owner_at : (s : View) (id : ℕ) (block : Option Block) → IsOwner s id block → (image : List ℕ) (state : State) → Stands s image → (h : IsState (mem s image) (length image) state) → IsOwnerAt h id block
+owner_at : (s : View) (id : ℕ) (block : Option ℕ) → IsOwner s id block → (image : List ℕ) (state : State) → Stands s image → (h : IsState (mem s image) (length image) state) → IsOwnerAt h id block
 owner_at s id None l image state i h = l.none image state i h
 owner_at s id (Some c) at image state i h = at.at image state i h
 
@@ -236,12 +235,12 @@ choice_stays : (s s' : View) (kind : Kind) (o : Option Choice) → HoldsState s 
     ((image : List ℕ) (state state' : State) → Stands s' image → (h : IsState (mem s image) (length image) state) → (h' : IsState (mem s' image) (length image) state') → (kind : Kind) (id : ℕ) → item_block h' kind id ≡ item_block h kind id) →
     IfSome o (λ c. ChoiceIsAt s kind c) → IfSome o (λ c. ChoiceIsAt s' kind c)
 choice_stays s s' kind None held kept stay k = tt
-choice_stays s s' kind (Some c) held kept stay k = record { id = k.id; at = item_at_stays s s' kind c.id c.item.0.0 held kept (λ image state state' i h h'. stay image state state' i h h' kind c.id) k.at }
+choice_stays s s' kind (Some c) held kept stay k = record { id = k.id; at = item_at_stays s s' kind c.id c.item held kept (λ image state state' i h h'. stay image state state' i h h' kind c.id) k.at }
 
-owner_stays : (s s' : View) (id : ℕ) (block : Option Block) → HoldsState s → Kept s s' →
+owner_stays : (s s' : View) (id : ℕ) (block : Option ℕ) → HoldsState s → Kept s s' →
     ((image : List ℕ) (state state' : State) → Stands s' image → (h : IsState (mem s image) (length image) state) → (h' : IsState (mem s' image) (length image) state') → (id : ℕ) → customer_block h' id ≡ customer_block h id) →
     IsOwner s id block → IsOwner s' id block
-owner_stays s s' id (Some c) held kept stay at = customer_at_stays s s' id c.0.0 held kept (λ image state state' i h h'. stay image state state' i h h' id) at
+owner_stays s s' id (Some c) held kept stay at = customer_at_stays s s' id c held kept (λ image state state' i h h'. stay image state state' i h h' id) at
 owner_stays s s' id None held kept stay l = record {
   none = λ image state' i h'.
       let i0 = stood kept image i in
@@ -250,7 +249,7 @@ owner_stays s s' id None held kept stay l = record {
 }
 
 -- the customer who was seen to
-owner_seated : (s s' : View) (id : ℕ) (block : Option Block) → HoldsState s → Kept s s' → IsWithin s' block →
+owner_seated : (s s' : View) (id : ℕ) (block : Option ℕ) → HoldsState s → Kept s s' → IsWithin s' block →
     ((image : List ℕ) (state state' : State) → Sees s' image → IsState (mem s image) (length image) state → (h' : IsState (mem s' image) (length image) state') → IsOwnerAt h' id block) → IsOwner s' id block
 owner_seated s s' id None held kept room seat = record {
   none = λ image state' i h'. (let t = held.under image (stood kept image i) in seat image t.0 state' i.sees t.1 h');
@@ -271,13 +270,13 @@ ready_joined s s' id owner cs held known j = record {
 }
 
 -- a pick's blocks at the size
-pick_at : (s : View) (id : ℕ) (block : Option Block) (cs : Choices) (kind : Kind) → Ready s id block cs → (image : List ℕ) (state : State) → Stands s image → (h : IsState (mem s image) (length image) state) → AtPick id block kind (choice_in cs kind) (mem s image) (length image) state h
+pick_at : (s : View) (id : ℕ) (block : Option ℕ) (cs : Choices) (kind : Kind) → Ready s id block cs → (image : List ℕ) (state : State) → Stands s image → (h : IsState (mem s image) (length image) state) → AtPick id block kind (choice_in cs kind) (mem s image) (length image) state h
 pick_at s id block cs kind r image state i h = record {
   owner = owner_at s id block r.owner image state i h;
   chosen = choice_at s kind (choice_in cs kind) (r.known.known kind) image state i h;
 }
 
-pub ready_next : {A : Type 0} (s s' : View) (id : ℕ) (block : Option Block) (cs : Choices) (kind : Kind) (f : State → State × A) (a : A) →
+pub ready_next : {A : Type 0} (s s' : View) (id : ℕ) (block : Option ℕ) (cs : Choices) (kind : Kind) (f : State → State × A) (a : A) →
     Ready s id block cs → RunsWhere s s' f a (AtPick id block kind (choice_in cs kind)) → BlocksStay s s' (AtPick id block kind (choice_in cs kind)) → Ready s' id block cs
 ready_next s s' id block cs kind f a r runs stays = record {
   state = record {
@@ -297,7 +296,7 @@ ready_next s s' id block cs kind f a r runs stays = record {
 -- what was found can be booked
 choice_found : (s : View) (kind : Kind) (o : Option Choice) → IfSome o (λ c. IsKnown s kind c) → IfSome o (λ c. ChoiceIsAt s kind c)
 choice_found s kind None k = tt
-choice_found s kind (Some c) k = record { id = k.id; at = item_found_at s kind c.id c.item.0.0 k.at }
+choice_found s kind (Some c) k = record { id = k.id; at = item_found_at s kind c.id c.item k.at }
 
 pub choices_found : (s : View) (cs : Choices) → AreKnown s cs → ChoicesAreAt s cs
 choices_found s cs k = record { known = λ kind. choice_found s kind (choice_in cs kind) (k.known kind) }

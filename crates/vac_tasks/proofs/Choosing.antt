@@ -32,15 +32,15 @@ only_loaded : (s s' : View) (a v : ℕ) → Loaded s s' a v → OnlyRead s s'
 only_loaded s s' a v l = record { kept = l.kept; writes = l.writes }
 
 -- an item that is there
-pub looked_up : (s s1 s2 : View) (kind : Kind) (c : Choice) → IsTrue (is_id c.id) → OnlyRead s s1 → HasItemAt s1 kind c.id c.item.0.0 →
-    Loaded s1 s2 (c.item.0.0 + 7) c.price → LookedUp s s2 kind c.id (Some c)
+pub looked_up : (s s1 s2 : View) (kind : Kind) (c : Choice) → IsTrue (is_id c.id) → OnlyRead s s1 → HasItemAt s1 kind c.id c.item →
+    Loaded s1 s2 (c.item + 7) c.price → LookedUp s s2 kind c.id (Some c)
 looked_up s s1 s2 kind c id reads at loaded = record {
-  reads = read_both s s1 s2 reads (only_loaded s1 s2 (c.item.0.0 + 7) c.price loaded);
+  reads = read_both s s1 s2 reads (only_loaded s1 s2 (c.item + 7) c.price loaded);
   price = λ image state i h.
-      let found = item_is s1 kind c.id c.item.0.0 at image state (loaded.kept.seen image i) (state_on s s1 image state reads.writes h) in
+      let found = item_is s1 kind c.id c.item at image state (loaded.kept.seen image i) (state_on s s1 image state reads.writes h) in
       ap (λ (o : Option Item). option_map (λ item. item.price) o) found ∙ ap (λ (p : ℕ). Some p) (loaded.answer image i);
   asked = refl;
-  known = record { id = id; at = item_at_on s1 s2 kind c.id c.item.0.0 (only_loaded s1 s2 (c.item.0.0 + 7) c.price loaded) at };
+  known = record { id = id; at = item_at_on s1 s2 kind c.id c.item (only_loaded s1 s2 (c.item + 7) c.price loaded) at };
 }
 
 -- the dearer of two, as the definition sees them
@@ -98,7 +98,7 @@ choice_more state k asks ask = fold_more (chooses state k) None asks ask
 
 known_on : (s s' : View) (kind : Kind) (o : Option Choice) → OnlyRead s s' → IfSome o (λ c. IsKnown s kind c) → IfSome o (λ c. IsKnown s' kind c)
 known_on s s' kind None reads h = tt
-known_on s s' kind (Some c) reads h = record { id = h.id; at = item_at_on s s' kind c.id c.item.0.0 reads h.at }
+known_on s s' kind (Some c) reads h = record { id = h.id; at = item_at_on s s' kind c.id c.item reads h.at }
 
 -- nothing is chosen
 abbrev nothing : Choices

@@ -2,7 +2,6 @@
 use Rattle.std.specs.Prelude.{◌≡◌, ◌≢◌, ℕ, List, Option, Some, None, IfSome, IsTrue, MatchOption, length, nat_lt, ◌||◌, Bool, is_some, if◌then◌else◌}
 use Rattle.std.specs.Option.{option_map}
 use Rattle.stm_words.specs.View.{View, Sees}
-use Rattle.tx_alloc.specs.declared.pool.Block.{Block}
 use Rattle.vac_model.specs.declared.items.Kind.{Kind}
 use Rattle.vac_model.specs.declared.items.Kind.TheVariants.{Car, Flight, Room}
 use Rattle.vac_model.specs.declared.commands.Command.TheVariants as command
@@ -52,7 +51,7 @@ with_found cs Room found = record cs { room = dearer_of cs.room found }
 -- the item is one of this kind, in the block that is noted
 pub record IsKnown (s : View) (kind : Kind) (c : Choice) : Type 0 where
   pub id : IsTrue (is_id c.id)
-  pub at : HasItemAt s kind c.id c.item.0.0
+  pub at : HasItemAt s kind c.id c.item
 
 -- so is each that is chosen
 pub record AreKnown (s : View) (cs : Choices) : Type 0 where
@@ -61,7 +60,7 @@ pub record AreKnown (s : View) (cs : Choices) : Type 0 where
 -- the same under each image of the memory's size, which is what a booking asks for
 pub record ChoiceIsAt (s : View) (kind : Kind) (c : Choice) : Type 0 where
   pub id : IsTrue (is_id c.id)
-  pub at : ItemIsAt s kind c.id c.item.0.0
+  pub at : ItemIsAt s kind c.id c.item
 
 pub record ChoicesAreAt (s : View) (cs : Choices) : Type 0 where
   pub known : (kind : Kind) → IfSome (choice_in cs kind) (λ c. ChoiceIsAt s kind c)
@@ -69,7 +68,7 @@ pub record ChoicesAreAt (s : View) (cs : Choices) : Type 0 where
 -- what is chosen of a kind stands in the block that is noted
 abbrev pub IsChoiceAt : {m : ℕ → ℕ} {n : ℕ} {s : State} → IsState m n s → Kind → Option Choice →
     Type 0
-IsChoiceAt h kind choice = IfSome choice (λ c. item_block h kind c.id ≡ c.item.0.0)
+IsChoiceAt h kind choice = IfSome choice (λ c. item_block h kind c.id ≡ c.item)
 
 -- so does all that is chosen
 pub record AtChoices (cs : Choices) (m : ℕ → ℕ) (n : ℕ) (s : State) (h : IsState m n s) : Type 0
@@ -94,16 +93,16 @@ pub record Chosen (s s' : View) (asks : List Place) (cs : Choices) : Type 0 wher
   pub known : AreKnown s' cs
 
 -- the block of the customer; where there is none, the customer is missing
-abbrev pub IsOwner : View → ℕ → Option Block → Type 0
+abbrev pub IsOwner : View → ℕ → Option ℕ → Type 0
 IsOwner s id block =
-    MatchOption block (CustomerIsMissing s id) (λ c. CustomerIsAt s id c.0.0)
+    MatchOption block (CustomerIsMissing s id) (λ c. CustomerIsAt s id c)
 
-abbrev pub IsOwnerAt : {m : ℕ → ℕ} {n : ℕ} {s : State} → IsState m n s → ℕ → Option Block → Type 0
+abbrev pub IsOwnerAt : {m : ℕ → ℕ} {n : ℕ} {s : State} → IsState m n s → ℕ → Option ℕ → Type 0
 IsOwnerAt h id block =
-    MatchOption block (customer_block h id ≡ 0) (λ c. customer_block h id ≡ c.0.0)
+    MatchOption block (customer_block h id ≡ 0) (λ c. customer_block h id ≡ c)
 
 -- the customer and what is chosen of a kind stand in these blocks
-pub record AtPick (id : ℕ) (block : Option Block) (kind : Kind) (choice : Option Choice)
+pub record AtPick (id : ℕ) (block : Option ℕ) (kind : Kind) (choice : Option Choice)
     (m : ℕ → ℕ) (n : ℕ) (s : State) (h : IsState m n s) : Type 0 where
   pub owner : IsOwnerAt h id block
   pub chosen : IsChoiceAt h kind choice

@@ -89,7 +89,7 @@ fn look_up<M: TxRead>(memory: &mut M, kind: Kind, id: u32) -> Result<Option<Choi
     let Some(item) = find_item(memory, kind, id)? else {
         return Ok(None);
     };
-    let price = price_at(memory, item.0)?;
+    let price = price_at(memory, item)?;
     Ok(Some(Choice { id, price, item }))
 }
 
@@ -159,19 +159,31 @@ fn reserve_choice<M: TxMem>(
     ensures blocks { IfOk result (λ _. BlocksStay (M.view memory.old) (M.view memory.new)
         (AtPick customer owner kind choice)) }
 {
-    let Some(Choice { id, price, item }) = choice else {
+    let Some(chosen) = choice else {
         return Ok(None);
     };
     let Some(owner) = owner else {
         return Ok(Some(Pick {
-            id,
-            price,
+            id: chosen.id,
+            price: chosen.price,
             refused: Some(Why::NoCustomer),
         }));
     };
-    let reply = reserve_at(memory, customer, owner, kind, id, item, 1, start)?;
-    let refused = refusal(&reply);
-    Ok(Some(Pick { id, price, refused }))
+    let reply = reserve_at(
+        memory,
+        customer,
+        owner,
+        kind,
+        chosen.id,
+        chosen.item,
+        1,
+        start,
+    )?;
+    Ok(Some(Pick {
+        id: chosen.id,
+        price: chosen.price,
+        refused: refusal(&reply),
+    }))
 }
 
 /// Sees to the customer, and books what was chosen: a car, a flight, a room.
@@ -190,10 +202,17 @@ fn book_choices<M: TxMem>(
         (priced choices.now.flight) (priced choices.now.room)) reply (AtChoices choices.now)) }
 {
     let owner = join(memory, customer, start)?;
-    let block = owner.block;
-    let car = reserve_choice(memory, customer, block, Kind::Car, choices.car, start)?;
-    let flight = reserve_choice(memory, customer, block, Kind::Flight, choices.flight, start)?;
-    let room = reserve_choice(memory, customer, block, Kind::Room, choices.room, start)?;
+    let block = &owner.block;
+    let car = reserve_choice(memory, customer, *block, Kind::Car, choices.car, start)?;
+    let flight = reserve_choice(
+        memory,
+        customer,
+        *block,
+        Kind::Flight,
+        choices.flight,
+        start,
+    )?;
+    let room = reserve_choice(memory, customer, *block, Kind::Room, choices.room, start)?;
     Ok(Reply::Trip(TripReply {
         joined: owner.joined,
         picks: [car, flight, room],

@@ -1,5 +1,4 @@
-use Rattle.std.proofs.Common.{◌≡◌, Some}
-use Rattle.tx_alloc.specs.declared.pool.Block.{Block}
+use Rattle.std.proofs.Common.{◌≡◌, ℕ, Some}
 use Rattle.tx_list.specs.Lists.{HasBooking}
 use Rattle.tx_list.specs.Stock.{HasStock}
 use Rattle.heap_rows.proofs.bookings.has_blocks.Given as goal
@@ -8,5 +7,5 @@ abbrev pub invariant-loop-block : goal.invariant-loop-block
 invariant-loop-block g l = record {
   origin : g.M.TxRead.origin l.memory ≡ g.M.TxRead.origin l.initial.memory;
   stock : HasStock (g.M.TxRead.view l.memory);
-  booking : (b : Block) → l.found ≡ Some b → HasBooking (g.M.TxRead.view l.memory) b.0.0;
+  booking : (b : ℕ) → l.found ≡ Some b → HasBooking (g.M.TxRead.view l.memory) b;
 }

@@ -5,4 +5,4 @@ pub take-requires : goal.take-requires
 take-requires g c = record { pool = heap_pool _ c.requires.heap }
 
 pub returns-clause-heap : goal.returns-clause-heap
-returns-clause-heap g c = heap_took c.in_ok-taken.taken (λ b. b.0.0) _ _ _ c.in_ok-taken.ensures.answer
+returns-clause-heap g c = heap_took c.in_ok-taken.taken _ _ _ c.in_ok-taken.ensures.answer

@@ -31,8 +31,8 @@ returns-in-Greater-clause-answer g c =
 pub overflow_add-passed : goal.overflow_add-passed
 overflow_add-passed g c = omega (arith, c.loop-word.invariant.seeking.lower, c.requires.key)
 
-pub overflow_add-link : goal.overflow_add-link
-overflow_add-link g c =
+pub word-link-requires : goal.word-link-requires
+word-link-requires g c =
     let i = seek_in _ _ _ _ _ _ _ _ c.loop-word.invariant.seeking c.requires.list c.in_ok-word.ensures.answer c.if-word-eq0.false (g.met.M.TxRead.seen c.load.new.memory) in
     omega (arith, i.small)
 
@@ -47,5 +47,5 @@ loop-word-preserved g c =
     let b = seek_below _ _ _ _ _ _ _ _ _ _ c.loop-word.invariant.seeking c.requires.list c.in_ok-word.ensures.answer c.in_ok-order.ensures.answer c.if-word-eq0.false c.in-Less.is (g.met.M.TxRead.seen c.compare_key.new.memory) in
     record {
       origin = c.in_ok-order.ensures.origin ∙ (c.in_ok-word.ensures.origin ∙ c.loop-word.invariant.origin);
-      seeking = seek_step _ _ _ _ _ _ _ _ _ _ c.loop-word.invariant.seeking c.in_ok-word.ensures.answer c.in_ok-order.ensures.answer c.if-word-eq0.false i c.in-Less.is b;
+      seeking = rw c.word-link.ensures (seek_step _ _ _ _ _ _ _ _ _ _ c.loop-word.invariant.seeking c.in_ok-word.ensures.answer c.in_ok-order.ensures.answer c.if-word-eq0.false i c.in-Less.is b);
     }

@@ -29,7 +29,7 @@ cancel_at-requires-clause-item g c = item_found_at _ _ _ _ (rw c.in-Some.is at c
 
 pub cancel_at-requires-clause-spot : goal.cancel_at-requires-clause-spot
 cancel_at-requires-clause-spot g c =
-    its_spot _ _ _ _ _ _ _ c.in_ok-kind.ensures.answer c.in_ok-find_item.ensures.reads c.requires.state c.requires.first c.requires.customer
+    rw (c.word.ensures, c.addr.ensures) (its_spot _ _ _ _ _ _ _ c.in_ok-kind.ensures.answer c.in_ok-find_item.ensures.reads c.requires.state c.requires.first c.requires.customer)
 
 pub cancel_at-requires-clause-range : goal.cancel_at-requires-clause-range
 cancel_at-requires-clause-range g c =
@@ -42,4 +42,4 @@ returns-clause-answer g c =
     _ _ _ c.requires.customer.some (let low = c.requires.first.inside.0 in omega arith) (rw c.in-Some.is at c.in_ok-find_item.ensures.answer)
     (id_fits _ _ _ _ _ _ _ c.in_ok-kind.ensures.answer c.in_ok-find_item.ensures.reads c.requires.state c.requires.first _ (rw c.in-Some.is at c.in_ok-find_item.ensures.answer) (g.met.M.TxRead.seen c.find_item.new.memory))
     (cancel_range _ _ _ _ _ _ _ c.in_ok-kind.ensures.answer c.in_ok-find_item.ensures.reads c.requires.state c.requires.first _ c.requires.range (rw c.in-Some.is at c.in_ok-find_item.ensures.answer) (g.met.M.TxRead.seen c.find_item.new.memory))
-    c.in_ok-cancel_at-in-Some.ensures.answer
+    (rw (c.word.ensures, c.addr.ensures) at c.in_ok-cancel_at-in-Some.ensures.answer)

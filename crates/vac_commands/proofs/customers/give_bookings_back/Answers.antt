@@ -13,11 +13,11 @@ loop-init g c = record {
 }
 
 pub first-requires : goal.first-requires
-first-requires g c = record { list = bookings_held _ _ _ _ refl c.loop.invariant.state c.loop.invariant.customer }
+first-requires g c = record { list = bookings_held _ _ _ _ c.word-head.ensures c.loop.invariant.state c.loop.invariant.customer }
 
 pub returns-in_default-clause-answer : goal.returns-in_default-clause-answer
 returns-in_default-clause-answer g c =
-    none_first _ _ _ _ _ _ _ refl c.loop.invariant.customer.some (rw c.in_default.is at c.in_ok-booking.ensures.answer) c.loop.invariant.given
+    none_first _ _ _ _ _ _ _ c.word-head.ensures c.loop.invariant.customer.some (rw c.in_default.is at c.in_ok-booking.ensures.answer) c.loop.invariant.given
 
 pub cancel_first-requires-clause-state : goal.cancel_first-requires-clause-state
 cancel_first-requires-clause-state g c =
@@ -32,7 +32,7 @@ cancel_first-requires-clause-customer g c =
 pub cancel_first-requires-clause-first : goal.cancel_first-requires-clause-first
 cancel_first-requires-clause-first g c =
     let f = c.in_ok-booking.ensures.answer in
-    starts_at _ _ _ _ _ _ refl (held_on _ _ (record { kept = f.kept; writes = f.writes }) c.loop.invariant.state)
+    starts_at _ _ _ _ _ _ c.word-head.ensures (held_on _ _ (record { kept = f.kept; writes = f.writes }) c.loop.invariant.state)
     (customer_is_on _ _ _ _ (record { kept = f.kept; writes = f.writes }) c.loop.invariant.customer) (rw c.in-Some.is at c.in_ok-booking.ensures.answer)
 
 pub loop-preserved : goal.loop-preserved
@@ -40,7 +40,7 @@ loop-preserved g c =
     let f = c.in_ok-booking.ensures.answer in
     let given = given_one _ _ _ _ _ _ _ (262144 - (c.loop.counter + 1)) (omega arith)
     (given_read _ _ _ _ _ _ (record { kept = f.kept; writes = f.writes }) c.loop.invariant.given)
-    (first_found_at _ _ _ _ _ _ refl c.requires.customer.some (rw c.in-Some.is at c.in_ok-booking.ensures.answer))
+    (first_found_at _ _ _ _ _ _ c.word-head.ensures c.requires.customer.some (rw c.in-Some.is at c.in_ok-booking.ensures.answer))
     c.in_ok-cancel_first.ensures.answer in
     record {
       origin = c.in_ok-cancel_first.ensures.origin ∙ (c.in_ok-booking.ensures.origin ∙ c.loop.invariant.origin);

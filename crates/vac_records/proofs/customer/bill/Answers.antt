@@ -5,7 +5,7 @@ use Rattle.vac_records.proofs.customer.bill.Goals as goal
 pub loop-init : goal.loop-init
 loop-init g c = record {
   origin = c.in_ok-next.ensures.origin;
-  billing = billing_start _ _ _ _ _ c.word_of.ensures c.in_ok-next.ensures.answer;
+  billing = billing_start _ _ _ _ _ c.word.ensures c.in_ok-next.ensures.answer;
 }
 
 pub returns-in-None-clause-origin : goal.returns-in-None-clause-origin

@@ -1,4 +1,3 @@
-use Rattle.std.proofs.Common.{arith}
 use Rattle.vac_records.proofs.Hanging.{booked_sought}
 use Rattle.vac_records.proofs.customer.book.Goals as goal
 

@@ -7,7 +7,7 @@ overflow_sub-free g c = c.requires.units.enough
 
 pub raise-requires-clause-room : goal.raise-requires-clause-room
 raise-requires-clause-room g c =
-    room_stored _ _ _ _ _ _ _ _ c.in_ok-store.ensures.answer c.word_of.ensures c.word_of-2.ensures (omega arith) c.requires.units.used
+    room_stored _ _ _ _ _ _ _ _ c.in_ok-store.ensures.answer c.word.ensures c.word-2.ensures (omega arith) c.requires.units.used
 
 pub returns-clause-answer : goal.returns-clause-answer
-returns-clause-answer g c = units_made _ _ _ _ _ _ _ _ c.word_of.ensures c.word_of-2.ensures c.in_ok-store.ensures.answer c.in_ok-raise.ensures.answer
+returns-clause-answer g c = units_made _ _ _ _ _ _ _ _ c.word.ensures c.word-2.ensures c.in_ok-store.ensures.answer c.in_ok-raise.ensures.answer
