@@ -55,7 +55,7 @@ pub(crate) fn write_at(
     let lock = region.lock_of(addr);
     let mut log = WriteLog::new(alloc);
     log.put(addr, lock, value)?;
-    let from = region.begin(client).get();
+    let from = region.begin(client);
     let word = region.probe(client, lock);
     if word % 2 == 1 {
         return Ok(false);
@@ -63,11 +63,11 @@ pub(crate) fn write_at(
     let Ok(()) = region.lock(client, lock) else {
         return Ok(false);
     };
-    if from == region.last() {
+    if from.get() == region.last().get() {
         region.give_back(client, lock);
         return Ok(false);
     }
-    let Ok(()) = region.tick(client, from, &1u64, &log) else {
+    let Ok(_version) = region.tick(client, from, &1u64, &log) else {
         region.give_back(client, lock);
         return Ok(false);
     };
@@ -115,7 +115,7 @@ fn closes_once_all_are_gathered(rt: HostRuntime) -> Result<(), Fail> {
     gathering_keeps_all_grants::<FreeLaw>();
     running_threads_are_a_list::<FreeLaw>();
     let (region, mut client) = Region::<FreeLaw>::new(rt.alloc(), &[0; 32], 100, 32)?;
-    assert_eq!(rt; region.last(), 100);
+    assert_eq!(rt; region.last().get(), 100);
     assert_eq!(rt; region.lock_of(Addr(9)), 9);
     assert_eq!(rt; read_at(&region, &mut client, Addr(9)), Some(0));
     let other = region.split(&mut client)?;
@@ -137,7 +137,7 @@ fn closes_once_all_are_gathered(rt: HostRuntime) -> Result<(), Fail> {
 fn a_spent_clock_ticks_no_more(rt: HostRuntime) -> Result<(), Fail> {
     let (region, mut client) = Region::<FreeLaw>::new(rt.alloc(), &[0; 32], 1, 32)?;
     assert!(rt; write_at(rt.alloc(), &region, &mut client, Addr(9), 5)?);
-    assert_eq!(rt; region.begin(&mut client).get(), region.last());
+    assert_eq!(rt; region.begin(&mut client).get(), region.last().get());
     assert_eq!(rt; read_at(&region, &mut client, Addr(9)), Some(5));
     assert!(rt; !write_at(rt.alloc(), &region, &mut client, Addr(9), 6)?);
     let Ok((words, version)) = region.close(rt.alloc(), client) else {

@@ -55,7 +55,7 @@ fn a_spent_clock_goes_on(rt: HostRuntime) -> Result<(), Fail> {
     let Ok((region, mut client)) = region.renew(alloc, client, 2) else {
         panic!(rt; "it was not renewed")
     };
-    assert_eq!(rt; region.last(), 2);
+    assert_eq!(rt; region.last().get(), 2);
     let read = read_at(&region, &mut client, Addr(9));
     let second = write_at(alloc, &region, &mut client, Addr(9), 7)?;
     let third = write_at(alloc, &region, &mut client, Addr(31), 8)?;
@@ -110,11 +110,11 @@ fn refuses_a_renewal_in_order(rt: HostRuntime) -> Result<(), Fail> {
         let Err(RenewFault::Kept(region, client, memory)) = region.renew(&none, client, 1) else {
             panic!(rt; "it was renewed without memory")
         };
-        assert_eq!(rt; region.last(), 100);
+        assert_eq!(rt; region.last().get(), 100);
         let Ok((region, client)) = region.renew(&heap, client, (1 << 62) - 1) else {
             panic!(rt; "it was not renewed")
         };
-        assert_eq!(rt; region.last(), (1 << 62) - 1);
+        assert_eq!(rt; region.last().get(), (1 << 62) - 1);
         let Ok((words, version)) = region.close(&heap, client) else {
             panic!(rt; "it stayed open")
         };

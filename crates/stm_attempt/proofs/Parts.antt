@@ -5,6 +5,7 @@ use Rattle.std.proofs.lemmas.Bool.{ne_eqb}
 use Rattle.core.specs.Result.{IsErrAnd}
 use Rattle.std.specs.Result.{is_ok}
 use Rattle.stm_words.specs.Image.{In}
+use Rattle.stm_core.specs.declared.limits.TheConstants.{MOST_TICKS}
 use Rattle.stm_core.specs.Client.{Client, Record, inserted, committed, running}
 use Rattle.stm_core.specs.Event.{is_empty, after, finish}
 use Rattle.stm_logs.specs.Log.{LogValue, SameAddresses, log_pairs, log_locks}
@@ -176,7 +177,7 @@ module _ (region : RegionShown) (tag : List ℕ) (writes : List (ℕ × ℕ)) (v
   }
 
   module _ (w : LogValue) (taken : ℕ) (pairs : writes ≡ log_pairs w) (addressed : SameAddresses w) (holds : addresses l.attempt.held ≡ take taken (log_locks w)) (all : taken ≡ length (log_locks w)) (stepped : l.attempt.steps ≡ v.attempt.steps + 2 * taken) where
-    pub steps_committed : e.attempt.steps ≤ v.attempt.steps + length v.attempt.reads + 4 * len w.words + 16
+    pub steps_committed : e.attempt.steps ≤ v.attempt.steps + length v.attempt.reads + 4 * len w.words + MOST_TICKS
     steps_committed =
         let few = locks_few w addressed in
         let words : length d.attempt.writes ≡ len w.words = ap length (decided.writing ∙ pairs) ∙ count_pairs w in
@@ -214,7 +215,7 @@ conflict_kept lk log c l g e (inr (inr i)) = inr (inr (tick_kept c l g e i))
 stop_kept : (region : RegionShown) (log : LogValue) (stop : Stop) (l g : Client) → returned g ≡ returned l → IsCommitStop region log stop l → IsCommitStop region log stop g
 stop_kept region log Memory l g e i = absurd i
 stop_kept region log (Conflicting c) l g e i = conflict_kept (stripe_of region.stripes) log c l g e i
-stop_kept region log (Spent version) l g e i = (i.0, ap (λ (x : Client). x.attempt.next_from) e ∙ i.1, subst (λ (n : ℕ). n < 16) (sym (ap (λ (x : Client). x.attempt.ticks) e)) i.2)
+stop_kept region log (Spent version) l g e i = (i.0, ap (λ (x : Client). x.attempt.next_from) e ∙ i.1, subst (λ (n : ℕ). n < MOST_TICKS) (sym (ap (λ (x : Client). x.attempt.ticks) e)) i.2)
 
 -- the steps of a spent clock are counted on where so many locks are given back
 counted_kept : (stop : Stop) (locks : ℕ) (v l f g : Client) → l.attempt.steps ≡ v.attempt.steps + 2 * locks → returned g ≡ returned f → g.attempt.steps ≡ f.attempt.steps + locks → IsCounted stop l.attempt.steps f → IsCounted stop (v.attempt.steps + 3 * locks) g

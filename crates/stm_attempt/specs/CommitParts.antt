@@ -2,6 +2,7 @@
 use Rattle.std.specs.Prelude.{◌≡◌, ◌≢◌, ◌⊎◌, ℕ, ◌+◌, ◌*◌, ◌<◌, ◌≤◌, Bool, true, false, ◌||◌, cond, eqb, List, [], ◌∷◌, ◌++◌, length, take}
 use Rattle.std.specs.FinMap.{len}
 use Rattle.stm_words.specs.Image.{In}
+use Rattle.stm_core.specs.declared.limits.TheConstants.{MOST_TICKS}
 use Rattle.stm_core.specs.Client.{Client, running, ending, committed, inserted, writes_to}
 use Rattle.stm_core.specs.Event.{is_empty}
 use Rattle.stm_logs.specs.Log.{LogValue, log_pairs, log_locks}
@@ -49,7 +50,7 @@ pub record CanSettle (v : Client) (log : LogValue) : Type 0 where
 
 -- how many steps the client has made at most when a commit ends that wrote
 abbrev pub commit_bound : Client → LogValue → ℕ
-commit_bound v log = v.attempt.steps + length v.attempt.reads + 4 * len log.words + 16
+commit_bound v log = v.attempt.steps + length v.attempt.reads + 4 * len log.words + MOST_TICKS
 
 -- it may take locks
 abbrev pub CanLock : Client → Type 0
@@ -201,7 +202,7 @@ pub record IsDecided (region : RegionShown) (tag : List ℕ) (writes : List (ℕ
   pub phase : v'.attempt.phase ≡ committed
   pub records : v'.records ≡ inserted (ticked_record region tag v writes version) v.records
   pub later : v.attempt.rv < version
-  pub steps : v'.attempt.steps ≤ v.attempt.steps + length v.attempt.reads + 16
+  pub steps : v'.attempt.steps ≤ v.attempt.steps + length v.attempt.reads + MOST_TICKS
 
 -- the attempt could not be decided: it can only give back what it holds
 pub record HasFailedDeciding (region : RegionShown) (log : LogValue) (stop : Stop)
@@ -213,7 +214,7 @@ pub record HasFailedDeciding (region : RegionShown) (log : LogValue) (stop : Sto
   pub able : CanGiveBack v'
   pub shown : IsCommitStop region log stop v'
   pub counted : IsCounted stop v.attempt.steps v'
-  pub steps : v'.attempt.steps ≤ v.attempt.steps + length v.attempt.reads + 16
+  pub steps : v'.attempt.steps ≤ v.attempt.steps + length v.attempt.reads + MOST_TICKS
 
 -- all written values were stored and all locks released
 pub record HasSettled (v v' : Client) : Type 0 where

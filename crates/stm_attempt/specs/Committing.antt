@@ -1,5 +1,6 @@
 -- What a commit leaves.
 use Rattle.std.specs.Prelude.{◌≡◌, ◌≢◌, ℕ, ◌+◌, ◌*◌, ◌<◌, ◌≤◌, List, [], ◌∷◌, length}
+use Rattle.stm_core.specs.declared.limits.TheConstants.{MOST_TICKS}
 use Rattle.stm_core.specs.Client.{Client, Record, inserted, RecordLaw}
 use Rattle.stm_core.specs.Event.{forgetting, versioned, writer_record, reader_record}
 use Rattle.stm_logs.specs.Log.{LogValue, log_pairs, log_locks}
@@ -48,7 +49,7 @@ IsCommitStop region log Memory v = ⊥
 IsCommitStop region log (Conflicting conflict) v =
     IsCommitConflict (stripe_of region.stripes) log conflict v
 IsCommitStop region log (Spent version) v =
-    (version ≡ region.last) × (v.attempt.next_from ≡ region.last) × (v.attempt.ticks < 16)
+    (version ≡ region.last) × (v.attempt.next_from ≡ region.last) × (v.attempt.ticks < MOST_TICKS)
 
 -- a spent clock was found after these steps and the lost ticks alone
 abbrev pub IsCounted : Stop → ℕ → Client → Type 0

@@ -4,6 +4,7 @@ use Rattle.std.specs.Prelude.{◌≡◌, ◌≢◌, ℕ, ◌+◌, ◌*◌, ◌<�
 use Rattle.std.specs.FinMap.{get}
 use Rattle.stm_words.specs.Image.{In}
 use Rattle.stm_words.specs.LockWord.{free_word, held_word}
+use Rattle.stm_core.specs.declared.limits.TheConstants.{MOST_TICKS}
 use Rattle.stm_core.specs.Client.{Client, probed, checked, locked, ticked, validated, version_of, is_free}
 use Rattle.stm_logs.specs.Log.{LogValue}
 use Rattle.stm_attempt.specs.declared.conflict.Conflict.{Conflict}
@@ -59,7 +60,8 @@ IsTickConflict (Newer lock version rv) v = ⊥
 IsTickConflict (Moved lock first second) v = ⊥
 IsTickConflict (LostLock lock found) v = ⊥
 IsTickConflict (LostTick found) v =
-    (from : ℕ) × (v.attempt.last ≡ ticked from found) × (from ≢ found) × (v.attempt.ticks ≡ 16)
+    (from : ℕ) × (v.attempt.last ≡ ticked from found) × (from ≢ found)
+    × (v.attempt.ticks ≡ MOST_TICKS)
 
 -- it is the lock of an address that is written
 abbrev pub IsWriteLock : LogValue → ℕ → Type 0

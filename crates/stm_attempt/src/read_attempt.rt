@@ -2,6 +2,7 @@
 ghost use Rattle.std.specs.Prelude.{◌≡◌, ◌↔◌, ℕ, ◌+◌, ◌*◌, ◌<◌, ◌≤◌, [], length, None, Some, true};
 ghost use Rattle.stm_core.specs.Core.{IsFreeHanded};
 ghost use Rattle.stm_core.specs.Event.{begin as begins, finish as finishes};
+ghost use Rattle.stm_region.specs.declared.limits.TheConstants.{MOST_GRANTS};
 ghost use Rattle.stm_region.specs.Shown.{acted};
 ghost use Rattle.stm_region.specs.Told.{AreEarlier, Decides};
 ghost use Rattle.stm_attempt.specs.Begun.{IsRunning, IsUnstopped, is_unfinished};
@@ -45,10 +46,11 @@ impl<'a, L: Law, R: Allocator> ReadAttempt<'a, L, R> {
         ensures value { result.client.now ≡ acted region.now begins result.rv client.old }
         ensures version { client.old.value.floor ≤ result.rv }
         ensures last { result.rv ≤ region.now.last }
-        ensures alone { client.old.value.grants ≡ 63 → result.rv ≡ client.old.value.floor }
+        ensures alone { client.old.value.grants ≡ MOST_GRANTS → result.rv ≡ client.old.value.floor }
         ensures earlier { AreEarlier region.now.renewal result.rv client.old.value.records }
         ensures running { result.stopped ≡ None }
-        ensures lone { ((client_of result).attempt.lone ≡ true) ↔ (client.old.value.grants ≡ 63) }
+        ensures lone { ((client_of result).attempt.lone ≡ true)
+            ↔ (client.old.value.grants ≡ MOST_GRANTS) }
     {
         let rv = region.begin(client);
         let standing = Standing::of(region, client);

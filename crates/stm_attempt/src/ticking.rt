@@ -1,8 +1,8 @@
 //! The tick of a commit.
 ghost use Rattle.std.specs.Prelude.{◌≡◌, ◌+◌, ◌<◌, ◌≤◌, ◌^◌, true, IfOk, IfErr, MatchResult};
 ghost use Rattle.stm_core.specs.Client.{decided};
+ghost use Rattle.stm_core.specs.declared.limits.TheConstants.{MOST_TICKS};
 ghost use Rattle.stm_core.specs.Guards.{may_write};
-ghost use Rattle.stm_words.specs.declared.version.TheConstants.{VERSION_LIMIT};
 ghost use Rattle.stm_logs.specs.Log.{log_pairs};
 ghost use Rattle.stm_region.specs.Shown.{stripe_of};
 ghost use Rattle.stm_region.specs.Told.{Decides};
@@ -12,23 +12,10 @@ ghost use Rattle.stm_attempt.specs.CommitParts.{IsReady, HasTicked, HasFailed};
 
 use crate::conflict::{Conflict, Stop};
 use std::alloc::Allocator;
+use stm_core::MOST_TICKS;
 use stm_logs::WriteLog;
 use stm_region::{Client, Region};
 use stm_words::{Law, Tag, Version};
-
-/// How often a commit tries to tick the clock.
-const TICKS: u32 = 16;
-
-#[inline]
-fn as_version(number: u64) -> Version
-    requires { number < VERSION_LIMIT }
-    ensures { result ≡ number }
-{
-    let Some(version) = Version::new(number) else {
-        unreachable!()
-    };
-    version
-}
 
 /// Ticks the clock from the read version, and after each loss from the version found.
 pub(crate) fn tick<L: Law, R: Allocator, A: Allocator + Copy, T: Tag>(
@@ -59,20 +46,18 @@ pub(crate) fn tick<L: Law, R: Allocator, A: Allocator + Copy, T: Tag>(
         MatchResult result (λ _. decided client.new.value ≡ true) (λ stop. IsSpent stop) }
     ensures next { client.old.value.attempt.lone ≡ true →
         MatchResult result (λ version. version ≡ rv + 1) (λ _. rv ≡ region.now.last) }
-    ensures steps { client.new.value.attempt.steps ≤ client.old.value.attempt.steps + 16 }
+    ensures steps { client.new.value.attempt.steps ≤ client.old.value.attempt.steps + MOST_TICKS }
 {
     let last = region.last();
-    let mut from = rv.get();
-    for _ in 0..TICKS {
+    let mut from = rv;
+    for _ in 0..MOST_TICKS {
         if from == last {
-            return Err(Stop::Spent {
-                version: as_version(from),
-            });
+            return Err(Stop::Spent { version: from });
         }
         match region.tick(client, from, tag, writes) {
-            Ok(()) => return Ok(as_version(from + 1)),
+            Ok(version) => return Ok(version),
             Err(found) => from = found,
         }
     }
-    Err(Stop::Conflict(Conflict::LostTick { found: from }))
+    Err(Stop::Conflict(Conflict::LostTick { found: from.get() }))
 }

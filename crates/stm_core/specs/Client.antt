@@ -1,6 +1,7 @@
 -- What one client is, as plain data: its grants, the records of its committed calls, and its
 -- attempt.
 use Rattle.std.specs.Prelude.{◌≡◌, ℕ, ◌+◌, ◌*◌, ◌-◌, ◌/◌, Bool, true, false, cond, eqb, ltb, ◌||◌, ◌&&◌, List, [], ◌∷◌, Option, Some, None}
+use Rattle.stm_words.specs.LockWord.{free_word}
 
 -- one committed call: what it read and wrote, and where it stands. A writer's version is its write
 -- version, a reader's its read version
@@ -119,10 +120,10 @@ version_of word = word / 2
 
 -- the lock word says free
 abbrev pub IsFree : ℕ → Type 0
-IsFree word = word ≡ 2 * (word / 2)
+IsFree word = word ≡ free_word (version_of word)
 
 abbrev pub is_free : ℕ → Bool
-is_free word = eqb word (2 * (word / 2))
+is_free word = eqb word (free_word (version_of word))
 
 -- the pairs name the address
 abbrev pub writes_to : List (ℕ × ℕ) → ℕ → Bool

@@ -1,9 +1,10 @@
 -- The state of a whole region as plain data, and what a list of events makes of it.
-use Rattle.std.specs.Prelude.{◌≡◌, ℕ, zero, suc, ◌+◌, ◌*◌, ◌-◌, Bool, true, false, not, ◌&&◌, ◌==◌, nat_lt, nat_le, cond, eqb, List, [], ◌∷◌, ◌++◌, length, slice_index, slice_set, get_or, replicate}
+use Rattle.std.specs.Prelude.{◌≡◌, ℕ, zero, suc, ◌+◌, ◌-◌, Bool, true, false, not, ◌&&◌, ◌==◌, nat_lt, nat_le, cond, eqb, List, [], ◌∷◌, ◌++◌, length, slice_index, slice_set, get_or, replicate}
 use Rattle.stm_core.specs.Client.{Client, Record, Stamp, word_before, old_version, RecordLaw}
 use Rattle.stm_core.specs.Event.{Action, begin, probe, fetch, check, lock, tick, validate, put, release, give_back, finish, is_empty, Bounds, after, giving, fresh, taking, renewing, gone, opener}
 use Rattle.stm_core.specs.Guards.{may_act, IsLawful}
 use Rattle.stm_core.specs.declared.limits.TheConstants.{MOST_RENEWALS}
+use Rattle.stm_words.specs.LockWord.{free_word}
 use Rattle.stm_words.specs.declared.version.TheConstants.{VERSION_LIMIT}
 
 -- the words and the clients' values, with what the region was opened on
@@ -45,8 +46,8 @@ abbrev pub left : Action → ℕ → Client → ℕ
 left (lock k) n v = cond (eqb n (word_before v.attempt.last)) (n + 1) n
 left (tick from tag writes) n v = cond (eqb n from) (from + 1) n
 left (put a x) n v = x
-left (release k) n v = 2 * v.attempt.wv
-left (give_back k) n v = 2 * old_version v.attempt.held k
+left (release k) n v = free_word v.attempt.wv
+left (give_back k) n v = free_word (old_version v.attempt.held k)
 left _ n v = n
 
 -- the words after a step that leaves m

@@ -1,6 +1,7 @@
 -- The version invariant: what holds of the words and of all clients' values after every event.
-use Rattle.std.specs.Prelude.{◌≡◌, ◌≢◌, ℕ, suc, ◌+◌, ◌*◌, ◌-◌, ◌≤◌, ◌<◌, ◌⊎◌, true, false, Bool, List}
+use Rattle.std.specs.Prelude.{◌≡◌, ◌≢◌, ℕ, suc, ◌-◌, ◌≤◌, ◌<◌, ◌⊎◌, true, false, Bool, List}
 use Rattle.stm_words.specs.Image.{In}
+use Rattle.stm_words.specs.LockWord.{held_word}
 use mathlib.Core.Option.{some}
 use lib.ListN.{get_elem?}
 use Rattle.stm_core.specs.Client.{Client, Record, Step, probed, fetched, decided, version_of, IsFree, writes_to, base}
@@ -87,7 +88,7 @@ module _ (lk : ℕ → ℕ) where
     pub free : (k a w : ℕ) → IsFree (s.lock k) → lk a ≡ k
         → (s.cell a ≡ s.val s.clock a) × (version_of (s.lock k) < w → s.wrote w a ≡ false)
     -- a held lock word is held by a client that has its version as the old one
-    pub holder : (k : ℕ) → s.lock k ≡ 2 * version_of (s.lock k) + 1
+    pub holder : (k : ℕ) → s.lock k ≡ held_word (version_of (s.lock k))
         → (i : ℕ) × (v : Client) × At cs i v × In (k, version_of (s.lock k)) v.attempt.held
     -- and by no other
     pub alone : (i j : ℕ) (v w : Client) (k u t : ℕ) → At cs i v → At cs j w
@@ -107,7 +108,7 @@ module _ (lk : ℕ → ℕ) where
     -- its write version is above its read version
     pub later : 0 < v.attempt.wv → v.attempt.rv < v.attempt.wv
     -- each lock in its list is a held word with the listed version
-    pub listed : (k u : ℕ) → In (k, u) v.attempt.held → s.lock k ≡ 2 * u + 1
+    pub listed : (k u : ℕ) → In (k, u) v.attempt.held → s.lock k ≡ held_word u
     -- with a write version and undecided, that version has written nothing in the story
     pub unwritten : IsOpen v → (a : ℕ) → s.wrote v.attempt.wv a ≡ false
     -- decided, its version has written its writes in the story

@@ -16,7 +16,7 @@ use crate::view::View;
 use atomic_table::Seat;
 use std::alloc::Allocator;
 use stm_logs::WriteLog;
-use stm_words::{Law, Tag};
+use stm_words::{Law, Tag, Version};
 
 impl<L: Law, A: Allocator> Region<L, A> {
     /// A load. The number, a lock or an address, is for the proof alone.
@@ -119,14 +119,13 @@ impl<L: Law, A: Allocator> Region<L, A> {
     pub(crate) fn tick_as<S: Acting, T: Tag, B: Allocator + Copy>(
         &self,
         seat: &mut Seat<(), View>,
-        from: u64,
+        from: Version,
         tag: &T,
         writes: &WriteLog<B>,
     ) -> u64
         requires told { S.region ≡ self.now }
         requires ticks { S.action ≡ ticks from (T.numbers tag.now) (log_pairs writes.now) }
         requires own { seat.old.table_id ≡ self.now.table }
-        requires room { from + 1 < 2 ^ 64 }
         requires allowed { MayStep L.lawful self.now S.action seat.old.me.0 }
         ensures table { seat.new.table_id ≡ seat.old.table_id }
         ensures me { seat.new.me
@@ -135,7 +134,7 @@ impl<L: Law, A: Allocator> Region<L, A> {
     {
         let _ = tag;
         let _ = writes;
-        self.exchange_as::<S>(seat, CLOCK, from, 0)
+        self.exchange_as::<S>(seat, CLOCK, from.get(), 0)
     }
 
     /// The load that ends an attempt with this tag.

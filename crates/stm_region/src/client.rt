@@ -5,10 +5,11 @@ ghost use Rattle.stm_core.specs.Client.{nothing};
 ghost use Rattle.stm_core.specs.Invariant.{Sorted};
 
 use crate::limits::MOST_GRANTS;
+use crate::version::as_version;
 use crate::view::View;
 use atomic_table::Seat;
 use std::marker::{Model, PhantomData};
-use stm_words::Law;
+use stm_words::{Law, Version};
 
 /// A client of a region: the right to make its steps. Contracts see which table it belongs to and
 /// its value: its running attempt, the locks that it holds and the records of its commits.
@@ -18,7 +19,7 @@ pub struct Client<L: Law> {
     // The word that its last probe found.
     pub(crate) probed: u64,
     // Its write version, 0 for none.
-    pub(crate) version: u64,
+    pub(crate) version: Version,
     pub(crate) law: PhantomData<L>,
 }
 
@@ -26,7 +27,6 @@ impl<L: Law> Model for Client<L> {
     ghost use Rattle.std.specs.Prelude.{◌≡◌, ◌≤◌, ◌<◌, []};
     ghost use Rattle.stm_core.specs.Invariant.{Sorted};
     ghost use Rattle.stm_region.specs.Shown.{ClientShown, KeepsProbe};
-    ghost use Rattle.stm_words.specs.declared.version.TheConstants.{VERSION_LIMIT};
     ghost use Rattle.stm_region.specs.declared.limits.TheConstants.{MOST_GRANTS};
 
     ghost Value = { ClientShown };
@@ -36,7 +36,7 @@ impl<L: Law> Model for Client<L> {
     ghost invariant = { λ c.
         (c.seat.me.1 ≡ [])
         × (c.grants ≡ c.seat.me.0.grants) × (c.grants ≤ MOST_GRANTS)
-        × (c.version ≡ c.seat.me.0.attempt.wv) × (c.version < VERSION_LIMIT)
+        × (c.version ≡ c.seat.me.0.attempt.wv)
         × KeepsProbe c.probed c.seat.me.0.attempt.last × Sorted c.seat.me.0.records };
 }
 
@@ -53,7 +53,7 @@ impl<L: Law> Client<L> {
             seat,
             grants,
             probed: 0,
-            version: 0,
+            version: as_version(0),
             law: PhantomData,
         }
     }

@@ -18,6 +18,7 @@ mod region;
 mod renew;
 mod rule;
 mod steps;
+mod version;
 mod view;
 
 pub use client::Client;

@@ -17,19 +17,20 @@ use crate::layout::{first_cell, lay_out};
 use crate::limits::{MOST_GRANTS, MOST_STRIPES, MOST_WORDS, VERSION_LIMIT};
 use crate::moving::{Gives, Takes};
 use crate::opening::{Opening, RegionRule};
+use crate::version::as_version;
 use crate::view::View;
 use atomic_table::Table;
 use std::alloc::{Allocator, Global};
 use std::marker::Model;
 use std::snapshot::Snapshot;
-use stm_words::{Addr, Law};
+use stm_words::{Addr, Law, Version};
 
 /// The shared words of a transactional memory. Contracts see which table it is, its size, and the
 /// image, the last version and the number of lock words that it was opened with.
 pub struct Region<L: Law, A: Allocator = Global> {
     pub(crate) table: Table<(), View, Opening<A>, RegionRule<L>, A>,
     pub(crate) size: usize,
-    pub(crate) last: u64,
+    pub(crate) last: Version,
     pub(crate) stripes: u32,
     // The place of the first data word.
     pub(crate) cells: usize,
@@ -123,7 +124,7 @@ impl<L: Law, A: Allocator + Copy> Region<L, A> {
         let region = Region {
             table,
             size: image.len(),
-            last,
+            last: as_version(last),
             stripes,
             cells: first_cell(stripes),
             renewal: 0,
@@ -144,9 +145,8 @@ impl<L: Law, A: Allocator> Region<L, A> {
 
     /// The last version that the clock may reach.
     #[inline]
-    pub fn last(&self) -> u64
-        ensures value { result ≡ self.now.last }
-        ensures small { result < VERSION_LIMIT }
+    pub fn last(&self) -> Version
+        ensures { result ≡ self.now.last }
     {
         self.last
     }

@@ -11,6 +11,7 @@ use crate::layout::{first_cell, lay_out};
 use crate::limits::{MOST_GRANTS, MOST_RENEWALS, VERSION_LIMIT};
 use crate::opening::Opening;
 use crate::region::Region;
+use crate::version::as_version;
 use atomic_table::Table;
 use boxcar::tag::{Names, Tag};
 use std::alloc::{Allocator, Global};
@@ -114,7 +115,7 @@ impl<L: Law, A: Allocator + Copy> Region<L, A> {
         let region = Region {
             table,
             size: words.len(),
-            last,
+            last: as_version(last),
             stripes,
             cells: first_cell(stripes),
             renewal,

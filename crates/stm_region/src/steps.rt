@@ -13,10 +13,11 @@ ghost use Rattle.stm_core.specs.Guards.{Holds};
 use crate::client::Client;
 use crate::layout::{CLOCK, FIRST_LOCK};
 use crate::region::Region;
+use crate::version::as_version;
 use std::alloc::Allocator;
 use std::marker::Brand;
 use stm_logs::WriteLog;
-use stm_words::{Addr, Law, Tag, Version};
+use stm_words::{Addr, Law, LockWord, Tag, Version};
 
 impl<L: Law, A: Allocator> Region<L, A> {
     /// Begins an attempt: one load of the clock, which is the read version. A client with all
@@ -33,7 +34,7 @@ impl<L: Law, A: Allocator> Region<L, A> {
         ensures earlier { AreEarlier self.now.renewal result client.old.value.records }
     {
         let found = self.load_as::<Brand>(&mut client.seat, CLOCK, 0);
-        client.version = 0;
+        client.version = as_version(0);
         let Some(version) = Version::new(found) else {
             unreachable!()
         };
@@ -111,22 +112,23 @@ impl<L: Law, A: Allocator> Region<L, A> {
     /// Ticks the clock from this version to the next, which becomes the write version: one
     /// compare-and-exchange. Tag and writes are those of the attempt's record. Where nothing was
     /// read, or the write version is the next after the read version, the attempt is decided.
-    /// Where the exchange loses, the answer has the version found.
+    /// The answer is the write version, or where the exchange loses the version found.
     #[inline]
     pub fn tick<T: Tag, B: Allocator + Copy>(
         &self,
         client: &mut Client<L>,
-        from: u64,
+        from: Version,
         tag: &T,
         writes: &WriteLog<B>,
-    ) -> Result<(), u64>
+    ) -> Result<Version, Version>
         requires own { client.old.table ≡ self.now.table }
         requires allowed { IsAllowed L.lawful self.now
             (ticks from (T.numbers tag.now) (log_pairs writes.now)) client.old }
         ensures client { Exchanged self.now
             (ticks from (T.numbers tag.now) (log_pairs writes.now)) from result
             client.old client.new }
-        ensures version { MatchResult result (λ _. from + 1 ≤ self.now.last)
+        ensures version { MatchResult result
+            (λ version. (version ≡ from + 1) × (version ≤ self.now.last))
             (λ found. found ≤ self.now.last) }
         ensures lone { IsLoneOpen client.old.value →
             IsOk result × (decided client.new.value ≡ true) }
@@ -141,11 +143,12 @@ impl<L: Law, A: Allocator> Region<L, A> {
     {
         prove!(from < self.last);
         let found = self.tick_as::<Brand, T, B>(&mut client.seat, from, tag, writes);
-        if found == from {
-            client.version = from + 1;
-            Ok(())
+        if found == from.get() {
+            let version = as_version(found + 1);
+            client.version = version;
+            Ok(version)
         } else {
-            Err(found)
+            Err(as_version(found))
         }
     }
 
@@ -190,7 +193,7 @@ impl<L: Law, A: Allocator> Region<L, A> {
         requires allowed { IsAllowed L.lawful self.now (releases lock) client.old }
         ensures { client.new ≡ acted self.now (releases lock) 0 client.old }
     {
-        let word = 2 * client.version;
+        let word = LockWord::free(client.version);
         self.store_as::<Brand>(&mut client.seat, FIRST_LOCK + lock as usize, word, lock);
     }
 
@@ -203,7 +206,7 @@ impl<L: Law, A: Allocator> Region<L, A> {
         ensures { client.new ≡ acted self.now (gives_back lock) 0 client.old }
     {
         self.give_back_as::<Brand>(&mut client.seat, FIRST_LOCK + lock as usize, lock);
-        client.version = 0;
+        client.version = as_version(0);
     }
 
     /// Ends an attempt that wrote nothing, with one more load of the clock.

@@ -6,8 +6,11 @@ ghost use Rattle.stm_core.specs.Client.{writes_to, old_version, is_free, without
 ghost use Rattle.stm_core.specs.Event.{is_empty};
 ghost use Rattle.stm_core.specs.Guards.{is_map, is_next, are_stored, may_write};
 ghost use Rattle.stm_core.specs.Theorem.{stripe_of};
+ghost use Rattle.stm_words.specs.LockWord.{free_word};
+ghost use Rattle.stm_words.specs.declared.version.TheConstants.{VERSION_LIMIT};
 
 use std::alloc::Allocator;
+use stm_words::{LockWord, Version};
 
 /// Whether some pair has this number in front.
 pub(crate) fn names(pairs: &[(u32, u64)], number: u32) -> bool
@@ -161,4 +164,16 @@ pub(crate) fn says_free(word: u64) -> bool
     ensures { result ≡ is_free word }
 {
     word == 2 * (word / 2)
+}
+
+/// The word of a free lock of the version of this number.
+#[inline]
+pub(crate) fn free_lock(number: u64) -> u64
+    requires { number < VERSION_LIMIT }
+    ensures { result ≡ free_word number }
+{
+    let Some(version) = Version::new(number) else {
+        unreachable!()
+    };
+    LockWord::free(version)
 }

@@ -13,6 +13,7 @@ ghost use Rattle.stm_words.specs.declared.version.TheConstants.{VERSION_LIMIT};
 use crate::event::{Entry, Event, Writes};
 use crate::limits::MOST_CLIENTS;
 use crate::order::Order;
+use crate::pairs::free_lock;
 use crate::seat::{Seat, others_spent};
 use std::alloc::{AllocError, Allocator};
 use std::marker::Model;
@@ -197,7 +198,7 @@ impl<A: Allocator + Copy> State<A> {
         let version = self.seat(client).write_version();
         let seat = &mut self.seats[client as usize - 1];
         seat.release(stripe);
-        self.locks[stripe as usize] = 2 * version;
+        self.locks[stripe as usize] = free_lock(version);
         self.events = events;
         Ok(())
     }
@@ -215,7 +216,7 @@ impl<A: Allocator + Copy> State<A> {
         let version = self.seat(client).old_version(stripe);
         let seat = &mut self.seats[client as usize - 1];
         seat.give_back(stripe);
-        self.locks[stripe as usize] = 2 * version;
+        self.locks[stripe as usize] = free_lock(version);
         self.events = events;
         Ok(())
     }

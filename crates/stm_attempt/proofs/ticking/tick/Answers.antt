@@ -7,5 +7,5 @@ use Rattle.stm_attempt.proofs.ticking.tick.Goals as goal
 
 pub returns-in-Ok-clause-won : goal.returns-in-Ok-clause-won
 returns-in-Ok-clause-won g c =
-    subst (λ (n : ℕ). HasTicked c.args.region.now (g.T.Tag.numbers c.args.tag.now) (log_pairs c.args.writes.now) c.args.client.now.value c.tick.new.client.value n) (sym c.as_version-in-Ok.ensures)
+    subst (λ (n : ℕ). HasTicked c.args.region.now (g.T.Tag.numbers c.args.tag.now) (log_pairs c.args.writes.now) c.args.client.now.value c.tick.new.client.value n) (sym c.in-Ok.ensures.version.0)
     (has_won c.args.region.now _ _ _ _ _ _ c.loop.invariant.2 c.requires.ready.reading c.tick.new.client.value (ap (λ (x : ClientShown). x.value) c.in-Ok.ensures.client))

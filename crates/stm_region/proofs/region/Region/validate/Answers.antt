@@ -25,8 +25,7 @@ invariant_of-client g c =
       search rules,
       search rules,
       search rules,
-      search rules,
-      subst Sorted (sym (ap (λ m. m.0.records) c.load_as.ensures.me)) (after_sorted (unplaced r.renewal) (stripe_of r.stripes) (validate c.args.lock) _ v c.client.invariant.6),
+      subst Sorted (sym (ap (λ m. m.0.records) c.load_as.ensures.me)) (after_sorted (unplaced r.renewal) (stripe_of r.stripes) (validate c.args.lock) _ v c.client.invariant.5),
     )
 
 pub returns-clause-after : goal.returns-clause-after

@@ -1,0 +1,18 @@
+//! Versions of numbers that are known to be in range.
+
+ghost use Rattle.std.specs.Prelude.{◌≡◌, ◌<◌};
+ghost use Rattle.stm_words.specs.declared.version.TheConstants.{VERSION_LIMIT};
+
+use stm_words::Version;
+
+/// The version of a number that is one.
+#[inline]
+pub(crate) fn as_version(number: u64) -> Version
+    requires { number < VERSION_LIMIT }
+    ensures { result ≡ number }
+{
+    let Some(version) = Version::new(number) else {
+        unreachable!()
+    };
+    version
+}
