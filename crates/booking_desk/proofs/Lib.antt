@@ -1,4 +1,3 @@
-mod Words
 mod Booking
 mod Serving
 mod Rounding

@@ -8,7 +8,7 @@ use Rattle.vac_model.specs.Code.{code}
 use Rattle.vac_model.specs.declared.tasks.Task.{Task}
 use Rattle.vac_manager.specs.declared.fault.Fault.{Fault}
 use Rattle.vac_manager.specs.declared.fault.Fault.TheVariants as fault
-use Rattle.vac_manager.specs.Session.{SessionShown}
+use Rattle.vac_manager.specs.Session.{SessionShown, GoesOn}
 use Rattle.vac_manager.specs.Called.{CallerShown, Adds, Attempts}
 use Rattle.booking_desk.specs.declared.desk.Desk.{Desk}
 use Rattle.booking_desk.specs.declared.settings.DeskSettings.{DeskSettings}
@@ -30,11 +30,11 @@ serves_none s d y may = record {
 
 -- a call left all but its client's value, and made some attempts
 pub record Called (z z' : SessionShown) : Type 0 where
-  pub session : z' ≡ record z { client = record z.client { value = z'.client.value } }
+  pub session : GoesOn z z'
   pub grants : z'.client.value.grants ≡ z.client.value.grants
   pub attempts : z.client.value.attempt.number ≤ z'.client.value.attempt.number
 
-on : (y z z' : SessionShown) → z ≡ record y { client = record y.client { value = z.client.value } } → Called z z' → z' ≡ record y { client = record y.client { value = z'.client.value } }
+on : (y z z' : SessionShown) → GoesOn y z → Called z z' → GoesOn y z'
 on y z z' e k = k.session ∙ ap (λ (x : SessionShown). record x { client = record x.client { value = z'.client.value } }) e
 
 -- a call that ended the round

@@ -8,7 +8,7 @@ use Rattle.vac_model.specs.declared.tasks.Task.{Task}
 use Rattle.vac_model.specs.declared.replies.Reply.{Reply}
 use Rattle.vac_model.specs.Code.{code}
 use Rattle.vac_manager.specs.Called.{CallerShown, IsSpent}
-use Rattle.vac_manager.specs.Session.{SessionShown}
+use Rattle.vac_manager.specs.Session.{SessionShown, GoesOn}
 use Rattle.vac_manager.specs.declared.fault.Fault.{Fault}
 use Rattle.vac_manager.specs.declared.fault.Fault.TheVariants as fault
 use Rattle.booking_desk.specs.declared.asking.TheConstants.{TRIES}
@@ -73,7 +73,7 @@ session_of region client = record { manager = region; client = client }
 -- a desk went on with its trips in this session: the records of what it booked, of this renewal,
 -- are all that the client got, and each trip that was given up cost all its attempts
 pub record Serves (s : DeskSettings) (d d' : Desk) (y y' : SessionShown) : Type 0 where
-  pub session : y' ≡ record y { client = record y.client { value = y'.client.value } }
+  pub session : GoesOn y y'
   pub grants : y'.client.value.grants ≡ y.client.value.grants
   pub may : MayServe s d'
   pub done : Booked

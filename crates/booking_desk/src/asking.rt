@@ -3,6 +3,7 @@
 ghost use Rattle.std.specs.Prelude.{◌≡◌, ◌≤◌, true, IfOk, IfErr};
 ghost use Rattle.vac_model.specs.Ranges.{is_task};
 ghost use Rattle.vac_manager.specs.Called.{Records};
+ghost use Rattle.vac_manager.specs.Session.{GoesOn};
 ghost use Rattle.booking_desk.specs.Setting.{is_settings};
 ghost use Rattle.booking_desk.specs.Desks.{session_of, HasServed, IsRefusal, MayServe};
 
@@ -22,9 +23,7 @@ pub(crate) const TRIES: u32 = 16;
 fn ask(session: &mut Session<'_>, task: &Task, asks: u32) -> Result<Reply, Fault>
     requires range { is_task task.now ≡ true }
     requires some { 1 ≤ asks }
-    ensures session { session.new ≡ record session.old {
-      client = record session.old.client { value = session.new.client.value };
-    } }
+    ensures session { GoesOn session.old session.new }
     ensures grants { session.new.client.value.grants ≡ session.old.client.value.grants }
     ensures attempts { session.old.client.value.attempt.number
         ≤ session.new.client.value.attempt.number }

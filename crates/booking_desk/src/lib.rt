@@ -4,7 +4,6 @@
 
 mod asking;
 mod desk;
-mod report;
 mod rounds;
 mod run;
 mod settings;

@@ -5,7 +5,6 @@ ghost use Rattle.booking_desk.specs.Setting.{is_settings};
 ghost use Rattle.booking_desk.specs.Run.{AreOn, AreEnded, Desked};
 
 use crate::desk::{Desk, is_left, new_desks};
-use crate::report::report_of;
 use crate::rounds::{Progress, go_on};
 use crate::settings::DeskSettings;
 use crate::trips::stock;
@@ -13,7 +12,7 @@ use std::alloc::Global;
 use std::thread::Threads;
 use stm_region::RegionFault;
 use thiserror::Error;
-use vac_manager::{Fault, Manager};
+use vac_manager::{Fault, Manager, report_of};
 use vac_model::Report;
 
 /// What the desks leave: how far each of them is, after how many rounds, and the report of the

@@ -102,12 +102,12 @@ fn run_loop(alloc: Global, manager: &Manager, client: Client, shown: &Shown, str
     requires { client.table ≡ manager.now.table }
     ensures { result.0.table ≡ manager.now.table }
 {
-    let mut client = client;
+    let mut session = Session::of(manager, client);
     let mut draws = PcgDraws::new(TRIPS.seed, stream);
     let mut gate = Paced { shown, answers: 0 };
-    let tally = client_loop(alloc, manager, &mut client, &mut draws, &TRIPS, &mut gate);
+    let tally = client_loop(alloc, &mut session, &mut draws, &TRIPS, &mut gate);
     shown.over.fetch_add(1, Ordering::SeqCst);
-    (client, tally)
+    (session.into_client(), tally)
 }
 
 /// The reports that were answered.
@@ -283,8 +283,10 @@ fn loops_beside_reports(rt: HostRuntime) -> Result<(), Fail> {
         over: AtomicU32::new(0),
     };
     let (tallies, reports, audited) = {
-        let (manager, mut client) = Manager::new(alloc, TRIPS.blocks, TRIPS.last)?;
-        open(&manager, &mut client, &mut FixedDraws(STOCK), &TRIPS)?;
+        let (manager, client) = Manager::new(alloc, TRIPS.blocks, TRIPS.last)?;
+        let mut session = Session::of(&manager, client);
+        open(&mut session, &mut FixedDraws(STOCK), &TRIPS)?;
+        let client = session.into_client();
         let left = four_loops_and_reports(&rt, alloc, &manager, client, &shown);
         let Ok((words, _)) = manager.close(left.client) else {
             panic!(rt; "it stayed open")

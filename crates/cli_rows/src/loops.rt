@@ -4,7 +4,7 @@ use crate::small_load::{SETTINGS, THREE_TRIPS, all_answered};
 use std::test::Fail;
 use stm_attempt::{Gate, Point};
 use vac_load::{FixedDraws, PcgDraws, Settings, client_loop, open};
-use vac_manager::{Fault, Manager};
+use vac_manager::{Fault, Manager, Session};
 use vac_model::{Command, Reply, Task};
 
 /// A gate that counts the answers that it is told of.
@@ -25,17 +25,11 @@ fn a_client_alone(rt: HostRuntime) -> Result<(), Fail> {
     let mut draws = FixedDraws(0);
     let mut gate = Answers(0);
     let (tally, audit) = {
-        let (manager, mut client) = Manager::new(alloc, SETTINGS.blocks, SETTINGS.last)?;
-        open(&manager, &mut client, &mut draws, &SETTINGS)?;
-        let tally = client_loop(
-            alloc,
-            &manager,
-            &mut client,
-            &mut draws,
-            &SETTINGS,
-            &mut gate,
-        );
-        let audit = manager.call(&mut client, &Task::One(Command::Audit), 1)?;
+        let (manager, client) = Manager::new(alloc, SETTINGS.blocks, SETTINGS.last)?;
+        let mut session = Session::of(&manager, client);
+        open(&mut session, &mut draws, &SETTINGS)?;
+        let tally = client_loop(alloc, &mut session, &mut draws, &SETTINGS, &mut gate);
+        let audit = session.call(&Task::One(Command::Audit), 1)?;
         (tally, audit)
     };
     let wants = (all_answered(3), 3, Reply::Report(THREE_TRIPS));
@@ -55,16 +49,11 @@ fn drawn_tasks_are_answered(rt: HostRuntime) -> Result<(), Fail> {
     };
     let mut gate = Answers(0);
     let tally = {
-        let (manager, mut client) = Manager::new(alloc, settings.blocks, settings.last)?;
-        open(&manager, &mut client, &mut PcgDraws::new(1, 0), &settings)?;
-        client_loop(
-            alloc,
-            &manager,
-            &mut client,
-            &mut PcgDraws::new(1, 1),
-            &settings,
-            &mut gate,
-        )
+        let (manager, client) = Manager::new(alloc, settings.blocks, settings.last)?;
+        let mut session = Session::of(&manager, client);
+        open(&mut session, &mut PcgDraws::new(1, 0), &settings)?;
+        let mut draws = PcgDraws::new(1, 1);
+        client_loop(alloc, &mut session, &mut draws, &settings, &mut gate)
     };
     assert_eq!(rt; (tally, gate.0), (all_answered(200), 200));
     Ok(())
@@ -76,8 +65,9 @@ fn a_clock_too_short_for_the_opening(rt: HostRuntime) -> Result<(), Fail> {
         last: 5,
         ..SETTINGS
     };
-    let (manager, mut client) = Manager::new(rt.alloc(), settings.blocks, settings.last)?;
-    let opened = open(&manager, &mut client, &mut FixedDraws(0), &settings);
+    let (manager, client) = Manager::new(rt.alloc(), settings.blocks, settings.last)?;
+    let mut session = Session::of(&manager, client);
+    let opened = open(&mut session, &mut FixedDraws(0), &settings);
     assert!(rt; matches!(opened, Err(Fault::Spent { .. })));
     Ok(())
 }

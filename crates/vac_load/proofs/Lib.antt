@@ -1,11 +1,11 @@
 mod Order
+mod Sessions
 mod Attempting
 mod Answering
 mod Beginning
 mod Opened
 mod Pairs
 mod Notes
-mod Words
 mod Gatherings
 pub mod Merging
 mod Shares

@@ -1,6 +1,6 @@
 -- Lists whose elements are related place by place.
 use Rattle.std.proofs.Common.{◌≡◌, ◌∙◌, ◌++◌, ◌<◌, ℕ, zero, suc, slice_index_or, List, [], ◌∷◌, length, length-append, map, ◌+◌, append-nil, append_assoc, All, refl, sym, ap, subst, arith}
-use Rattle.vac_manager.specs.Called.{CallerShown}
+use Rattle.vac_manager.specs.Session.{SessionShown}
 use Rattle.vac_draws.specs.declared.settings.Settings.{Settings}
 use Rattle.vac_load.specs.declared.tally.Tally.{Tally}
 use Rattle.vac_load.specs.declared.workers.WorkOf.{WorkOf}
@@ -78,15 +78,14 @@ pub all_but_first : {A : Type 0} (P : A → Type 0) (xs ys : List A) (x : A) →
 all_but_first P xs ys x e h = let g : All P (x ∷ ys) = subst (λ (l : List _). All P l) e h in λ k d less. g (suc k) d (omega (arith, less))
 
 -- promises of work that were kept
-pub worked_through : {D G K W H R : Type 0} (leads : D → ℕ → D → Type 0) (notes : K → Kept) (s : Settings) (renewal : ℕ) (client : W → CallerShown) (seat : W → Seat D G K) (promise : H → WorkOf D G K) (after : R → CallerShown) (last : R → Seat D G K) (tally : R → Tally) (ws : List W) (hs : List H) (rs : List R) →
-    Paired (λ w h. IsPromise s renewal (client w) (seat w) (promise h)) ws hs →
-    Paired (λ h r. HasWorked leads (promise h).settings (promise h).manager.value.renewal (promise h).client.value (after r) (shown notes (promise h).seat.value) (shown notes (last r)) (tally r)) hs rs →
-    Paired (λ w r. HasWorked leads s renewal (client w) (after r) (shown notes (seat w)) (shown notes (last r)) (tally r)) ws rs
-worked_through leads notes s renewal client seat promise after last tally ws hs rs = paired_through _ _ _ (λ w h r p k.
-    subst (λ (x : Settings). HasWorked leads x renewal (client w) (after r) (shown notes (seat w)) (shown notes (last r)) (tally r)) p.settings_is
-    (subst (λ (n : ℕ). HasWorked leads (promise h).settings n (client w) (after r) (shown notes (seat w)) (shown notes (last r)) (tally r)) p.renewal_is
-    (subst (λ (x : CallerShown). HasWorked leads (promise h).settings (promise h).manager.value.renewal x (after r) (shown notes (seat w)) (shown notes (last r)) (tally r)) p.client_is
-    (subst (λ (x : Seat _ _ _). HasWorked leads (promise h).settings (promise h).manager.value.renewal (promise h).client.value (after r) (shown notes x) (shown notes (last r)) (tally r)) p.seat_is k)))) ws hs rs
+pub worked_through : {D G K W H R : Type 0} (leads : D → ℕ → D → Type 0) (notes : K → Kept) (s : Settings) (session : W → SessionShown) (seat : W → Seat D G K) (promise : H → WorkOf D G K) (after : R → SessionShown) (last : R → Seat D G K) (tally : R → Tally) (ws : List W) (hs : List H) (rs : List R) →
+    Paired (λ w h. IsPromise s (session w) (seat w) (promise h)) ws hs →
+    Paired (λ h r. HasWorked leads (promise h).settings (promise h).session.value (after r) (shown notes (promise h).seat.value) (shown notes (last r)) (tally r)) hs rs →
+    Paired (λ w r. HasWorked leads s (session w) (after r) (shown notes (seat w)) (shown notes (last r)) (tally r)) ws rs
+worked_through leads notes s session seat promise after last tally ws hs rs = paired_through _ _ _ (λ w h r p k.
+    subst (λ (x : Settings). HasWorked leads x (session w) (after r) (shown notes (seat w)) (shown notes (last r)) (tally r)) p.settings_is
+    (subst (λ (y : SessionShown). HasWorked leads (promise h).settings y (after r) (shown notes (seat w)) (shown notes (last r)) (tally r)) p.session_is
+    (subst (λ (x : Seat _ _ _). HasWorked leads (promise h).settings (promise h).session.value (after r) (shown notes x) (shown notes (last r)) (tally r)) p.seat_is k))) ws hs rs
 
 pub all_first : {A : Type 0} (P : A → Type 0) (xs ys : List A) (x : A) → xs ≡ x ∷ ys → All P xs → P x
 all_first P xs ys x e h = let g : All P (x ∷ ys) = subst (λ (l : List _). All P l) e h in g 0 x (omega arith)

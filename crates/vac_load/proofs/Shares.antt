@@ -1,13 +1,14 @@
 -- What each client did, from its client before and after.
 use Rattle.std.proofs.Common.{◌≡◌, ◌∙◌, ℕ, suc, ◌+◌, ◌-◌, ◌≤◌, List, [], ◌∷◌, ◌++◌, length, All, inl, inr, refl, sym, ap, subst, arith}
-use Rattle.atomic_table.specs.Seated.{TableId}
 use Rattle.stm_words.specs.Image.{In}
 use Rattle.stm_core.specs.Client.{Client, Record, merged}
 use Rattle.stm_core.specs.declared.limits.TheConstants.{MOST_GRANTS}
 use Rattle.stm_core.specs.Invariant.{Sorted}
 use Rattle.stm_core.proofs.Orders.{in_merged}
 use Rattle.stm_core.proofs.Whole.{merged_sorted}
+use Rattle.stm_region.specs.Shown.{RegionShown}
 use Rattle.vac_manager.specs.Called.{CallerShown, Splits}
+use Rattle.vac_manager.specs.Session.{SessionShown}
 use Rattle.vac_draws.specs.declared.settings.Settings.{Settings}
 use Rattle.vac_load.specs.declared.tally.Tally.{Tally}
 use Rattle.vac_load.specs.Looping.{total}
@@ -16,33 +17,31 @@ use Rattle.vac_draws.specs.Tasks.{task_of}
 use Rattle.vac_load.specs.Keeping.{AreKept, SeatShown}
 use Rattle.vac_load.specs.Sums.{sum_of, plus, added_up}
 use Rattle.vac_load.specs.Lists.{Paired, none, both, Interleaved}
-use Rattle.vac_load.specs.Load.{InterleavedAll, all_merged, Gathered, HasWorked, IsHired, Hired, AreKnown, IsInRenewal, Share, HasKeptShare, RanAll}
+use Rattle.vac_load.specs.Load.{InterleavedAll, all_merged, Gathered, HasWorked, IsWorker, IsCrew, AreKnown, IsInRenewal, Share, HasKeptShare, RanAll}
 use Rattle.vac_load.proofs.Eras.{more_in}
 use Rattle.vac_load.proofs.Order.{IsLater, added_later, known_first, merged_behind}
 use Rattle.vac_load.proofs.Merging.{interleaved_alone, regrouped, merged_interleaved}
 use Rattle.vac_load.proofs.Notes.{kept_added}
 use Rattle.vac_load.proofs.Pairs.{paired_through, paired_length, all_cons}
 
--- a client that was split off
-pub split_hired : {D : Type 0} (c before after other : CallerShown) (state : D) → Splits before after other → before.table ≡ c.table → before.value.floor ≡ c.value.floor →
-    IsHired c.table [] c.value.floor state other state
-split_hired c before after other state s t f = record {
-  own = ap (λ (x : CallerShown). x.table) s.theirs ∙ t;
+-- a session that was split off
+pub split_worker : {D : Type 0} (y before after other : SessionShown) (state : D) → Splits before.client after.client other.client → other.manager ≡ before.manager → before.manager ≡ y.manager →
+    before.client.value.floor ≡ y.client.value.floor → IsWorker y.manager [] y.client.value.floor state other state
+split_worker y before after other state s m t f = record {
+  manager_is = m ∙ t;
   records_are = ap (λ (x : CallerShown). x.value.records) s.theirs;
   knows = let q = ap (λ (x : CallerShown). x.value.floor) s.theirs in omega (arith, q, f);
   draws_are = refl;
 }
 
--- the client that it was split off from
+-- the client that another was split off from
 pub record SplitKeeps (before after : CallerShown) : Type 0 where
-  pub table : after.table ≡ before.table
   pub records : after.value.records ≡ before.value.records
   pub floor : after.value.floor ≡ before.value.floor
   pub grants : after.value.grants + 1 ≡ before.value.grants
 
 pub split_keeps : (before after other : CallerShown) → Splits before after other → SplitKeeps before after
 split_keeps before after other s = record {
-  table = ap (λ (x : CallerShown). x.table) s.mine;
   records = ap (λ (x : CallerShown). x.value.records) s.mine;
   floor = ap (λ (x : CallerShown). x.value.floor) s.mine;
   grants = let q : after.value.grants ≡ before.value.grants - 1 = ap (λ (x : CallerShown). x.value.grants) s.mine in omega (arith, q, s.some);
@@ -70,16 +69,16 @@ pub record Did {D : Type 0} (leads : D → ℕ → D → Type 0) (s : Settings) 
   pub later : (r : Record) → In r added → IsLater renewal floor r
   pub has : HasKeptShare leads s s.tasks state (record { records = added; tally = t; left = left })
 
-pub did : {D : Type 0} (leads : D → ℕ → D → Type 0) (s : Settings) (renewal floor : ℕ) (table : TableId) (before : List Record) (state seat left : SeatShown D) (c c' : CallerShown) (t : Tally) →
-    IsHired table before floor state c seat → HasWorked leads s renewal c c' seat left t → Did leads s renewal floor before state left c' t
-did leads s renewal floor table before state seat left c c' t h w =
+pub did : {D : Type 0} (leads : D → ℕ → D → Type 0) (s : Settings) (manager : RegionShown) (floor : ℕ) (before : List Record) (state seat left : SeatShown D) (y y' : SessionShown) (t : Tally) →
+    IsWorker manager before floor state y seat → HasWorked leads s y y' seat left t → Did leads s manager.renewal floor before state left y'.client t
+did leads s manager floor before state seat left y y' t h w =
     let l = w.looped in
     let a = l.answered in
     record {
       added = a.added;
       records_are = a.records ∙ ap (λ (rs : List Record). rs ++ a.added) h.records_are;
       sorted = a.sorted;
-      later = λ r i. added_later renewal floor c.value.floor c'.value.floor r h.knows (a.each r i);
+      later = λ r i. subst (λ (m : RegionShown). IsLater m.renewal floor r) h.manager_is (added_later y.manager.renewal floor y.client.value.floor y'.client.value.floor r h.knows (a.each r i));
       has = record {
         has = record {
           tasks = l.tasks;
@@ -90,7 +89,7 @@ did leads s renewal floor table before state seat left c c' t h w =
           are_of = a.are_of;
           all = l.all;
         };
-        kept = subst (λ (x : SeatShown _). AreKept a.added x.kept left.kept) h.draws_are (kept_added c.value c'.value a.added seat.kept left.kept a.records w.kept);
+        kept = subst (λ (x : SeatShown _). AreKept a.added x.kept left.kept) h.draws_are (kept_added y.client.value y'.client.value a.added seat.kept left.kept a.records w.kept);
       };
     }
 
@@ -127,51 +126,51 @@ no_sum : {X : Type 0} (f : X → ℕ) (xs : List X) → length xs ≡ 0 → sum_
 no_sum f [] e = refl
 no_sum f (x ∷ xs) e = absurd (omega (arith, e))
 
-module _ {D P W R : Type 0} (leads : D → ℕ → D → Type 0) (s : Settings) (renewal : ℕ) (shown_of : P → SeatShown D) (client_of : W → CallerShown) (seat_of : W → SeatShown D) (after_of : R → CallerShown) (last_of : R → SeatShown D) (tally_of : R → Tally) where
+module _ {D P W R : Type 0} (leads : D → ℕ → D → Type 0) (s : Settings) (opener : SessionShown) (shown_of : P → SeatShown D) (session_of : W → SessionShown) (seat_of : W → SeatShown D) (after_of : R → SessionShown) (last_of : R → SeatShown D) (tally_of : R → Tally) where
   -- the shares of the clients that began without records
   record Shared (floor : ℕ) (ps : List P) (rs : List R) : Type 0 where
     shares : List (Share (SeatShown D))
     each : Paired (λ p x. HasKeptShare leads s s.tasks (shown_of p) x) ps shares
     left_are : Paired (λ x r. last_of r ≡ x.left) shares rs
-    later : AreLater renewal floor shares
-    merges : (l : List Record) → all_merged (λ r. (after_of r).value.records) l rs ≡ all_merged (λ (x : Share (SeatShown D)). x.records) l shares
+    later : AreLater opener.manager.renewal floor shares
+    merges : (l : List Record) → all_merged (λ r. (after_of r).client.value.records) l rs ≡ all_merged (λ (x : Share (SeatShown D)). x.records) l shares
     tallies : added_up tally_of rs ≡ added_up (λ (x : Share (SeatShown D)). x.tally) shares
 
-  shared : (table : TableId) (floor : ℕ) (ps : List P) (ws : List W) (rs : List R) →
-      Paired (λ p w. IsHired table [] floor (shown_of p) (client_of w) (seat_of w)) ps ws →
-      Paired (λ w r. HasWorked leads s renewal (client_of w) (after_of r) (seat_of w) (last_of r) (tally_of r)) ws rs →
+  shared : (floor : ℕ) (ps : List P) (ws : List W) (rs : List R) →
+      Paired (λ p w. IsWorker opener.manager [] floor (shown_of p) (session_of w) (seat_of w)) ps ws →
+      Paired (λ w r. HasWorked leads s (session_of w) (after_of r) (seat_of w) (last_of r) (tally_of r)) ws rs →
       Shared floor ps rs
-  shared table floor [] [] [] none none = record { shares = []; each = none; left_are = none; later = tt; merges = λ l. refl; tallies = refl }
-  shared table floor (p ∷ ps) (w ∷ ws) (r ∷ rs) (both h hs) (both k ks) =
-      let d = did leads s renewal floor table [] (shown_of p) (seat_of w) (last_of r) (client_of w) (after_of r) (tally_of r) h k in
-      let more = shared table floor ps ws rs hs ks in
+  shared floor [] [] [] none none = record { shares = []; each = none; left_are = none; later = tt; merges = λ l. refl; tallies = refl }
+  shared floor (p ∷ ps) (w ∷ ws) (r ∷ rs) (both h hs) (both k ks) =
+      let d = did leads s opener.manager floor [] (shown_of p) (seat_of w) (last_of r) (session_of w) (after_of r) (tally_of r) h k in
+      let more = shared floor ps ws rs hs ks in
       record {
         shares = record { records = d.added; tally = tally_of r; left = last_of r } ∷ more.shares;
         each = both d.has more.each;
         left_are = both refl more.left_are;
         later = ((d.sorted, d.later), more.later);
-        merges = λ l. ap (λ (m : List Record). all_merged (λ r. (after_of r).value.records) (merged l m) rs) d.records_are ∙ more.merges (merged l d.added);
+        merges = λ l. ap (λ (m : List Record). all_merged (λ r. (after_of r).client.value.records) (merged l m) rs) d.records_are ∙ more.merges (merged l d.added);
         tallies = ap (λ (t : Tally). plus (tally_of r) t) more.tallies;
       }
-  shared table floor [] [] (r ∷ rs) hs ks = elim ks [ ]
-  shared table floor [] (w ∷ ws) rs hs ks = elim hs [ ]
-  shared table floor (p ∷ ps) [] rs hs ks = elim hs [ ]
-  shared table floor (p ∷ ps) (w ∷ ws) [] hs ks = elim ks [ ]
+  shared floor [] [] (r ∷ rs) hs ks = elim ks [ ]
+  shared floor [] (w ∷ ws) rs hs ks = elim hs [ ]
+  shared floor (p ∷ ps) [] rs hs ks = elim hs [ ]
+  shared floor (p ∷ ps) (w ∷ ws) [] hs ks = elim ks [ ]
 
-  pub ran_all : (opener : CallerShown) (pairs left : List P) (first : W) (others : List W) (first' : R) (others' : List R) (after : Client) (t : Tally) →
-      AreKnown renewal opener.value.floor opener.value.records →
-      Hired shown_of opener pairs client_of seat_of first others →
-      HasWorked leads s renewal (client_of first) (after_of first') (seat_of first) (last_of first') (tally_of first') →
-      Paired (λ w r. HasWorked leads s renewal (client_of w) (after_of r) (seat_of w) (last_of r) (tally_of r)) others others' →
-      Gathered (λ r. (after_of r).value.records) tally_of first' others' after.records t →
+  pub ran_all : (pairs left : List P) (first : W) (others : List W) (first' : R) (others' : List R) (after : Client) (t : Tally) →
+      AreKnown opener.manager.renewal opener.client.value.floor opener.client.value.records →
+      IsCrew shown_of opener pairs session_of seat_of first others →
+      HasWorked leads s (session_of first) (after_of first') (seat_of first) (last_of first') (tally_of first') →
+      Paired (λ w r. HasWorked leads s (session_of w) (after_of r) (seat_of w) (last_of r) (tally_of r)) others others' →
+      Gathered (λ r. (after_of r).client.value.records) tally_of first' others' after.records t →
       Paired (λ r p. shown_of p ≡ last_of r) (first' ∷ others') left →
-      (client_of first).value.grants + length others ≡ MOST_GRANTS →
-      RanAll leads s shown_of s.tasks opener.value.records pairs after.records left t
-  ran_all opener pairs left first others first' others' after t known h k ks g lefts grants =
-      let floor = opener.value.floor in
-      let d = did leads s renewal floor opener.table opener.value.records (shown_of h.pair) (seat_of first) (last_of first') (client_of first) (after_of first') (tally_of first') h.opening k in
-      let more = shared opener.table floor h.rest others others' h.others_are ks in
-      let inside = within renewal floor d.added more.shares d.sorted more.later in
+      (session_of first).client.value.grants + length others ≡ MOST_GRANTS →
+      RanAll leads s shown_of s.tasks opener.client.value.records pairs after.records left t
+  ran_all pairs left first others first' others' after t known h k ks g lefts grants =
+      let floor = opener.client.value.floor in
+      let d = did leads s opener.manager floor opener.client.value.records (shown_of h.pair) (seat_of first) (last_of first') (session_of first) (after_of first') (tally_of first') h.opening k in
+      let more = shared floor h.rest others others' h.others_are ks in
+      let inside = within opener.manager.renewal floor d.added more.shares d.sorted more.later in
       let mine : Share (SeatShown D) = record { records = d.added; tally = tally_of first'; left = last_of first' } in
       record {
         shares = mine ∷ more.shares;
@@ -179,9 +178,9 @@ module _ {D P W R : Type 0} (leads : D → ℕ → D → Type 0) (s : Settings) 
         left_are = paired_through (λ x r. last_of r ≡ x.left) (λ r p. shown_of p ≡ last_of r) (λ x p. shown_of p ≡ x.left) (λ x r p e f. f ∙ e) (mine ∷ more.shares) (first' ∷ others') left (both refl more.left_are) lefts;
         rest = all_merged (λ (x : Share (SeatShown D)). x.records) d.added more.shares;
         behind = g.records_are
-            ∙ (ap (λ (m : List Record). all_merged (λ r. (after_of r).value.records) m others') d.records_are
-            ∙ (more.merges (opener.value.records ++ d.added)
-            ∙ merged_front renewal floor opener.value.records d.added more.shares known more.later));
+            ∙ (ap (λ (m : List Record). all_merged (λ r. (after_of r).client.value.records) m others') d.records_are
+            ∙ (more.merges (opener.client.value.records ++ d.added)
+            ∙ merged_front opener.manager.renewal floor opener.client.value.records d.added more.shares known more.later));
         each_once = inside;
         tallies = g.tallies ∙ ap (λ (u : Tally). plus (tally_of first') u) more.tallies;
         alone = λ one. (
@@ -194,34 +193,34 @@ module _ {D P W R : Type 0} (leads : D → ℕ → D → Type 0) (s : Settings) 
       }
 
   -- what they added is of this renewal
-  pub ran_in : (opener : CallerShown) (pairs : List P) (first : W) (others : List W) (first' : R) (others' : List R) (after : Client) (t : Tally) →
-      AreKnown renewal opener.value.floor opener.value.records →
-      Hired shown_of opener pairs client_of seat_of first others →
-      HasWorked leads s renewal (client_of first) (after_of first') (seat_of first) (last_of first') (tally_of first') →
-      Paired (λ w r. HasWorked leads s renewal (client_of w) (after_of r) (seat_of w) (last_of r) (tally_of r)) others others' →
-      Gathered (λ r. (after_of r).value.records) tally_of first' others' after.records t →
-      IsInRenewal renewal opener.value.records → IsInRenewal renewal after.records
-  ran_in opener pairs first others first' others' after t known h k ks g in_it =
-      let floor = opener.value.floor in
-      let d = did leads s renewal floor opener.table opener.value.records (shown_of h.pair) (seat_of first) (last_of first') (client_of first) (after_of first') (tally_of first') h.opening k in
-      let more = shared opener.table floor h.rest others others' h.others_are ks in
+  pub ran_in : (pairs : List P) (first : W) (others : List W) (first' : R) (others' : List R) (after : Client) (t : Tally) →
+      AreKnown opener.manager.renewal opener.client.value.floor opener.client.value.records →
+      IsCrew shown_of opener pairs session_of seat_of first others →
+      HasWorked leads s (session_of first) (after_of first') (seat_of first) (last_of first') (tally_of first') →
+      Paired (λ w r. HasWorked leads s (session_of w) (after_of r) (seat_of w) (last_of r) (tally_of r)) others others' →
+      Gathered (λ r. (after_of r).client.value.records) tally_of first' others' after.records t →
+      IsInRenewal opener.manager.renewal opener.client.value.records → IsInRenewal opener.manager.renewal after.records
+  ran_in pairs first others first' others' after t known h k ks g in_it =
+      let floor = opener.client.value.floor in
+      let d = did leads s opener.manager floor opener.client.value.records (shown_of h.pair) (seat_of first) (last_of first') (session_of first) (after_of first') (tally_of first') h.opening k in
+      let more = shared floor h.rest others others' h.others_are ks in
       let rest = all_merged (λ (x : Share (SeatShown D)). x.records) d.added more.shares in
-      more_in renewal opener.value.records rest after.records in_it
+      more_in opener.manager.renewal opener.client.value.records rest after.records in_it
       (g.records_are
-      ∙ (ap (λ (m : List Record). all_merged (λ r. (after_of r).value.records) m others') d.records_are
-      ∙ (more.merges (opener.value.records ++ d.added)
-      ∙ merged_front renewal floor opener.value.records d.added more.shares known more.later)))
-      (of_this renewal floor d.added more.shares d.later more.later)
+      ∙ (ap (λ (m : List Record). all_merged (λ r. (after_of r).client.value.records) m others') d.records_are
+      ∙ (more.merges (opener.client.value.records ++ d.added)
+      ∙ merged_front opener.manager.renewal floor opener.client.value.records d.added more.shares known more.later)))
+      (of_this opener.manager.renewal floor d.added more.shares d.later more.later)
 
-module _ {D W R : Type 0} (leads : D → ℕ → D → Type 0) (s : Settings) (renewal : ℕ) (client_of : W → CallerShown) (seat_of : W → SeatShown D) (after_of : R → CallerShown) (last_of : R → SeatShown D) (tally_of : R → Tally) where
-  pub worked_own : (table : TableId) (ws : List W) (rs : List R) → All (λ w. (client_of w).table ≡ table) ws →
-      Paired (λ w r. HasWorked leads s renewal (client_of w) (after_of r) (seat_of w) (last_of r) (tally_of r)) ws rs → All (λ r. (after_of r).table ≡ table) rs
-  worked_own table ws rs h p = paired_both _ (λ w. (client_of w).table ≡ table) (λ r. (after_of r).table ≡ table) (λ w r e k. ap (λ (x : CallerShown). x.table) k.client ∙ e) ws rs h p
+module _ {D W R : Type 0} (leads : D → ℕ → D → Type 0) (s : Settings) (session_of : W → SessionShown) (seat_of : W → SeatShown D) (after_of : R → SessionShown) (last_of : R → SeatShown D) (tally_of : R → Tally) where
+  pub worked_with : (manager : RegionShown) (ws : List W) (rs : List R) → All (λ w. (session_of w).manager ≡ manager) ws →
+      Paired (λ w r. HasWorked leads s (session_of w) (after_of r) (seat_of w) (last_of r) (tally_of r)) ws rs → All (λ r. (after_of r).manager ≡ manager) rs
+  worked_with manager ws rs h p = paired_both _ (λ w. (session_of w).manager ≡ manager) (λ r. (after_of r).manager ≡ manager) (λ w r e k. ap (λ (y : SessionShown). y.manager) k.session ∙ e) ws rs h p
 
-  pub worked_grants : (ws : List W) (rs : List R) → All (λ w. (client_of w).value.grants ≡ 0) ws →
-      Paired (λ w r. HasWorked leads s renewal (client_of w) (after_of r) (seat_of w) (last_of r) (tally_of r)) ws rs → All (λ r. (after_of r).value.grants ≡ 0) rs
-  worked_grants ws rs h p = paired_both _ (λ w. (client_of w).value.grants ≡ 0) (λ r. (after_of r).value.grants ≡ 0) (λ w r e k. k.looped.answered.grants ∙ e) ws rs h p
+  pub worked_grants : (ws : List W) (rs : List R) → All (λ w. (session_of w).client.value.grants ≡ 0) ws →
+      Paired (λ w r. HasWorked leads s (session_of w) (after_of r) (seat_of w) (last_of r) (tally_of r)) ws rs → All (λ r. (after_of r).client.value.grants ≡ 0) rs
+  worked_grants ws rs h p = paired_both _ (λ w. (session_of w).client.value.grants ≡ 0) (λ r. (after_of r).client.value.grants ≡ 0) (λ w r e k. k.looped.answered.grants ∙ e) ws rs h p
 
   pub worked_tasks : (n : ℕ) (ws : List W) (rs : List R) → s.tasks ≤ n →
-      Paired (λ w r. HasWorked leads s renewal (client_of w) (after_of r) (seat_of w) (last_of r) (tally_of r)) ws rs → All (λ r. total (tally_of r) ≤ n) rs
+      Paired (λ w r. HasWorked leads s (session_of w) (after_of r) (seat_of w) (last_of r) (tally_of r)) ws rs → All (λ r. total (tally_of r) ≤ n) rs
   worked_tasks n ws rs few p = paired_each _ (λ r. total (tally_of r) ≤ n) (λ w r k. (let q = k.looped.all in omega (arith, q, few))) ws rs p

@@ -1,6 +1,5 @@
 -- What a load promises.
 use Rattle.std.specs.Prelude.{◌≡◌, ◌≤◌, ◌<◌, ◌*◌, ◌⊎◌, ◌++◌, ◌&&◌, nat_eq, Bool, ℕ, List, [], ◌∷◌, length}
-use Rattle.atomic_table.specs.Seated.{TableId}
 use Rattle.stm_words.specs.Image.{In}
 use Rattle.vac_model.specs.declared.tasks.Task.{Task}
 use Rattle.stm_core.specs.Client.{Client, Record, merged}
@@ -9,6 +8,7 @@ use Rattle.stm_core.specs.Invariant.{Sorted}
 use Rattle.stm_region.specs.Shown.{RegionShown}
 use Rattle.vac_manager.specs.Called.{CallerShown}
 use Rattle.vac_manager.specs.Opening.{Opens}
+use Rattle.vac_manager.specs.Session.{SessionShown, GoesOn}
 use Rattle.vac_manager.specs.declared.fault.Fault.{Fault}
 use Rattle.vac_manager.specs.declared.fault.Fault.TheVariants as fault
 use Rattle.vac_draws.specs.declared.settings.Settings.{Settings}
@@ -30,21 +30,20 @@ use Rattle.vac_draws.specs.Draws.{Drawn, times}
 use Rattle.vac_draws.specs.Tasks.{task_of, opening}
 use Rattle.vac_load.specs.Sums.{plus, added_up}
 
--- a client of some manager ran its tasks of a round, in this renewal: it is the client that it
--- was, its value has what its loop made of it, and its keeper kept its answered calls
-pub record HasWorked {D : Type 0} (leads : D → ℕ → D → Type 0) (s : Settings) (renewal : ℕ)
-    (c c' : CallerShown) (state last : SeatShown D) (t : Tally) : Type 0 where
-  pub client : c' ≡ record c { value = c'.value }
-  pub looped : Looped leads s renewal s.tasks c.value c'.value state.draws last.draws t
-  pub kept : HasKeptAdded c.value c'.value state.kept last.kept
+-- a worker ran its tasks of a round: its session went on, its client's value has what its loop made
+-- of it in its manager's renewal, and its keeper kept its answered calls
+pub record HasWorked {D : Type 0} (leads : D → ℕ → D → Type 0) (s : Settings)
+    (y y' : SessionShown) (state last : SeatShown D) (t : Tally) : Type 0 where
+  pub session : GoesOn y y'
+  pub looped : Looped leads s y.manager.renewal s.tasks y.client.value y'.client.value
+      state.draws last.draws t
+  pub kept : HasKeptAdded y.client.value y'.client.value state.kept last.kept
 
--- the promise is of the tasks of this client, by these settings, in this renewal, and from this
--- seat
-pub record IsPromise {D G K : Type 0} (s : Settings) (renewal : ℕ) (c : CallerShown)
-    (seat : Seat D G K) (p : WorkOf D G K) : Type 0 where
+-- the promise is of the tasks by these settings, in this session, and from this seat
+pub record IsPromise {D G K : Type 0} (s : Settings) (y : SessionShown) (seat : Seat D G K)
+    (p : WorkOf D G K) : Type 0 where
   pub settings_is : p.settings ≡ s
-  pub renewal_is : p.manager.value.renewal ≡ renewal
-  pub client_is : p.client.value ≡ c
+  pub session_is : p.session.value ≡ y
   pub seat_is : p.seat.value ≡ seat
 
 -- the list has the records of all these and no others, each once, those of each in their order
@@ -65,25 +64,27 @@ pub record Gathered {X : Type 0} (records_of : X → List Record) (tally_of : X 
   pub records_are : all ≡ all_merged records_of (records_of first) others
   pub tallies : t ≡ added_up tally_of (first ∷ others)
 
--- a client is of this table, and begins with these records, a floor of at least this one, and this
--- seat
-pub record IsHired {D : Type 0} (table : TableId) (records : List Record) (floor : ℕ)
-    (state : D) (c : CallerShown) (draws : D) : Type 0 where
-  pub own : c.table ≡ table
-  pub records_are : c.value.records ≡ records
-  pub knows : floor ≤ c.value.floor
+-- a worker's session is one with this manager, and its client begins with these records and a floor
+-- of at least this one; and the worker has this seat
+pub record IsWorker {D : Type 0} (manager : RegionShown) (records : List Record) (floor : ℕ)
+    (state : D) (y : SessionShown) (draws : D) : Type 0 where
+  pub manager_is : y.manager ≡ manager
+  pub records_are : y.client.value.records ≡ records
+  pub knows : floor ≤ y.client.value.floor
   pub draws_are : draws ≡ state
 
--- each seat got a client: the first the opening client, the others clients without records
-pub record Hired {D P W : Type 0} (draws_of : P → D) (opener : CallerShown) (pairs : List P)
-    (client_of : W → CallerShown) (drawing : W → D) (first : W) (others : List W) : Type 0 where
+-- each seat got a session with the opening session's manager: the first that session, the others
+-- sessions of clients without records
+pub record IsCrew {D P W : Type 0} (draws_of : P → D) (opener : SessionShown) (pairs : List P)
+    (session_of : W → SessionShown) (drawing : W → D) (first : W) (others : List W)
+    : Type 0 where
   pub pair : P
   pub rest : List P
   pub pairs_are : pairs ≡ pair ∷ rest
-  pub opening : IsHired opener.table opener.value.records opener.value.floor
-      (draws_of pair) (client_of first) (drawing first)
-  pub others_are : Paired (λ p w. IsHired opener.table [] opener.value.floor
-      (draws_of p) (client_of w) (drawing w)) rest others
+  pub opening : IsWorker opener.manager opener.client.value.records opener.client.value.floor
+      (draws_of pair) (session_of first) (drawing first)
+  pub others_are : Paired (λ p w. IsWorker opener.manager [] opener.client.value.floor
+      (draws_of p) (session_of w) (drawing w)) rest others
 
 -- the record stands behind none that is added in this renewal by a client that knows this version
 pub record IsKnown (renewal version : ℕ) (r : Record) : Type 0 where

@@ -1,4 +1,4 @@
-//! Clients that are split off for a round, and gathered after it.
+//! Sessions that are split off for a round, and gathered after it.
 
 ghost use Rattle.std.specs.Prelude.{◌≡◌, ◌≤◌, ◌<◌, ◌+◌, ◌⊎◌, ◌∷◌, [], true, All, vec_len, vec_capacity, IfOk, IfErr};
 ghost use Rattle.stm_core.specs.declared.limits.TheConstants.{MOST_GRANTS};
@@ -8,7 +8,7 @@ ghost use Rattle.vac_draws.specs.Setting.{is_settings};
 ghost use Rattle.vac_draws.specs.declared.settings.TheConstants.{MOST_TASKS, MOST_CLIENTS};
 ghost use Rattle.vac_load.specs.Lists.{Paired};
 ghost use Rattle.vac_load.specs.Keeping.{shown};
-ghost use Rattle.vac_load.specs.Load.{Gathered, Hired, AreKnown, IsInRenewal, RanAll};
+ghost use Rattle.vac_load.specs.Load.{Gathered, IsCrew, AreKnown, IsInRenewal, RanAll};
 
 use crate::counts::Counts;
 use crate::load::LoadFault;
@@ -19,7 +19,7 @@ use std::sync::Wait;
 use std::thread::Threads;
 use stm_attempt::Gate;
 use vac_draws::{Draws, Settings};
-use vac_manager::{Client, Keep, Manager};
+use vac_manager::{Client, Keep, Session};
 
 /// What a round leaves: the client that took in all others, the seats of the clients in their
 /// order, and how the tasks ended.
@@ -30,32 +30,33 @@ pub(crate) struct Round<D, G, K> {
     pub(crate) tally: Counts,
 }
 
-/// Gathers the clients into the first one, in their order, hands their seats back, and adds up how
-/// their tasks ended.
+/// Gathers the workers' clients into that of the first one, in their order, hands their seats back,
+/// and adds up how their tasks ended.
 fn gather_all<D: Drop, G: Drop, K: Keep + Drop>(
-    manager: &Manager,
-    crew: Crew<Worked<D, G, K>>,
+    crew: Crew<Worked<'_, D, G, K>>,
     mut seats: Vec<Seat<D, G, K>>,
 ) -> Round<D, G, K>
-    requires own { crew.first.worker.client.table ≡ manager.now.table }
-    requires others_own { All (λ w. w.worker.client.table ≡ manager.now.table) crew.others.items }
-    requires grants { crew.first.worker.client.value.grants + vec_len crew.others ≡ MOST_GRANTS }
-    requires others_grants { All (λ w. w.worker.client.value.grants ≡ 0) crew.others.items }
+    requires one { All (λ w. w.worker.session.manager ≡ crew.first.worker.session.manager)
+        crew.others.items }
+    requires grants { crew.first.worker.session.client.value.grants + vec_len crew.others
+        ≡ MOST_GRANTS }
+    requires others_grants { All (λ w. w.worker.session.client.value.grants ≡ 0)
+        crew.others.items }
     requires few { vec_len crew.others < MOST_CLIENTS }
     requires room { vec_len crew.others < vec_capacity seats }
     requires empty { seats.items ≡ [] }
     requires tasks { total crew.first.tally ≤ MOST_TASKS }
     requires others_tasks { All (λ w. total w.tally ≤ MOST_TASKS) crew.others.items }
-    ensures own { result.client.table ≡ manager.now.table }
+    ensures own { result.client.table ≡ crew.entry.first.worker.session.manager.table }
     ensures grants { HasAllGrants result.client.value }
-    ensures gathered { Gathered (λ w. w.worker.client.value.records) (λ w. w.tally)
-        crew.first crew.others.items result.client.value.records result.tally }
+    ensures gathered { Gathered (λ w. w.worker.session.client.value.records) (λ w. w.tally)
+        crew.entry.first crew.entry.others.items result.client.value.records result.tally }
     ensures seats { Paired (λ w seat. shown K.notes seat ≡ shown K.notes w.worker.seat)
-        (crew.first ∷ crew.others.items) result.seats.items }
+        (crew.entry.first ∷ crew.entry.others.items) result.seats.items }
 {
     let Crew { first, others } = crew;
     let Worked { worker, mut tally } = first;
-    let Worker { mut client, seat } = worker;
+    let Worker { mut session, seat } = worker;
     let Ok(()) = seats.push(seat) else {
         unreachable!()
     };
@@ -65,42 +66,38 @@ fn gather_all<D: Drop, G: Drop, K: Keep + Drop>(
             tally: more,
         } = worked;
         let Worker {
-            client: other,
+            session: other,
             seat,
         } = worker;
-        manager.gather(&mut client, other);
+        session.gather(other);
         let Ok(()) = seats.push(seat) else {
             unreachable!()
         };
         tally = tally.plus(more);
     }
     Round {
-        client,
+        client: session.into_client(),
         seats,
         tally,
     }
 }
 
-/// Splits off a client for each but the first seat, which the opening client gets.
-fn hire<D: Drop, G: Drop, K: Keep + Drop>(
+/// Splits off a session for each seat but the first one, which the opening session gets.
+fn split_crew<'m, D: Drop, G: Drop, K: Keep + Drop>(
     alloc: Global,
-    manager: &Manager,
-    mut client: Client,
+    mut session: Session<'m>,
     seats: Vec<Seat<D, G, K>>,
-) -> Result<Crew<Worker<D, G, K>>, LoadFault>
-    requires own { client.table ≡ manager.now.table }
-    requires alone { HasAllGrants client.value }
+) -> Result<Crew<Worker<'m, D, G, K>>, LoadFault>
+    requires alone { HasAllGrants session.client.value }
     requires some { 0 < vec_len seats }
     requires few { vec_len seats ≤ MOST_CLIENTS }
-    ensures hired { IfOk result (λ crew. Hired (shown K.notes) client seats.items
-        (λ w. w.client) (λ w. shown K.notes w.seat) crew.first crew.others.items) }
-    ensures own { IfOk result (λ crew.
-        All (λ w. w.client.table ≡ manager.now.table) crew.others.items) }
+    ensures crew { IfOk result (λ crew. IsCrew (shown K.notes) session.entry seats.items
+        (λ w. w.session) (λ w. shown K.notes w.seat) crew.first crew.others.items) }
     ensures number { IfOk result (λ crew. vec_len crew.others + 1 ≡ vec_len seats) }
     ensures grants { IfOk result (λ crew.
-        crew.first.client.value.grants + vec_len crew.others ≡ MOST_GRANTS) }
+        crew.first.session.client.value.grants + vec_len crew.others ≡ MOST_GRANTS) }
     ensures others_grants { IfOk result (λ crew.
-        All (λ w. w.client.value.grants ≡ 0) crew.others.items) }
+        All (λ w. w.session.client.value.grants ≡ 0) crew.others.items) }
     ensures refused { IfErr result (λ fault. fault ≡ LoadFault.Memory) }
 {
     let Ok(mut others) = Vec::with_capacity(alloc, seats.len()) else {
@@ -111,23 +108,23 @@ fn hire<D: Drop, G: Drop, K: Keep + Drop>(
         unreachable!()
     };
     for another in seats {
-        let Ok(other) = manager.split(&mut client) else {
+        let Ok(other) = session.split() else {
             unreachable!()
         };
         let worker = Worker {
-            client: other,
+            session: other,
             seat: another,
         };
         let Ok(()) = others.push(worker) else {
             unreachable!()
         };
     }
-    let first = Worker { client, seat };
+    let first = Worker { session, seat };
     Ok(Crew { first, others })
 }
 
-/// One round: splits off a client for each seat, lets them all run their tasks in threads of their
-/// own, and gathers them into the first.
+/// One round: splits off a session for each seat, lets them all run their tasks in threads of their
+/// own, and gathers their clients into the first.
 pub(crate) fn run_clients<
     R: Threads + Wait,
     D: Draws + Send + Drop,
@@ -136,23 +133,23 @@ pub(crate) fn run_clients<
 >(
     rt: &R,
     alloc: Global,
-    manager: &Manager,
     settings: &Settings,
-    client: Client,
+    session: Session<'_>,
     seats: Vec<Seat<D, G, K>>,
 ) -> Result<Round<D, G, K>, LoadFault>
-    requires own { client.table ≡ manager.now.table }
-    requires alone { HasAllGrants client.value }
+    requires alone { HasAllGrants session.client.value }
     requires settings { is_settings settings.now ≡ true }
     requires number { vec_len seats ≡ settings.now.clients }
-    requires known { AreKnown manager.now.renewal client.value.floor client.value.records }
-    requires era { IsInRenewal manager.now.renewal client.value.records }
-    ensures own { IfOk result (λ r. r.client.table ≡ manager.now.table) }
+    requires known { AreKnown session.manager.renewal
+        session.client.value.floor session.client.value.records }
+    requires era { IsInRenewal session.manager.renewal session.client.value.records }
+    ensures own { IfOk result (λ r. r.client.table ≡ session.entry.manager.table) }
     ensures alone { IfOk result (λ r. HasAllGrants r.client.value) }
     ensures ran { IfOk result (λ r. RanAll D.leads settings.now (shown K.notes)
-        settings.now.tasks client.value.records seats.items
+        settings.now.tasks session.entry.client.value.records seats.items
         r.client.value.records r.seats.items r.tally) }
-    ensures era { IfOk result (λ r. IsInRenewal manager.now.renewal r.client.value.records) }
+    ensures era { IfOk result (λ r.
+        IsInRenewal session.entry.manager.renewal r.client.value.records) }
     ensures number { IfOk result (λ r. vec_len r.seats ≡ settings.now.clients) }
     ensures refused { IfErr result (λ fault.
         (fault ≡ LoadFault.Memory) ⊎ (fault ≡ LoadFault.Spawn)) }
@@ -160,7 +157,7 @@ pub(crate) fn run_clients<
     let Ok(left) = Vec::with_capacity(alloc, seats.len()) else {
         return Err(LoadFault::Memory);
     };
-    let crew = hire(alloc, manager, client, seats)?;
-    let crew = run_all(rt, alloc, manager, *settings, crew)?;
-    Ok(gather_all(manager, crew, left))
+    let crew = split_crew(alloc, session, seats)?;
+    let crew = run_all(rt, alloc, *settings, crew)?;
+    Ok(gather_all(crew, left))
 }

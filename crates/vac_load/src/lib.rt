@@ -11,7 +11,6 @@ mod load;
 mod looping;
 mod opening;
 mod phases;
-mod report;
 mod rounds;
 mod seats;
 mod tally;

@@ -14,7 +14,6 @@ use crate::efforts::Efforts;
 use crate::gathering::Round;
 use crate::opening::open_kept;
 use crate::phases::{NoPhases, Phases};
-use crate::report::report_of;
 use crate::rounds::{Progress, run_rounds};
 use crate::seats::{Keepers, Seat, keepers_of, no_keepers, seats_by_seed, seats_unkept};
 use crate::tally::Tally;
@@ -26,7 +25,7 @@ use stm_region::RegionFault;
 use stm_words::Version;
 use thiserror::Error;
 use vac_draws::{Draws, PcgDraws, Settings};
-use vac_manager::{Client, Fault, Keep, Manager, Report, Unkept};
+use vac_manager::{Client, Fault, Keep, Manager, Report, Session, Unkept, report_of};
 
 /// What a load leaves: how its tasks ended, over all rounds, and the report of the words after all
 /// clients were gathered for the last time.
@@ -97,12 +96,14 @@ fn run_in_range<
     ensures stopped { IfErr result (λ fault.
         IsStopOfLoad D.leads settings.now opening.old opening.new fault) }
 {
-    let Ok((manager, mut client)) = Manager::new(alloc, settings.blocks, settings.last) else {
+    let Ok((manager, client)) = Manager::new(alloc, settings.blocks, settings.last) else {
         return Err(LoadFault::Memory);
     };
-    if let Err(fault) = open_kept(&manager, &mut client, opening, settings, keep) {
+    let mut session = Session::of(&manager, client);
+    if let Err(fault) = open_kept(&mut session, opening, settings, keep) {
         return Err(LoadFault::Opening(fault));
     }
+    let client = session.into_client();
     phases.begin();
     let progress = run_rounds(rt, alloc, settings, manager, client, seats)?;
     phases.end();

@@ -5,6 +5,7 @@ ghost use Rattle.vac_model.specs.Ranges.{is_task};
 ghost use Rattle.vac_manager.specs.Called.{is_try_count};
 ghost use Rattle.vac_draws.specs.Setting.{is_settings};
 ghost use Rattle.vac_manager.specs.Placed.{nothing_done};
+ghost use Rattle.vac_manager.specs.Session.{GoesOn};
 ghost use Rattle.vac_load.specs.Looping.{Looped, RanOne, nothing, counted};
 ghost use Rattle.vac_load.specs.Keeping.{HasKeptAdded};
 ghost use Rattle.vac_load.specs.Attempted.{IsEffort, no_effort, with_call};
@@ -14,7 +15,7 @@ use crate::tally::Tally;
 use std::alloc::{AllocError, Global};
 use stm_attempt::{Gate, Point};
 use vac_draws::{Draws, Settings, draw_task};
-use vac_manager::{Client, Effort, Fault, Keep, Manager, Unkept};
+use vac_manager::{Effort, Fault, Keep, Session, Unkept};
 use vac_model::Task;
 
 /// What no call took.
@@ -35,22 +36,20 @@ fn no_call() -> Effort
 /// Where there is no room to keep it, the task is not asked for. Beside how it ended, answers what
 /// its call took.
 fn ask_for<G: Gate, K: Keep>(
-    manager: &Manager,
-    client: &mut Client,
+    session: &mut Session<'_>,
     task: Result<Task, AllocError>,
     tries: u32,
     gate: &mut G,
     keep: &mut K,
 ) -> (Result<(), Fault>, Effort)
-    requires own { client.old.table ≡ manager.now.table }
     requires range { IfOk task (λ t. is_task t ≡ true) }
     requires tries { is_try_count tries ≡ true }
-    ensures client { client.new ≡ record client.old { value = client.new.value } }
+    ensures session { GoesOn session.old session.new }
     ensures in_range { IfErr result.0 (λ fault. fault ≢ Fault.Arguments) }
-    ensures one { RanOne manager.now.renewal task tries result.0
-        client.old.value client.new.value }
+    ensures one { RanOne session.old.manager.renewal task tries result.0
+        session.old.client.value session.new.client.value }
     ensures took { IsEffort (counted result.0 nothing) (with_call result.1 no_effort) }
-    ensures kept { HasKeptAdded client.old.value client.new.value
+    ensures kept { HasKeptAdded session.old.client.value session.new.client.value
         (K.notes keep.old) (K.notes keep.new) }
 {
     let Ok(task) = task else {
@@ -59,7 +58,7 @@ fn ask_for<G: Gate, K: Keep>(
     if keep.begin().is_err() {
         return (Err(Fault::Memory), no_call());
     }
-    let (end, effort) = manager.call_placed(client, &task, tries, gate);
+    let (end, effort) = session.call_placed(&task, tries, gate);
     match end {
         Ok(placed) => {
             keep.keep(task, placed);
@@ -76,25 +75,23 @@ fn ask_for<G: Gate, K: Keep>(
 /// kept, and then the gate is told `Answered`.
 pub(crate) fn count_loop<D: Draws, G: Gate, K: Keep>(
     alloc: Global,
-    manager: &Manager,
-    client: &mut Client,
+    session: &mut Session<'_>,
     draws: &mut D,
     settings: &Settings,
     gate: &mut G,
     keep: &mut K,
 ) -> Counts
-    requires own { client.old.table ≡ manager.now.table }
     requires settings { is_settings settings.now ≡ true }
-    ensures client { client.new ≡ record client.old { value = client.new.value } }
-    ensures looped { Looped D.leads settings.now manager.now.renewal settings.now.tasks
-        client.old.value client.new.value draws.old draws.new result }
-    ensures kept { HasKeptAdded client.old.value client.new.value
+    ensures session { GoesOn session.old session.new }
+    ensures looped { Looped D.leads settings.now session.old.manager.renewal settings.now.tasks
+        session.old.client.value session.new.client.value draws.old draws.new result }
+    ensures kept { HasKeptAdded session.old.client.value session.new.client.value
         (K.notes keep.old) (K.notes keep.new) }
 {
     let mut tally = Counts::new();
     'tasks: for _ in 0..settings.tasks {
         let task = draw_task(alloc, draws, settings);
-        let (end, effort) = ask_for(manager, client, task, settings.tries, gate, keep);
+        let (end, effort) = ask_for(session, task, settings.tries, gate, keep);
         tally.count(&end, effort);
     }
     tally
@@ -105,20 +102,18 @@ pub(crate) fn count_loop<D: Draws, G: Gate, K: Keep>(
 /// told `Answered` after each call that was answered.
 pub fn client_loop<D: Draws, G: Gate>(
     alloc: Global,
-    manager: &Manager,
-    client: &mut Client,
+    session: &mut Session<'_>,
     draws: &mut D,
     settings: &Settings,
     gate: &mut G,
 ) -> Tally
-    requires own { client.old.table ≡ manager.now.table }
     requires settings { is_settings settings.now ≡ true }
-    ensures client { client.new ≡ record client.old { value = client.new.value } }
-    ensures looped { Looped D.leads settings.now manager.now.renewal settings.now.tasks
-        client.old.value client.new.value draws.old draws.new result }
+    ensures session { GoesOn session.old session.new }
+    ensures looped { Looped D.leads settings.now session.old.manager.renewal settings.now.tasks
+        session.old.client.value session.new.client.value draws.old draws.new result }
 {
     let keep = &mut Unkept;
-    count_loop(alloc, manager, client, draws, settings, gate, keep)
+    count_loop(alloc, session, draws, settings, gate, keep)
         .apart()
         .0
 }

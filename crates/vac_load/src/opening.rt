@@ -3,6 +3,7 @@
 ghost use Rattle.std.specs.Prelude.{◌≡◌, ◌<◌, ◌≤◌, ◌+◌, ◌^◌, true, IfOk, IfErr, [], ◌∷◌};
 ghost use Rattle.vac_model.specs.Ranges.{is_command};
 ghost use Rattle.vac_manager.specs.Called.{HasAllGrants};
+ghost use Rattle.vac_manager.specs.Session.{GoesOn};
 ghost use Rattle.vac_draws.specs.Draws.{for_each};
 ghost use Rattle.vac_draws.specs.Setting.{is_settings};
 ghost use Rattle.vac_load.specs.Looping.{Answered};
@@ -12,7 +13,7 @@ ghost use Rattle.vac_load.specs.Opening.{Ran, Stopped, IsOpeningFault};
 
 use stm_attempt::NoGate;
 use vac_draws::{Draws, Settings, draw_stock};
-use vac_manager::{Client, Fault, Keep, Manager, Unkept};
+use vac_manager::{Fault, Keep, Session, Unkept};
 use vac_model::{Command, Kind, Task};
 
 /// How many tries a command of the opening gets.
@@ -20,31 +21,27 @@ const TRIES: u32 = 1;
 
 /// Asks for a command, and keeps the call where it is answered. Where there is no room to keep it,
 /// the command is not asked for.
-fn ask_for<K: Keep>(
-    manager: &Manager,
-    client: &mut Client,
-    command: Command,
-    keep: &mut K,
-) -> Result<(), Fault>
-    requires own { client.old.table ≡ manager.now.table }
-    requires alone { HasAllGrants client.old.value }
+fn ask_for<K: Keep>(session: &mut Session<'_>, command: Command, keep: &mut K) -> Result<(), Fault>
+    requires alone { HasAllGrants session.old.client.value }
     requires range { is_command command ≡ true }
-    ensures client { client.new ≡ record client.old { value = client.new.value } }
-    ensures grants { HasAllGrants client.new.value }
-    ensures answered { IfOk result (λ _. Answered manager.now.renewal (Task.One command ∷ [])
-        client.old.value client.new.value) }
-    ensures near { IfOk result (λ _. client.new.value.floor ≤ client.old.value.floor + 1) }
+    ensures session { GoesOn session.old session.new }
+    ensures grants { HasAllGrants session.new.client.value }
+    ensures answered { IfOk result (λ _. Answered session.old.manager.renewal
+        (Task.One command ∷ []) session.old.client.value session.new.client.value) }
+    ensures near { IfOk result (λ _.
+        session.new.client.value.floor ≤ session.old.client.value.floor + 1) }
     ensures refused { IfErr result (λ fault.
-        IsOpeningFault manager.now.last client.old.value.floor fault) }
-    ensures same { IfErr result (λ _. client.new.value.records ≡ client.old.value.records) }
-    ensures kept { IfOk result (λ _. HasKeptAdded client.old.value client.new.value
+        IsOpeningFault session.old.manager.last session.old.client.value.floor fault) }
+    ensures same { IfErr result (λ _.
+        session.new.client.value.records ≡ session.old.client.value.records) }
+    ensures kept { IfOk result (λ _. HasKeptAdded session.old.client.value session.new.client.value
         (K.notes keep.old) (K.notes keep.new)) }
 {
     if keep.begin().is_err() {
         return Err(Fault::Memory);
     }
     let task = Task::One(command);
-    let (end, _) = manager.call_placed(client, &task, TRIES, &mut NoGate);
+    let (end, _) = session.call_placed(&task, TRIES, &mut NoGate);
     match end {
         Ok(placed) => {
             keep.keep(task, placed);
@@ -56,76 +53,73 @@ fn ask_for<K: Keep>(
 
 /// Adds an item of this kind.
 fn add_item<D: Draws, K: Keep>(
-    manager: &Manager,
-    client: &mut Client,
+    session: &mut Session<'_>,
     draws: &mut D,
     id: u32,
     kind: Kind,
     keep: &mut K,
 ) -> Result<(), Fault>
-    requires own { client.old.table ≡ manager.now.table }
-    requires alone { HasAllGrants client.old.value }
+    requires alone { HasAllGrants session.old.client.value }
     requires id { 1 ≤ id }
-    ensures client { client.new ≡ record client.old { value = client.new.value } }
-    ensures grants { HasAllGrants client.new.value }
-    ensures ran { IfOk result (λ _. Ran D.leads manager.now.renewal (stock id kind)
-        client.old.value client.new.value draws.old draws.new) }
-    ensures stopped { IfErr result (λ fault. Stopped D.leads manager.now.renewal manager.now.last
-        (stock id kind) fault client.old.value client.new.value draws.old draws.new) }
-    ensures kept { IfOk result (λ _. HasKeptAdded client.old.value client.new.value
+    ensures session { GoesOn session.old session.new }
+    ensures grants { HasAllGrants session.new.client.value }
+    ensures ran { IfOk result (λ _. Ran D.leads session.old.manager.renewal (stock id kind)
+        session.old.client.value session.new.client.value draws.old draws.new) }
+    ensures stopped { IfErr result (λ fault. Stopped D.leads session.old.manager.renewal
+        session.old.manager.last (stock id kind) fault
+        session.old.client.value session.new.client.value draws.old draws.new) }
+    ensures kept { IfOk result (λ _. HasKeptAdded session.old.client.value session.new.client.value
         (K.notes keep.old) (K.notes keep.new)) }
 {
     let command = draw_stock(draws, id, kind);
-    ask_for(manager, client, command, keep)
+    ask_for(session, command, keep)
 }
 
 /// Adds an item of each kind.
 fn add_items<D: Draws, K: Keep>(
-    manager: &Manager,
-    client: &mut Client,
+    session: &mut Session<'_>,
     draws: &mut D,
     id: u32,
     keep: &mut K,
 ) -> Result<(), Fault>
-    requires own { client.old.table ≡ manager.now.table }
-    requires alone { HasAllGrants client.old.value }
+    requires alone { HasAllGrants session.old.client.value }
     requires id { 1 ≤ id }
-    ensures client { client.new ≡ record client.old { value = client.new.value } }
-    ensures grants { HasAllGrants client.new.value }
-    ensures ran { IfOk result (λ _. Ran D.leads manager.now.renewal (stocks id)
-        client.old.value client.new.value draws.old draws.new) }
-    ensures stopped { IfErr result (λ fault. Stopped D.leads manager.now.renewal manager.now.last
-        (stocks id) fault client.old.value client.new.value draws.old draws.new) }
-    ensures kept { IfOk result (λ _. HasKeptAdded client.old.value client.new.value
+    ensures session { GoesOn session.old session.new }
+    ensures grants { HasAllGrants session.new.client.value }
+    ensures ran { IfOk result (λ _. Ran D.leads session.old.manager.renewal (stocks id)
+        session.old.client.value session.new.client.value draws.old draws.new) }
+    ensures stopped { IfErr result (λ fault. Stopped D.leads session.old.manager.renewal
+        session.old.manager.last (stocks id) fault
+        session.old.client.value session.new.client.value draws.old draws.new) }
+    ensures kept { IfOk result (λ _. HasKeptAdded session.old.client.value session.new.client.value
         (K.notes keep.old) (K.notes keep.new)) }
 {
-    add_item(manager, client, draws, id, Kind::Car, keep)?;
-    add_item(manager, client, draws, id, Kind::Flight, keep)?;
-    add_item(manager, client, draws, id, Kind::Room, keep)
+    add_item(session, draws, id, Kind::Car, keep)?;
+    add_item(session, draws, id, Kind::Flight, keep)?;
+    add_item(session, draws, id, Kind::Room, keep)
 }
 
 /// Adds the items of each id from 1 on.
 fn add_all<D: Draws, K: Keep>(
-    manager: &Manager,
-    client: &mut Client,
+    session: &mut Session<'_>,
     draws: &mut D,
     items: u32,
     keep: &mut K,
 ) -> Result<(), Fault>
-    requires own { client.old.table ≡ manager.now.table }
-    requires alone { HasAllGrants client.old.value }
+    requires alone { HasAllGrants session.old.client.value }
     requires fits { items < 2 ^ 31 }
-    ensures client { client.new ≡ record client.old { value = client.new.value } }
-    ensures grants { HasAllGrants client.new.value }
-    ensures ran { IfOk result (λ _. Ran D.leads manager.now.renewal (for_each items stocks)
-        client.old.value client.new.value draws.old draws.new) }
-    ensures stopped { IfErr result (λ fault. Stopped D.leads manager.now.renewal manager.now.last
-        (for_each items stocks) fault client.old.value client.new.value draws.old draws.new) }
-    ensures kept { IfOk result (λ _. HasKeptAdded client.old.value client.new.value
+    ensures session { GoesOn session.old session.new }
+    ensures grants { HasAllGrants session.new.client.value }
+    ensures ran { IfOk result (λ _. Ran D.leads session.old.manager.renewal (for_each items stocks)
+        session.old.client.value session.new.client.value draws.old draws.new) }
+    ensures stopped { IfErr result (λ fault. Stopped D.leads session.old.manager.renewal
+        session.old.manager.last (for_each items stocks) fault
+        session.old.client.value session.new.client.value draws.old draws.new) }
+    ensures kept { IfOk result (λ _. HasKeptAdded session.old.client.value session.new.client.value
         (K.notes keep.old) (K.notes keep.new)) }
 {
     'items: for place in 0..items {
-        add_items(manager, client, draws, place + 1, keep)?;
+        add_items(session, draws, place + 1, keep)?;
     }
     Ok(())
 }
@@ -134,28 +128,27 @@ fn add_all<D: Draws, K: Keep>(
 /// keeps the calls. The client is alone: it has all grants. The first fault ends it, want of memory
 /// or a spent clock; what was answered before it stays.
 pub(crate) fn open_kept<D: Draws, K: Keep>(
-    manager: &Manager,
-    client: &mut Client,
+    session: &mut Session<'_>,
     draws: &mut D,
     settings: &Settings,
     keep: &mut K,
 ) -> Result<(), Fault>
-    requires own { client.old.table ≡ manager.now.table }
-    requires alone { HasAllGrants client.old.value }
+    requires alone { HasAllGrants session.old.client.value }
     requires settings { is_settings settings.now ≡ true }
-    ensures client { client.new ≡ record client.old { value = client.new.value } }
-    ensures grants { HasAllGrants client.new.value }
-    ensures ran { IfOk result (λ _. Ran D.leads manager.now.renewal (opening settings.now)
-        client.old.value client.new.value draws.old draws.new) }
-    ensures stopped { IfErr result (λ fault. Stopped D.leads manager.now.renewal manager.now.last
-        (opening settings.now) fault client.old.value client.new.value draws.old draws.new) }
-    ensures kept { IfOk result (λ _. HasKeptAdded client.old.value client.new.value
+    ensures session { GoesOn session.old session.new }
+    ensures grants { HasAllGrants session.new.client.value }
+    ensures ran { IfOk result (λ _. Ran D.leads session.old.manager.renewal (opening settings.now)
+        session.old.client.value session.new.client.value draws.old draws.new) }
+    ensures stopped { IfErr result (λ fault. Stopped D.leads session.old.manager.renewal
+        session.old.manager.last (opening settings.now) fault
+        session.old.client.value session.new.client.value draws.old draws.new) }
+    ensures kept { IfOk result (λ _. HasKeptAdded session.old.client.value session.new.client.value
         (K.notes keep.old) (K.notes keep.new)) }
 {
-    add_all(manager, client, draws, settings.items, keep)?;
+    add_all(session, draws, settings.items, keep)?;
     'customers: for place in 0..settings.items {
         let command = Command::NewCustomer { id: place + 1 };
-        ask_for(manager, client, command, keep)?;
+        ask_for(session, command, keep)?;
     }
     Ok(())
 }
@@ -164,20 +157,19 @@ pub(crate) fn open_kept<D: Draws, K: Keep>(
 /// client is alone: it has all grants. The first fault ends it, want of memory or a spent clock;
 /// what was answered before it stays.
 pub fn open<D: Draws>(
-    manager: &Manager,
-    client: &mut Client,
+    session: &mut Session<'_>,
     draws: &mut D,
     settings: &Settings,
 ) -> Result<(), Fault>
-    requires own { client.old.table ≡ manager.now.table }
-    requires alone { HasAllGrants client.old.value }
+    requires alone { HasAllGrants session.old.client.value }
     requires settings { is_settings settings.now ≡ true }
-    ensures client { client.new ≡ record client.old { value = client.new.value } }
-    ensures grants { HasAllGrants client.new.value }
-    ensures ran { IfOk result (λ _. Ran D.leads manager.now.renewal (opening settings.now)
-        client.old.value client.new.value draws.old draws.new) }
-    ensures stopped { IfErr result (λ fault. Stopped D.leads manager.now.renewal manager.now.last
-        (opening settings.now) fault client.old.value client.new.value draws.old draws.new) }
+    ensures session { GoesOn session.old session.new }
+    ensures grants { HasAllGrants session.new.client.value }
+    ensures ran { IfOk result (λ _. Ran D.leads session.old.manager.renewal (opening settings.now)
+        session.old.client.value session.new.client.value draws.old draws.new) }
+    ensures stopped { IfErr result (λ fault. Stopped D.leads session.old.manager.renewal
+        session.old.manager.last (opening settings.now) fault
+        session.old.client.value session.new.client.value draws.old draws.new) }
 {
-    open_kept(manager, client, draws, settings, &mut Unkept)
+    open_kept(session, draws, settings, &mut Unkept)
 }

@@ -19,7 +19,7 @@ use std::thread::Threads;
 use stm_attempt::Gate;
 use stm_region::RegionFault;
 use vac_draws::{Draws, Settings};
-use vac_manager::{Client, Keep, Manager, RenewFault};
+use vac_manager::{Client, Keep, Manager, RenewFault, Session};
 
 /// A load after some of its rounds: its manager, and what the last round left, with the tasks of
 /// all rounds counted.
@@ -97,11 +97,12 @@ fn go_on<R: Threads + Wait, D: Draws + Send + Drop, G: Gate + Send + Drop, K: Ke
         Ok(renewed) => renewed,
         Err(fault) => return Err(fault),
     };
+    let session = Session::of(&manager, client);
     let Round {
         client,
         seats,
         tally: more,
-    } = run_clients(rt, alloc, &manager, settings, client, seats)?;
+    } = run_clients(rt, alloc, settings, session, seats)?;
     let round = Round {
         client,
         seats,
@@ -142,7 +143,8 @@ pub(crate) fn run_rounds<
     ensures refused { IfErr result (λ fault.
         (fault ≡ LoadFault.Memory) ⊎ (fault ≡ LoadFault.Spawn)) }
 {
-    let round = run_clients(rt, alloc, &manager, settings, client, seats)?;
+    let session = Session::of(&manager, client);
+    let round = run_clients(rt, alloc, settings, session, seats)?;
     let mut progress = Progress { manager, round };
     'rounds: for done in 1..settings.rounds {
         progress = go_on(rt, alloc, settings, progress)?;

@@ -1,6 +1,6 @@
 //! Clients in threads of their own.
 
-ghost use Rattle.std.specs.Prelude.{◌≡◌, ◌≤◌, ◌⊎◌, [], true, IfOk, IfErr, All, vec_len, vec_capacity};
+ghost use Rattle.std.specs.Prelude.{◌≡◌, ◌≤◌, ◌⊎◌, [], true, IfOk, IfErr, vec_len, vec_capacity};
 ghost use Rattle.vac_draws.specs.Setting.{is_settings};
 ghost use Rattle.vac_load.specs.Lists.{Paired};
 ghost use Rattle.vac_load.specs.Keeping.{shown};
@@ -17,54 +17,51 @@ use std::thread;
 use std::thread::{Promise, PromisedHandle, Scope, Threads};
 use stm_attempt::Gate;
 use vac_draws::{Draws, Settings};
-use vac_manager::{Client, Keep, Manager};
+use vac_manager::{Keep, Session};
 
-/// A client with its seat.
+/// A client in a session with its manager, and its seat.
 #[derive(Drop)]
-pub(crate) struct Worker<D, G, K> {
-    pub(crate) client: Client,
+pub(crate) struct Worker<'m, D, G, K> {
+    pub(crate) session: Session<'m>,
     pub(crate) seat: Seat<D, G, K>,
 }
 
-/// A client that ran its tasks, with how they ended.
+/// A worker that ran its tasks, with how they ended.
 #[derive(Drop)]
-pub(crate) struct Worked<D, G, K> {
-    pub(crate) worker: Worker<D, G, K>,
+pub(crate) struct Worked<'m, D, G, K> {
+    pub(crate) worker: Worker<'m, D, G, K>,
     pub(crate) tally: Counts,
 }
 
-/// The promise of a client's thread: that the client ran its tasks.
+/// The promise of a worker's thread: that the worker ran its tasks.
 #[derive(Drop)]
-struct WorkOf<D, G, K> {
+struct WorkOf<'m, D, G, K> {
     settings: Settings,
-    manager: Snapshot<Manager>,
-    client: Snapshot<Client>,
+    session: Snapshot<Session<'m>>,
     seat: Snapshot<Seat<D, G, K>>,
 }
 
-impl<D: Draws, G, K: Keep> Promise<Worked<D, G, K>> for WorkOf<D, G, K> {
-    ghost kept_by = { λ p r. HasWorked D.leads p.settings p.manager.value.renewal
-        p.client.value r.worker.client
+impl<'m, D: Draws, G, K: Keep> Promise<Worked<'m, D, G, K>> for WorkOf<'m, D, G, K> {
+    ghost kept_by = { λ p r. HasWorked D.leads p.settings
+        p.session.value r.worker.session
         (shown K.notes p.seat.value) (shown K.notes r.worker.seat) r.tally };
 }
 
-/// The thread of a client.
-type Handle<D, G, K> = PromisedHandle<Worked<D, G, K>, WorkOf<D, G, K>>;
+/// The thread of a worker.
+type Handle<'m, D, G, K> = PromisedHandle<Worked<'m, D, G, K>, WorkOf<'m, D, G, K>>;
 
-/// Lets a client run its tasks.
-fn work<D: Draws, G: Gate, K: Keep>(
+/// Lets a worker run its tasks.
+fn work<'m, D: Draws, G: Gate, K: Keep>(
     alloc: Global,
-    manager: &Manager,
     settings: &Settings,
-    worker: Worker<D, G, K>,
-) -> Worked<D, G, K>
-    requires own { worker.client.table ≡ manager.now.table }
+    worker: Worker<'m, D, G, K>,
+) -> Worked<'m, D, G, K>
     requires settings { is_settings settings.now ≡ true }
-    ensures { HasWorked D.leads settings.now manager.now.renewal
-        worker.client result.worker.client
-        (shown K.notes worker.seat) (shown K.notes result.worker.seat) result.tally }
+    ensures { HasWorked D.leads settings.now
+        worker.entry.session result.worker.session
+        (shown K.notes worker.entry.seat) (shown K.notes result.worker.seat) result.tally }
 {
-    let Worker { mut client, seat } = worker;
+    let Worker { mut session, seat } = worker;
     let Seat {
         mut draws,
         mut gate,
@@ -72,21 +69,21 @@ fn work<D: Draws, G: Gate, K: Keep>(
     } = seat;
     let tally = count_loop(
         alloc,
-        manager,
-        &mut client,
+        &mut session,
         &mut draws,
         settings,
         &mut gate,
         &mut keep,
     );
     let seat = Seat { draws, gate, keep };
-    let worker = Worker { client, seat };
+    let worker = Worker { session, seat };
     Worked { worker, tally }
 }
 
-/// Starts the thread of a client.
+/// Starts the thread of a worker.
 fn start<
     's,
+    'm: 's,
     E,
     D: Draws + Send + Drop + 's,
     G: Gate + Send + Drop + 's,
@@ -94,37 +91,35 @@ fn start<
 >(
     scope: &Scope<'s, E>,
     alloc: Global,
-    manager: &'s Manager,
     settings: Settings,
-    worker: Worker<D, G, K>,
-) -> Result<Handle<D, G, K>, LoadFault>
-    requires own { worker.client.table ≡ manager.now.table }
+    worker: Worker<'m, D, G, K>,
+) -> Result<Handle<'m, D, G, K>, LoadFault>
     requires settings { is_settings settings ≡ true }
     ensures promise { IfOk result (λ handle.
-        IsPromise settings manager.now.renewal worker.client worker.seat handle.promise) }
+        IsPromise settings worker.entry.session worker.entry.seat handle.promise) }
     ensures refused { IfErr result (λ fault. fault ≡ LoadFault.Spawn) }
 {
     let promise = WorkOf {
         settings,
-        manager: Snapshot::of(manager),
-        client: Snapshot::of(&worker.client),
+        session: Snapshot::of(&worker.session),
         seat: Snapshot::of(&worker.seat),
     };
-    let run = move || -> Worked<D, G, K>
-        requires { (worker.client.table ≡ manager.now.table) × (is_settings settings ≡ true) }
-        ensures { HasWorked D.leads settings manager.entry.now.renewal
-            worker.client result.worker.client
-            (shown K.notes worker.seat) (shown K.notes result.worker.seat) result.tally }
-    { work(alloc, manager, &settings, worker) };
+    let run = move || -> Worked<'_, D, G, K>
+        requires { is_settings settings ≡ true }
+        ensures { HasWorked D.leads settings
+            worker.entry.session result.worker.session
+            (shown K.notes worker.entry.seat) (shown K.notes result.worker.seat) result.tally }
+    { work(alloc, &settings, worker) };
     match scope.spawn_with(promise, run) {
         Ok(handle) => Ok(handle),
         Err(_refused) => Err(LoadFault::Spawn),
     }
 }
 
-/// Starts a thread for each client, and keeps those that were started.
+/// Starts a thread for each worker, and keeps those that were started.
 fn start_all<
     's,
+    'm: 's,
     E,
     D: Draws + Send + Drop + 's,
     G: Gate + Send + Drop + 's,
@@ -132,23 +127,21 @@ fn start_all<
 >(
     scope: &Scope<'s, E>,
     alloc: Global,
-    manager: &'s Manager,
     settings: Settings,
-    workers: Vec<Worker<D, G, K>>,
-    handles: &mut Vec<Handle<D, G, K>>,
+    workers: Vec<Worker<'m, D, G, K>>,
+    handles: &mut Vec<Handle<'m, D, G, K>>,
 ) -> Result<(), LoadFault>
-    requires own { All (λ w. w.client.table ≡ manager.now.table) workers.items }
     requires settings { is_settings settings ≡ true }
     requires room { vec_len workers ≤ vec_capacity handles.old }
     requires empty { handles.old.items ≡ [] }
     ensures promises { IfOk result (λ _.
-        Paired (λ w h. IsPromise settings manager.now.renewal w.client w.seat h.promise)
-        workers.items handles.new.items) }
-    ensures few { vec_len handles.new ≤ vec_len workers }
+        Paired (λ w h. IsPromise settings w.session w.seat h.promise)
+        workers.entry.items handles.new.items) }
+    ensures few { vec_len handles.new ≤ vec_len workers.entry }
     ensures refused { IfErr result (λ fault. fault ≡ LoadFault.Spawn) }
 {
     for worker in workers {
-        let handle = start(scope, alloc, manager, settings, worker)?;
+        let handle = start(scope, alloc, settings, worker)?;
         let Ok(()) = handles.push(handle) else {
             unreachable!()
         };
@@ -157,17 +150,17 @@ fn start_all<
 }
 
 /// Joins the threads in their order.
-fn join_all<R: Threads, D: Draws + Drop, G: Drop, K: Keep + Drop>(
+fn join_all<'m, R: Threads, D: Draws + Drop, G: Drop, K: Keep + Drop>(
     rt: &R,
-    handles: Vec<Handle<D, G, K>>,
-    mut done: Vec<Worked<D, G, K>>,
-) -> Vec<Worked<D, G, K>>
+    handles: Vec<Handle<'m, D, G, K>>,
+    mut done: Vec<Worked<'m, D, G, K>>,
+) -> Vec<Worked<'m, D, G, K>>
     requires room { vec_len handles ≤ vec_capacity done }
     requires empty { done.items ≡ [] }
-    ensures { Paired (λ h r. HasWorked D.leads h.promise.settings h.promise.manager.value.renewal
-        h.promise.client.value r.worker.client
+    ensures { Paired (λ h r. HasWorked D.leads h.promise.settings
+        h.promise.session.value r.worker.session
         (shown K.notes h.promise.seat.value) (shown K.notes r.worker.seat) r.tally)
-        handles.items result.items }
+        handles.entry.items result.items }
 {
     for handle in handles {
         let Ok(()) = done.push(handle.join(rt)) else {
@@ -177,17 +170,18 @@ fn join_all<R: Threads, D: Draws + Drop, G: Drop, K: Keep + Drop>(
     done
 }
 
-/// Clients that are to run their tasks, or that ran them, the first client apart.
+/// Workers that are to run their tasks, or that ran them, the first one apart.
 #[derive(Drop)]
 pub(crate) struct Crew<W> {
     pub(crate) first: W,
     pub(crate) others: Vec<W>,
 }
 
-/// Starts a thread for each client and joins them all, in the order of the clients. Their places
+/// Starts a thread for each worker and joins them all, in the order of the workers. Their places
 /// are made first.
 fn run_in<
     's,
+    'm: 's,
     E,
     R: Threads,
     D: Draws + Send + Drop + 's,
@@ -197,21 +191,19 @@ fn run_in<
     scope: &Scope<'s, E>,
     rt: &R,
     alloc: Global,
-    manager: &'s Manager,
     settings: Settings,
-    crew: Crew<Worker<D, G, K>>,
-) -> Result<Crew<Worked<D, G, K>>, LoadFault>
-    requires first { crew.first.client.table ≡ manager.now.table }
-    requires others { All (λ w. w.client.table ≡ manager.now.table) crew.others.items }
+    crew: Crew<Worker<'m, D, G, K>>,
+) -> Result<Crew<Worked<'m, D, G, K>>, LoadFault>
     requires settings { is_settings settings ≡ true }
-    ensures first { IfOk result (λ r. HasWorked D.leads settings manager.now.renewal
-        crew.first.client r.first.worker.client
-        (shown K.notes crew.first.seat) (shown K.notes r.first.worker.seat) r.first.tally) }
+    ensures first { IfOk result (λ r. HasWorked D.leads settings
+        crew.entry.first.session r.first.worker.session
+        (shown K.notes crew.entry.first.seat) (shown K.notes r.first.worker.seat)
+        r.first.tally) }
     ensures others { IfOk result (λ r.
-        Paired (λ w d. HasWorked D.leads settings manager.now.renewal
-        w.client d.worker.client
+        Paired (λ w d. HasWorked D.leads settings
+        w.session d.worker.session
         (shown K.notes w.seat) (shown K.notes d.worker.seat) d.tally)
-        crew.others.items r.others.items) }
+        crew.entry.others.items r.others.items) }
     ensures refused { IfErr result (λ fault.
         (fault ≡ LoadFault.Memory) ⊎ (fault ≡ LoadFault.Spawn)) }
 {
@@ -222,17 +214,18 @@ fn run_in<
     let Ok(done) = Vec::with_capacity(alloc, others.len()) else {
         return Err(LoadFault::Memory);
     };
-    let first = start(scope, alloc, manager, settings, first)?;
-    let started = start_all(scope, alloc, manager, settings, others, &mut handles);
+    let first = start(scope, alloc, settings, first)?;
+    let started = start_all(scope, alloc, settings, others, &mut handles);
     let first = first.join(rt);
     let others = join_all(rt, handles, done);
     started?;
     Ok(Crew { first, others })
 }
 
-/// Lets each client run its tasks in a thread of its own, all at once, and answers them in their
+/// Lets each worker run its tasks in a thread of its own, all at once, and answers them in their
 /// order. Where a thread cannot be started, those that were started are joined first.
 pub(crate) fn run_all<
+    'm,
     R: Threads + Wait,
     D: Draws + Send + Drop,
     G: Gate + Send + Drop,
@@ -240,42 +233,38 @@ pub(crate) fn run_all<
 >(
     rt: &R,
     alloc: Global,
-    manager: &Manager,
     settings: Settings,
-    crew: Crew<Worker<D, G, K>>,
-) -> Result<Crew<Worked<D, G, K>>, LoadFault>
-    requires first { crew.first.client.table ≡ manager.now.table }
-    requires others { All (λ w. w.client.table ≡ manager.now.table) crew.others.items }
+    crew: Crew<Worker<'m, D, G, K>>,
+) -> Result<Crew<Worked<'m, D, G, K>>, LoadFault>
     requires settings { is_settings settings ≡ true }
-    ensures first { IfOk result (λ r. HasWorked D.leads settings manager.now.renewal
-        crew.first.client r.first.worker.client
-        (shown K.notes crew.first.seat) (shown K.notes r.first.worker.seat) r.first.tally) }
+    ensures first { IfOk result (λ r. HasWorked D.leads settings
+        crew.entry.first.session r.first.worker.session
+        (shown K.notes crew.entry.first.seat) (shown K.notes r.first.worker.seat)
+        r.first.tally) }
     ensures others { IfOk result (λ r.
-        Paired (λ w d. HasWorked D.leads settings manager.now.renewal
-        w.client d.worker.client
+        Paired (λ w d. HasWorked D.leads settings
+        w.session d.worker.session
         (shown K.notes w.seat) (shown K.notes d.worker.seat) d.tally)
-        crew.others.items r.others.items) }
+        crew.entry.others.items r.others.items) }
     ensures refused { IfErr result (λ fault.
         (fault ≡ LoadFault.Memory) ⊎ (fault ≡ LoadFault.Spawn)) }
 {
     thread::scope(
         thread::scope_env(),
         rt,
-        move |scope| -> Result<Crew<Worked<D, G, K>>, LoadFault>
-            requires { (crew.first.client.table ≡ manager.now.table)
-                × All (λ w. w.client.table ≡ manager.now.table) crew.others.items
-                × (is_settings settings ≡ true) }
-            ensures first { IfOk result (λ r. HasWorked D.leads settings manager.entry.now.renewal
-                crew.first.client r.first.worker.client
-                (shown K.notes crew.first.seat) (shown K.notes r.first.worker.seat)
+        move |scope| -> Result<Crew<Worked<'_, D, G, K>>, LoadFault>
+            requires { is_settings settings ≡ true }
+            ensures first { IfOk result (λ r. HasWorked D.leads settings
+                crew.entry.first.session r.first.worker.session
+                (shown K.notes crew.entry.first.seat) (shown K.notes r.first.worker.seat)
                 r.first.tally) }
             ensures others { IfOk result (λ r.
-                Paired (λ w d. HasWorked D.leads settings manager.entry.now.renewal
-                w.client d.worker.client
+                Paired (λ w d. HasWorked D.leads settings
+                w.session d.worker.session
                 (shown K.notes w.seat) (shown K.notes d.worker.seat) d.tally)
-                crew.others.items r.others.items) }
+                crew.entry.others.items r.others.items) }
             ensures refused { IfErr result (λ fault.
                 (fault ≡ LoadFault.Memory) ⊎ (fault ≡ LoadFault.Spawn)) }
-        { run_in(scope, rt, alloc, manager, settings, crew) },
+        { run_in(scope, rt, alloc, settings, crew) },
     )
 }

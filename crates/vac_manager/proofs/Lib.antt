@@ -6,3 +6,4 @@ pub mod Adding
 pub mod Placing
 pub mod Histories
 pub mod Versions
+mod Words

@@ -1,6 +1,5 @@
 -- Writers and readers of versions.
-use Rattle.std.proofs.Common.{◌≡◌, ◌∙◌, ℕ, true, false, List, [], ◌∷◌, ap, subst}
-use Rattle.stm_words.specs.Image.{In}
+use Rattle.std.proofs.Common.{ℕ, List, [], ◌∷◌, subst}
 use Rattle.stm_core.specs.Client.{Client, Record, of_renewal, shed}
 use Rattle.stm_core.specs.Records.{Ordered}
 use Rattle.stm_core.proofs.Lones.{at_map}

@@ -14,6 +14,7 @@ mod manager;
 mod note;
 mod placed;
 mod renew;
+mod report;
 mod session;
 mod told;
 
@@ -25,6 +26,7 @@ pub use manager::Manager;
 pub use note::Note;
 pub use placed::{Effort, Place, Placed};
 pub use renew::RenewFault;
+pub use report::report_of;
 pub use session::Session;
 pub use stm_region::MOST_STRIPES;
 pub use told::Told;

@@ -5,6 +5,7 @@ ghost use Rattle.stm_core.specs.History.{Sub};
 ghost use Rattle.stm_region.specs.Shown.{joined};
 ghost use Rattle.vac_manager.specs.Called.{HasCalled, Splits, SplitsNot, OnlyOf};
 ghost use Rattle.vac_manager.specs.Placed.{IsPlaced, Took, replied};
+ghost use Rattle.vac_manager.specs.Session.{GoesOn};
 
 use crate::client::Client;
 use crate::fault::Fault;
@@ -52,9 +53,7 @@ impl<'a> Session<'a> {
 
     /// Runs a task as `Manager::call` does.
     pub fn call(&mut self, task: &Task, tries: u32) -> Result<Reply, Fault>
-        ensures session { self.new ≡ record self.old {
-          client = record self.old.client { value = self.new.client.value };
-        } }
+        ensures session { GoesOn self.old self.new }
         ensures called { HasCalled self.old.manager task.now tries result
             self.old.client self.new.client }
     {
@@ -68,9 +67,7 @@ impl<'a> Session<'a> {
         tries: u32,
         gate: &mut G,
     ) -> Result<Reply, Fault>
-        ensures session { self.new ≡ record self.old {
-          client = record self.old.client { value = self.new.client.value };
-        } }
+        ensures session { GoesOn self.old self.new }
         ensures called { HasCalled self.old.manager task.now tries result
             self.old.client self.new.client }
     {
@@ -84,9 +81,7 @@ impl<'a> Session<'a> {
         tries: u32,
         gate: &mut G,
     ) -> (Result<Placed, Fault>, Effort)
-        ensures session { self.new ≡ record self.old {
-          client = record self.old.client { value = self.new.client.value };
-        } }
+        ensures session { GoesOn self.old self.new }
         ensures called { HasCalled self.old.manager task.now tries (replied result.0)
             self.old.client self.new.client }
         ensures placed { IsPlaced self.old.manager task.now result.0

@@ -1,9 +1,10 @@
 use Rattle.std.proofs.Common.{◌≡◌, ◌≤◌, ◌+◌, ◌*◌}
+use Rattle.vac_manager.specs.Session.{GoesOn}
 use Rattle.booking_desk.proofs.asking.ask.Given as goal
 
 abbrev pub invariant-asks : goal.invariant-asks
 invariant-asks l = record {
-  session : l.session ≡ record l.fn.session { client = record l.fn.session.client { value = l.session.client.value } };
+  session : GoesOn l.fn.session l.session;
   some : 1 ≤ l.left;
   grants : l.session.client.value.grants ≡ l.fn.session.client.value.grants;
   floor : l.fn.session.client.value.floor ≤ l.session.client.value.floor;

@@ -10,12 +10,12 @@ use Rattle.vac_load.proofs.gathering.gather_all.Given as goal
 abbrev pub invariant-loop-worked : goal.invariant-loop-worked
 invariant-loop-worked g l = record {
   all : l.fn.crew.others.items ≡ l.yielded ++ into_iter_items l.worked-iterator;
-  own : l.client.table ≡ l.manager.table;
-  grants : l.client.value.grants + into_iter_len l.worked-iterator ≡ MOST_GRANTS;
-  others_grants : All (λ w. w.worker.client.value.grants ≡ 0) (into_iter_items l.worked-iterator);
-  others : All (λ w. w.worker.client.table ≡ l.manager.table) (into_iter_items l.worked-iterator);
+  manager : l.session.manager ≡ l.fn.crew.first.worker.session.manager;
+  grants : l.session.client.value.grants + into_iter_len l.worked-iterator ≡ MOST_GRANTS;
+  others_grants : All (λ w. w.worker.session.client.value.grants ≡ 0) (into_iter_items l.worked-iterator);
+  others : All (λ w. w.worker.session.manager ≡ l.fn.crew.first.worker.session.manager) (into_iter_items l.worked-iterator);
   tasks : All (λ w. total w.tally ≤ 1000000) (into_iter_items l.worked-iterator);
-  gathered : Gathered (λ w. w.worker.client.value.records) (λ w. w.tally) l.fn.crew.first l.yielded l.client.value.records l.tally;
+  gathered : Gathered (λ w. w.worker.session.client.value.records) (λ w. w.tally) l.fn.crew.first l.yielded l.session.client.value.records l.tally;
   handed : Paired (λ w seat. shown g.K.Keep.notes seat ≡ shown g.K.Keep.notes w.worker.seat) (l.fn.crew.first ∷ l.yielded) l.seats.items;
   room : vec_len l.seats + into_iter_len l.worked-iterator ≤ vec_capacity l.seats;
   bound : total l.tally + into_iter_len l.worked-iterator * 1000000 ≤ 65000000;

@@ -1,9 +1,10 @@
-use Rattle.std.proofs.Common.{◌∙◌, ◌≤◌, ap, arith}
-use Rattle.vac_manager.specs.Called.{CallerShown}
+use Rattle.std.proofs.Common.{◌≡◌, ◌∙◌, ◌≤◌, sym, ap, arith}
+use Rattle.stm_region.specs.Shown.{RegionShown}
+use Rattle.vac_manager.specs.Session.{SessionShown}
 use Rattle.vac_load.specs.Keeping.{shown}
 use Rattle.vac_load.proofs.Joining.{few}
 use Rattle.vac_load.proofs.Pairs.{paired_length}
-use Rattle.vac_load.proofs.Shares.{ran_all, ran_in, worked_own, worked_grants, worked_tasks}
+use Rattle.vac_load.proofs.Shares.{ran_all, ran_in, paired_each, worked_with, worked_grants, worked_tasks}
 use Rattle.vac_load.proofs.gathering.run_clients.Goals as goal
 
 pub gather_all-requires : goal.gather_all-requires
@@ -14,21 +15,22 @@ gather_all-requires g c =
     let same = paired_length _ _ _ c.in_ok-crew-2.ensures.others in
     let all = c.in_ok-crew-2.ensures.first.looped.all in
     let number = c.in_ok-crew.ensures.number in
+    let first = ap (λ (y : SessionShown). y.manager) c.in_ok-crew-2.ensures.first.session ∙ c.in_ok-crew.ensures.crew.opening.manager_is in
     record {
-      own = ap (λ (x : CallerShown). x.table) c.in_ok-crew-2.ensures.first.client ∙ (c.in_ok-crew.ensures.hired.opening.own ∙ c.requires.own);
-      others_own = worked_own g.D.Draws.leads c.args.settings.now c.args.manager.now.renewal (λ w. w.client) (λ w. shown g.K.Keep.notes w.seat) (λ r. r.worker.client) (λ r. shown g.K.Keep.notes r.worker.seat) (λ r. r.tally) _ _ _ c.in_ok-crew.ensures.own c.in_ok-crew-2.ensures.others;
+      one = worked_with g.D.Draws.leads c.args.settings.now (λ w. w.session) (λ w. shown g.K.Keep.notes w.seat) (λ r. r.worker.session) (λ r. shown g.K.Keep.notes r.worker.seat) (λ r. r.tally) _ _ _
+          (paired_each _ (λ w. w.session.manager ≡ c.in_ok-crew-2.crew.first.worker.session.manager) (λ p w h. h.manager_is ∙ sym first) _ _ c.in_ok-crew.ensures.crew.others_are) c.in_ok-crew-2.ensures.others;
       grants = let held = c.in_ok-crew-2.ensures.first.looped.answered.grants in omega (arith, held, same, c.in_ok-crew.ensures.grants);
-      others_grants = worked_grants g.D.Draws.leads c.args.settings.now c.args.manager.now.renewal (λ w. w.client) (λ w. shown g.K.Keep.notes w.seat) (λ r. r.worker.client) (λ r. shown g.K.Keep.notes r.worker.seat) (λ r. r.tally) _ _ c.in_ok-crew.ensures.others_grants c.in_ok-crew-2.ensures.others;
+      others_grants = worked_grants g.D.Draws.leads c.args.settings.now (λ w. w.session) (λ w. shown g.K.Keep.notes w.seat) (λ r. r.worker.session) (λ r. shown g.K.Keep.notes r.worker.seat) (λ r. r.tally) _ _ c.in_ok-crew.ensures.others_grants c.in_ok-crew-2.ensures.others;
       few = omega (arith, number, same, m, c.requires.number);
       room = omega (arith, number, same, c.in-Ok.ensures.capacity, c.len.ensures);
       empty = c.in-Ok.ensures.items;
       tasks = omega (arith, all, n);
-      others_tasks = worked_tasks g.D.Draws.leads c.args.settings.now c.args.manager.now.renewal (λ w. w.client) (λ w. shown g.K.Keep.notes w.seat) (λ r. r.worker.client) (λ r. shown g.K.Keep.notes r.worker.seat) (λ r. r.tally) _ _ _ n c.in_ok-crew-2.ensures.others;
+      others_tasks = worked_tasks g.D.Draws.leads c.args.settings.now (λ w. w.session) (λ w. shown g.K.Keep.notes w.seat) (λ r. r.worker.session) (λ r. shown g.K.Keep.notes r.worker.seat) (λ r. r.tally) _ _ _ n c.in_ok-crew-2.ensures.others;
     }
 
 pub returns-clause-ran : goal.returns-clause-ran
-returns-clause-ran g c = ran_all g.D.Draws.leads c.args.settings.now c.args.manager.now.renewal (shown g.K.Keep.notes) (λ w. w.client) (λ w. shown g.K.Keep.notes w.seat) (λ r. r.worker.client) (λ r. shown g.K.Keep.notes r.worker.seat) (λ r. r.tally) c.args.client _ _ _ _ _ _ c.gather_all.result.client.value _
-    c.requires.known c.in_ok-crew.ensures.hired c.in_ok-crew-2.ensures.first c.in_ok-crew-2.ensures.others c.gather_all.ensures.gathered c.gather_all.ensures.seats (omega (arith, c.in_ok-crew.ensures.grants))
+returns-clause-ran g c = ran_all g.D.Draws.leads c.args.settings.now c.args.session (shown g.K.Keep.notes) (λ w. w.session) (λ w. shown g.K.Keep.notes w.seat) (λ r. r.worker.session) (λ r. shown g.K.Keep.notes r.worker.seat) (λ r. r.tally) _ _ _ _ _ _ c.gather_all.result.client.value _
+    c.requires.known c.in_ok-crew.ensures.crew c.in_ok-crew-2.ensures.first c.in_ok-crew-2.ensures.others c.gather_all.ensures.gathered c.gather_all.ensures.seats (omega (arith, c.in_ok-crew.ensures.grants))
 
 pub returns-clause-number : goal.returns-clause-number
 returns-clause-number g c =
@@ -37,5 +39,10 @@ returns-clause-number g c =
     omega (arith, c.in_ok-crew.ensures.number, same, handed, c.requires.number)
 
 pub returns-clause-era : goal.returns-clause-era
-returns-clause-era g c = ran_in g.D.Draws.leads c.args.settings.now c.args.manager.now.renewal (shown g.K.Keep.notes) (λ w. w.client) (λ w. shown g.K.Keep.notes w.seat) (λ r. r.worker.client) (λ r. shown g.K.Keep.notes r.worker.seat) (λ r. r.tally) c.args.client _ _ _ _ _ c.gather_all.result.client.value _
-    c.requires.known c.in_ok-crew.ensures.hired c.in_ok-crew-2.ensures.first c.in_ok-crew-2.ensures.others c.gather_all.ensures.gathered c.requires.era
+returns-clause-era g c = ran_in g.D.Draws.leads c.args.settings.now c.args.session (shown g.K.Keep.notes) (λ w. w.session) (λ w. shown g.K.Keep.notes w.seat) (λ r. r.worker.session) (λ r. shown g.K.Keep.notes r.worker.seat) (λ r. r.tally) _ _ _ _ _ c.gather_all.result.client.value _
+    c.requires.known c.in_ok-crew.ensures.crew c.in_ok-crew-2.ensures.first c.in_ok-crew-2.ensures.others c.gather_all.ensures.gathered c.requires.era
+
+pub returns-clause-own : goal.returns-clause-own
+returns-clause-own g c =
+    let first = ap (λ (y : SessionShown). y.manager) c.in_ok-crew-2.ensures.first.session ∙ c.in_ok-crew.ensures.crew.opening.manager_is in
+    c.gather_all.ensures.own ∙ ap (λ (m : RegionShown). m.table) first

@@ -1,5 +1,5 @@
-use Rattle.std.proofs.Common.{◌≡◌}
 use Rattle.vac_manager.specs.Called.{HasAllGrants}
+use Rattle.vac_manager.specs.Session.{GoesOn}
 use Rattle.vac_draws.specs.Draws.{for_each}
 use Rattle.vac_draws.specs.Tasks.{stocks}
 use Rattle.vac_load.specs.Keeping.{HasKeptAdded}
@@ -8,8 +8,8 @@ use Rattle.vac_load.proofs.opening.add_all.Given as goal
 
 abbrev pub invariant-items : goal.invariant-items
 invariant-items g l = record {
-  client : l.client ≡ record l.fn.client { value = l.client.value };
-  grants : HasAllGrants l.client.value;
-  ran : Ran g.D.Draws.leads l.manager.renewal (for_each l.place stocks) l.fn.client.value l.client.value l.fn.draws l.draws;
-  kept : HasKeptAdded l.fn.client.value l.client.value (g.K.Keep.notes l.fn.keep) (g.K.Keep.notes l.keep);
+  session : GoesOn l.fn.session l.session;
+  grants : HasAllGrants l.session.client.value;
+  ran : Ran g.D.Draws.leads l.fn.session.manager.renewal (for_each l.place stocks) l.fn.session.client.value l.session.client.value l.fn.draws l.draws;
+  kept : HasKeptAdded l.fn.session.client.value l.session.client.value (g.K.Keep.notes l.fn.keep) (g.K.Keep.notes l.keep);
 }

@@ -3,4 +3,4 @@ use Rattle.vac_load.proofs.Notes.{kept_answered}
 use Rattle.vac_load.proofs.opening.ask_for.Goals as goal
 
 pub returns-in-Ok-clause-kept : goal.returns-in-Ok-clause-kept
-returns-in-Ok-clause-kept g c = kept_answered c.args.manager.now (One c.args.command) c.call_placed-end.result.0 c.in-Ok.placed _ _ _ _ _ c.in-Ok.is c.call_placed-end.ensures.placed c.begin.ensures.same c.keep.ensures
+returns-in-Ok-clause-kept g c = kept_answered c.args.session.now.manager (One c.args.command) c.call_placed-end.result.0 c.in-Ok.placed _ _ _ _ _ c.in-Ok.is c.call_placed-end.ensures.placed c.begin.ensures.same c.keep.ensures

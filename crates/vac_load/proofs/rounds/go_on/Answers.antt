@@ -2,27 +2,25 @@ use Rattle.std.proofs.Common.{rules, ◌≡◌, ◌∙◌, length, List, ap, sub
 use Rattle.stm_core.specs.Client.{Record}
 use Rattle.stm_region.specs.Shown.{RegionShown}
 use Rattle.vac_manager.specs.Called.{CallerShown}
+use Rattle.vac_manager.specs.Session.{SessionShown}
 use Rattle.vac_load.specs.Keeping.{shown}
 use Rattle.vac_load.specs.Load.{RanAll}
 use Rattle.vac_load.proofs.Joining.{ran_total, few, few_each, renewed_known}
 use Rattle.vac_load.proofs.Eras.{renewed_in}
 use Rattle.vac_load.proofs.rounds.go_on.Goals as goal
 
-pub run_clients-requires-clause-own : goal.run_clients-requires-clause-own
-run_clients-requires-clause-own g c = λ _ _. ap (λ (x : CallerShown). x.table) c.in-Ok.ensures.client
-
 pub run_clients-requires-clause-alone : goal.run_clients-requires-clause-alone
-run_clients-requires-clause-alone g c = λ _ _. ap (λ (x : CallerShown). x.value.grants) c.in-Ok.ensures.client ∙ c.requires.alone
+run_clients-requires-clause-alone g c = λ _ _. rw c.of-session.ensures (ap (λ (x : CallerShown). x.value.grants) c.in-Ok.ensures.client ∙ c.requires.alone)
 
 pub run_clients-requires-clause-known : goal.run_clients-requires-clause-known
 run_clients-requires-clause-known g c = λ _ _.
-    renewed_known c.args.progress.manager c.in-Ok.renewed.0 c.args.progress.round.client c.in-Ok.renewed.1 _ c.in-Ok.ensures.words
-    (ap (λ (r : RegionShown). r.renewal) c.in-Ok.ensures.manager) (ap (λ (x : CallerShown). x.value.records) c.in-Ok.ensures.client)
+    rw c.of-session.ensures (renewed_known c.args.progress.manager c.in-Ok.renewed.0 c.args.progress.round.client c.in-Ok.renewed.1 _ c.in-Ok.ensures.words
+    (ap (λ (r : RegionShown). r.renewal) c.in-Ok.ensures.manager) (ap (λ (x : CallerShown). x.value.records) c.in-Ok.ensures.client))
 
 pub run_clients-requires-clause-era : goal.run_clients-requires-clause-era
 run_clients-requires-clause-era g c = λ _ _.
-    renewed_in c.args.progress.manager c.in-Ok.renewed.0 c.args.progress.round.client c.in-Ok.renewed.1 _ c.in-Ok.ensures.words
-    (ap (λ (r : RegionShown). r.renewal) c.in-Ok.ensures.manager) (ap (λ (x : CallerShown). x.value.records) c.in-Ok.ensures.client) c.requires.era
+    rw c.of-session.ensures (renewed_in c.args.progress.manager c.in-Ok.renewed.0 c.args.progress.round.client c.in-Ok.renewed.1 _ c.in-Ok.ensures.words
+    (ap (λ (r : RegionShown). r.renewal) c.in-Ok.ensures.manager) (ap (λ (x : CallerShown). x.value.records) c.in-Ok.ensures.client) c.requires.era)
 
 pub plus-requires : goal.plus-requires
 plus-requires g c =
@@ -34,7 +32,7 @@ plus-requires g c =
 
 pub returns-clause-ran : goal.returns-clause-ran
 returns-clause-ran g c =
-    let same = ap (λ (x : CallerShown). x.value.records) c.in-Ok.ensures.client in
+    let same = ap (λ (y : SessionShown). y.client.value.records) c.of-session.ensures ∙ ap (λ (x : CallerShown). x.value.records) c.in-Ok.ensures.client in
     record {
       more = c.in_ok-client.field-0.tally;
       ran = subst (λ (l : List Record). RanAll g.D.Draws.leads c.args.settings.now (shown g.K.Keep.notes) c.args.settings.now.tasks l c.args.progress.round.seats.items c.in_ok-client.field-0.client.value.records c.in_ok-client.field-0.seats.items c.in_ok-client.field-0.tally) same c.in_ok-client.ensures.ran;

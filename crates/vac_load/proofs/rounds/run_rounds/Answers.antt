@@ -1,20 +1,25 @@
-use Rattle.std.proofs.Common.{rules, ◌≡◌, ◌∙◌, ◌*◌, ◌≤◌, length, ℕ, refl, subst, arith}
+use Rattle.std.proofs.Common.{rules, ◌≡◌, ◌∙◌, ◌*◌, ◌≤◌, length, ℕ, refl, ap, subst, arith}
+use Rattle.vac_manager.specs.Session.{SessionShown}
 use Rattle.vac_load.specs.Keeping.{shown}
-use Rattle.vac_load.specs.Load.{RanAll}
+use Rattle.vac_load.specs.Load.{IsInRenewal, RanAll}
 use Rattle.vac_load.proofs.Joining.{ran_more, ran_total, few, few_all}
 use Rattle.vac_load.proofs.rounds.run_rounds.Goals as goal
+
+pub run_clients-requires-clause-known : goal.run_clients-requires-clause-known
+run_clients-requires-clause-known g c = λ _ _. rw c.of-session.ensures c.requires.known
 
 pub rounds-init : goal.rounds-init
 rounds-init g c =
     let one : c.args.settings.now.tasks ≡ 1 * c.args.settings.now.tasks = omega arith in
     record {
-      own = c.in_ok-round.ensures.own;
+      own = c.in_ok-round.ensures.own ∙ ap (λ (y : SessionShown). y.manager.table) c.of-session.ensures;
       alone = c.in_ok-round.ensures.alone;
       renewals = omega (arith, c.requires.renewals);
       number = c.in_ok-round.ensures.number;
-      era = c.in_ok-round.ensures.era;
+      era = subst (λ (y : SessionShown). IsInRenewal y.manager.renewal c.in_ok-round.round.client.value.records) c.of-session.ensures c.in_ok-round.ensures.era;
       size = refl;
-      ran = subst (λ (n : ℕ). RanAll g.D.Draws.leads c.args.settings.now (shown g.K.Keep.notes) n c.args.client.value.records c.args.seats.items c.in_ok-round.round.client.value.records c.in_ok-round.round.seats.items c.in_ok-round.round.tally) one c.in_ok-round.ensures.ran;
+      ran = subst (λ (n : ℕ). RanAll g.D.Draws.leads c.args.settings.now (shown g.K.Keep.notes) n c.args.client.value.records c.args.seats.items c.in_ok-round.round.client.value.records c.in_ok-round.round.seats.items c.in_ok-round.round.tally) one
+          (subst (λ (y : SessionShown). RanAll g.D.Draws.leads c.args.settings.now (shown g.K.Keep.notes) c.args.settings.now.tasks y.client.value.records c.args.seats.items c.in_ok-round.round.client.value.records c.in_ok-round.round.seats.items c.in_ok-round.round.tally) c.of-session.ensures c.in_ok-round.ensures.ran);
     }
 
 pub go_on-requires-clause-few : goal.go_on-requires-clause-few

@@ -6,7 +6,7 @@ use Rattle.vac_load.proofs.workers.run_all.Goals as goal
 pub scoped-requires : goal.scoped-requires
 scoped-requires g c = record {
   at = λ _. (
-    (c.requires.first, c.requires.others, c.requires.settings),
+    c.requires.settings,
     (search (sendable, crosses) depth 40, search (sendable, crosses) depth 40, search (sendable, crosses) depth 40),
   );
 }

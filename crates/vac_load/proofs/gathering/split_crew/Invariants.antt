@@ -3,18 +3,18 @@ use Rattle.stm_core.specs.declared.limits.TheConstants.{MOST_GRANTS}
 use Rattle.std.specs.Vec.Iter.{into_iter_items, into_iter_len}
 use Rattle.vac_load.specs.Lists.{Paired}
 use Rattle.vac_load.specs.Keeping.{shown}
-use Rattle.vac_load.specs.Load.{IsHired}
-use Rattle.vac_load.proofs.gathering.hire.Given as goal
+use Rattle.vac_load.specs.Load.{IsWorker}
+use Rattle.vac_load.proofs.gathering.split_crew.Given as goal
 
 abbrev pub invariant-loop-another : goal.invariant-loop-another
 invariant-loop-another g l = record {
   all : into_iter_items l.initial.another-iterator ≡ l.yielded ++ into_iter_items l.another-iterator;
-  own : l.client.table ≡ l.fn.client.table;
-  records : l.client.value.records ≡ l.fn.client.value.records;
-  floor : l.client.value.floor ≡ l.fn.client.value.floor;
-  grants : l.client.value.grants + vec_len l.others ≡ MOST_GRANTS;
-  others_grants : All (λ w. w.client.value.grants ≡ 0) l.others.items;
+  manager : l.session.manager ≡ l.fn.session.manager;
+  records : l.session.client.value.records ≡ l.fn.session.client.value.records;
+  floor : l.session.client.value.floor ≡ l.fn.session.client.value.floor;
+  grants : l.session.client.value.grants + vec_len l.others ≡ MOST_GRANTS;
+  others_grants : All (λ w. w.session.client.value.grants ≡ 0) l.others.items;
   count : vec_len l.others + into_iter_len l.another-iterator + 1 ≡ vec_len l.fn.seats;
   room : vec_len l.others + into_iter_len l.another-iterator ≤ vec_capacity l.others;
-  hired : Paired (λ p w. IsHired l.fn.client.table [] l.fn.client.value.floor (shown g.K.Keep.notes p) w.client (shown g.K.Keep.notes w.seat)) l.yielded l.others.items;
+  crew : Paired (λ p w. IsWorker l.fn.session.manager [] l.fn.session.client.value.floor (shown g.K.Keep.notes p) w.session (shown g.K.Keep.notes w.seat)) l.yielded l.others.items;
 }

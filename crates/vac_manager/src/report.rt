@@ -7,8 +7,8 @@ ghost use Rattle.vac_manager.specs.Law.{Shows, IsFitting};
 use stm_words::Flat;
 use vac_model::Report;
 
-/// The report of the state that the words represent.
-pub(crate) fn report_of(words: Vec<u64>) -> Report
+/// The report of the state that the words of a closed manager represent.
+pub fn report_of(words: Vec<u64>) -> Report
     requires { IsFitting words.items }
     ensures { (s : State) → Shows words.items s → report s ≡ result }
 {

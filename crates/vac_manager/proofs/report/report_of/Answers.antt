@@ -1,5 +1,5 @@
-use Rattle.booking_desk.proofs.Words.{fitting_holds, reports}
-use Rattle.booking_desk.proofs.report.report_of.Goals as goal
+use Rattle.vac_manager.proofs.Words.{fitting_holds, reports}
+use Rattle.vac_manager.proofs.report.report_of.Goals as goal
 
 pub report-requires : goal.report-requires
 report-requires c = fitting_holds _ _ c.new-flat.ensures c.requires
