@@ -2,8 +2,8 @@
 use Rattle.std.proofs.Common.{ℕ, List, [], sym, subst, ◌∙◌, append-nil, Option, Some, None}
 use Rattle.std.specs.Prelude.{Result, Ok, Err, OnOk, OnErr}
 use Rattle.std.specs.Io.KnownBytes.{Appends}
-use Rattle.vac_script.specs.Script.{AppendsPrefix}
-use Rattle.vac_script.proofs.Written.{whole}
+use Rattle.vac_lines.specs.Writing.{AppendsPrefix}
+use Rattle.vac_lines.proofs.Written.{whole}
 
 -- where nothing was written, a prefix of no line was
 pub nothing : (held : Option (List ℕ)) → AppendsPrefix held held []

@@ -8,7 +8,7 @@ use Rattle.vac_history.specs.History.{notes_of, kept_by, WroteHistory, WroteHist
 use Rattle.vac_load.specs.declared.load.LoadFault.{LoadFault}
 use Rattle.vac_load.specs.declared.load.LoadFault.TheVariants as load
 use Rattle.vac_script.specs.declared.fault.RunFault.{RunFault}
-use Rattle.vac_script.specs.Script.{AppendsPrefix}
+use Rattle.vac_lines.specs.Writing.{AppendsPrefix}
 use Rattle.vac_cli.specs.Ending.{load_fault_line, fault_line}
 use Rattle.vac_cli.specs.Load.{NamedFault, LoadEnded, HasNoted, WroteCalls, WroteCallsInPart}
 use Rattle.vac_cli.specs.Program.{Loads}

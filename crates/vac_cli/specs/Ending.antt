@@ -1,7 +1,7 @@
 -- How the program says that a fault ended it.
 use Rattle.std.specs.Prelude.{ℕ, Option, List, [], codes}
 use Rattle.vac_lines.specs.Script.{as_line}
-use Rattle.vac_script.specs.Script.{AppendsPrefix}
+use Rattle.vac_lines.specs.Writing.{AppendsPrefix}
 use Rattle.vac_script.specs.declared.fault.RunFault.{RunFault}
 use Rattle.vac_script.specs.declared.fault.RunFault.TheVariants as run
 use Rattle.vac_judge.specs.declared.fault.JudgeFault.{JudgeFault}

@@ -1,4 +1,3 @@
-pub mod CommandLine
 pub mod Program
 pub mod Load
 pub mod Ending

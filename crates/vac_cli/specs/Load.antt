@@ -15,7 +15,7 @@ use Rattle.vac_history.specs.History.{call_of, WroteHistory, WroteHistoryPrefix}
 use Rattle.vac_history.specs.Legal.{AreLegal}
 use Rattle.vac_load.specs.Lists.{Paired}
 use Rattle.vac_load.specs.Streams.{LoadedBySeed}
-use Rattle.vac_script.specs.Script.{AppendsPrefix}
+use Rattle.vac_lines.specs.Writing.{AppendsPrefix}
 use Rattle.vac_cli.specs.Ending.{NamedAfter, load_fault_line}
 
 -- a name and how often it came

@@ -8,18 +8,19 @@ use Rattle.clap.specs.declared.error.kind.ErrorKind.TheVariants as error
 use Rattle.vac_draws.specs.declared.settings.Settings.{Settings}
 use Rattle.vac_draws.specs.Setting.{is_settings}
 use Rattle.vac_load.specs.declared.load.LoadFault.TheVariants.{Arguments}
-use Rattle.vac_cli.specs.declared.asked.Asked.{Asked}
-use Rattle.vac_cli.specs.declared.asked.Asked.TheVariants.{Run, Dump, Check, Judge, Load, Tasks}
+use Rattle.vac_options.specs.declared.asked.Asked.{Asked}
+use Rattle.vac_options.specs.declared.asked.Asked.TheVariants.{Run, Dump, Check, Judge, Load, Tasks}
 use Rattle.vac_lines.specs.Script.{as_line}
 use Rattle.vac_script.specs.declared.fault.RunFault.TheVariants.{Memory}
-use Rattle.vac_script.specs.Script.{AppendsPrefix, WroteAll, WrotePrefix}
+use Rattle.vac_lines.specs.Writing.{AppendsPrefix}
+use Rattle.vac_script.specs.Script.{WroteAll, WrotePrefix}
 use Rattle.vac_script.specs.Dump.{Dumped, DumpStopped}
 use Rattle.vac_script.specs.Check.{Checked, CheckStopped}
 use Rattle.vac_judge.specs.Reading.{HasJudged, HasStopped}
 use Rattle.vac_worklist.specs.Worklist.{WroteTasks, WroteTasksPrefix}
 use Rattle.vac_cli.specs.Load.{LoadWrote, LoadEnded}
 use Rattle.vac_cli.specs.Ending.{NamedAfter, fault_line, load_fault_line}
-use Rattle.vac_cli.specs.CommandLine.{vacation, AsksFor}
+use Rattle.vac_options.specs.CommandLine.{vacation, AsksFor}
 
 -- status 0 where this was done, 1 where that stopped it
 abbrev pub Ends : ℕ → Type 0 → Type 0 → Type 0

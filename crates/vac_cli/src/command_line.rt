@@ -4,13 +4,11 @@ ghost use Rattle.std.specs.Prelude.{◌≡◌, ◌≤◌, ℕ, true, List, map, 
 ghost use Rattle.std.specs.Io.KnownBytes.{Appends};
 ghost use Rattle.clap.specs.Words.{kind_of};
 ghost use Rattle.clap.specs.declared.error.kind.ErrorKind.TheVariants.{DisplayVersion};
-ghost use Rattle.vac_manager.specs.Opening.{is_block_count};
+ghost use Rattle.vac_options.specs.CommandLine.{is_block_count};
 ghost use Rattle.vac_cli.specs.Ending.{as_run_fault};
 ghost use Rattle.vac_cli.specs.Program.{Does, Lists, Shows, Serves};
 
-use crate::asked::{Asked, read_asked};
 use crate::load::load;
-use crate::options::VERSION;
 use crate::status::{DONE, FAULT, REFUSED, end_by, end_load_by};
 use clap::Error;
 use clap::error::ErrorKind;
@@ -20,8 +18,10 @@ use std::sync::Wait;
 use std::thread::Threads;
 use std::time::Clock;
 use vac_judge::{JudgeFault, judge_history};
+use vac_lines::write_and_flush;
 use vac_load::{LoadFault, Settings};
-use vac_script::{RunFault, check_words, dump_script, run_script, write_and_flush};
+use vac_options::{Asked, VERSION, read_asked};
+use vac_script::{RunFault, check_words, dump_script, run_script};
 use vac_worklist::{TasksFault, write_tasks};
 
 /// Runs the program on a command line, of which the first word is the program's name, and answers

@@ -1,13 +1,11 @@
-//! The program's command line: what its words ask for, and that it is done.
+//! The program: what its command line asks for is done, over the streams that it is given.
 //!
 //! Scripts over streams, and what is read and printed line by line, are handed on from below.
 #![tactic(auto)]
 
-mod asked;
 mod command_line;
 mod load;
 mod noting;
-mod options;
 mod stats;
 mod status;
 mod telling;

@@ -9,10 +9,9 @@ ghost use Rattle.vac_cli.specs.Program.{Loads};
 ghost use Rattle.std.specs.Io.KnownBytes.{Appends};
 ghost use Rattle.vac_cli.specs.Ending.{load_fault_line};
 ghost use Rattle.vac_lines.specs.Script.{as_line};
-ghost use Rattle.vac_script.specs.Script.{AppendsPrefix};
+ghost use Rattle.vac_lines.specs.Writing.{AppendsPrefix};
 ghost use Rattle.vac_lines.specs.Text.{report_text};
 
-use crate::asked::How;
 use crate::noting::{load_noted, run_told};
 use crate::stats::{Span, tell_stats};
 use crate::status::{DONE, FAULT, end_by, end_load_by};
@@ -21,10 +20,11 @@ use std::io::Write;
 use std::sync::Wait;
 use std::thread::Threads;
 use std::time::Clock;
-use vac_lines::print_reply;
+use vac_lines::{print_reply, write_and_flush};
 use vac_load::{LoadFault, LoadReport, Settings, Tally, no_keepers};
 use vac_model::{Reply, Report};
-use vac_script::{RunFault, write_and_flush};
+use vac_options::How;
+use vac_script::RunFault;
 
 /// Runs a load, writes its two lines, or the history of its calls, and answers the status. Where
 /// that is asked for, tells on `errors` how far it is, and in the end how long its clients took and

@@ -5,7 +5,6 @@ ghost use Rattle.vac_load.specs.Load.{is_load};
 ghost use Rattle.vac_load.specs.Streams.{KeptBySeed};
 ghost use Rattle.vac_cli.specs.Program.{Loads};
 
-use crate::asked::How;
 use crate::load::tell_load;
 use crate::stats::{Span, tell_stats};
 use crate::status::{DONE, end_by, end_load_by};
@@ -19,6 +18,7 @@ use stm_attempt::NoGate;
 use vac_history::{HistoryFault, Journal, write_history};
 use vac_load::{Efforts, Keepers, LoadFault, LoadReport, Settings, run_load_kept};
 use vac_manager::Keep;
+use vac_options::How;
 use vac_script::RunFault;
 
 /// An empty journal for each client, with one clock and one start.

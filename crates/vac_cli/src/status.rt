@@ -1,12 +1,13 @@
 //! How the program ends.
 
 ghost use Rattle.std.specs.Prelude.{◌≡◌, ◌≤◌, ◌↔◌};
-ghost use Rattle.vac_script.specs.Script.{AppendsPrefix};
+ghost use Rattle.vac_lines.specs.Writing.{AppendsPrefix};
 ghost use Rattle.vac_cli.specs.Ending.{fault_line, load_fault_line};
 
 use std::io::Write;
+use vac_lines::write_and_flush;
 use vac_load::LoadFault;
-use vac_script::{RunFault, write_and_flush};
+use vac_script::RunFault;
 
 /// The status of a program that did its work or showed its help.
 pub(crate) const DONE: u8 = 0;

@@ -3,7 +3,7 @@ use Rattle.std.specs.Prelude.{ℕ, List, ◌∷◌, map, Option}
 use Rattle.std.specs.Io.KnownBytes.{Appends}
 use Rattle.vac_judge.specs.Call.{Call}
 use Rattle.vac_judge.specs.CallText.{answered, history_text}
-use Rattle.vac_worklist.specs.Worklist.{AppendsPrefix}
+use Rattle.vac_lines.specs.Writing.{AppendsPrefix}
 use Rattle.vac_manager.specs.declared.note.Note.{Note}
 use Rattle.vac_history.specs.declared.journal.Journal.{Journal}
 use Rattle.vac_history.specs.Order.{Entry, IsMerged}

@@ -3,7 +3,7 @@ use Rattle.std.specs.Prelude.{ℕ, List, [], ◌++◌, Option, codes, decimal}
 use Rattle.vac_lines.specs.TaskText.{task_text}
 use Rattle.vac_lines.specs.Text.{reply_text}
 use Rattle.vac_manager.specs.declared.note.Note.{Note}
-use Rattle.vac_worklist.specs.Worklist.{AppendsPrefix}
+use Rattle.vac_lines.specs.Writing.{AppendsPrefix}
 use Rattle.vac_worklist.specs.Sending.{Sent}
 use Rattle.vac_history.specs.Order.{Entry}
 use Rattle.vac_history.specs.Picking.{PicksAll, Merges}

@@ -3,7 +3,7 @@
 ghost use Rattle.std.specs.Prelude.{◌≡◌, ◌<◌, ◌^◌, ◌++◌, [], length, OnOk, OnErr, IfOk};
 ghost use Rattle.vac_lines.specs.Script.{as_line};
 ghost use Rattle.vac_judge.specs.CallText.{call_text};
-ghost use Rattle.vac_worklist.specs.Worklist.{AppendsPrefix};
+ghost use Rattle.vac_lines.specs.Writing.{AppendsPrefix};
 ghost use Rattle.vac_worklist.specs.Sending.{Sent};
 ghost use Rattle.vac_history.specs.Order.{entries_from};
 ghost use Rattle.vac_history.specs.Rests.{left_of, entry_of};

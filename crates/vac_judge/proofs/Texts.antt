@@ -13,7 +13,8 @@ use Rattle.vac_judge.specs.declared.verdict.Verdict.TheVariants.{Legal}
 use Rattle.vac_judge.specs.Call.{Call, line_call}
 use Rattle.vac_judge.specs.Verdict.{judged, summary_of, verdict_on, verdict_text, is_legal}
 use Rattle.vac_judge.specs.Judging.{Follows, Takes, Ends}
-use Rattle.vac_judge.specs.Reading.{verdict_behind, TakesText, EndsText, EndsLast, HasVerdict, AppendsPrefix, HasJudged, HasStopped}
+use Rattle.vac_lines.specs.Writing.{AppendsPrefix}
+use Rattle.vac_judge.specs.Reading.{verdict_behind, TakesText, EndsText, EndsLast, HasVerdict, HasJudged, HasStopped}
 use Rattle.vac_judge.proofs.Cutting.{HasNoEnd, calls_cut, calls_kept, calls_last}
 
 -- of a chunk this rest is still to be judged

@@ -2,6 +2,7 @@
 use Rattle.std.specs.Prelude.{◌≡◌, ◌⊎◌, ℕ, ◌+◌, ◌≤◌, Bool, Option, IfSome, List, [], ◌++◌, map, length, take}
 use Rattle.std.specs.Io.KnownBytes.{Appends, Consumes, IsAtEnd}
 use Rattle.vac_model.specs.State.{State}
+use Rattle.vac_lines.specs.Writing.{AppendsPrefix}
 use Rattle.vac_lines.specs.Lines.{lines_of, HasNo}
 use Rattle.vac_judge.specs.declared.judge.Judge.{Judge}
 use Rattle.vac_judge.specs.declared.verdict.Verdict.{Verdict}
@@ -18,10 +19,6 @@ pub record HasVerdict (n : ℕ) (unread left : Option (List ℕ)) (verdict : Ver
   pub of_read : (IsAtEnd left × (verdict_on n bytes ≡ verdict))
       ⊎ ((x : List ℕ) → verdict_on n (bytes ++ x) ≡ verdict)
   pub of_input : IfSome unread (λ input. verdict_on n input ≡ verdict)
-
--- a prefix of the text was appended
-abbrev pub AppendsPrefix : Option (List ℕ) → Option (List ℕ) → List ℕ → Type 0
-AppendsPrefix held holds text = (n : ℕ) × Appends held holds (take n text)
 
 -- the verdict was written and nothing else, and this says whether it is legal
 pub record HasJudged (n : ℕ) (legal : Bool) (unread left held holds : Option (List ℕ)) :

@@ -2,7 +2,7 @@
 
 use std::alloc::AllocError;
 use thiserror::Error;
-use vac_lines::LineFault;
+use vac_lines::{LineFault, NotWritten};
 
 /// Why a line of a history is no call.
 #[derive(Clone, Copy, Debug, PartialEq, Eq, Error)]
@@ -51,5 +51,16 @@ impl From<AllocError> for JudgeFault {
 
     fn from(_error: AllocError) -> JudgeFault {
         JudgeFault::Memory
+    }
+}
+
+impl From<NotWritten> for JudgeFault {
+    ghost use Rattle.std.specs.Prelude.{◌≡◌};
+    ghost use Rattle.vac_judge.specs.declared.fault.JudgeFault.TheVariants.{Write};
+
+    ghost from_gives = { λ _ fault. fault ≡ Write };
+
+    fn from(_error: NotWritten) -> JudgeFault {
+        JudgeFault::Write
     }
 }

@@ -16,7 +16,6 @@ mod judge;
 mod laws;
 mod reading;
 mod verdict;
-mod writing;
 
 pub use answers::numbers_of_a_reply;
 pub use call::{CALL_BYTES, CallLine, read_call};

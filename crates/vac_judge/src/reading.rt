@@ -13,10 +13,9 @@ use crate::call::CALL_BYTES;
 use crate::fault::JudgeFault;
 use crate::judge::Judge;
 use crate::verdict::{Verdict, print_verdict};
-use crate::writing::write_all;
 use std::alloc::{AllocError, Global};
 use std::io::{ErrorKind, Read, Write};
-use vac_lines::cut_at;
+use vac_lines::{cut_at, write_all};
 use vac_model::limits::MOST_BLOCKS;
 
 /// The most reads of a history, but for one: the read after these is the last.

@@ -7,3 +7,4 @@ pub mod Decimals
 pub mod Spacing
 pub mod TaskReading
 pub mod Lengths
+pub mod Written

@@ -6,3 +6,4 @@ pub mod Text
 pub mod Script
 pub mod Memory
 pub mod TaskText
+pub mod Writing

@@ -15,6 +15,7 @@ mod numbers;
 mod reply;
 mod task_text;
 mod words;
+mod writing;
 
 pub use cutting::cut_at;
 pub use fault::LineFault;
@@ -22,3 +23,4 @@ pub use line::{LINE_BYTES, read_line};
 pub use numbers::read_memory_word;
 pub use reply::{print_fault, print_reply, print_word, refusal_name};
 pub use task_text::{print_task, task_texts_are_read, task_texts_fit};
+pub use writing::{NotWritten, write_all, write_and_flush};

@@ -19,7 +19,7 @@ use Rattle.vac_audit.proofs.Whole.{heap_size}
 use Rattle.vac_script.specs.declared.fault.RunFault.{RunFault}
 use Rattle.vac_script.specs.declared.check.Verdict.{Verdict}
 use Rattle.vac_script.specs.declared.check.Verdict.TheVariants.{Sound, Flawed, BadWords}
-use Rattle.vac_script.specs.Script.{AppendsPrefix}
+use Rattle.vac_lines.specs.Writing.{AppendsPrefix}
 use Rattle.vac_script.specs.Reading.{NoneOrMany, ReadWords, ReadNone}
 use Rattle.vac_script.specs.Check.{verdict_text, IsNone, HasFlaw, IsNoHeap, Judged, NoHeapOf, NoWords, IsVerdict, is_sound, Checked, CheckStopped}
 

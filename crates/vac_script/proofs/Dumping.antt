@@ -8,7 +8,7 @@ use Rattle.std.proofs.KnownBytes.{Appends-trans, Appends-kept}
 use Rattle.vac_lines.specs.Memory.{word_line, dump_text}
 use Rattle.vac_model.specs.State.{State}
 use Rattle.vac_manager.specs.Law.{Shows}
-use Rattle.vac_script.specs.Script.{AppendsPrefix}
+use Rattle.vac_lines.specs.Writing.{AppendsPrefix}
 use Rattle.vac_script.specs.System.{SystemShown, StandsAt, RanAll}
 use Rattle.vac_script.specs.Dump.{DumpStopped}
 

@@ -1,4 +1,3 @@
-pub mod Written
 pub mod Cutting
 pub mod Progress
 pub mod Running

@@ -12,7 +12,7 @@ use Rattle.vac_audit.specs.Ran.{IsHeapSize}
 use Rattle.vac_audit.specs.Represented.{StateOf}
 use Rattle.vac_audit.specs.declared.Flaw.{Flaw}
 use Rattle.vac_audit.specs.declared.Flaw.TheVariants.{Pointer, Shared, Lost, Order, Colour, Counts, Bookings}
-use Rattle.vac_script.specs.Script.{AppendsPrefix}
+use Rattle.vac_lines.specs.Writing.{AppendsPrefix}
 use Rattle.vac_script.specs.declared.check.Verdict.{Verdict}
 use Rattle.vac_script.specs.declared.check.Verdict.TheVariants.{Sound, Flawed, BadWords}
 

@@ -4,7 +4,7 @@ use Rattle.std.specs.Io.KnownBytes.{Appends, Consumes, IsAtEnd}
 use Rattle.vac_lines.specs.Script.{script_state}
 use Rattle.vac_lines.specs.Memory.{dump_text}
 use Rattle.vac_manager.specs.Law.{Shows}
-use Rattle.vac_script.specs.Script.{AppendsPrefix}
+use Rattle.vac_lines.specs.Writing.{AppendsPrefix}
 
 -- the input was read to its end; words that represent the state after its script, run on a system
 -- of n blocks, were written and nothing else

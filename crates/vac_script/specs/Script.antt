@@ -53,10 +53,6 @@ abbrev pub LeavesSame : State → List ℕ → List ℕ → State → List ℕ �
 LeavesSame s line chunk t line' =
     (x : List ℕ) → leaves s line (chunk ++ x) ≡ leaves t line' x
 
--- a prefix of the text was appended
-abbrev pub AppendsPrefix : Option (List ℕ) → Option (List ℕ) → List ℕ → Type 0
-AppendsPrefix held holds text = (n : ℕ) × Appends held holds (take n text)
-
 -- what is kept of a line that has begun: enough to see that it is too long
 abbrev pub HasBegun : List ℕ → Type 0
 HasBegun line = HasNoEnd line × (length line ≤ LINE_BYTES + 1)

@@ -9,11 +9,10 @@ ghost use Rattle.vac_lines.specs.Script.{as_line};
 
 use crate::fault::RunFault;
 use crate::memory::read_memory;
-use crate::writing::write_all;
 use std::alloc::{AllocError, Global};
 use std::io::{Read, Write};
 use vac_audit::{AuditFault, Flaw, audit_words};
-use vac_lines::print_reply;
+use vac_lines::{print_reply, write_all};
 use vac_model::{Reply, Report};
 
 /// What is said of a text of words.

@@ -4,6 +4,7 @@ ghost use Rattle.std.specs.Prelude.{◌≡◌};
 
 use std::alloc::AllocError;
 use thiserror::Error;
+use vac_lines::NotWritten;
 
 /// Why a script did not run to its end. The numbers are those of the protocol.
 #[derive(Clone, Copy, Debug, PartialEq, Eq, Error)]
@@ -36,5 +37,15 @@ impl From<AllocError> for RunFault {
 
     fn from(_error: AllocError) -> RunFault {
         RunFault::Memory
+    }
+}
+
+impl From<NotWritten> for RunFault {
+    ghost use Rattle.vac_script.specs.declared.fault.RunFault.TheVariants.{Write};
+
+    ghost from_gives = { λ _ fault. fault ≡ Write };
+
+    fn from(_error: NotWritten) -> RunFault {
+        RunFault::Write
     }
 }

@@ -7,11 +7,9 @@ mod fault;
 mod memory;
 mod script;
 mod system;
-mod writing;
 
 pub use check::check_words;
 pub use dump::dump_script;
 pub use fault::RunFault;
 pub use script::run_script;
 pub use system::LAST_VERSION;
-pub use writing::write_and_flush;

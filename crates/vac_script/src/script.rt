@@ -12,15 +12,15 @@ ghost use Rattle.vac_script.specs.declared.fault.RunFault.TheVariants.{Busy, Mem
 ghost use Rattle.vac_script.specs.System.{StandsAt, Answered, AnsweredInPart, Ran, RanInPart};
 ghost use Rattle.vac_script.specs.System.{Wrote, WroteInPart, WroteEnd, WroteEndInPart, RanAll};
 ghost use Rattle.vac_script.specs.System.{Lasts};
-ghost use Rattle.vac_script.specs.Script.{pending, leaves, HasBegun, AppendsPrefix};
+ghost use Rattle.vac_lines.specs.Writing.{AppendsPrefix};
+ghost use Rattle.vac_script.specs.Script.{pending, leaves, HasBegun};
 ghost use Rattle.vac_script.specs.Script.{WroteAll, WrotePrefix};
 
 use crate::fault::RunFault;
 use crate::system::System;
-use crate::writing::write_all;
 use std::alloc::{AllocError, Global};
 use std::io::{ErrorKind, Read, Write};
-use vac_lines::{LINE_BYTES, LineFault, cut_at, print_fault, print_reply, read_line};
+use vac_lines::{LINE_BYTES, LineFault, cut_at, print_fault, print_reply, read_line, write_all};
 use vac_model::Task;
 
 /// The most reads of a script, but for one: the read after these is the last.

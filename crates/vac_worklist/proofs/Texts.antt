@@ -3,7 +3,7 @@ use Rattle.std.proofs.Common.{◌≡◌, ◌∙◌, sym, ap, subst, ℕ, List, [
 use Rattle.std.proofs.Math.Seq.{take-append_seam}
 use Rattle.std.specs.Io.KnownBytes.{Appends, Keeps}
 use Rattle.std.proofs.KnownBytes.{Appends-nil, Appends-trans, Appends-kept}
-use Rattle.vac_worklist.specs.Worklist.{AppendsPrefix}
+use Rattle.vac_lines.specs.Writing.{AppendsPrefix}
 use Rattle.vac_worklist.specs.Sending.{Sent}
 
 -- what follows from a fact of success or of failure

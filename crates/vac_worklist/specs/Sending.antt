@@ -4,7 +4,8 @@ use Rattle.std.specs.Io.KnownBytes.{Appends}
 use Rattle.rand_pcg.specs.Lcg.{Lcg}
 use Rattle.vac_draws.specs.declared.settings.Settings.{Settings}
 use Rattle.vac_draws.specs.Draws.{Reader}
-use Rattle.vac_worklist.specs.Worklist.{DrawnLines, IsTextOf, AppendsPrefix}
+use Rattle.vac_lines.specs.Writing.{AppendsPrefix}
+use Rattle.vac_worklist.specs.Worklist.{DrawnLines, IsTextOf}
 
 -- of what was at hand and of a text behind it some was written, and the rest is at hand
 pub record Sent (held holds : Option (List ℕ)) (hand hand' text : List ℕ) : Type 0 where

@@ -10,6 +10,7 @@ use Rattle.vac_draws.specs.declared.settings.Settings.{Settings}
 use Rattle.vac_draws.specs.Draws.{Reader, times, Drawn}
 use Rattle.vac_draws.specs.Streams.{stream_of, gives}
 use Rattle.vac_draws.specs.Tasks.{task_of, opening}
+use Rattle.vac_lines.specs.Writing.{AppendsPrefix}
 use Rattle.vac_lines.specs.Script.{as_line}
 use Rattle.vac_lines.specs.TaskText.{task_text}
 
@@ -55,10 +56,6 @@ pub record WroteTasks (s : Settings) (held holds : Option (List ℕ)) : Type 0 w
   pub text : List ℕ
   pub is : IsTasksText s text
   pub written : Appends held holds text
-
--- a prefix of the text was appended
-abbrev pub AppendsPrefix : Option (List ℕ) → Option (List ℕ) → List ℕ → Type 0
-AppendsPrefix held holds text = (n : ℕ) × Appends held holds (take n text)
 
 -- a prefix of the tasks of a load was written
 pub record WroteTasksPrefix (s : Settings) (held holds : Option (List ℕ)) : Type 0 where

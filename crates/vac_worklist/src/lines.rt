@@ -2,7 +2,8 @@
 
 ghost use Rattle.std.specs.Prelude.{◌≡◌, ◌≢◌, ◌++◌, OnOk, OnErr, IfErr};
 ghost use Rattle.vac_worklist.specs.declared.fault.TasksFault.TheVariants.{Arguments};
-ghost use Rattle.vac_worklist.specs.Worklist.{task_line, AppendsPrefix};
+ghost use Rattle.vac_lines.specs.Writing.{AppendsPrefix};
+ghost use Rattle.vac_worklist.specs.Worklist.{task_line};
 ghost use Rattle.vac_worklist.specs.Sending.{Sent};
 
 use crate::fault::TasksFault;

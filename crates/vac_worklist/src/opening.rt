@@ -6,7 +6,8 @@ ghost use Rattle.vac_draws.specs.Draws.{for_each};
 ghost use Rattle.vac_draws.specs.Setting.{is_settings};
 ghost use Rattle.vac_draws.specs.Tasks.{stock, stocks, customers, opening};
 ghost use Rattle.vac_worklist.specs.declared.fault.TasksFault.TheVariants.{Arguments};
-ghost use Rattle.vac_worklist.specs.Worklist.{opening_line, AppendsPrefix};
+ghost use Rattle.vac_lines.specs.Writing.{AppendsPrefix};
+ghost use Rattle.vac_worklist.specs.Worklist.{opening_line};
 ghost use Rattle.vac_worklist.specs.Sending.{Sent, SentLines, SentInPart};
 
 use crate::fault::TasksFault;

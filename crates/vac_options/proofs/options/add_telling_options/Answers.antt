@@ -1,0 +1,9 @@
+use Rattle.std.proofs.Common.{[]}
+use Rattle.vac_options.proofs.Making.{no_option, option_more}
+use Rattle.vac_options.proofs.options.add_telling_options.Goals as goal
+
+pub returns : goal.returns
+returns c =
+    let s1 = option_more _ _ _ _ [] _ (no_option c.args.command) c.add_option.ensures c.flag-progress.ensures in
+    let s2 = option_more _ _ _ _ _ _ s1 c.add_option-2.ensures c.flag-stats.ensures in
+    option_more _ _ _ _ _ _ s2 c.add_option-3.ensures c.flag-history.ensures

@@ -1,0 +1,242 @@
+-- The command line that the program takes, in clap's terms, and what its words ask for.
+use Rattle.std.specs.Prelude.{◌≡◌, ℕ, ◌+◌, pos, ◌≤◌, ◌&&◌, nat_le, ◌⊎◌, Bool, true, false, Some, codes}
+use Rattle.std.specs.Prelude.{List, [], ◌∷◌, ◌++◌}
+use Rattle.std.specs.Str.Parse.{IsNumeral, digits_value, without_leading_plus}
+use Rattle.clap.specs.Simple.{new_shape}
+use Rattle.clap.specs.Values.{bool_text}
+use Rattle.clap.specs.Walk.{one_of}
+use Rattle.clap.specs.Words.{App, Shape, Rule, Row, Text, app_of, new_rule, rule_of, subcommand_of}
+use Rattle.clap.specs.Words.{with_rule, with_subcommand}
+use Rattle.clap.specs.declared.builder.action.ArgAction.TheVariants.{SetTrue}
+use Rattle.clap.specs.declared.builder.arg.Arg.{Arg}
+use Rattle.clap.specs.declared.builder.command.Command.{Command}
+use Rattle.clap.specs.declared.builder.command.Command.TheViews.{out-Command}
+use Rattle.clap.specs.declared.builder.value_parser.ValueParser.{ValueParser}
+use Rattle.clap.specs.declared.builder.value_parser.ValueParser.TheVariants as parser
+use Rattle.vac_model.specs.declared.limits.TheConstants.{MOST_BLOCKS, MOST_PARTS}
+use Rattle.vac_draws.specs.declared.settings.TheConstants.{MOST_CLIENTS, MOST_TASKS, MOST_ITEMS}
+use Rattle.vac_draws.specs.declared.settings.TheConstants.{MOST_ROUNDS, PERCENT}
+use Rattle.vac_draws.specs.declared.settings.Settings.{Settings}
+use Rattle.vac_model.specs.declared.limits.TheConstants.{MOST_TRIES}
+use Rattle.stm_words.specs.declared.version.TheConstants.{VERSION_LIMIT}
+use Rattle.vac_options.specs.declared.asked.How.{How}
+use Rattle.vac_options.specs.declared.asked.Asked.{Asked}
+use Rattle.vac_options.specs.declared.asked.Asked.TheVariants.{Run, Dump, Check, Judge, Load, Tasks}
+
+-- ---- what the program takes
+
+-- an option `--name N`
+abbrev pub valued_option : Text → Rule
+valued_option name = record (new_rule name) { long = Some name; value_names = 1 }
+
+-- what reads a whole number in a range
+abbrev pub number_parser : ℕ → ℕ → ValueParser
+number_parser least most = parser.Signed (pos least) (pos most)
+
+-- an option `--name N` of a whole number in a range, and its default
+abbrev pub number_option : Text → ℕ → ℕ → Text → Rule
+number_option name least most default = record (valued_option name) {
+  parser = Some (number_parser least most);
+  defaults = default ∷ [];
+}
+
+abbrev pub blocks_option : Rule
+blocks_option = number_option (codes "blocks") 1 MOST_BLOCKS (codes "1024")
+
+abbrev pub clients_option : Rule
+clients_option = number_option (codes "clients") 1 MOST_CLIENTS (codes "4")
+
+abbrev pub tasks_option : Rule
+tasks_option = number_option (codes "tasks") 1 MOST_TASKS (codes "100")
+
+abbrev pub rounds_option : Rule
+rounds_option = number_option (codes "rounds") 1 MOST_ROUNDS (codes "1")
+
+abbrev pub tries_option : Rule
+tries_option = number_option (codes "tries") 1 MOST_TRIES (codes "64")
+
+-- the options of a load that say how many clients ask how often
+abbrev pub client_options : List Rule
+client_options = clients_option ∷ tasks_option ∷ rounds_option ∷ tries_option ∷ []
+
+abbrev pub items_option : Rule
+items_option = number_option (codes "items") 1 MOST_ITEMS (codes "16")
+
+abbrev pub asks_option : Rule
+asks_option = number_option (codes "asks") 1 MOST_PARTS (codes "4")
+
+abbrev pub user_option : Rule
+user_option = number_option (codes "user") 0 PERCENT (codes "80")
+
+-- the option of the seed, any number of 64 bits
+abbrev pub seed_option : Rule
+seed_option = record (valued_option (codes "seed")) {
+  parser = Some (parser.Unsigned 0 18446744073709551615);
+  defaults = codes "1" ∷ [];
+}
+
+-- those that say what the tasks are
+abbrev pub task_options : List Rule
+task_options = items_option ∷ asks_option ∷ user_option ∷ seed_option ∷ blocks_option ∷ []
+
+-- a flag `--name`
+abbrev pub flag : Text → Rule
+flag name = record (new_rule name) { long = Some name; action = Some SetTrue }
+
+-- those that say what a load tells of itself, and whether it writes its history
+abbrev pub telling_options : List Rule
+telling_options =
+    flag (codes "progress") ∷ flag (codes "stats") ∷ flag (codes "history") ∷ []
+
+-- the options of a load
+abbrev pub load_options : List Rule
+load_options = client_options ++ task_options ++ telling_options
+
+-- a subcommand with these options
+abbrev pub with_options : Text → List Rule → Shape
+with_options name options = record (new_shape name) { rules = options }
+
+-- the program without its subcommands, of which one must be named; it tells its version
+abbrev pub top_command : App
+top_command = record {
+  top = record (new_shape (codes "vacation")) {
+    has_version = true;
+    subcommand_required = true;
+  };
+  subs = [];
+}
+
+-- the subcommands that read a script
+abbrev pub script_commands : List Shape
+script_commands = with_options (codes "run") (blocks_option ∷ [])
+    ∷ with_options (codes "dump") (blocks_option ∷ []) ∷ []
+
+-- those that judge what others did
+abbrev pub judging_commands : List Shape
+judging_commands = with_options (codes "check") []
+    ∷ with_options (codes "judge") (blocks_option ∷ []) ∷ []
+
+-- those that run loads and write their tasks
+abbrev pub load_commands : List Shape
+load_commands = with_options (codes "load") load_options
+    ∷ with_options (codes "tasks") load_options ∷ []
+
+-- a command with subcommands more
+abbrev pub with_commands : App → List Shape → App
+with_commands a [] = a
+with_commands a (s ∷ subs) = with_commands (with_subcommand a s) subs
+
+-- the program and its subcommands
+abbrev pub vacation : App
+vacation = with_commands (with_commands (with_commands top_command script_commands)
+    judging_commands) load_commands
+
+-- ---- how it is made
+
+-- the argument is this option, and one of its own command alone
+pub record IsOption (a : Arg) (option : Rule) : Type 0 where
+  pub rule : rule_of a ≡ option
+  pub own : a.global ≡ false
+
+-- the command is this one, and has no subcommand
+pub record IsCommand (c : Command) (s : Shape) : Type 0 where
+  pub app : app_of c ≡ record { top = s; subs = [] }
+  pub own : (out-Command c).has_globals ≡ false
+
+-- a command with options more
+abbrev pub with_rules : App → List Rule → App
+with_rules a [] = a
+with_rules a (option ∷ options) = with_rules (with_rule a option) options
+
+-- these options were added to a command
+pub record AddsOptions (before : Command) (options : List Rule) (after : Command) : Type 0 where
+  pub app : app_of after ≡ with_rules (app_of before) options
+  pub own : (out-Command after).has_globals ≡ (out-Command before).has_globals
+
+-- these subcommands were added to a command
+pub record AddsCommands (before : Command) (subs : List Shape) (after : Command) : Type 0 where
+  pub app : app_of after ≡ with_commands (app_of before) subs
+
+-- ---- what its words ask for
+
+-- what clap found for an option writes this number in decimal
+pub record Gives (rows : List Row) (option : Text) (n : ℕ) : Type 0 where
+  pub text : Text
+  pub one : one_of option rows ≡ Some text
+  pub numeral : IsNumeral 10 (without_leading_plus text)
+  pub value : digits_value 10 (without_leading_plus text) ≡ n
+
+-- it writes a number in this range
+pub record GivesIn (rows : List Row) (option : Text) (least most : ℕ) : Type 0 where
+  pub number : ℕ
+  pub given : Gives rows option number
+  pub low : least ≤ number
+  pub high : number ≤ most
+
+-- it says whether a flag is set
+abbrev pub Says : List Row → Text → Bool → Type 0
+Says rows name is_set = one_of name rows ≡ Some (bool_text is_set)
+
+-- it says that the flag is set, or that it is not
+abbrev pub IsFlag : List Row → Text → Type 0
+IsFlag rows name = Says rows name true ⊎ Says rows name false
+
+-- what it says of each flag of a load
+pub record HasFlags (rows : List Row) : Type 0 where
+  pub progress : IsFlag rows (codes "progress")
+  pub stats : IsFlag rows (codes "stats")
+  pub history : IsFlag rows (codes "history")
+
+-- each option of a load gives a number in its range, and each flag is set or not
+pub record HasSettings (rows : List Row) : Type 0 where
+  pub clients : GivesIn rows (codes "clients") 1 MOST_CLIENTS
+  pub tasks : GivesIn rows (codes "tasks") 1 MOST_TASKS
+  pub items : GivesIn rows (codes "items") 1 MOST_ITEMS
+  pub asks : GivesIn rows (codes "asks") 1 MOST_PARTS
+  pub user : GivesIn rows (codes "user") 0 PERCENT
+  pub seed : GivesIn rows (codes "seed") 0 18446744073709551615
+  pub blocks : GivesIn rows (codes "blocks") 1 MOST_BLOCKS
+  pub tries : GivesIn rows (codes "tries") 1 MOST_TRIES
+  pub rounds : GivesIn rows (codes "rounds") 1 MOST_ROUNDS
+  pub flags : HasFlags rows
+
+-- each setting is what the option of its name gives
+pub record AreGiven (rows : List Row) (s : Settings) : Type 0 where
+  pub clients : Gives rows (codes "clients") s.clients
+  pub tasks : Gives rows (codes "tasks") s.tasks
+  pub items : Gives rows (codes "items") s.items
+  pub asks : Gives rows (codes "asks") s.asks
+  pub user : Gives rows (codes "user") s.user
+  pub seed : Gives rows (codes "seed") s.seed
+  pub blocks : Gives rows (codes "blocks") s.blocks
+  pub tries : Gives rows (codes "tries") s.tries
+  pub last : s.last + 1 ≡ VERSION_LIMIT
+  pub rounds : Gives rows (codes "rounds") s.rounds
+
+-- a load is to tell of itself what the flags say
+pub record IsTold (rows : List Row) (how : How) : Type 0 where
+  pub progress : Says rows (codes "progress") how.progress
+  pub stats : Says rows (codes "stats") how.stats
+  pub history : Says rows (codes "history") how.history
+
+-- the words name this subcommand, and clap found this for its options
+abbrev pub Names : List Text → Text → List Row → Type 0
+Names words name rows = subcommand_of vacation words ≡ Some (name, rows)
+
+-- a system has 1 to 262,144 blocks
+abbrev pub is_block_count : ℕ → Bool
+is_block_count n = nat_le 1 n && nat_le n MOST_BLOCKS
+
+-- what the words ask for
+abbrev pub AsksFor : List Text → Asked → Type 0
+AsksFor words (Run blocks) = (rows : List Row) × Names words (codes "run") rows
+    × Gives rows (codes "blocks") blocks × (is_block_count blocks ≡ true)
+AsksFor words (Dump blocks) = (rows : List Row) × Names words (codes "dump") rows
+    × Gives rows (codes "blocks") blocks × (is_block_count blocks ≡ true)
+AsksFor words Check = (rows : List Row) × Names words (codes "check") rows
+AsksFor words (Judge blocks) = (rows : List Row) × Names words (codes "judge") rows
+    × Gives rows (codes "blocks") blocks × (is_block_count blocks ≡ true)
+AsksFor words (Load settings how) = (rows : List Row) × Names words (codes "load") rows
+    × AreGiven rows settings × IsTold rows how
+AsksFor words (Tasks settings) = (rows : List Row) × Names words (codes "tasks") rows
+    × AreGiven rows settings

@@ -1,0 +1,160 @@
+//! What a command line asks for.
+
+ghost use Rattle.std.specs.Prelude.{◌≡◌, ◌<◌, ◌^◌, ℕ, true, Some, List, map};
+ghost use Rattle.std.specs.Prelude.{string_bytes, codes, IfOk, IfSome, IsSome};
+ghost use Rattle.clap.specs.Words.{FailsBy, Row, fault_of, found_of, rows_of};
+ghost use Rattle.clap.specs.Words.{subcommand_of, subcommand_rows_of};
+ghost use Rattle.vac_model.specs.declared.limits.TheConstants.{MOST_BLOCKS};
+ghost use Rattle.vac_options.specs.CommandLine.{is_block_count};
+ghost use Rattle.vac_options.specs.CommandLine.{vacation, Gives, GivesIn, HasSettings, AreGiven};
+ghost use Rattle.vac_options.specs.CommandLine.{Says, IsFlag, HasFlags, IsTold, AsksFor};
+
+use crate::options::command_line;
+use clap::{ArgMatches, Error};
+use std::alloc::Global;
+use stm_words::VERSION_LIMIT;
+use vac_draws::Settings;
+
+/// What a load is to tell of itself, beside its two lines.
+#[derive(Clone, Copy)]
+pub struct How {
+    /// Whether to tell how far it is.
+    pub progress: bool,
+    /// Whether to tell how long it took, and how often it tried.
+    pub stats: bool,
+    /// Whether to write the history of its calls in place of its two lines, and to tell these.
+    pub history: bool,
+}
+
+/// What a command line asks for.
+pub enum Asked {
+    /// To run a script for a system of so many blocks.
+    Run(u32),
+    /// To dump the memory that the script leaves.
+    Dump(u32),
+    /// To audit the words of a memory.
+    Check,
+    /// To judge a history over a system of so many blocks.
+    Judge(u32),
+    /// To run a load, and what it is to tell of itself.
+    Load(Settings, How),
+    /// To write the tasks of a load.
+    Tasks(Settings),
+}
+
+/// What clap finds in a command line.
+fn read_words(alloc: Global, words: &[String]) -> Result<ArgMatches, Error>
+    ensures fails { FailsBy (fault_of vacation (map string_bytes words.now)) result }
+    ensures found { IfOk result (λ m.
+        subcommand_rows_of m ≡ subcommand_of vacation (map string_bytes words.now)) }
+{
+    command_line(alloc)?.try_get_matches_from(words)
+}
+
+/// What clap found for the options of this subcommand, if the command line names it.
+fn named<'b, 'a>(matches: &'b ArgMatches<'a>, name: &str) -> Option<&'b ArgMatches<'a>>
+    ensures some { IfSome result (λ m.
+        subcommand_rows_of matches.now ≡ Some (name.now, rows_of (found_of m.now))) }
+    ensures none { (rows : List Row) → subcommand_rows_of matches.now ≡ Some (name.now, rows)
+        → IsSome result }
+{
+    matches.subcommand_matches(name)
+}
+
+/// The number that an option gives, or its default.
+fn number_of(matches: &ArgMatches, option: &str) -> u32
+    requires { (least : ℕ) × (most : ℕ) × (most < 2 ^ 32)
+        × GivesIn (rows_of (found_of matches.now)) option.now least most }
+    ensures { Gives (rows_of (found_of matches.now)) option.now result }
+{
+    match matches.get_one::<u32>(option) {
+        Some(number) => number,
+        None => unreachable!(),
+    }
+}
+
+/// The seed of a load that its option gives, or the default.
+fn seed_of(matches: &ArgMatches) -> u64
+    requires { GivesIn (rows_of (found_of matches.now)) (codes "seed") 0 18446744073709551615 }
+    ensures { Gives (rows_of (found_of matches.now)) (codes "seed") result }
+{
+    match matches.get_one::<u64>("seed") {
+        Some(seed) => seed,
+        None => unreachable!(),
+    }
+}
+
+/// Whether a flag is set.
+fn flag_of(matches: &ArgMatches, name: &str) -> bool
+    requires { IsFlag (rows_of (found_of matches.now)) name.now }
+    ensures { Says (rows_of (found_of matches.now)) name.now result }
+{
+    matches.get_flag(name)
+}
+
+/// What a load is to tell of itself.
+fn how_of(matches: &ArgMatches) -> How
+    requires { HasFlags (rows_of (found_of matches.now)) }
+    ensures { IsTold (rows_of (found_of matches.now)) result }
+{
+    How {
+        progress: flag_of(matches, "progress"),
+        stats: flag_of(matches, "stats"),
+        history: flag_of(matches, "history"),
+    }
+}
+
+/// The number of blocks that a subcommand gives, or the default.
+fn blocks_of(matches: &ArgMatches) -> u32
+    requires { GivesIn (rows_of (found_of matches.now)) (codes "blocks") 1 MOST_BLOCKS }
+    ensures given { Gives (rows_of (found_of matches.now)) (codes "blocks") result }
+    ensures range { is_block_count result ≡ true }
+{
+    number_of(matches, "blocks")
+}
+
+/// The settings of a load that its options give, or the defaults.
+fn settings_of(matches: &ArgMatches) -> Settings
+    requires { HasSettings (rows_of (found_of matches.now)) }
+    ensures { AreGiven (rows_of (found_of matches.now)) result }
+{
+    Settings {
+        clients: number_of(matches, "clients"),
+        tasks: number_of(matches, "tasks"),
+        items: number_of(matches, "items"),
+        asks: number_of(matches, "asks"),
+        user: number_of(matches, "user"),
+        seed: seed_of(matches),
+        blocks: number_of(matches, "blocks"),
+        tries: number_of(matches, "tries"),
+        last: VERSION_LIMIT - 1,
+        rounds: number_of(matches, "rounds"),
+    }
+}
+
+/// What a command line asks for. An error is the help that it asks for, or why it is refused.
+pub fn read_asked(alloc: Global, words: &[String]) -> Result<Asked, Error>
+    ensures fails { FailsBy (fault_of vacation (map string_bytes words.now)) result }
+    ensures asked { IfOk result (λ asked. AsksFor (map string_bytes words.now) asked) }
+{
+    let matches = read_words(alloc, words)?;
+    if let Some(run) = named(&matches, "run") {
+        return Ok(Asked::Run(blocks_of(run)));
+    }
+    if let Some(dump) = named(&matches, "dump") {
+        return Ok(Asked::Dump(blocks_of(dump)));
+    }
+    if named(&matches, "check").is_some() {
+        return Ok(Asked::Check);
+    }
+    if let Some(judge) = named(&matches, "judge") {
+        return Ok(Asked::Judge(blocks_of(judge)));
+    }
+    if let Some(tasks) = named(&matches, "tasks") {
+        return Ok(Asked::Tasks(settings_of(tasks)));
+    }
+    match named(&matches, "load") {
+        Some(load) => Ok(Asked::Load(settings_of(load), how_of(load))),
+        None => unreachable!(),
+    }
+}

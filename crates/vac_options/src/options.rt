@@ -1,0 +1,368 @@
+//! The command line that the program takes, as clap reads it.
+
+ghost use Rattle.std.specs.Prelude.{◌≡◌, [], ◌∷◌, IfOk, IsOkAnd};
+ghost use Rattle.clap.specs.Words.{AddsArg, AddsSubcommand, app_of};
+ghost use Rattle.vac_options.specs.CommandLine.{valued_option, number_parser, number_option};
+ghost use Rattle.vac_options.specs.CommandLine.{blocks_option, clients_option, tasks_option};
+ghost use Rattle.vac_options.specs.CommandLine.{rounds_option, tries_option, flag, telling_options};
+ghost use Rattle.vac_options.specs.CommandLine.{items_option, asks_option, user_option, seed_option};
+ghost use Rattle.vac_options.specs.CommandLine.{client_options, task_options, load_options};
+ghost use Rattle.vac_options.specs.CommandLine.{with_options, top_command, script_commands};
+ghost use Rattle.vac_options.specs.CommandLine.{judging_commands, load_commands, vacation};
+ghost use Rattle.vac_options.specs.CommandLine.{IsOption, IsCommand, AddsOptions, AddsCommands};
+
+use clap::builder::ValueParser;
+use clap::{Arg, ArgAction, Command, value_parser};
+use std::alloc::{AllocError, Global};
+use vac_draws::{MOST_CLIENTS, MOST_ITEMS, MOST_ROUNDS, MOST_TASKS, PERCENT};
+use vac_model::limits::{MOST_BLOCKS, MOST_PARTS, MOST_TRIES};
+
+/// What `--version` writes: the program and its version, and the toolchain that proved and built
+/// it, as `rt version` names it.
+pub const VERSION: &str = "vacation 0.1.0\nrattle-kit-13f logic dac8208d650f15bf\n";
+
+/// How many blocks a system has where the command line does not say.
+const DEFAULT_BLOCKS: &str = "1024";
+
+/// An option that takes a value.
+fn valued_option<'a>(alloc: Global, name: &'a str, help: &'a str) -> Arg<'a>
+    ensures { IsOption result (valued_option name.now) }
+{
+    Arg::new(alloc, name).long(name).value_name("N").help(help)
+}
+
+/// What reads a number in a range.
+fn number_parser<'a>(least: u32, most: u32) -> ValueParser<'a>
+    ensures { result ≡ number_parser least most }
+{
+    value_parser!(u32).range(i64::from(least)..=i64::from(most))
+}
+
+/// An option that takes a number in a range.
+fn number_option<'a>(
+    alloc: Global,
+    name: &'a str,
+    least: u32,
+    most: u32,
+    default: &'a str,
+    help: &'a str,
+) -> Arg<'a>
+    ensures { IsOption result (number_option name.now least most default.now) }
+{
+    valued_option(alloc, name, help)
+        .value_parser(number_parser(least, most))
+        .default_value(default)
+}
+
+/// The option that says how many blocks a system has.
+fn blocks_option<'a>(alloc: Global) -> Arg<'a>
+    ensures { IsOption result blocks_option }
+{
+    number_option(
+        alloc,
+        "blocks",
+        1,
+        MOST_BLOCKS,
+        DEFAULT_BLOCKS,
+        "How many items, customers and bookings there is room for",
+    )
+}
+
+/// The option that says how many clients there are.
+fn clients_option<'a>(alloc: Global) -> Arg<'a>
+    ensures { IsOption result clients_option }
+{
+    number_option(
+        alloc,
+        "clients",
+        1,
+        MOST_CLIENTS,
+        "4",
+        "How many clients call the system, each in a thread of its own",
+    )
+}
+
+/// The option that says how many tasks a client asks for.
+fn tasks_option<'a>(alloc: Global) -> Arg<'a>
+    ensures { IsOption result tasks_option }
+{
+    number_option(
+        alloc,
+        "tasks",
+        1,
+        MOST_TASKS,
+        "100",
+        "How many tasks each client asks for in each round",
+    )
+}
+
+/// The option that says how many rounds there are.
+fn rounds_option<'a>(alloc: Global) -> Arg<'a>
+    ensures { IsOption result rounds_option }
+{
+    number_option(
+        alloc,
+        "rounds",
+        1,
+        MOST_ROUNDS,
+        "1",
+        "How many rounds there are, each on a new clock",
+    )
+}
+
+/// The option that says how often a task is tried.
+fn tries_option<'a>(alloc: Global) -> Arg<'a>
+    ensures { IsOption result tries_option }
+{
+    number_option(
+        alloc,
+        "tries",
+        1,
+        MOST_TRIES,
+        "64",
+        "How many attempts a task may take",
+    )
+}
+
+/// The option that says how many items there are.
+fn items_option<'a>(alloc: Global) -> Arg<'a>
+    ensures { IsOption result items_option }
+{
+    number_option(
+        alloc,
+        "items",
+        1,
+        MOST_ITEMS,
+        "16",
+        "How many items of each kind there are; the blocks must be four times as many",
+    )
+}
+
+/// The option that says how many items a task names.
+fn asks_option<'a>(alloc: Global) -> Arg<'a>
+    ensures { IsOption result asks_option }
+{
+    number_option(
+        alloc,
+        "asks",
+        1,
+        MOST_PARTS as u32,
+        "4",
+        "The most items that a task names",
+    )
+}
+
+/// The option that says how many tasks are trips.
+fn user_option<'a>(alloc: Global) -> Arg<'a>
+    ensures { IsOption result user_option }
+{
+    number_option(
+        alloc,
+        "user",
+        0,
+        PERCENT,
+        "80",
+        "How many of a hundred tasks are trips",
+    )
+}
+
+/// The option that says what the tasks are drawn from.
+fn seed_option<'a>(alloc: Global) -> Arg<'a>
+    ensures { IsOption result seed_option }
+{
+    valued_option(alloc, "seed", "What the tasks are drawn from")
+        .value_parser(value_parser!(u64))
+        .default_value("1")
+}
+
+/// Adds an option, unless memory was refused before.
+fn add_option<'a>(
+    command: Result<Command<'a>, AllocError>,
+    option: Arg<'a>,
+) -> Result<Command<'a>, AllocError>
+    ensures { IfOk result (λ after. IsOkAnd command.entry
+        (λ before. AddsArg before option.entry after)) }
+{
+    command?.arg(option)
+}
+
+/// Adds the options that say how many clients of a load ask how often, unless memory was refused
+/// before.
+fn add_client_options<'a>(
+    alloc: Global,
+    command: Result<Command<'a>, AllocError>,
+) -> Result<Command<'a>, AllocError>
+    ensures { IfOk result (λ after. IsOkAnd command.entry
+        (λ before. AddsOptions before client_options after)) }
+{
+    let command = add_option(command, clients_option(alloc));
+    let command = add_option(command, tasks_option(alloc));
+    let command = add_option(command, rounds_option(alloc));
+    add_option(command, tries_option(alloc))
+}
+
+/// Adds the options that say what the tasks of a load are, unless memory was refused before.
+fn add_task_options<'a>(
+    alloc: Global,
+    command: Result<Command<'a>, AllocError>,
+) -> Result<Command<'a>, AllocError>
+    ensures { IfOk result (λ after. IsOkAnd command.entry
+        (λ before. AddsOptions before task_options after)) }
+{
+    let command = add_option(command, items_option(alloc));
+    let command = add_option(command, asks_option(alloc));
+    let command = add_option(command, user_option(alloc));
+    let command = add_option(command, seed_option(alloc));
+    add_option(command, blocks_option(alloc))
+}
+
+/// A flag.
+fn flag<'a>(alloc: Global, name: &'a str, help: &'a str) -> Arg<'a>
+    ensures { IsOption result (flag name.now) }
+{
+    Arg::new(alloc, name)
+        .long(name)
+        .help(help)
+        .action(ArgAction::SetTrue)
+}
+
+/// Adds the flags that say what a load tells of itself, unless memory was refused before.
+fn add_telling_options<'a>(
+    alloc: Global,
+    command: Result<Command<'a>, AllocError>,
+) -> Result<Command<'a>, AllocError>
+    ensures { IfOk result (λ after. IsOkAnd command.entry
+        (λ before. AddsOptions before telling_options after)) }
+{
+    let progress = flag(
+        alloc,
+        "progress",
+        "Tells on standard error how many tasks were answered, at most twice a second",
+    );
+    let stats = flag(
+        alloc,
+        "stats",
+        "Tells on standard error how long the clients took, and how often they tried",
+    );
+    let history = flag(
+        alloc,
+        "history",
+        "Writes the history of all calls, for judge, and the two lines on standard error",
+    );
+    add_option(add_option(add_option(command, progress), stats), history)
+}
+
+/// A subcommand without options.
+fn plain_command<'a>(alloc: Global, name: &'a str, about: &'a str) -> Command<'a>
+    ensures { IsCommand result (with_options name.now []) }
+{
+    Command::new(alloc, name).about(about)
+}
+
+/// A subcommand that works on a system of so many blocks.
+fn script_command<'a>(
+    alloc: Global,
+    name: &'a str,
+    about: &'a str,
+) -> Result<Command<'a>, AllocError>
+    ensures { IfOk result (λ c. IsCommand c (with_options name.now (blocks_option ∷ []))) }
+{
+    plain_command(alloc, name, about).arg(blocks_option(alloc))
+}
+
+/// A subcommand with the options of a load.
+fn load_command<'a>(alloc: Global, name: &'a str, about: &'a str) -> Result<Command<'a>, AllocError>
+    ensures { IfOk result (λ c. IsCommand c (with_options name.now load_options)) }
+{
+    let command = add_client_options(alloc, Ok(plain_command(alloc, name, about)));
+    let command = add_task_options(alloc, command);
+    add_telling_options(alloc, command)
+}
+
+/// Adds a subcommand, unless memory was refused before.
+fn add_command<'a>(
+    top: Result<Command<'a>, AllocError>,
+    sub: Result<Command<'a>, AllocError>,
+) -> Result<Command<'a>, AllocError>
+    ensures { IfOk result (λ after. IsOkAnd top.entry (λ before. IsOkAnd sub.entry
+        (λ added. AddsSubcommand before added after))) }
+{
+    top?.subcommand(sub?)
+}
+
+/// Adds the subcommands that read a script, unless memory was refused before.
+fn add_script_commands<'a>(
+    alloc: Global,
+    top: Result<Command<'a>, AllocError>,
+) -> Result<Command<'a>, AllocError>
+    ensures { IfOk result (λ after. IsOkAnd top.entry
+        (λ before. AddsCommands before script_commands after)) }
+{
+    let run = script_command(alloc, "run", "Runs the commands on standard input");
+    let dump = script_command(
+        alloc,
+        "dump",
+        "Runs the commands on standard input and writes the memory that they leave",
+    );
+    add_command(add_command(top, run), dump)
+}
+
+/// Adds the subcommands that run loads and write their tasks, unless memory was refused before.
+fn add_load_commands<'a>(
+    alloc: Global,
+    top: Result<Command<'a>, AllocError>,
+) -> Result<Command<'a>, AllocError>
+    ensures { IfOk result (λ after. IsOkAnd top.entry
+        (λ before. AddsCommands before load_commands after)) }
+{
+    let load = load_command(
+        alloc,
+        "load",
+        "Lets clients call the system with tasks drawn at random, and reports what they left",
+    );
+    let tasks = load_command(
+        alloc,
+        "tasks",
+        "Writes the tasks of a load, a line each, and runs nothing",
+    );
+    add_command(add_command(top, load), tasks)
+}
+
+/// Adds the subcommands that judge what others did, unless memory was refused before.
+fn add_judging_commands<'a>(
+    alloc: Global,
+    top: Result<Command<'a>, AllocError>,
+) -> Result<Command<'a>, AllocError>
+    ensures { IfOk result (λ after. IsOkAnd top.entry
+        (λ before. AddsCommands before judging_commands after)) }
+{
+    let check = plain_command(
+        alloc,
+        "check",
+        "Audits the words of a memory on standard input, as dump writes them",
+    );
+    let judge = script_command(
+        alloc,
+        "judge",
+        "Judges the history on standard input: whether its calls, in their order, are right",
+    );
+    add_command(add_command(top, Ok(check)), judge)
+}
+
+/// The program without its subcommands.
+fn top_command<'a>(alloc: Global) -> Command<'a>
+    ensures { app_of result ≡ top_command }
+{
+    Command::new(alloc, "vacation")
+        .version(VERSION)
+        .about("A reservation system")
+        .subcommand_required(true)
+}
+
+/// The command line that the program takes.
+pub(crate) fn command_line<'a>(alloc: Global) -> Result<Command<'a>, AllocError>
+    ensures { IfOk result (λ c. app_of c ≡ vacation) }
+{
+    let scripts = add_script_commands(alloc, Ok(top_command(alloc)));
+    add_load_commands(alloc, add_judging_commands(alloc, scripts))
+}
