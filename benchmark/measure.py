@@ -32,8 +32,18 @@ QUICK_SHARE = 6
 # The longest that one run of one program may take, in seconds.
 PATIENCE = 300
 
-OURS, BESIDE = "vacation", "TL2 by hand"
-PEERS = {"tl2": BESIDE, "itm": "GCC's libitm", "mutex": "one mutex", "spin": "one spinning lock"}
+OURS = "vacation"
+# The peers whose algorithm is the program's own: with as little order as it must have, and with
+# every step sequentially consistent, as the program's steps are.
+LEAST, SEQUENTIAL = "TL2 by hand", "TL2 by hand, in one order"
+BESIDE = (LEAST, SEQUENTIAL)
+PEERS = {
+    "tl2": LEAST,
+    "tl2_sequential": SEQUENTIAL,
+    "itm": "GCC's libitm",
+    "mutex": "one mutex",
+    "spin": "one spinning lock",
+}
 
 
 def give_up(why):
@@ -243,8 +253,8 @@ def heading(command, runs, load):
         f"| peers | {compiler[0]}, {os.environ.get('CXXFLAGS', '-O3')} |", "",
         "Answered tasks a second, in thousands, of the clients' phase: the median of "
         f"{runs} runs, and their range. All programs had the same drawn tasks, and their runs "
-        f"were interleaved. {OURS} and {BESIDE} gave a task up after {TRIES} attempts, the others "
-        "never; attempts a task are medians, for each number of clients.", "",
+        f"were interleaved. {OURS} and those by hand gave a task up after {TRIES} attempts, the "
+        "others never; attempts a task are medians, for each number of clients.", "",
     ]
 
 
@@ -284,9 +294,10 @@ def table(name, counts, programs, found):
     for program in programs:
         measured = [found[name, clients][program.name] for clients in counts]
         lines.append(row([program.name, *map(rate_cell, measured), attempts_cell(measured)]))
-    if any(program.name == BESIDE for program in programs):
-        ratios = [ratio_cell(found[name, c][OURS], found[name, c][BESIDE]) for c in counts]
-        lines.append(row([f"{OURS} / {BESIDE}", *ratios, ""]))
+    for beside in BESIDE:
+        if any(program.name == beside for program in programs):
+            ratios = [ratio_cell(found[name, c][OURS], found[name, c][beside]) for c in counts]
+            lines.append(row([f"{OURS} / {beside}", *ratios, ""]))
     return lines + [""] + given_up(name, counts, programs, found)
 
 

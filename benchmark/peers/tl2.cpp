@@ -1,8 +1,8 @@
-// A peer: TL2 written by hand, without any proof.
+// A peer: TL2 written by hand, without any proof, with no more order than it must have.
 #include "driver.hpp"
 #include "tl2.hpp"
 
 int main(int count, char** words)
 {
-    return vacation::run_peer<vacation::Tl2Runtime>(count, words);
+    return vacation::run_peer<vacation::Tl2Runtime<vacation::Ordering::LEAST>>(count, words);
 }

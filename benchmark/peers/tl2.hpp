@@ -6,9 +6,9 @@
 // exchange, at most 16 times; what was read is validated unless the write version is the read
 // version plus 1.
 //
-// Unlike the proved program, of which each step is sequentially consistent, it orders its steps no
-// more than it must. On x86 every load and every store of it is a plain one; its exchanges are
-// locked.
+// It is built twice. Each step of the proved program is sequentially consistent; here either every
+// step is, too, or steps are ordered no more than they must be. On x86 every load is a plain one
+// either way, and every exchange is locked; a sequentially consistent store is an exchange.
 #pragma once
 
 #include "attempts.hpp"
@@ -25,6 +25,9 @@
 #include <vector>
 
 namespace vacation {
+
+// How steps are ordered: no more than they must be, or all of them sequentially consistent.
+enum class Ordering { LEAST, SEQUENTIAL };
 
 // The words that all clients share: the clock, a lock word per stripe, and the data words.
 class Tl2Region {
@@ -65,6 +68,7 @@ private:
 
 // The attempts of one client, one after the other. A conflict leaves the body of a transaction by
 // a jump to where its attempt began: no body holds anything that must be destroyed.
+template <Ordering ORDERING>
 class alignas(APART) Tl2Attempt {
 public:
     explicit Tl2Attempt(Tl2Region& region)
@@ -81,7 +85,7 @@ public:
         reads_.clear();
         writes_.clear();
         ++attempts_.begun;
-        read_version_ = clock_->load(std::memory_order_acquire);
+        read_version_ = clock_->load(order(std::memory_order_acquire));
     }
 
     Word read(Addr addr)
@@ -92,14 +96,14 @@ public:
         }
         const Addr stripe = addr & stripe_mask_;
         // Acquire: the value loaded next is of the lock word's version or later.
-        const Word before = locks_[stripe].load(std::memory_order_acquire);
+        const Word before = locks_[stripe].load(order(std::memory_order_acquire));
         if (is_held(before) || version_of(before) > read_version_)
             leave(is_held(before) ? Conflict::Held : Conflict::Newer);
         // Acquire: the lock word is loaded again after the value, and whoever has loaded a value
         // that a writer stored sees that writer's lock, or what came after it (see
         // `store_and_release`).
-        const Word value = words_[addr].load(std::memory_order_acquire);
-        if (locks_[stripe].load(std::memory_order_relaxed) != before)
+        const Word value = words_[addr].load(order(std::memory_order_acquire));
+        if (locks_[stripe].load(order(std::memory_order_relaxed)) != before)
             leave(Conflict::Moved);
         reads_.push(stripe);
         return value;
@@ -130,6 +134,12 @@ public:
 private:
     static constexpr unsigned MOST_TICKS = 16;
 
+    // The order of a step that must have at least this one.
+    static constexpr std::memory_order order(std::memory_order least)
+    {
+        return ORDERING == Ordering::SEQUENTIAL ? std::memory_order_seq_cst : least;
+    }
+
     static bool is_held(Word lock) { return lock % 2 == 1; }
     static Word version_of(Word lock) { return lock / 2; }
 
@@ -159,12 +169,13 @@ private:
     {
         held_.clear();
         for (const Addr stripe : stripes_) {
-            Word before = locks_[stripe].load(std::memory_order_relaxed);
+            Word before = locks_[stripe].load(order(std::memory_order_relaxed));
             if (is_held(before))
                 return fail(Conflict::Held);
             // Acquire: what is read and stored from here on comes after the lock was taken.
             if (!locks_[stripe].compare_exchange_strong(
-                    before, before + 1, std::memory_order_acquire, std::memory_order_relaxed))
+                    before, before + 1, order(std::memory_order_acquire),
+                    order(std::memory_order_relaxed)))
                 return fail(Conflict::LostLock);
             held_.push_back(before);
         }
@@ -178,8 +189,8 @@ private:
     {
         Word from = read_version_;
         for (unsigned i = 0; i < MOST_TICKS; ++i) {
-            if (clock_->compare_exchange_strong(from, from + 1, std::memory_order_acq_rel,
-                                                std::memory_order_acquire)) {
+            if (clock_->compare_exchange_strong(from, from + 1, order(std::memory_order_acq_rel),
+                                                order(std::memory_order_acquire))) {
                 version_ = from + 1;
                 return true;
             }
@@ -195,7 +206,7 @@ private:
         if (version_ == read_version_ + 1)
             return true;
         for (const Addr stripe : reads_) {
-            const Word lock = locks_[stripe].load(std::memory_order_relaxed);
+            const Word lock = locks_[stripe].load(order(std::memory_order_relaxed));
             if (is_held(lock) && !holds(stripe))
                 return fail(Conflict::Held);
             if (version_of(lock) > read_version_)
@@ -213,12 +224,13 @@ private:
     {
         // The fence, with the acquire of a read's value: whoever loads one of these values sees
         // the locks held.
-        std::atomic_thread_fence(std::memory_order_release);
+        if constexpr (ORDERING == Ordering::LEAST)
+            std::atomic_thread_fence(std::memory_order_release);
         for (const Written& written : writes_.entries())
-            words_[written.addr].store(written.value, std::memory_order_relaxed);
+            words_[written.addr].store(written.value, order(std::memory_order_relaxed));
         // Release: whoever sees a lock free with this version sees the values, too.
         for (const Addr stripe : stripes_)
-            locks_[stripe].store(2 * version_, std::memory_order_release);
+            locks_[stripe].store(2 * version_, order(std::memory_order_release));
     }
 
     // Release: whoever finds the old version here sees what its writer stored, which this client
@@ -226,7 +238,7 @@ private:
     void give_locks_back()
     {
         for (std::size_t i = 0; i < held_.size(); ++i)
-            locks_[stripes_[i]].store(held_[i], std::memory_order_release);
+            locks_[stripes_[i]].store(held_[i], order(std::memory_order_release));
     }
 
     std::atomic<Word>* words_;
@@ -247,13 +259,15 @@ private:
 };
 
 // An attempt as the memory of its task.
+template <Ordering ORDERING>
 struct Tl2Memory {
-    Tl2Attempt* attempt;
+    Tl2Attempt<ORDERING>* attempt;
 
     Word read(Addr addr) const { return attempt->read(addr); }
     void write(Addr addr, Word value) const { attempt->write(addr, value); }
 };
 
+template <Ordering ORDERING>
 class Tl2Runtime {
 public:
     class Client {
@@ -280,11 +294,11 @@ public:
             if (setjmp(attempt_.way_out()) != 0)
                 return false;
             attempt_.begin();
-            run_task(Tl2Memory{&attempt_}, start_, task, reply);
+            run_task(Tl2Memory<ORDERING>{&attempt_}, start_, task, reply);
             return attempt_.commit();
         }
 
-        Tl2Attempt attempt_;
+        Tl2Attempt<ORDERING> attempt_;
         unsigned start_;
     };
 

@@ -1,5 +1,6 @@
 -- The chunks of a read log.
 use Rattle.std.specs.Prelude.{◌≡◌, ℕ, ◌<◌, ◌≤◌, Option, Some, None, List, [], ◌∷◌, ◌++◌, length, take, slice_index_or}
+use Rattle.stm_logs.specs.declared.read.TheConstants.{PLACES, MAX_CHUNKS}
 
 -- the values of the chunks, one chunk behind the other
 abbrev pub joined : List (List ℕ) → List ℕ
@@ -15,16 +16,16 @@ in_hand (Some chunk) = chunk
 abbrev pub logged : List (List ℕ) → ℕ → Option (List ℕ) → ℕ → List ℕ
 logged rest full hand used = joined (take full rest) ++ take used (in_hand hand)
 
--- each chunk has 1,024 places, and there are no more chunks than a log may have
+-- each chunk has all places, and there are no more chunks than a log may have
 pub record AreWhole (chunks : List (List ℕ)) : Type 0 where
-  pub each : (k : ℕ) → k < length chunks → length (slice_index_or chunks k []) ≡ 1024
-  pub limit : length chunks ≤ 1125899906842624
+  pub each : (k : ℕ) → k < length chunks → length (slice_index_or chunks k []) ≡ PLACES
+  pub limit : length chunks ≤ MAX_CHUNKS
 
--- each chunk has 1,024 places, the one at hand too, and so many of the others may be full
+-- each chunk has all places, the one at hand too, and so many of the others may be full
 pub record HasRoom (rest : List (List ℕ)) (full : ℕ) (hand : Option (List ℕ)) : Type 0 where
   pub whole : AreWhole rest
   pub count : full ≤ length rest
-  pub here : (chunk : List ℕ) → hand ≡ Some chunk → length chunk ≡ 1024
+  pub here : (chunk : List ℕ) → hand ≡ Some chunk → length chunk ≡ PLACES
 
 -- more has one chunk more behind the others
 pub record IsLonger (chunks more : List (List ℕ)) : Type 0 where
@@ -43,12 +44,12 @@ pub record IsSetAside (rest : List (List ℕ)) (full : ℕ) (chunk : List ℕ)
     (more : List (List ℕ)) (count : ℕ) (spare : List ℕ) : Type 0 where
   pub whole : AreWhole more
   pub inside : count ≤ length more
-  pub places : length spare ≡ 1024
+  pub places : length spare ≡ PLACES
   pub same : joined (take count more) ≡ joined (take full rest) ++ chunk
 
 -- a whole chunk is at hand, and the values of the one that was are behind those of the full ones
 pub record IsTurned (rest : List (List ℕ)) (full : ℕ) (hand : Option (List ℕ))
     (more : List (List ℕ)) (count : ℕ) (spare : Option (List ℕ)) : Type 0 where
   pub room : HasRoom more count spare
-  pub places : length (in_hand spare) ≡ 1024
+  pub places : length (in_hand spare) ≡ PLACES
   pub same : joined (take count more) ≡ joined (take full rest) ++ in_hand hand

@@ -1,6 +1,7 @@
 //! The read log: the addresses that a transaction has read.
 ghost use Rattle.stm_logs.specs.Chunks.{AreWhole, HasRoom, IsLonger, IsRoomier, IsSetAside, IsTurned};
 ghost use Rattle.stm_logs.specs.Refusals.{OrSame, Becomes};
+ghost use Rattle.stm_logs.specs.declared.read.TheConstants.{PLACES};
 ghost use Rattle.std.specs.Prelude.{◌≡◌, ℕ, ◌+◌, ◌*◌, ◌<◌, ◌≤◌, List, [], ◌∷◌, ◌++◌, length, take, slice_index, slice_set, IfOk, MatchResult};
 
 use crate::row::{Right, Row, fill, release};
@@ -15,7 +16,7 @@ const PLACES: usize = 1024;
 /// The chunks that a log may have: no address space holds more.
 const MAX_CHUNKS: usize = 1 << 50;
 
-/// A raw block for 1,024 addresses.
+/// A raw block for so many addresses.
 struct Chunk<A: Allocator> {
     alloc: A,
     row: Row<u32>,
@@ -28,10 +29,11 @@ impl<A: Allocator> Model for Chunk<A> {
     ghost Value = { List ℕ };
 
     ghost use Rattle.stm_logs.specs.Frees.{Frees, IsFull};
+    ghost use Rattle.stm_logs.specs.declared.read.TheConstants.{PLACES};
 
     ghost view = { λ c. c.row.items };
 
-    ghost invariant = { λ c. IsFull c.row 1024 × Frees c.alloc c.row c.right };
+    ghost invariant = { λ c. IsFull c.row PLACES × Frees c.alloc c.row c.right };
 }
 
 impl<A: Allocator> Drop for Chunk<A> {
@@ -43,7 +45,7 @@ impl<A: Allocator> Drop for Chunk<A> {
 
 impl<A: Allocator> Chunk<A> {
     fn new(alloc: A) -> Result<Chunk<A>, AllocError>
-        ensures { IfOk result (λ c. length c ≡ 1024) }
+        ensures { IfOk result (λ c. length c ≡ PLACES) }
     {
         let (mut row, right) = unsafe { Row::reserve(&alloc, PLACES)? };
         fill(&mut row, PLACES, 0);
@@ -52,7 +54,7 @@ impl<A: Allocator> Chunk<A> {
 
     #[inline]
     fn get(&self, i: usize) -> u32
-        requires { i < 1024 }
+        requires { i < PLACES }
         ensures { result ≡ slice_index self.now i }
     {
         *self.row.get(i)
@@ -60,7 +62,7 @@ impl<A: Allocator> Chunk<A> {
 
     #[inline]
     fn put(&mut self, i: usize, number: u32)
-        requires { i < 1024 }
+        requires { i < PLACES }
         ensures { self.new ≡ slice_set self.old i number }
     {
         self.row.put(i, number);
@@ -191,7 +193,7 @@ fn set_aside<A: Allocator + Copy>(
     rest: &mut Vec<Chunk<A>, A>,
     full: &mut usize,
 ) -> Result<(), AllocError>
-    requires whole { length chunk.old ≡ 1024 }
+    requires whole { length chunk.old ≡ PLACES }
     requires rest { AreWhole rest.old.items }
     requires full { full.old ≤ length rest.old.items }
     ensures { MatchResult result

@@ -7,6 +7,7 @@ use Rattle.vac_records.specs.Represents.{IsState}
 use Rattle.vac_audit.specs.Walk.{audit}
 use Rattle.vac_audit.specs.Ran.{HeapRan, answer, fault_answer}
 use Rattle.vac_audit.specs.Represented.{StateOf, Recognised}
+use Rattle.vac_audit.specs.declared.audit.TheConstants.{MOST_HEAP_WORDS}
 use Rattle.vac_audit.specs.declared.Flaw.{Flaw}
 use Rattle.vac_audit.specs.declared.tree.Fault.{Fault}
 use Rattle.vac_audit.specs.declared.tree.Fault.TheVariants.{Memory, Found}
@@ -18,7 +19,7 @@ use Rattle.vac_audit.proofs.Stated.{state_clean, flawed_is_none}
 sized : (words : List ℕ) (s : State) → IsState (slice_index words) (length words) s → IsState (slice_index words) (16 + 8 * s.capacity) s
 sized words s h = subst (λ (n : ℕ). IsState (slice_index words) n s) h.represents.size h
 
-pub state_in : (words : List ℕ) (found : Report) → HeapRan words ((length words - 16) / 8) (Ok found) → 24 ≤ length words → length words ≤ 2097168 → length words % 8 ≡ 0 → StateOf words found
+pub state_in : (words : List ℕ) (found : Report) → HeapRan words ((length words - 16) / 8) (Ok found) → 24 ≤ length words → length words ≤ MOST_HEAP_WORDS → length words % 8 ≡ 0 → StateOf words found
 state_in words found h low high whole =
     let f = state_found (slice_index words) ((length words - 16) / 8) found (omega arith) h in
     let n : 16 + 8 * ((length words - 16) / 8) ≡ length words = omega (arith, whole) in

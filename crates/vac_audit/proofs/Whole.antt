@@ -9,6 +9,7 @@ use Rattle.tx_alloc.specs.declared.place.TheConstants.{LISTS}
 use Rattle.vac_model.specs.declared.replies.Report.{Report}
 use Rattle.vac_records.specs.Heap.{Parts, over}
 use Rattle.vac_audit.specs.Walk.{Seen, then, look_at_item, look_at_customer, walk_table, walk_items, walk_lists, check_all_used, check_reached, units_in, report_of, audit}
+use Rattle.vac_audit.specs.declared.audit.TheConstants.{MOST_HEAP_WORDS}
 use Rattle.vac_audit.specs.Noted.{InOrder, codes_in, blocks_in, booked_in}
 use Rattle.vac_audit.specs.Marks.{Marks, IsIndex, ListsRan, ReachedRan}
 use Rattle.vac_audit.specs.Ran.{ItemsRan, ItemsWalked, Uncounted, CustomersRan, CustomersWalked, Inside, UsedRan, HeapRan, IsHeapSize, Audited, answer, fault_answer}
@@ -203,7 +204,7 @@ module _ (words : List ℕ) (blocks : ℕ) (marks0 : List Bool) (size : length w
               (subst (λ (z : ℕ). check_reached z free.1 ≡ Ok tt) (size3 ∙ (size2 ∙ (size1 ∙ many))) (k free.1 (h v.s'.blocks v.are).1.1)) (report_is report e1 e2 e3 e4 e5 e6 e7 e8 e9))
 
 -- so many words are those of a heap
-pub heap_size : (n : ℕ) → 24 ≤ n → n ≤ 2097168 → n % 8 ≡ 0 → IsHeapSize n
+pub heap_size : (n : ℕ) → 24 ≤ n → n ≤ MOST_HEAP_WORDS → n % 8 ≡ 0 → IsHeapSize n
 heap_size n low high whole = ((n - 16) / 8, (omega (arith, whole), omega arith, omega arith))
 
 pub audited_ok : (words : List ℕ) (report : Report) → HeapRan words ((length words - 16) / 8) (Ok report) → (heap : IsHeapSize (length words)) → Audited (slice_index words) heap.0 (Ok report)

@@ -1,6 +1,7 @@
 -- What the running walk knows: a mark for each block that was reached.
 use Rattle.std.specs.Prelude.{◌≡◌, ℕ, ◌+◌, ◌*◌, ◌<◌, ◌≤◌, ◌^◌, ◌≢◌, Bool, false, not, cond, List, [], ◌∷◌, length, nat_eq, slice_index, slice_index_or, Result, Ok, Err, MatchResult, MatchOption, Option, suc, sum_by, ⊤}
 use Rattle.tx_alloc.specs.Pool.{held, IsBlock}
+use Rattle.tx_alloc.specs.declared.place.TheConstants.{MOST_BLOCKS}
 use Rattle.vac_audit.specs.Noted.{InOrder, keys_in, blocks_in, booked_in, codes_in}
 use Rattle.vac_audit.specs.Walk.{then, wants, is_in_order, is_booking, walk_bookings, units_in, follow, walk_free, walk_lists, check_reached}
 use Rattle.tx_alloc.specs.Rows.{Rows, block_at}
@@ -15,7 +16,7 @@ pub record Marks (marks : List Bool) (seen : List ℕ) : Type 0 where
 -- marks for words: one for each block
 pub record IsMarked (words : List ℕ) (marks : List Bool) : Type 0 where
   pub size : length words ≡ 16 + 8 * length marks
-  pub few : length marks ≤ 262144
+  pub few : length marks ≤ MOST_BLOCKS
 
 -- the pointer was followed
 abbrev pub Followed : List ℕ → List Bool → List Bool → ℕ → Result (Option ℕ) Flaw → Type 0
@@ -104,9 +105,9 @@ BookingLooked words codes p lo result =
 pub record Counting (notes : Notes) (left : ℕ) : Type 0 where
   pub order : InOrder notes.items.items
   pub booked : (i : ℕ) →
-      slice_index (booked_in notes.items.items) i + 10000 * left ≤ 10000 * 262144
-  pub bookings : notes.tally.bookings + 10000 * left ≤ 10000 * 262144
-  pub billed : notes.tally.billed + 10000000000 * left ≤ 10000000000 * 262144
+      slice_index (booked_in notes.items.items) i + 10000 * left ≤ 10000 * MOST_BLOCKS
+  pub bookings : notes.tally.bookings + 10000 * left ≤ 10000 * MOST_BLOCKS
+  pub billed : notes.tally.billed + 10000000000 * left ≤ 10000000000 * MOST_BLOCKS
 
 -- the same items
 pub record SameItems (notes notes' : Notes) : Type 0 where

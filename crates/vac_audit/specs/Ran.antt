@@ -4,6 +4,7 @@ use Rattle.std.specs.List.{All, AllWithin, HoldsAt}
 use Rattle.tx_alloc.specs.Rows.{Rows}
 use Rattle.vac_model.specs.declared.replies.Report.{Report}
 use Rattle.vac_records.specs.Heap.{over}
+use Rattle.tx_alloc.specs.declared.place.TheConstants.{MOST_BLOCKS}
 use Rattle.vac_audit.specs.Walk.{Seen, look_at_item, look_at_customer, walk_table, walk_items, units_in, audit}
 use Rattle.vac_audit.specs.Marks.{Marks, IsIndex, SameItems}
 use Rattle.vac_audit.specs.Noted.{booked_in, codes_in, noted_of}
@@ -134,9 +135,9 @@ HeapRan words blocks result = MatchResult result
     (λ report. audit (slice_index words) blocks ≡ Ok report)
     (λ fault. Faulted fault (λ flaw. audit (slice_index words) blocks ≡ Err flaw))
 
--- so many words are those of a heap of 1 to 262144 blocks
+-- so many words are those of a heap of 1 to the most blocks
 abbrev pub IsHeapSize : ℕ → Type 0
-IsHeapSize n = (blocks : ℕ) × ((n ≡ 16 + 8 * blocks) × (1 ≤ blocks) × (blocks ≤ 262144))
+IsHeapSize n = (blocks : ℕ) × ((n ≡ 16 + 8 * blocks) × (1 ≤ blocks) × (blocks ≤ MOST_BLOCKS))
 
 -- what the audit says, as the call answers it
 abbrev pub answer : Result Report Flaw → Result Report AuditFault

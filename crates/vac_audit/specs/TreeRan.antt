@@ -1,6 +1,7 @@
 -- What the running walk of a table does.
 use Rattle.std.specs.Prelude.{◌≡◌, ℕ, ◌+◌, ◌*◌, ◌≤◌, ◌<◌, ◌⊎◌, Bool, true, false, cond, List, [], ◌∷◌, ◌++◌, length, suc, Some, None, Result, Ok, Err, MatchResult, slice_index, nat_eq, sum_by, ⊤}
 use Rattle.tx_alloc.specs.Pool.{held, IsBlock}
+use Rattle.tx_alloc.specs.declared.place.TheConstants.{MOST_BLOCKS}
 use Rattle.tx_alloc.specs.Rows.{Rows}
 use Rattle.vac_model.specs.declared.items.Kind.{Kind}
 use Rattle.vac_model.specs.State.{kind_number}
@@ -146,7 +147,7 @@ Ready Customers notes left = Counting notes left
 
 -- there is room for this many items more
 abbrev pub HasRoom : Table → Notes → ℕ → Type 0
-HasRoom (Items kind) notes left = length notes.items.items + left ≤ 262144
+HasRoom (Items kind) notes left = length notes.items.items + left ≤ MOST_BLOCKS
 HasRoom Customers notes left = Unit {0}
 
 -- as many items are written down as nodes were looked at

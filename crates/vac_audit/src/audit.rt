@@ -7,7 +7,9 @@ ghost use Rattle.vac_audit.specs.Ran.{Blank, ItemsRan, Uncounted, CustomersRan};
 ghost use Rattle.vac_audit.specs.Ran.{Inside, UsedRan, HeapRan, IsHeapSize, Audited, fault_answer};
 ghost use Rattle.vac_audit.specs.Represented.{StateOf, Recognised};
 ghost use Rattle.vac_audit.specs.TreeRan.{Summed};
+ghost use Rattle.tx_alloc.specs.declared.place.TheConstants.{MOST_BLOCKS};
 ghost use Rattle.vac_audit.specs.declared.audit.AuditFault.TheVariants.{Size};
+ghost use Rattle.vac_audit.specs.declared.audit.TheConstants.{MOST_HEAP_WORDS};
 
 use crate::Flaw;
 use crate::lists::{check_reached, walk_lists};
@@ -17,6 +19,9 @@ use crate::tree::{Fault, Table, USED, walk_table};
 use std::alloc::{AllocError, Global};
 use tx_alloc::place::MOST_BLOCKS;
 use vac_model::{Kind, Report};
+
+/// The words of the largest heap.
+pub const MOST_HEAP_WORDS: usize = FIRST_BLOCK + BLOCK_WORDS * MOST_BLOCKS;
 
 /// Why words have no report.
 #[derive(Clone, Copy, Debug, PartialEq, Eq)]
@@ -91,7 +96,7 @@ fn walk_customers(
 
 /// Looks for an item that has another number of units used than are booked.
 fn check_used(words: &[u64], notes: &Notes) -> Result<(), Flaw>
-    requires few { length words.now ≤ 2097168 }
+    requires few { length words.now ≤ MOST_HEAP_WORDS }
     requires inside { Inside words.now notes.now.items.items }
     ensures ran { UsedRan words.now notes.now.items.items result }
 {
@@ -107,7 +112,7 @@ fn check_used(words: &[u64], notes: &Notes) -> Result<(), Flaw>
 /// The audit of a heap of so many blocks.
 fn audit_heap(alloc: Global, words: &[u64], blocks: usize) -> Result<Report, Fault>
     requires some { 1 ≤ blocks }
-    requires few { blocks ≤ 262144 }
+    requires few { blocks ≤ MOST_BLOCKS }
     requires size { length words.now ≡ 16 + 8 * blocks }
     ensures ran { HeapRan words.now blocks result }
 {
@@ -155,7 +160,7 @@ pub fn audit_words(alloc: Global, words: &[u64]) -> Result<Report, AuditFault>
     ensures recognised { Recognised words.now result }
 {
     if words.len() < FIRST_BLOCK + BLOCK_WORDS
-        || words.len() > FIRST_BLOCK + BLOCK_WORDS * MOST_BLOCKS
+        || words.len() > MOST_HEAP_WORDS
         || words.len() % BLOCK_WORDS != 0
     {
         return Err(AuditFault::Size);

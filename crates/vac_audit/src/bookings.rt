@@ -6,6 +6,7 @@ ghost use Rattle.tx_list.specs.Bookings.{IsKey, code_of, place_code};
 ghost use Rattle.vac_audit.specs.Marks.{IsMarked, BookingLooked, Counting, BookingsRan};
 ghost use Rattle.vac_audit.specs.Marks.{unmarked};
 ghost use Rattle.vac_audit.specs.Noted.{codes_in, InOrder, HasShortId, after};
+ghost use Rattle.vac_audit.specs.declared.audit.TheConstants.{MOST_HEAP_WORDS};
 
 use crate::Flaw;
 use crate::notes::{NotedItem, Notes};
@@ -53,7 +54,7 @@ fn look_at_booking(
     last: Option<Key>,
 ) -> Result<usize, Flaw>
     requires inside { booking + 8 ≤ length words.now }
-    requires few { length words.now ≤ 2097168 }
+    requires few { length words.now ≤ MOST_HEAP_WORDS }
     requires order { InOrder items.now }
     requires last { HasShortId last }
     ensures item { IfOk result (λ i. (i < length items.now)

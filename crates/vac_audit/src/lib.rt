@@ -10,7 +10,7 @@ mod notes;
 mod pointers;
 mod tree;
 
-pub use audit::{AuditFault, audit_words};
+pub use audit::{AuditFault, MOST_HEAP_WORDS, audit_words};
 pub use laws::{
     an_audit_finds_the_balanced_states, damaged_words_have_their_flaws, flaws_have_their_words,
     levels_never_run_out,

@@ -6,6 +6,7 @@ ghost use Rattle.vac_audit.specs.declared.tree.Turn.TheVariants.{Down};
 ghost use Rattle.vac_audit.specs.Marks.{IsMarked, unmarked};
 ghost use Rattle.vac_audit.specs.TreeRan.{ItemLooked, ColourLooked, LookRan, TableRan};
 ghost use Rattle.vac_audit.specs.TreeRan.{Ready, HasRoom, Pushed, DownRan, KeyLooked, RootLooked};
+ghost use Rattle.vac_audit.specs.declared.audit.TheConstants.{MOST_HEAP_WORDS};
 
 use crate::Flaw;
 use crate::bookings::walk_bookings;
@@ -34,7 +35,7 @@ const PRICE: usize = place::PRICE as usize;
 const BOOKINGS: usize = place::BOOKINGS as usize;
 
 /// The greatest id, which is the greatest key of a table.
-pub const LAST_ID: u64 = 4_294_967_295;
+pub const LAST_ID: u64 = u32::MAX as u64;
 
 /// Why a walk ended.
 #[derive(Clone, Copy, Debug, PartialEq, Eq)]
@@ -105,7 +106,7 @@ pub enum Turn {
 /// Looks at the counts of an item.
 fn look_at_item(words: &[u64], node: usize) -> Result<(), Flaw>
     requires inside { node + 8 ≤ length words.now }
-    requires few { length words.now ≤ 2097168 }
+    requires few { length words.now ≤ MOST_HEAP_WORDS }
     ensures looked { ItemLooked words.now node result }
 {
     let used = words[node + USED];
@@ -162,7 +163,7 @@ fn look_at_node(
 /// The colour of a node between two trees.
 fn look_at_colour(words: &[u64], node: usize, left: Side, right: Side) -> Result<Side, Flaw>
     requires inside { node + 8 ≤ length words.now }
-    requires few { length words.now ≤ 2097168 }
+    requires few { length words.now ≤ MOST_HEAP_WORDS }
     requires low { right.blacks < 262145 }
     ensures low { IfOk result (λ side. side.blacks ≤ right.blacks + 1) }
     ensures looked { ColourLooked words.now node left right result }
@@ -218,7 +219,7 @@ fn follow_down(
 /// may follow it.
 fn look_at_key(words: &[u64], node: usize, above: u64) -> Result<u64, Flaw>
     requires inside { node + 8 ≤ length words.now }
-    requires few { length words.now ≤ 2097168 }
+    requires few { length words.now ≤ MOST_HEAP_WORDS }
     ensures key { OnOk result (slice_index words.now node < 4294967296) }
     ensures looked { KeyLooked words.now node above result }
 {
@@ -232,7 +233,7 @@ fn look_at_key(words: &[u64], node: usize, above: u64) -> Result<u64, Flaw>
 /// Looks at the root of a tree that is done: it is to be black.
 fn look_at_root(words: &[u64], root: usize, tree: Side) -> Result<(), Flaw>
     requires inside { root < length words.now }
-    requires few { length words.now ≤ 2097168 }
+    requires few { length words.now ≤ MOST_HEAP_WORDS }
     ensures looked { RootLooked words.now root tree result }
 {
     if tree.red {

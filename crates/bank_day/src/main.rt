@@ -1,0 +1,121 @@
+//! A day at the bank: three tellers move money between its accounts, drawn at random, each in a
+//! thread of its own, while a fourth adds up all accounts again and again. However the threads
+//! meet, each sum is the opening's.
+#![tactic(auto)]
+
+ghost use Rattle.std.specs.Prelude.{◌≡◌};
+
+use bank::{ACCOUNTS, Bank, Teller};
+use rand_core::Rng;
+use rand_pcg::Pcg32;
+use std::process::ExitCode;
+use std::thread;
+use std::thread::Threads;
+
+/// How many tellers move money.
+const MOVERS: u64 = 3;
+
+/// How often each teller moves money, or adds up all accounts.
+const TURNS: u32 = 2_000;
+
+/// What is on each account at the begin.
+const EACH: u32 = 1_000;
+
+/// What is on all accounts together, at any moment.
+const TOTAL: u64 = EACH as u64 * ACCOUNTS as u64;
+
+/// The most that is moved at once.
+const MOST: u64 = 10;
+
+/// The most attempts of a transaction.
+const TRIES: u32 = 1 << 20;
+
+/// What was done in a day: how often money was moved, and how many sums were the opening's.
+#[derive(Clone, Copy)]
+struct Day {
+    moved: u32,
+    sums: u32,
+}
+
+/// Moves money from account to account, as this stream draws it.
+fn move_many(bank: &Bank, mut teller: Teller, stream: u64) -> (Teller, u32)
+    requires { teller.table ≡ bank.now.table }
+    ensures { result.0.table ≡ bank.now.table }
+{
+    let mut random = Pcg32::new(1, stream);
+    let mut moved = 0u32;
+    for _ in 0..TURNS {
+        let from = random.next_u32() % ACCOUNTS;
+        let to = random.next_u32() % ACCOUNTS;
+        let amount = u64::from(random.next_u32()) % MOST;
+        if bank.transfer(&mut teller, from, to, amount, TRIES) == Ok(true) {
+            moved = moved.saturating_add(1);
+        }
+    }
+    (teller, moved)
+}
+
+/// Adds up all accounts again and again, and counts the sums that are the opening's.
+fn add_many(bank: &Bank, mut teller: Teller) -> (Teller, u32)
+    requires { teller.table ≡ bank.now.table }
+    ensures { result.0.table ≡ bank.now.table }
+{
+    let mut sums = 0u32;
+    for _ in 0..TURNS {
+        if bank.audit(&mut teller, TRIES) == Ok(TOTAL) {
+            sums = sums.saturating_add(1);
+        }
+    }
+    (teller, sums)
+}
+
+/// A day with so many movers: the last of them beside those before it, and the one who adds up
+/// beside them all. Gives back the teller, who has taken in all others.
+fn spend<R: Threads + Sync>(rt: &R, bank: &Bank, mut teller: Teller, movers: u64) -> (Teller, Day)
+    requires { teller.table ≡ bank.now.table }
+    ensures { result.0.table ≡ bank.now.table }
+{
+    if movers == 0 {
+        let (teller, sums) = add_many(bank, teller);
+        return (teller, Day { moved: 0, sums });
+    }
+    let Ok(own) = bank.split(&mut teller) else {
+        return (teller, Day { moved: 0, sums: 0 });
+    };
+    let fewer = movers - 1;
+    let move_money = move || -> (Teller, u32)
+        requires { own.table ≡ bank.now.table }
+        ensures { result.0.table ≡ bank.entry.now.table }
+    { move_many(bank, own, movers) };
+    let spend_others = move || -> (Teller, Day)
+        requires { teller.table ≡ bank.now.table }
+        ensures { result.0.table ≡ bank.entry.now.table }
+    { spend(rt, bank, teller, fewer) };
+    let ((own, moved), (mut teller, day)) = thread::join(rt, move_money, spend_others);
+    bank.gather(&mut teller, own);
+    let moved = day.moved.saturating_add(moved);
+    (teller, Day { moved, ..day })
+}
+
+fn main(rt: HostRuntime) -> ExitCode {
+    let Ok((bank, teller)) = Bank::new(rt.alloc(), EACH, 1 << 40) else {
+        let _ = eprintln!(rt; "the bank could not be opened");
+        return ExitCode::FAILURE;
+    };
+    let (teller, day) = spend(&rt, &bank, teller, MOVERS);
+    let Ok((balances, _)) = bank.close(teller) else {
+        let _ = eprintln!(rt; "the bank could not be closed");
+        return ExitCode::FAILURE;
+    };
+    let sum = balances
+        .iter()
+        .fold(0u64, |sum, balance| sum.wrapping_add(*balance));
+    let told = println!(rt;
+        "money was moved {} times\n{} sums were {TOTAL}\nthe bank closed with {sum}",
+        day.moved, day.sums
+    );
+    match told {
+        Ok(()) => ExitCode::SUCCESS,
+        Err(_) => ExitCode::FAILURE,
+    }
+}
