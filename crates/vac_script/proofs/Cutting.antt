@@ -1,5 +1,5 @@
 -- How a script is cut into lines while it is read.
-use Rattle.std.proofs.Common.{◌≡◌, ◌≢◌, ℕ, ◌+◌, ◌-◌, ◌<◌, ◌≤◌, Bool, true, false, cond, min, List, [], ◌∷◌, ◌++◌, length, take, drop, map, refl, ap, sym, ◌∙◌, inl, inr, arith, append-nil, append_assoc, length-append, length-take-le, Err, eqb, ne_eqb, lt-ltb, subst, Result, length-take, take-add}
+use Rattle.std.proofs.Common.{◌≡◌, ◌≢◌, ℕ, ◌+◌, ◌-◌, ◌<◌, ◌≤◌, Bool, true, false, cond, min, List, [], ◌∷◌, ◌++◌, length, take, drop, map, refl, ap, sym, ◌∙◌, inl, inr, arith, append-nil, append_assoc, length-append, length-take-le, Ok, Err, OnOk, is_ok, if◌then◌else◌, eqb, ne_eqb, lt-ltb, subst, Result, length-take, take-add}
 use Rattle.std.proofs.Math.Seq.{take-append_seam, drop-append_seam}
 use Rattle.vac_lines.specs.Text.{Extends}
 use Rattle.std.specs.List.{slice_split, onto_first}
@@ -143,8 +143,14 @@ take_over n xs ys h =
     ∙ ap (λ t. xs ++ take (n - length xs) t) (drop-append_seam xs ys)
 
 -- what is kept of a line that goes on
-pub kept_prefix : (start more : List ℕ) (k : ℕ) → length start ≤ 1025 → k ≡ min (1025 - length start) (length more) → start ++ take k more ≡ take 1025 (start ++ more)
+kept_prefix : (start more : List ℕ) (k : ℕ) → length start ≤ 1025 → k ≡ min (1025 - length start) (length more) → start ++ take k more ≡ take 1025 (start ++ more)
 kept_prefix start more k h e = ap (λ t. start ++ t) (take_least (1025 - length start) k more e) ∙ sym (take_over 1025 start more h)
+
+-- the same where memory may be refused
+pub kept_on : {T E : Type 0} (r : Result T E) (start more new : List ℕ) (k : ℕ) → length start ≤ 1025 → k ≡ min (1025 - length start) (length more)
+    → new ≡ (if is_ok r then start ++ take k more else start) → OnOk r (new ≡ take 1025 (start ++ more))
+kept_on (Ok t) start more new k h e f = f ∙ kept_prefix start more k h e
+kept_on (Err g) start more new k h e f = tt
 
 -- what is kept of a line has no line end and is short
 pub has_begun : (start more : List ℕ) → HasBegun start → HasNoEnd more → HasBegun (take 1025 (start ++ more))

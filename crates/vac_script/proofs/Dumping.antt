@@ -9,8 +9,9 @@ use Rattle.vac_lines.specs.Memory.{word_line, dump_text}
 use Rattle.vac_model.specs.State.{State}
 use Rattle.vac_manager.specs.Law.{Shows}
 use Rattle.vac_lines.specs.Writing.{AppendsPrefix}
-use Rattle.vac_script.specs.System.{SystemShown, StandsAt, RanAll}
-use Rattle.vac_script.specs.Dump.{DumpStopped}
+use Rattle.vac_manager.specs.Session.{SessionShown}
+use Rattle.vac_script.specs.System.{StandsAt, RanAll}
+use Rattle.vac_script.specs.Dump.{Dumped, DumpStopped}
 
 -- so much of the words' text was written, and the rest is at hand
 pub record Sent (held holds : Option (List ℕ)) (text words : List ℕ) : Type 0 where
@@ -67,8 +68,20 @@ sent_in_part held holds grown text words i s w =
     (append_assoc s.front (take w.0 text) (drop w.0 text ++ rest) ∙ ap (λ t. s.front ++ t) (sym (append_assoc (take w.0 text) (drop w.0 text) rest) ∙ ap (λ t. t ++ rest) (take-append-drop w.0 text))
     ∙ sym (append_assoc s.front text rest) ∙ ap (λ t. t ++ rest) s.all ∙ dump_cut i words)
 
+-- a dump that was written
+pub dumped : (n : ℕ) (y : SessionShown) (unread left said says held holds : Option (List ℕ)) (words given : List ℕ) → RanAll n y unread left said says
+    → ((s : State) → StandsAt y s → Shows words s) → given ≡ words → Appends held holds (dump_text given) → Dumped n unread left held holds
+dumped n y unread left said says held holds words given r shown e w = record {
+  bytes = r.bytes;
+  consumed = r.consumed;
+  ended = r.ended;
+  words = words;
+  shown = shown _ r.stands;
+  written = subst (λ t. Appends held holds (dump_text t)) e w;
+}
+
 -- a dump that stopped while it wrote
-pub dumped_prefix : (n : ℕ) (y : SystemShown) (unread left said says held holds : Option (List ℕ)) (words given : List ℕ) → RanAll n y unread left said says
+pub dumped_prefix : (n : ℕ) (y : SessionShown) (unread left said says held holds : Option (List ℕ)) (words given : List ℕ) → RanAll n y unread left said says
     → ((s : State) → StandsAt y s → Shows words s) → given ≡ words → AppendsPrefix held holds (dump_text given) → DumpStopped n unread left held holds
 dumped_prefix n y unread left said says held holds words given r shown e w = inr (record {
   bytes = r.bytes;

@@ -1,6 +1,7 @@
 pub mod Cutting
 pub mod Progress
 pub mod Running
+pub mod Opening
 pub mod Closing
 pub mod Dumping
 pub mod WordLines

@@ -6,7 +6,8 @@ use Rattle.vac_model.specs.State.{State, empty_state}
 use Rattle.vac_lines.specs.Text.{Extends}
 use Rattle.vac_lines.specs.Script.{script_state}
 use Rattle.vac_script.specs.Script.{script_out, pending, leaves, LeavesSame, WrotePrefix}
-use Rattle.vac_script.specs.System.{SystemShown, StandsAt, RanAll}
+use Rattle.vac_manager.specs.Session.{SessionShown}
+use Rattle.vac_script.specs.System.{StandsAt, RanAll}
 use Rattle.vac_lines.proofs.Extends.{extends_more}
 
 -- some bytes were read and some text was written; whatever follows, the rest of the output is what is pending
@@ -108,7 +109,7 @@ run_ended n unread left held holds s line p =
     prefix_of n unread left held holds p.bytes p.text p.consumed p.written (λ x. extends_more p.text (script_out n (p.bytes ++ x)) (pending s line x) (p.same x))
 
 -- the end of the input was run
-pub end_run : (n : ℕ) (unread left now held holds grown : Option (List ℕ)) (s : State) (y : SystemShown) (line : List ℕ) → Progress n unread left held holds s line
+pub end_run : (n : ℕ) (unread left now held holds grown : Option (List ℕ)) (s : State) (y : SessionShown) (line : List ℕ) → Progress n unread left held holds s line
     → Consumes left now [] → IsAtEnd now → Appends holds grown (pending s line []) → StandsAt y (leaves s line []) → RanAll n y unread now held grown
 end_run n unread left now held holds grown s y line p c e w st = record {
   bytes = p.bytes;

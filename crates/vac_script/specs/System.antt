@@ -2,93 +2,102 @@
 -- of each state to which the client's records lead: there is one.
 use Rattle.std.specs.Prelude.{◌≡◌, ◌≤◌, ◌+◌, ℕ, List, [], ◌++◌, length, Result, Option}
 use Rattle.std.specs.Io.KnownBytes.{Appends, Consumes, IsAtEnd}
-use Rattle.stm_region.specs.Shown.{RegionShown}
-use Rattle.vac_model.specs.State.{State}
+use Rattle.vac_model.specs.State.{State, empty_state}
 use Rattle.vac_model.specs.declared.tasks.Task.{Task}
 use Rattle.vac_lines.specs.declared.fault.LineFault.{LineFault}
 use Rattle.vac_lines.specs.Script.{answer, script_state}
 use Rattle.vac_lines.specs.Text.{Extends}
-use Rattle.vac_manager.specs.Legal.{IsHistory}
-use Rattle.vac_manager.specs.Called.{CallerShown, HasAllGrants}
+use Rattle.vac_manager.specs.Legal.{IsHistory, capacity_of}
+use Rattle.vac_manager.specs.Called.{HasAllGrants}
+use Rattle.vac_manager.specs.Session.{SessionShown, IsOwn}
 use Rattle.vac_script.specs.declared.system.TheConstants.{LAST_VERSION}
 use Rattle.vac_script.specs.Script.{pending, leaves, LeavesSame, script_out}
 
--- the manager, which contracts see as its region, and its client
-pub record SystemShown : Type 0 where
-  pub manager : RegionShown
-  pub client : CallerShown
-
--- the client is of this manager, and alone: it has all grants. The clock ends at the last version
--- that there is
-pub record IsAlone (y : SystemShown) : Type 0 where
-  pub own : y.client.table ≡ y.manager.table
+-- the client is alone: it has all grants. The clock ends at the last version that there is
+pub record IsAlone (y : SessionShown) : Type 0 where
   pub all : HasAllGrants y.client.value
   pub last : y.manager.last ≡ LAST_VERSION
 
 -- the records of the client are a whole history of the manager, which leads to this state
-abbrev pub StandsAt : SystemShown → State → Type 0
+abbrev pub StandsAt : SessionShown → State → Type 0
 StandsAt y s = IsHistory y.manager y.client.value.records s
 
 -- the clock, as the client knows it, has so many versions left
-abbrev pub Lasts : SystemShown → ℕ → Type 0
+abbrev pub Lasts : SessionShown → ℕ → Type 0
 Lasts y n = y.client.value.floor + n ≤ LAST_VERSION
 
--- the clock, as the client knows it, went on by so many versions at most
-abbrev pub TicksBy : SystemShown → SystemShown → ℕ → Type 0
-TicksBy y y' n = y'.client.value.floor ≤ y.client.value.floor + n
+-- the manager has no entry yet, and its client knows no version
+pub record IsNew (y : SessionShown) : Type 0 where
+  pub stands : StandsAt y (empty_state (capacity_of y.manager))
+  pub floor : y.client.value.floor ≡ 0
+
+-- a manager of n blocks was opened, with its one client
+pub record OpensAlone (n : ℕ) (y : SessionShown) : Type 0 where
+  pub own : IsOwn y
+  pub alone : IsAlone y
+  pub capacity : capacity_of y.manager ≡ n
+  pub fresh : IsNew y
+
+-- it is the same manager, and its clock, as the client knows it, went on by so many versions at
+-- most
+pub record GoesOnBy (y y' : SessionShown) (n : ℕ) : Type 0 where
+  pub same : y'.manager ≡ y.manager
+  pub ticks : y'.client.value.floor ≤ y.client.value.floor + n
 
 -- a line was answered, and its output line appended to the output; the clock ticked once at most
-pub record Answered (y y' : SystemShown) (out out' : List ℕ) (line : Result Task LineFault) :
+pub record Answered (y y' : SessionShown) (out out' : List ℕ) (line : Result Task LineFault) :
     Type 0 where
   pub state : (s : State) → StandsAt y s → StandsAt y' (answer s line).0
   pub text : (s : State) → StandsAt y s → out' ≡ out ++ (answer s line).1
-  pub ticks : TicksBy y y' 1
+  pub goes : GoesOnBy y y' 1
 
 -- no more than a part of the output line was appended
-pub record AnsweredInPart (y : SystemShown) (out out' : List ℕ) (line : Result Task LineFault) :
+pub record AnsweredInPart (y : SessionShown) (out out' : List ℕ) (line : Result Task LineFault) :
     Type 0 where
   pub text : (s : State) → StandsAt y s → Extends out' (out ++ (answer s line).1)
 
 -- a chunk was run: whatever follows it, what is in the output and what is still to be written are
 -- together the same, and so is the state that is left; the clock ticked once a byte at most
-pub record Ran (y y' : SystemShown) (line line' out out' chunk : List ℕ) : Type 0 where
+pub record Ran (y y' : SessionShown) (line line' out out' chunk : List ℕ) : Type 0 where
   pub on : (s : State) → StandsAt y s → (t : State) × StandsAt y' t
       × ((x : List ℕ) → out ++ pending s line (chunk ++ x) ≡ out' ++ pending t line' x)
       × LeavesSame s line chunk t line'
-  pub ticks : TicksBy y y' (length chunk)
+  pub goes : GoesOnBy y y' (length chunk)
 
 -- whatever follows the chunk, the output is a prefix of what is to be written
-pub record RanInPart (y : SystemShown) (line out out' chunk : List ℕ) : Type 0 where
+pub record RanInPart (y : SessionShown) (line out out' chunk : List ℕ) : Type 0 where
   pub on : (s : State) → StandsAt y s → (x : List ℕ)
       → Extends out' (out ++ pending s line (chunk ++ x))
 
 -- a chunk was run, and its output was written; the clock ticked once a byte at most
-pub record Wrote (y y' : SystemShown) (line line' chunk : List ℕ) (held holds : Option (List ℕ)) :
+pub record Wrote (y y' : SessionShown) (line line' chunk : List ℕ) (held holds : Option (List ℕ)) :
     Type 0 where
   pub text : List ℕ
   pub written : Appends held holds text
   pub on : (s : State) → StandsAt y s → (t : State) × StandsAt y' t
       × ((x : List ℕ) → pending s line (chunk ++ x) ≡ text ++ pending t line' x)
       × LeavesSame s line chunk t line'
-  pub ticks : TicksBy y y' (length chunk)
+  pub goes : GoesOnBy y y' (length chunk)
 
 -- a prefix of the output was written, whatever follows the chunk
-pub record WroteInPart (y : SystemShown) (line chunk : List ℕ) (held holds : Option (List ℕ)) :
+pub record WroteInPart (y : SessionShown) (line chunk : List ℕ) (held holds : Option (List ℕ)) :
     Type 0 where
   pub text : List ℕ
   pub written : Appends held holds text
   pub on : (s : State) → StandsAt y s → (x : List ℕ) → Extends text (pending s line (chunk ++ x))
 
--- the rest of the output was written, and the system stands at the state that is left
-pub record WroteEnd (y y' : SystemShown) (line : List ℕ) (held holds : Option (List ℕ)) :
+-- the rest of the output was written, and the system stands at the state that is left; it is the
+-- same manager
+pub record WroteEnd (y y' : SessionShown) (line : List ℕ) (held holds : Option (List ℕ)) :
     Type 0 where
   pub text : List ℕ
   pub written : Appends held holds text
   pub on : (s : State) → StandsAt y s →
       (text ≡ pending s line []) × StandsAt y' (leaves s line [])
+  pub same : y'.manager ≡ y.manager
 
 -- a prefix of the rest was written
-pub record WroteEndInPart (y : SystemShown) (line : List ℕ) (held holds : Option (List ℕ)) :
+pub record WroteEndInPart (y : SessionShown) (line : List ℕ) (held holds : Option (List ℕ)) :
     Type 0 where
   pub text : List ℕ
   pub written : Appends held holds text
@@ -96,7 +105,7 @@ pub record WroteEndInPart (y : SystemShown) (line : List ℕ) (held holds : Opti
 
 -- the input was read to its end, its script output was written, and the system stands at the state
 -- that the script leaves
-pub record RanAll (n : ℕ) (y : SystemShown) (unread left held holds : Option (List ℕ)) :
+pub record RanAll (n : ℕ) (y : SessionShown) (unread left held holds : Option (List ℕ)) :
     Type 0 where
   pub bytes : List ℕ
   pub consumed : Consumes unread left bytes

@@ -10,6 +10,7 @@ ghost use Rattle.vac_script.specs.Dump.{Dumped, DumpStopped};
 
 use crate::fault::RunFault;
 use crate::script::{CHUNK_BYTES, run_input};
+use crate::system::{System, close, open};
 use std::alloc::Global;
 use std::io;
 use std::io::{Read, Write};
@@ -36,8 +37,9 @@ pub fn dump_script<R: Read, W: Write>(
     ensures not_spent { IfErr result (λ fault. fault ≢ Spent) }
 {
     let mut replies = io::sink();
-    let system = run_input(alloc, blocks, input, &mut replies)?;
-    let words = system.close()?;
+    let (manager, client) = open(alloc, blocks)?;
+    let client = run_input(alloc, System::of(&manager, client), input, &mut replies)?;
+    let words = close(manager, client)?;
     write_words(alloc, words.as_slice(), output)
 }
 

@@ -3,24 +3,26 @@
 ghost use Rattle.std.specs.Prelude.{◌≡◌, ◌≢◌, ◌≤◌, ◌+◌, [], ◌++◌, length, take, true};
 ghost use Rattle.std.specs.Prelude.{OnOk, OnErr, IfOk, IfErr};
 ghost use Rattle.std.specs.Io.KnownBytes.{Appends};
-ghost use Rattle.vac_model.specs.State.{State, empty_state};
+ghost use Rattle.vac_model.specs.State.{State};
 ghost use Rattle.vac_model.specs.Ranges.{is_task};
+ghost use Rattle.vac_manager.specs.Legal.{capacity_of};
 ghost use Rattle.vac_manager.specs.Opening.{is_block_count};
 ghost use Rattle.vac_lines.specs.Text.{Extends};
 ghost use Rattle.vac_lines.specs.LineTable.{line_task};
 ghost use Rattle.vac_script.specs.declared.fault.RunFault.TheVariants.{Busy, Memory, Spent, Write};
 ghost use Rattle.vac_script.specs.System.{StandsAt, Answered, AnsweredInPart, Ran, RanInPart};
 ghost use Rattle.vac_script.specs.System.{Wrote, WroteInPart, WroteEnd, WroteEndInPart, RanAll};
-ghost use Rattle.vac_script.specs.System.{Lasts};
+ghost use Rattle.vac_script.specs.System.{IsNew, Lasts};
 ghost use Rattle.vac_lines.specs.Writing.{AppendsPrefix};
 ghost use Rattle.vac_script.specs.Script.{pending, leaves, HasBegun};
 ghost use Rattle.vac_script.specs.Script.{WroteAll, WrotePrefix};
 
 use crate::fault::RunFault;
-use crate::system::System;
+use crate::system::{System, open};
 use std::alloc::{AllocError, Global};
 use std::io::{ErrorKind, Read, Write};
 use vac_lines::{LINE_BYTES, LineFault, cut_at, print_fault, print_reply, read_line, write_all};
+use vac_manager::Client;
 use vac_model::Task;
 
 /// The most reads of a script, but for one: the read after these is the last.
@@ -34,8 +36,8 @@ const KEPT_BYTES: usize = LINE_BYTES + 1;
 
 /// A script that runs.
 #[derive(Drop)]
-struct Script {
-    system: System,
+struct Script<'a> {
+    system: System<'a>,
     /// The line that has begun, up to [`KEPT_BYTES`] of it.
     line: Vec<u8>,
     /// The output lines that are not yet written.
@@ -44,22 +46,24 @@ struct Script {
 
 /// Runs the task of a line that was read, and prints its reply; or prints its fault.
 fn run_read(
-    system: &mut System,
-    read: Result<Task, LineFault>,
+    system: &mut System<'_>,
+    read: &Result<Task, LineFault>,
     out: &mut Vec<u8>,
 ) -> Result<(), RunFault>
-    requires in_range { IfOk read (λ task. is_task task ≡ true) }
+    requires in_range { IfOk read.now (λ task. is_task task ≡ true) }
     requires lasts { Lasts system.old 1 }
-    ensures ok { OnOk result (Answered system.old system.new out.old.items out.new.items read) }
-    ensures err { OnErr result (AnsweredInPart system.old out.old.items out.new.items read) }
+    ensures ok { OnOk result
+        (Answered system.old system.new out.old.items out.new.items read.now) }
+    ensures err { OnErr result
+        (AnsweredInPart system.old out.old.items out.new.items read.now) }
     ensures memory { IfErr result (λ fault. fault ≡ Memory) }
 {
     match read {
         Ok(task) => {
-            let reply = system.apply(&task)?;
+            let reply = system.apply(task)?;
             print_reply(&reply, out)?;
         }
-        Err(fault) => print_fault(fault, out)?,
+        Err(fault) => print_fault(*fault, out)?,
     }
     out.extend_from_slice(b"\n")?;
     Ok(())
@@ -68,7 +72,7 @@ fn run_read(
 /// Reads and runs a line, and prints its output line.
 fn run_line(
     alloc: Global,
-    system: &mut System,
+    system: &mut System<'_>,
     line: &[u8],
     out: &mut Vec<u8>,
 ) -> Result<(), RunFault>
@@ -83,11 +87,10 @@ fn run_line(
     if matches!(read, Err(LineFault::Memory)) {
         return Err(RunFault::Memory);
     }
-    run_read(system, read, out)
+    run_read(system, &read, out)
 }
 
 /// Keeps what follows of a line that has begun, as far as there is need.
-#[tactic(auto, using(crate::proofs::Cutting::kept_prefix))]
 pub(crate) fn keep_start(line: &mut Vec<u8>, more: &[u8]) -> Result<(), AllocError>
     requires { length line.old.items ≤ LINE_BYTES + 1 }
     ensures line { OnOk result
@@ -98,17 +101,13 @@ pub(crate) fn keep_start(line: &mut Vec<u8>, more: &[u8]) -> Result<(), AllocErr
     line.extend_from_slice(&more[..kept])
 }
 
-impl Script {
+impl<'a> Script<'a> {
     /// A script of which nothing was read.
-    fn new(alloc: Global, blocks: u32) -> Result<Script, RunFault>
-        requires { is_block_count blocks ≡ true }
-        ensures state { IfOk result (λ script. StandsAt script.system (empty_state blocks)) }
-        ensures clock { IfOk result (λ script. script.system.client.value.floor ≡ 0) }
+    fn new(alloc: Global, system: System<'a>) -> Result<Script<'a>, AllocError>
+        ensures system { IfOk result (λ script. script.system ≡ system.entry) }
         ensures line { IfOk result (λ script. script.line.items ≡ []) }
         ensures out { IfOk result (λ script. script.out.items ≡ []) }
-        ensures memory { IfErr result (λ fault. fault ≡ Memory) }
     {
-        let system = System::new(alloc, blocks)?;
         let line = Vec::with_capacity(alloc, KEPT_BYTES)?;
         let out = Vec::with_capacity(alloc, CHUNK_BYTES)?;
         Ok(Script { system, line, out })
@@ -173,6 +172,7 @@ impl Script {
             → self.new.out.items ≡ self.old.out.items ++ pending s self.old.line.items []) }
         ensures state { OnOk result ((s : State) → StandsAt self.old.system s
             → StandsAt self.new.system (leaves s self.old.line.items [])) }
+        ensures same { OnOk result (self.new.system.manager ≡ self.old.system.manager) }
         ensures err { OnErr result ((s : State) → StandsAt self.old.system s
             → Extends self.new.out.items
             (self.old.out.items ++ pending s self.old.line.items [])) }
@@ -244,31 +244,34 @@ impl Script {
     }
 }
 
-/// Runs a script for a system of so many blocks, and answers the system that it leaves: reads the
+/// Runs a script on a system without entries, and answers the client that it leaves: reads the
 /// lines to the end of the input and writes an output line for each.
 pub(crate) fn run_input<R: Read, W: Write>(
     alloc: Global,
-    blocks: u32,
+    system: System<'_>,
     input: &mut R,
     output: &mut W,
-) -> Result<System, RunFault>
-    requires { is_block_count blocks ≡ true }
-    ensures ok { IfOk result (λ system. RanAll blocks system
+) -> Result<Client, RunFault>
+    requires fresh { IsNew system }
+    ensures own { IfOk result (λ client. client.table ≡ system.entry.manager.table) }
+    ensures ok { IfOk result (λ client. RanAll (capacity_of system.entry.manager)
+        (record { manager = system.entry.manager; client = client })
         (R.remaining input.old) (R.remaining input.new)
         (W.contents output.old) (W.contents output.new)) }
-    ensures err { OnErr result (WrotePrefix blocks (R.remaining input.old) (R.remaining input.new)
+    ensures err { OnErr result (WrotePrefix (capacity_of system.entry.manager)
+        (R.remaining input.old) (R.remaining input.new)
         (W.contents output.old) (W.contents output.new)) }
     ensures not_busy { IfErr result (λ fault. fault ≢ Busy) }
     ensures not_spent { IfErr result (λ fault. fault ≢ Spent) }
 {
-    let mut script = Script::new(alloc, blocks)?;
+    let mut script = Script::new(alloc, system)?;
     let mut buffer = vec![in alloc; 0; CHUNK_BYTES]?;
     let chunk = buffer.as_mut_slice();
     'reads: for _ in 0..=MOST_READS {
         match input.read(chunk) {
             Ok(0) => {
                 script.run_end(alloc, output)?;
-                return Ok(script.system);
+                return Ok(script.system.into_client());
             }
             Ok(count) => script.run_chunk(alloc, &chunk[..count], output)?,
             Err(error) => {
@@ -300,6 +303,7 @@ pub fn run_script<R: Read, W: Write>(
     ensures not_busy { IfErr result (λ fault. fault ≢ Busy) }
     ensures not_spent { IfErr result (λ fault. fault ≢ Spent) }
 {
-    run_input(alloc, blocks, input, output)?;
+    let (manager, client) = open(alloc, blocks)?;
+    run_input(alloc, System::of(&manager, client), input, output)?;
     Ok(())
 }

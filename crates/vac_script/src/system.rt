@@ -1,54 +1,59 @@
-//! A manager and the one client that calls it.
+//! A manager and the session of the one client that calls it.
 
 ghost use Rattle.std.specs.Prelude.{◌≡◌, true, IfOk, IfErr};
-ghost use Rattle.vac_model.specs.State.{State, empty_state};
+ghost use Rattle.vac_model.specs.State.{State};
 ghost use Rattle.vac_model.specs.Run.{run};
 ghost use Rattle.vac_model.specs.Ranges.{is_task};
 ghost use Rattle.vac_manager.specs.Law.{Shows};
+ghost use Rattle.vac_manager.specs.Legal.{IsHistory};
 ghost use Rattle.vac_manager.specs.Opening.{is_block_count};
 ghost use Rattle.vac_script.specs.declared.fault.RunFault.TheVariants.{Memory};
-ghost use Rattle.vac_script.specs.System.{StandsAt, Lasts, TicksBy};
+ghost use Rattle.vac_script.specs.System.{IsAlone, OpensAlone, StandsAt, Lasts, GoesOnBy};
 
 use crate::fault::RunFault;
 use std::alloc::Global;
 use std::marker::Model;
 use stm_region::VERSION_LIMIT;
-use vac_manager::{Client, Fault, Manager};
+use vac_manager::{Client, Fault, Manager, Session};
 use vac_model::{Reply, Task};
 
 /// The version that the clock ends at: the last one that there is.
 pub const LAST_VERSION: u64 = VERSION_LIMIT - 1;
 
-/// A manager and its one client, which runs each task as a transaction and commits it. Contracts
-/// see both.
+/// The session of a manager's one client, which runs each task as a transaction and commits it.
 #[derive(Drop)]
-pub(crate) struct System {
-    manager: Manager,
-    client: Client,
+pub(crate) struct System<'a> {
+    session: Session<'a>,
 }
 
-impl Model for System {
-    ghost use Rattle.vac_script.specs.System.{SystemShown, IsAlone};
+impl<'a> Model for System<'a> {
+    ghost use Rattle.vac_manager.specs.Session.{SessionShown};
+    ghost use Rattle.vac_script.specs.System.{IsAlone};
 
-    ghost Value = { SystemShown };
+    ghost Value = { SessionShown };
 
-    ghost view = { λ y. record { manager = y.manager; client = y.client } };
+    ghost view = { λ y. y.session };
 
-    ghost invariant = { λ y. IsAlone (record { manager = y.manager; client = y.client }) };
+    ghost invariant = { λ y. IsAlone y.session };
 }
 
-impl System {
-    /// A system without entries.
-    pub(crate) fn new(alloc: Global, blocks: u32) -> Result<System, RunFault>
-        requires { is_block_count blocks ≡ true }
-        ensures state { IfOk result (λ system. StandsAt system (empty_state blocks)) }
-        ensures clock { IfOk result (λ system. system.client.value.floor ≡ 0) }
-        ensures memory { IfErr result (λ fault. fault ≡ Memory) }
+impl<'a> System<'a> {
+    /// The session of a client that is alone.
+    pub(crate) fn of(manager: &'a Manager, client: Client) -> System<'a>
+        requires own { client.table ≡ manager.now.table }
+        requires alone { IsAlone (record { manager = manager.now; client = client }) }
+        ensures { result ≡ record { manager = manager.now; client = client } }
     {
-        let Ok((manager, client)) = Manager::new(alloc, blocks, LAST_VERSION) else {
-            return Err(RunFault::Memory);
-        };
-        Ok(System { manager, client })
+        let session = Session::of(manager, client);
+        System { session }
+    }
+
+    /// Ends the session and answers its client.
+    pub(crate) fn into_client(self) -> Client
+        ensures client { result ≡ self.entry.client }
+        ensures own { result.table ≡ self.entry.manager.table }
+    {
+        self.session.into_client()
     }
 
     /// Runs a task as a transaction and answers its reply. A client that is alone meets no
@@ -61,26 +66,38 @@ impl System {
             → reply ≡ (run s task.now).1) }
         ensures state { IfOk result (λ _. (s : State) → StandsAt self.old s
             → StandsAt self.new (run s task.now).0) }
-        ensures ticks { IfOk result (λ _. TicksBy self.old self.new 1) }
+        ensures goes { IfOk result (λ _. GoesOnBy self.old self.new 1) }
         ensures memory { IfErr result (λ fault. fault ≡ Memory) }
     {
-        match self.manager.call(&mut self.client, task, 1) {
+        match self.session.call(task, 1) {
             Ok(reply) => Ok(reply),
             Err(Fault::Memory) => Err(RunFault::Memory),
             Err(_) => unreachable!(),
         }
     }
+}
 
-    /// Ends the system and answers the words of its memory.
-    pub(crate) fn close(self) -> Result<Vec<u64>, RunFault>
-        ensures words { IfOk result (λ words. (s : State) → StandsAt self s
-            → Shows words.items s) }
-        ensures memory { IfErr result (λ fault. fault ≡ Memory) }
-    {
-        let System { manager, client } = self;
-        match manager.close(client) {
-            Ok((words, _version)) => Ok(words),
-            Err(_) => Err(RunFault::Memory),
-        }
+/// Opens a manager without entries, with its one client.
+pub(crate) fn open(alloc: Global, blocks: u32) -> Result<(Manager, Client), RunFault>
+    requires { is_block_count blocks ≡ true }
+    ensures opened { IfOk result (λ r. OpensAlone blocks (record { manager = r.0; client = r.1 })) }
+    ensures memory { IfErr result (λ fault. fault ≡ Memory) }
+{
+    match Manager::new(alloc, blocks, LAST_VERSION) {
+        Ok(opened) => Ok(opened),
+        Err(_) => Err(RunFault::Memory),
+    }
+}
+
+/// Ends a manager with its one client, and answers the words of its memory.
+pub(crate) fn close(manager: Manager, client: Client) -> Result<Vec<u64>, RunFault>
+    requires own { client.table ≡ manager.table }
+    ensures words { IfOk result (λ words. (s : State)
+        → IsHistory manager client.value.records s → Shows words.items s) }
+    ensures memory { IfErr result (λ fault. fault ≡ Memory) }
+{
+    match manager.close(client) {
+        Ok((words, _version)) => Ok(words),
+        Err(_) => Err(RunFault::Memory),
     }
 }
