@@ -79,12 +79,29 @@ pub line_task_prefix : (line : List ℕ) → line_task (take 1025 line) ≡ line
 line_task_prefix line =
     ap line_task (sym (append-nil (take 1025 line))) ∙ line_task_kept line [] ∙ ap line_task (append-nil line)
 
-long_first : (line : List ℕ) (rest : List (List ℕ)) → 1024 < length line
-    → map line_task (without_empty_end (line ∷ rest)) ≡ Err LongLine ∷ map line_task (without_empty_end rest)
-long_first line [] h =
-    let some : is_empty line ≡ false = ne_eqb (length line) 0 (λ z. omega arith) in
-    ap (λ v. map line_task (cond v [] (line ∷ []))) some ∙ ap (λ t. t ∷ []) (long_line line h)
-long_first line (next ∷ more) h = ap (λ t. t ∷ map line_task (without_empty_end (next ∷ more))) (long_line line h)
+-- a line that is too long, in front of others
+long_map : {X : Type 0} (f : List ℕ → X) (z : X) → ((line : List ℕ) → 1024 < length line → f line ≡ z) → (line : List ℕ) (rest : List (List ℕ)) → 1024 < length line
+    → map f (without_empty_end (line ∷ rest)) ≡ z ∷ map f (without_empty_end rest)
+long_map f z same line [] h =
+    let some : is_empty line ≡ false = ne_eqb (length line) 0 (λ e. omega arith) in
+    ap (λ v. map f (cond v [] (line ∷ []))) some ∙ ap (λ t. t ∷ []) (same line h)
+long_map f z same line (next ∷ more) h = ap (λ t. t ∷ map f (without_empty_end (next ∷ more))) (same line h)
+
+-- so the start of a line that is too long need not be kept whole, where all such lines count alike
+pub lines_kept : {X : Type 0} (f : List ℕ → X) (z : X) → ((line : List ℕ) → 1024 < length line → f line ≡ z) → (line text : List ℕ) → HasNoEnd line
+    → map f (lines_of (take 1025 line ++ text)) ≡ map f (lines_of (line ++ text))
+lines_kept f z same line text h =
+    elim (cases_lt 1025 (length line)) [
+      | inl long ↦
+          let p = parts text in
+          let kept : length (take 1025 line) ≡ 1025 = length-take-le 1025 line (omega arith) in
+          let prefix = parts_behind (take 1025 line) text p.0 p.1 (All-take (λ x. x ≢ 10) 1025 line h) p.2 in
+          let whole = parts_behind line text p.0 p.1 h p.2 in
+          ap (λ t. map f (without_empty_end t)) prefix
+          ∙ (long_map f z same (take 1025 line ++ p.0) p.1 (omega (arith, length-append (take 1025 line) p.0)) ∙ sym (long_map f z same (line ++ p.0) p.1 (omega (arith, length-append line p.0))))
+          ∙ ap (λ t. map f (without_empty_end t)) (sym whole)
+      | inr short ↦ ap (λ l. map f (lines_of (l ++ text))) (take_all 1025 line short)
+    ]
 
 -- the tasks and faults of what is still to be run
 abbrev tasks : List ℕ → List ℕ → List (Result Task LineFault)
@@ -92,18 +109,7 @@ tasks start rest = map line_task (lines_of (start ++ rest))
 
 -- so the start of a line that is too long need not be kept whole
 tasks_kept : (line text : List ℕ) → HasNoEnd line → tasks (take 1025 line) text ≡ tasks line text
-tasks_kept line text h =
-    elim (cases_lt 1025 (length line)) [
-      | inl long ↦
-          let p = parts text in
-          let kept : length (take 1025 line) ≡ 1025 = length-take-le 1025 line (omega arith) in
-          let prefix = parts_behind (take 1025 line) text p.0 p.1 (All-take (λ x. x ≢ 10) 1025 line h) p.2 in
-          let whole = parts_behind line text p.0 p.1 h p.2 in
-          ap (λ t. map line_task (without_empty_end t)) prefix
-          ∙ (long_first (take 1025 line ++ p.0) p.1 (omega (arith, length-append (take 1025 line) p.0)) ∙ sym (long_first (line ++ p.0) p.1 (omega (arith, length-append line p.0))))
-          ∙ ap (λ t. map line_task (without_empty_end t)) (sym whole)
-      | inr short ↦ ap (λ l. tasks l text) (take_all 1025 line short)
-    ]
+tasks_kept line text h = lines_kept line_task (Err LongLine) long_line line text h
 
 -- a line end is known
 tasks_cut : (start line text : List ℕ) → HasNoEnd (start ++ line) → tasks start (line ++ 10 ∷ text) ≡ line_task (start ++ line) ∷ tasks [] text
@@ -207,27 +213,3 @@ last_answer s start h n = ap (λ l. (answer s (line_task l)).1) (append-nil star
 -- no line has begun
 pub nothing_begun : (line : List ℕ) → line ≡ [] → HasBegun line
 nothing_begun line e = subst HasBegun (sym e) (All-nil (λ x. x ≢ 10), omega arith)
-
--- a line that is too long, in front of others
-long_map : {X : Type 0} (f : List ℕ → X) (z : X) → ((line : List ℕ) → 1024 < length line → f line ≡ z) → (line : List ℕ) (rest : List (List ℕ)) → 1024 < length line
-    → map f (without_empty_end (line ∷ rest)) ≡ z ∷ map f (without_empty_end rest)
-long_map f z same line [] h =
-    let some : is_empty line ≡ false = ne_eqb (length line) 0 (λ e. omega arith) in
-    ap (λ v. map f (cond v [] (line ∷ []))) some ∙ ap (λ t. t ∷ []) (same line h)
-long_map f z same line (next ∷ more) h = ap (λ t. t ∷ map f (without_empty_end (next ∷ more))) (same line h)
-
--- so the start of a line that is too long need not be kept whole, where all such lines count alike
-pub lines_kept : {X : Type 0} (f : List ℕ → X) (z : X) → ((line : List ℕ) → 1024 < length line → f line ≡ z) → (line text : List ℕ) → HasNoEnd line
-    → map f (lines_of (take 1025 line ++ text)) ≡ map f (lines_of (line ++ text))
-lines_kept f z same line text h =
-    elim (cases_lt 1025 (length line)) [
-      | inl long ↦
-          let p = parts text in
-          let kept : length (take 1025 line) ≡ 1025 = length-take-le 1025 line (omega arith) in
-          let prefix = parts_behind (take 1025 line) text p.0 p.1 (All-take (λ x. x ≢ 10) 1025 line h) p.2 in
-          let whole = parts_behind line text p.0 p.1 h p.2 in
-          ap (λ t. map f (without_empty_end t)) prefix
-          ∙ (long_map f z same (take 1025 line ++ p.0) p.1 (omega (arith, length-append (take 1025 line) p.0)) ∙ sym (long_map f z same (line ++ p.0) p.1 (omega (arith, length-append line p.0))))
-          ∙ ap (λ t. map f (without_empty_end t)) (sym whole)
-      | inr short ↦ ap (λ l. map f (lines_of (l ++ text))) (take_all 1025 line short)
-    ]

@@ -1,5 +1,5 @@
 -- What a script writes, as a function of all its bytes.
-use Rattle.std.specs.Prelude.{◌≡◌, ℕ, ◌+◌, Option, IfSome, Result, List, ◌++◌, map, take, length, ◌≤◌}
+use Rattle.std.specs.Prelude.{◌≡◌, ℕ, ◌+◌, Option, IfSome, Result, List, ◌++◌, map, length, ◌≤◌}
 use Rattle.std.specs.Io.KnownBytes.{Appends, Consumes, IsAtEnd}
 use Rattle.vac_model.specs.State.{State, empty_state}
 use Rattle.vac_model.specs.declared.tasks.Task.{Task}

@@ -80,7 +80,8 @@ impl<'a> System<'a> {
 /// Opens a manager without entries, with its one client.
 pub(crate) fn open(alloc: Global, blocks: u32) -> Result<(Manager, Client), RunFault>
     requires { is_block_count blocks ≡ true }
-    ensures opened { IfOk result (λ r. OpensAlone blocks (record { manager = r.0; client = r.1 })) }
+    ensures opened { IfOk result (λ r.
+        OpensAlone blocks (record { manager = r.0; client = r.1 })) }
     ensures memory { IfErr result (λ fault. fault ≡ Memory) }
 {
     match Manager::new(alloc, blocks, LAST_VERSION) {
