@@ -7,7 +7,6 @@ use Rattle.stm_core.proofs.Eras.{in_append, of_padded}
 use Rattle.stm_region.specs.Shown.{RegionShown}
 use Rattle.vac_manager.specs.Legal.{HaveOneWriter, AreVersioned}
 use Rattle.vac_manager.specs.Called.{CallerShown}
-use Rattle.vac_manager.specs.Opening.{Closes}
 use Rattle.vac_manager.specs.Renewed.{ClosesSomewhere}
 use Rattle.vac_draws.specs.Draws.{Reader}
 use Rattle.vac_model.specs.declared.commands.Command.{Command}

@@ -1,6 +1,8 @@
 -- Clients are gathered one by one.
-use Rattle.std.proofs.Common.{◌≡◌, ◌∙◌, ℕ, ◌+◌, List, [], ◌∷◌, ◌++◌, refl, sym, ap, arith}
+use Rattle.std.proofs.Common.{◌≡◌, ◌∙◌, ℕ, ◌+◌, min, List, [], ◌∷◌, ◌++◌, refl, sym, ap, arith}
 use Rattle.stm_core.specs.Client.{Client, Record, merged}
+use Rattle.stm_region.specs.Shown.{joined}
+use Rattle.vac_manager.specs.Session.{SessionShown}
 use Rattle.vac_load.specs.declared.tally.Tally.{Tally}
 use Rattle.vac_load.specs.Sums.{sum_of, plus, added_up}
 use Rattle.vac_load.specs.Load.{all_merged, Gathered}
@@ -40,4 +42,17 @@ pub gathered_more : {X : Type 0} (records_of : X → List Record) (tally_of : X 
 gathered_more records_of tally_of x xs y v v' t t' h e f = record {
   records_are = e ∙ (ap (λ (l : List Record). merged l (records_of y)) h.records_are ∙ sym (merged_more records_of (records_of x) xs y));
   tallies = f ∙ (ap (λ (u : Tally). plus u (tally_of y)) h.tallies ∙ sym (added_more tally_of (x ∷ xs) y));
+}
+
+-- a session after it took in another
+pub record TookIn (y other after : SessionShown) : Type 0 where
+  pub manager : after.manager ≡ y.manager
+  pub records : after.client.value.records ≡ merged y.client.value.records other.client.value.records
+  pub grants : after.client.value.grants ≡ min (y.client.value.grants + other.client.value.grants + 1) 63
+
+pub took_in : (y other after : SessionShown) → after ≡ record y { client = record y.client { value = joined y.client.value other.client.value } } → TookIn y other after
+took_in y other after e = record {
+  manager = ap (λ (x : SessionShown). x.manager) e;
+  records = ap (λ (x : SessionShown). x.client.value.records) e;
+  grants = ap (λ (x : SessionShown). x.client.value.grants) e;
 }

@@ -1,5 +1,6 @@
 -- Lists whose elements are related place by place.
-use Rattle.std.proofs.Common.{◌≡◌, ◌∙◌, ◌++◌, ◌<◌, ℕ, zero, suc, slice_index_or, List, [], ◌∷◌, length, length-append, map, ◌+◌, append-nil, append_assoc, All, refl, sym, ap, subst, arith}
+use Rattle.std.proofs.Common.{◌≡◌, ◌∙◌, ◌++◌, ◌<◌, ℕ, zero, suc, slice_index_or, List, [], ◌∷◌, length, length-append, map, min, ◌+◌, ◌≤◌, append-nil, append_assoc, All, refl, sym, ap, subst, arith, rules}
+use Rattle.std.specs.Vec.Iter.{into_iter_items, into_iter_len}
 use Rattle.vac_manager.specs.Session.{SessionShown}
 use Rattle.vac_draws.specs.declared.settings.Settings.{Settings}
 use Rattle.vac_load.specs.declared.tally.Tally.{Tally}
@@ -105,3 +106,27 @@ image_length f xs ys e = sym (map_length f xs) ∙ ap (λ (l : List _). length l
 -- one element more
 pub one_longer : {A : Type 0} (ys xs : List A) (x : A) → ys ≡ xs ++ (x ∷ []) → length ys ≡ length xs + 1
 one_longer ys xs x e = ap (λ (l : List _). length l) e ∙ length-append xs (x ∷ [])
+
+-- the room for the others is left beside the first one
+pub room_left : (n k l l' room room' : ℕ) → k ≡ n → l' ≡ l + 1 → room' ≡ room → l ≡ 0 → n < room → l' + k ≤ room'
+room_left n k l l' room room' e f same empty less = omega arith
+
+-- one place is taken
+pub room_taken : (l l' k k' room room' : ℕ) → k' + 1 ≡ k → l' ≡ l + 1 → room' ≡ room → l + k ≤ room → l' + k' ≤ room'
+room_taken l l' k k' room room' less e same has = omega arith
+
+-- the grants of one that is taken in come back with its own
+pub held_back : (a b a' k k' : ℕ) → k' + 1 ≡ k → b ≡ 0 → a' ≡ min (a + b + 1) 63 → a + k ≡ 63 → a' + k' ≡ 63
+held_back a b a' k k' less alone e all = omega arith
+
+-- one place is taken by one of those that are left
+pub counted_on : (l l' k k' n : ℕ) → k' + 1 ≡ k → l' ≡ l + 1 → l + k + 1 ≡ n → l' + k' + 1 ≡ n
+counted_on l l' k k' n less e all = omega arith
+
+-- a grant goes to one that is split off
+pub handed_out : (a a' l l' : ℕ) → a' + 1 ≡ a → l' ≡ l + 1 → a + l ≡ 63 → a' + l' ≡ 63
+handed_out a a' l l' less e all = omega arith
+
+-- an iterator at its end has nothing left
+pub nothing_left : {A Z : Type 0} (it : _) → into_iter_len {X = A} {Z = Z} it ≡ 0 → length (into_iter_items it) ≡ 0
+nothing_left it e = search rules

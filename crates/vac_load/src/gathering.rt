@@ -57,9 +57,7 @@ fn gather_all<D: Drop, G: Drop, K: Keep + Drop>(
     let Crew { first, others } = crew;
     let Worked { worker, mut tally } = first;
     let Worker { mut session, seat } = worker;
-    let Ok(()) = seats.push(seat) else {
-        unreachable!()
-    };
+    seats.push_reserved(seat);
     for worked in others {
         let Worked {
             worker,
@@ -70,9 +68,7 @@ fn gather_all<D: Drop, G: Drop, K: Keep + Drop>(
             seat,
         } = worker;
         session.gather(other);
-        let Ok(()) = seats.push(seat) else {
-            unreachable!()
-        };
+        seats.push_reserved(seat);
         tally = tally.plus(more);
     }
     Round {
@@ -115,9 +111,7 @@ fn split_crew<'m, D: Drop, G: Drop, K: Keep + Drop>(
             session: other,
             seat: another,
         };
-        let Ok(()) = others.push(worker) else {
-            unreachable!()
-        };
+        others.push_reserved(worker);
     }
     let first = Worker { session, seat };
     Ok(Crew { first, others })

@@ -142,9 +142,7 @@ fn start_all<
 {
     for worker in workers {
         let handle = start(scope, alloc, settings, worker)?;
-        let Ok(()) = handles.push(handle) else {
-            unreachable!()
-        };
+        handles.push_reserved(handle);
     }
     Ok(())
 }
@@ -163,9 +161,7 @@ fn join_all<'m, R: Threads, D: Draws + Drop, G: Drop, K: Keep + Drop>(
         handles.entry.items result.items }
 {
     for handle in handles {
-        let Ok(()) = done.push(handle.join(rt)) else {
-            unreachable!()
-        };
+        done.push_reserved(handle.join(rt));
     }
     done
 }

@@ -1,5 +1,5 @@
 use Rattle.std.proofs.Common.{rules}
-use Rattle.vac_load.proofs.Pairs.{paired_none, paired_step, paired_all, one_on}
+use Rattle.vac_load.proofs.Pairs.{paired_none, paired_step, paired_all, one_on, nothing_left}
 use Rattle.vac_load.proofs.workers.start_all.Goals as goal
 
 pub loop-worker-init : goal.loop-worker-init
@@ -12,11 +12,11 @@ loop-worker-init g c = record {
 
 pub loop-worker-preserved : goal.loop-worker-preserved
 loop-worker-preserved g c = record {
-  all = one_on _ _ _ _ _ c.loop-worker.invariant.all (search rules);
-  started = paired_step _ _ c.loop-worker.handles.items c.push.new.self.items _ c.in_ok-handle.handle (search rules) c.loop-worker.invariant.started c.in_ok-handle.ensures.promise;
+  all = one_on _ _ _ _ _ c.loop-worker.invariant.all c.in-Some.ensures.steps.0;
+  started = paired_step _ _ c.loop-worker.handles.items c.push_reserved.new.self.items _ c.in_ok-handle.handle c.push_reserved.ensures.items c.loop-worker.invariant.started c.in_ok-handle.ensures.promise;
   count = grind rules;
   room = grind rules;
 }
 
 pub returns-clause-promises : goal.returns-clause-promises
-returns-clause-promises g c = paired_all _ _ _ _ _ c.loop-worker.invariant.all (search rules) c.loop-worker.invariant.started
+returns-clause-promises g c = paired_all _ _ _ _ _ c.loop-worker.invariant.all (nothing_left c.loop-worker.worker-iterator c.in-None.ensures.steps.0) c.loop-worker.invariant.started
