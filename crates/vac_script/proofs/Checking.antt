@@ -9,6 +9,7 @@ use Rattle.vac_model.specs.declared.replies.Report.{Report}
 use Rattle.vac_records.specs.Represents.{IsState}
 use Rattle.vac_lines.specs.Script.{as_line}
 use Rattle.vac_lines.specs.Memory.{memory_words}
+use Rattle.vac_audit.specs.declared.audit.TheConstants.{MOST_HEAP_WORDS}
 use Rattle.vac_audit.specs.Walk.{audit}
 use Rattle.vac_audit.specs.Ran.{IsHeapSize, Audited, answer}
 use Rattle.vac_audit.specs.Represented.{Recognised}
@@ -29,7 +30,7 @@ heap_or_not n =
     elim (cases_lt 0 (n % 8)) [
       | inl h ↦ inr (λ heap. omega (arith, heap.1.0))
       | inr whole ↦ elim (cases_lt 24 n) [
-        | inl low ↦ elim (cases_lt 2097168 n) [
+        | inl low ↦ elim (cases_lt MOST_HEAP_WORDS n) [
           | inl h ↦ inr (λ heap. omega (arith, heap.1.0, heap.1.2))
           | inr high ↦ inl (heap_size n (omega arith) high (omega arith))
         ]

@@ -6,7 +6,7 @@ use Rattle.std.proofs.lemmas.Bool.{cases_lt}
 use Rattle.vac_lines.specs.Lines.{lines_of}
 use Rattle.vac_lines.specs.Words.{memory_word_of}
 use Rattle.vac_lines.specs.Memory.{word_before, words_of_lines, memory_words}
-use Rattle.vac_script.specs.declared.memory.TheConstants.{MOST_WORDS}
+use Rattle.vac_audit.specs.declared.audit.TheConstants.{MOST_HEAP_WORDS}
 use Rattle.vac_script.specs.Script.{HasNoEnd}
 use Rattle.std.specs.Io.KnownBytes.{Consumes, IsAtEnd, Keeps}
 use Rattle.std.proofs.KnownBytes.{Consumes-nil, Consumes-trans, Consumes-kept}
@@ -65,7 +65,7 @@ some_none : (word : ℕ) → Some word ≡ None → ⊥
 some_none word e = cc
 
 -- a line that is no word, or one too many
-refused : (words : List ℕ) (word : Option ℕ) (more : Option (List ℕ)) → (word ≡ None) ⊎ (MOST_WORDS ≤ length words) → NoneOrMany (option_map (λ m. words ++ m) (word_before word more))
+refused : (words : List ℕ) (word : Option ℕ) (more : Option (List ℕ)) → (word ≡ None) ⊎ (MOST_HEAP_WORDS ≤ length words) → NoneOrMany (option_map (λ m. words ++ m) (word_before word more))
 refused words None more h = tt
 refused words (Some word) None h = tt
 refused words (Some word) (Some more) (inl e) = absurd (some_none word e)
@@ -74,7 +74,7 @@ refused words (Some word) (Some more) (inr h) = omega (arith, h, length-append w
 -- of a chunk this rest is still to be taken
 pub record TookTo (first words line0 line chunk rest : List ℕ) : Type 0 where
   pub same : (x : List ℕ) → words_behind first (line0 ++ (chunk ++ x)) ≡ words_behind words (line ++ (rest ++ x))
-  pub few : length words ≤ MOST_WORDS
+  pub few : length words ≤ MOST_HEAP_WORDS
 
 -- one more line is taken
 pub took_line : (first words words' line0 start after chunk line behind rest : List ℕ) → TookTo first words line0 start chunk rest → HasNoEnd start → HasNoEnd line
@@ -125,7 +125,7 @@ pub record TextRead (unread left : Option (List ℕ)) (words line : List ℕ) : 
   pub bytes : List ℕ
   pub consumed : Consumes unread left bytes
   pub same : (x : List ℕ) → memory_words (bytes ++ x) ≡ words_behind words (line ++ x)
-  pub few : length words ≤ MOST_WORDS
+  pub few : length words ≤ MOST_HEAP_WORDS
 
 -- nothing was read
 pub read_first : (unread : Option (List ℕ)) (words line : List ℕ) → words ≡ [] → line ≡ [] → TextRead unread unread words line

@@ -2,6 +2,7 @@
 
 ghost use Rattle.std.specs.Prelude.{◌≡◌, ◌≢◌, ◌≤◌, ◌+◌, ◌++◌, [], length};
 ghost use Rattle.std.specs.Prelude.{OnOk, IfOk, IfErr, MatchOption, MatchBool};
+ghost use Rattle.vac_audit.specs.declared.audit.TheConstants.{MOST_HEAP_WORDS};
 ghost use Rattle.vac_script.specs.declared.fault.RunFault.TheVariants.{Busy, Spent};
 ghost use Rattle.vac_script.specs.Script.{HasBegun};
 ghost use Rattle.vac_script.specs.Reading.{TookLine, RefusedLine, Took, TookNone};
@@ -11,10 +12,8 @@ use crate::fault::RunFault;
 use crate::script::{CHUNK_BYTES, MOST_READS, keep_start};
 use std::alloc::{AllocError, Global};
 use std::io::{ErrorKind, Read};
+use vac_audit::MOST_HEAP_WORDS;
 use vac_lines::{LINE_BYTES, cut_at, read_memory_word};
-
-/// The most words that a memory has.
-const MOST_WORDS: usize = 2_097_168;
 
 /// A text that is read as the words of a memory.
 #[derive(Drop)]
@@ -34,7 +33,7 @@ fn take_line(words: &mut Vec<u64>, line: &[u8]) -> Result<bool, AllocError>
     let Some(word) = read_memory_word(line) else {
         return Ok(false);
     };
-    if words.len() >= MOST_WORDS {
+    if words.len() >= MOST_HEAP_WORDS {
         return Ok(false);
     }
     words.push(word)?;
@@ -62,7 +61,7 @@ impl MemoryText {
     /// whether all were words for which a memory has room.
     fn feed(&mut self, chunk: &[u8]) -> Result<bool, AllocError>
         requires begun { HasBegun self.old.line.items }
-        requires few { length self.old.words.items ≤ MOST_WORDS }
+        requires few { length self.old.words.items ≤ MOST_HEAP_WORDS }
         ensures begun { OnOk result (HasBegun self.new.line.items) }
         ensures taken { IfOk result (λ taken. MatchBool taken
             (Took self.old.words.items self.new.words.items
@@ -83,7 +82,7 @@ impl MemoryText {
     /// Takes the last line, where it has begun and has no end, and answers the words.
     fn finish(mut self) -> Result<Option<Vec<u64>>, AllocError>
         requires begun { HasBegun self.line.items }
-        requires few { length self.words.items ≤ MOST_WORDS }
+        requires few { length self.words.items ≤ MOST_HEAP_WORDS }
         ensures { IfOk result (λ found. MatchOption found
             (TookNoLast self.words.items self.line.items)
             (λ words. TookLast self.words.items words.items self.line.items)) }
