@@ -1,4 +1,6 @@
+pub mod Asking
 pub mod Digits
+pub mod Trips
 pub mod Extends
 pub mod FewWords
 pub mod Reading

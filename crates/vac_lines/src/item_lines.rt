@@ -9,6 +9,7 @@ ghost use Rattle.std.specs.Prelude.{false, codes};
 ghost use Rattle.std.specs.Str.{bytes_eq};
 
 use crate::fault::LineFault;
+use crate::names::is_name;
 use crate::words::{amount_at, id_at, place_at, stock_at};
 use vac_model::{Command, Kind};
 
@@ -40,7 +41,7 @@ pub(crate) fn read_del(words: &[&[u8]]) -> Result<Command, LineFault>
     let Some((kind, rest)) = words.split_first() else {
         return Err(LineFault::BadCount);
     };
-    if *kind == b"flight".as_slice() {
+    if is_name(kind, b"flight") {
         let id = read_id(rest)?;
         return Ok(Command::DropFlight { id });
     }

@@ -10,7 +10,7 @@ ghost use Rattle.vac_lines.specs.LineTable.{asks_of, changes_of, cut_parts, trip
 
 use crate::fault::LineFault;
 use crate::item_lines::{read_add, read_del};
-use crate::names::{LineName, line_name};
+use crate::names::{LineName, is_name, line_name};
 use crate::words::{id_at, place_at};
 use arrayvec::ArrayVec;
 use std::alloc::Global;
@@ -105,7 +105,7 @@ fn read_changes(words: &[&[u8]]) -> Result<Changes, LineFault>
 fn is_separator(word: &[u8]) -> bool
     ensures { result ≡ spec.is_separator word.now }
 {
-    word == b";".as_slice()
+    is_name(word, b";")
 }
 
 /// A part of an update: an `add` or a `del` line.

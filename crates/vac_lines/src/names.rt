@@ -1,6 +1,7 @@
 //! The first word of a line.
 
 ghost use Rattle.std.specs.Prelude.{◌≡◌};
+ghost use Rattle.std.specs.Str.{bytes_eq};
 ghost use Rattle.vac_lines.specs.Names as spec;
 
 /// Which line it is, by its first word.
@@ -34,35 +35,60 @@ pub(crate) enum LineName {
     Update,
 }
 
+/// Whether a word is this name.
+pub(crate) fn is_name(word: &[u8], name: &[u8]) -> bool
+    ensures { result ≡ bytes_eq word.now name.now }
+{
+    word == name
+}
+
 /// The line that a first word names.
 pub(crate) fn line_name(word: &[u8]) -> Option<LineName>
     ensures { result ≡ spec.line_name word.now }
 {
-    if word == b"add".as_slice() {
+    if is_name(word, b"add") {
         Some(LineName::Add)
-    } else if word == b"del".as_slice() {
+    } else if is_name(word, b"del") {
         Some(LineName::Del)
-    } else if word == b"newcust".as_slice() {
+    } else if is_name(word, b"newcust") {
         Some(LineName::NewCustomer)
-    } else if word == b"dropcust".as_slice() {
+    } else if is_name(word, b"dropcust") {
         Some(LineName::DropCustomer)
-    } else if word == b"free".as_slice() {
+    } else {
+        later_name(word)
+    }
+}
+
+/// The same, for a word that is none of the first four names.
+fn later_name(word: &[u8]) -> Option<LineName>
+    ensures { result ≡ spec.later_name word.now }
+{
+    if is_name(word, b"free") {
         Some(LineName::Free)
-    } else if word == b"price".as_slice() {
+    } else if is_name(word, b"price") {
         Some(LineName::Price)
-    } else if word == b"bill".as_slice() {
+    } else if is_name(word, b"bill") {
         Some(LineName::Bill)
-    } else if word == b"reserve".as_slice() {
+    } else if is_name(word, b"reserve") {
         Some(LineName::Reserve)
-    } else if word == b"cancel".as_slice() {
+    } else {
+        last_name(word)
+    }
+}
+
+/// The same, for a word that is none of the first eight names.
+fn last_name(word: &[u8]) -> Option<LineName>
+    ensures { result ≡ spec.last_name word.now }
+{
+    if is_name(word, b"cancel") {
         Some(LineName::Cancel)
-    } else if word == b"audit".as_slice() {
+    } else if is_name(word, b"audit") {
         Some(LineName::Audit)
-    } else if word == b"trip".as_slice() {
+    } else if is_name(word, b"trip") {
         Some(LineName::Trip)
-    } else if word == b"leave".as_slice() {
+    } else if is_name(word, b"leave") {
         Some(LineName::Leave)
-    } else if word == b"update".as_slice() {
+    } else if is_name(word, b"update") {
         Some(LineName::Update)
     } else {
         None

@@ -5,6 +5,7 @@ ghost use Rattle.vac_model.specs.Amounts.{is_id, is_amount, is_optional_amount, 
 ghost use Rattle.vac_lines.specs.LineTable.{at_place, at_stock, at_kind, at_id, at_amount, at_price, at_units, at_booking, at_number};
 
 use crate::fault::LineFault;
+use crate::names::is_name;
 use crate::numbers::read_number;
 use vac_model::Kind;
 use vac_model::limits::{MOST_AMOUNT, MOST_UNITS_AT_ONCE};
@@ -53,11 +54,11 @@ pub(crate) fn stock_at(num: &[u8], price: &[u8]) -> Result<(u32, Option<u32>), L
 fn kind_at(word: &[u8]) -> Result<Kind, LineFault>
     ensures { result ≡ at_kind word.now }
 {
-    if word == b"car".as_slice() {
+    if is_name(word, b"car") {
         Ok(Kind::Car)
-    } else if word == b"flight".as_slice() {
+    } else if is_name(word, b"flight") {
         Ok(Kind::Flight)
-    } else if word == b"room".as_slice() {
+    } else if is_name(word, b"room") {
         Ok(Kind::Room)
     } else {
         Err(LineFault::BadKind)
@@ -93,7 +94,7 @@ fn price_at(word: &[u8]) -> Result<Option<u32>, LineFault>
     ensures price { result ≡ at_price word.now }
     ensures in_range { IfOk result (λ price. is_optional_amount price ≡ true) }
 {
-    if word == b"-".as_slice() {
+    if is_name(word, b"-") {
         return Ok(None);
     }
     Ok(Some(amount_at(word)?))
