@@ -29,3 +29,19 @@ returns-in_default-3-clause-placed g c =
 pub returns-in_default-3-clause-spares : goal.returns-in_default-3-clause-spares
 returns-in_default-3-clause-spares g c =
     spared_since c.args.task.now c.args.client.now.value c.tries.client.value c.try_once-answer.new.client.value c.try_once-answer.result c.tries.invariant.trying.records c.try_once-answer.ensures.spares
+
+pub returns-in_default-clause-placed : goal.returns-in_default-clause-placed
+returns-in_default-clause-placed g c =
+    placed_since c.args.region.now c.args.task.now c.args.client.now.value c.tries.client.value c.try_once-answer.new.client.value c.try_once-answer.result c.try_once-answer.new.place c.tries.invariant.trying.records c.tries.invariant.trying.floor c.try_once-answer.ensures.placed
+
+pub returns-in_default-clause-spares : goal.returns-in_default-clause-spares
+returns-in_default-clause-spares g c =
+    spared_since c.args.task.now c.args.client.now.value c.tries.client.value c.try_once-answer.new.client.value c.try_once-answer.result c.tries.invariant.trying.records c.try_once-answer.ensures.spares
+
+pub returns-in_default-2-clause-placed : goal.returns-in_default-2-clause-placed
+returns-in_default-2-clause-placed g c =
+    placed_since c.args.region.now c.args.task.now c.args.client.now.value c.tries.client.value c.try_once-answer.new.client.value c.try_once-answer.result c.try_once-answer.new.place c.tries.invariant.trying.records c.tries.invariant.trying.floor c.try_once-answer.ensures.placed
+
+pub returns-in_default-2-clause-spares : goal.returns-in_default-2-clause-spares
+returns-in_default-2-clause-spares g c =
+    spared_since c.args.task.now c.args.client.now.value c.tries.client.value c.try_once-answer.new.client.value c.try_once-answer.result c.tries.invariant.trying.records c.try_once-answer.ensures.spares
