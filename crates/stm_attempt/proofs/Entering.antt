@@ -1,7 +1,8 @@
 -- A value that a read of the region answers enters the reads.
-use Rattle.std.proofs.Common.{◌≡◌, Bool, true, false, inl, inr, refl, sym, ap, subst, ◌∙◌, ℕ, zero, suc, ◌<◌, List, [], ◌∷◌, ◌++◌, Some, None, Result, Ok, Err, MatchResult, arith}
+use Rattle.std.proofs.Common.{◌≡◌, Bool, true, false, Option, inl, inr, refl, sym, ap, subst, ◌∙◌, ℕ, zero, suc, ◌<◌, List, [], ◌∷◌, ◌++◌, Some, None, Result, Ok, Err, MatchResult, arith}
 use Rattle.std.specs.FinMap.{get, insert, empty, get-empty, len, empty_of_len}
 use Rattle.std.specs.Ordering.{nat_cmp}
+use Rattle.std.specs.Option.{is_some}
 use Rattle.stm_words.specs.Image.{In, Agrees}
 use Rattle.stm_words.specs.View.{HasRead, SameFrame, Words}
 use Rattle.stm_words.specs.Pairs.{map_of}
@@ -128,3 +129,21 @@ logged_too reads reads' logged logged' a x is pushed entered =
 
 some_is : (c d : Conflict) → Some c ≡ Some d → c ≡ d
 some_is c d e = cc
+
+-- what a test of the kept conflict says
+pub not_stopped : {A : Type 0} (s : Option Conflict) (conflict : Conflict) → is_some s ≡ false → s ≡ Some conflict → A
+not_stopped (Some d) conflict is e = cc
+not_stopped None conflict is e = cc
+
+pub was_stopped : {A : Type 0} (s : Option Conflict) → is_some s ≡ true → s ≡ None → A
+was_stopped (Some d) is e = cc
+was_stopped None is e = cc
+
+-- what a look into the log says
+pub not_there : {A : Type 0} (found : Option ℕ) (x : ℕ) → None ≡ found → found ≡ Some x → A
+not_there (Some y) x e f = cc
+not_there None x e f = cc
+
+pub is_there : {A : Type 0} (found : Option ℕ) (x : ℕ) → Some x ≡ found → found ≡ None → A
+is_there (Some y) x e f = cc
+is_there None x e f = cc

@@ -1,12 +1,12 @@
 -- The parts of a commit put together.
-use Rattle.std.proofs.Common.{◌≡◌, ◌≢◌, inl, inr, refl, sym, ap, subst, ◌∙◌, ℕ, zero, suc, ◌+◌, ◌*◌, ◌<◌, ◌≤◌, Bool, true, false, ◌||◌, cond, eqb, List, [], ◌∷◌, length, Result, Ok, Err, IfOk, IfErr, take, arith}
+use Rattle.std.proofs.Common.{◌≡◌, ◌≢◌, inl, inr, refl, sym, ap, subst, ◌∙◌, ℕ, zero, suc, ◌+◌, ◌*◌, ◌<◌, ◌≤◌, Bool, true, false, ◌||◌, cond, eqb, List, [], ◌∷◌, ◌++◌, length, length-append, append_assoc, Result, Ok, Err, IfOk, IfErr, MatchResult, take, arith}
 use Rattle.std.specs.FinMap.{len, len-entries}
 use Rattle.std.proofs.lemmas.Bool.{ne_eqb}
 use Rattle.core.specs.Result.{IsErrAnd}
-use Rattle.std.specs.Result.{is_ok}
+use Rattle.std.specs.Result.{is_ok, is_err}
 use Rattle.stm_words.specs.Image.{In}
 use Rattle.stm_core.specs.declared.limits.TheConstants.{MOST_TICKS}
-use Rattle.stm_core.specs.Client.{Client, Record, inserted, committed, running}
+use Rattle.stm_core.specs.Client.{Client, Record, inserted, committed, running, is_committed, decided}
 use Rattle.stm_core.specs.Event.{is_empty, after, finish}
 use Rattle.stm_logs.specs.Log.{LogValue, SameAddresses, log_pairs, log_locks}
 use Rattle.stm_logs.proofs.LockLemmas.{locks_few}
@@ -15,7 +15,7 @@ use Rattle.stm_region.specs.Shown.{RegionShown, stripe_of, unplaced}
 use Rattle.stm_attempt.specs.Begun.{addresses, IsBegun, AreInside}
 use Rattle.stm_attempt.specs.Conflicts.{IsLockConflict, IsValidateConflict, IsTickConflict, IsReadLock, IsCommitConflict}
 use Rattle.stm_attempt.specs.Committing.{settling, ticked_record, commit_record, IsCommitVersion, IsCommitStop, IsCounted, HasCommitted, HasStopped}
-use Rattle.stm_attempt.specs.CommitParts.{IsReady, CanValidate, returned, is_at_once, HasFailedLocking, HasFailedDeciding, HasTicked, HasValidated, IsDecided, HasSettled}
+use Rattle.stm_attempt.specs.CommitParts.{IsReady, CanValidate, returned, is_at_once, HasFailed, HasTaken, IsClimbing, HasFailedLocking, HasFailedDeciding, HasFailedValidating, HasTicked, HasValidated, IsDecided, HasSettled}
 use Rattle.stm_attempt.proofs.Named.{apart, same_attempt, same_on}
 use Rattle.stm_attempt.specs.declared.conflict.Conflict.{Conflict}
 use Rattle.stm_attempt.specs.declared.conflict.Conflict.TheVariants.{Held, Newer, Moved, LostLock, LostTick}
@@ -109,6 +109,73 @@ module _ (region : RegionShown) (tag : List ℕ) (writes : List (ℕ × ℕ)) (v
       steps = let n : length t.attempt.reads ≡ length v.attempt.reads = ap length reads_same in omega (arith, few, validated.steps, n);
     }
 
+-- whether a ticked attempt is decided
+pub decided_so : (region : RegionShown) (tag : List ℕ) (writes : List (ℕ × ℕ)) (v t : Client) (version : ℕ) → HasTicked region tag writes v t version → is_at_once v version ≡ true → decided t ≡ true
+decided_so region tag writes v t version ticked once = ap is_committed (ticked.phase ∙ ap (λ (b : Bool). cond b committed running) once)
+
+pub not_decided : {A : Type 0} (region : RegionShown) (tag : List ℕ) (writes : List (ℕ × ℕ)) (v t : Client) (version : ℕ) → HasTicked region tag writes v t version → is_at_once v version ≡ false → decided t ≡ true → A
+not_decided region tag writes v t version ticked later is =
+    let still : decided t ≡ false = ap is_committed (ticked.phase ∙ ap (λ (b : Bool). cond b committed running) later) in cc
+
+-- the tick was not won
+pub failed_ticking : (region : RegionShown) (log : LogValue) (stop : Stop) (v t : Client) → HasFailed v t → IsCommitStop region log stop t → IsCounted stop v.attempt.steps t → t.attempt.steps ≤ v.attempt.steps + 16 → HasFailedDeciding region log stop v t
+failed_ticking region log stop v t failed shown counted few = record {
+  same = failed.same;
+  records = failed.records;
+  held = failed.held;
+  floor = let same = failed.floor in omega (arith, same);
+  able = failed.able;
+  shown = shown;
+  counted = counted;
+  steps = omega (arith, few);
+}
+
+-- the tick was won, and then a read was not valid
+pub failed_validating : (region : RegionShown) (tag : List ℕ) (writes : List (ℕ × ℕ)) (log : LogValue) (c : Conflict) (v t d : Client) (rv version : ℕ) → HasTicked region tag writes v t version → v.floor ≡ rv → rv < version → is_at_once v version ≡ false → t.attempt.steps ≤ v.attempt.steps + 16 →
+    HasFailedValidating t d → IsCommitConflict (stripe_of region.stripes) log c d → HasFailedDeciding region log (Conflicting c) v d
+failed_validating region tag writes log c v t d rv version ticked known less later few failed shown = record {
+  same = same_on v t d ticked.same failed.same;
+  records = failed.records ∙ ticked.records ∙ ap (λ (b : Bool). cond b (inserted (ticked_record region tag v writes version) v.records) v.records) later;
+  held = failed.held ∙ ticked.held;
+  floor = let a = failed.floor in let b = ticked.known in omega (arith, a, b, known, less);
+  able = failed.able;
+  shown = shown;
+  counted = tt;
+  steps = let n : length t.attempt.reads ≡ length v.attempt.reads = ap length ticked.same.reads in let up = failed.steps in omega (arith, few, up, n);
+}
+
+-- no lock was taken yet
+pub climbing_none : (v : Client) (taken : ℕ) (rest all : List ℕ) → v.attempt.held ≡ [] → taken ≡ 0 → rest ≡ all → IsClimbing v v taken rest all
+climbing_none v taken rest all none zero_taken e = record {
+  same = refl;
+  stored = refl;
+  held = ap (λ (held : List (ℕ × ℕ)). addresses held ++ rest) none ∙ e;
+  count = zero_taken ∙ sym (ap (λ (held : List (ℕ × ℕ)). length (addresses held)) none);
+  steps = omega (arith, zero_taken);
+}
+
+module _ (v w d : Client) (taken : ℕ) (left all : List ℕ) (climbing : IsClimbing v w taken left all) where
+  -- one lock more
+  pub climbing_on : (k : ℕ) (rest : List ℕ) → left ≡ k ∷ rest → HasTaken w d k → IsClimbing v d (taken + 1) rest all
+  climbing_on k rest next more = record {
+    same = more.same ∙ climbing.same;
+    stored = more.stored ∙ climbing.stored;
+    held = ap (λ (xs : List ℕ). xs ++ rest) more.held ∙ append_assoc (addresses w.attempt.held) (k ∷ []) rest ∙ ap (λ (xs : List ℕ). addresses w.attempt.held ++ xs) (sym next) ∙ climbing.held;
+    count = let a = climbing.count in let b : length (addresses d.attempt.held) ≡ length (addresses w.attempt.held ++ k ∷ []) = ap length more.held in let n = length-append (addresses w.attempt.held) (k ∷ []) in omega (arith, a, b, n);
+    steps = let a = climbing.steps in let b = more.steps in omega (arith, a, b);
+  }
+
+  -- the next lock was not taken
+  pub failed_climbing : HasFailed w d → d.attempt.steps ≤ w.attempt.steps + 2 → HasFailedLocking v d taken
+  failed_climbing failed few = record {
+    same = same_on v w d (same_attempt v w (ap apart climbing.same)) failed.same;
+    records = failed.records ∙ ap (λ (x : Client). x.records) climbing.same;
+    floor = failed.floor ∙ ap (λ (x : Client). x.floor) climbing.same;
+    able = failed.able;
+    unversioned = failed.unversioned;
+    steps = let a = climbing.steps in omega (arith, a, few);
+  }
+
 no_length : {A : Type 0} (xs : List A) → length xs ≡ 0 → xs ≡ []
 no_length [] e = refl
 no_length (x ∷ xs) e = absurd (omega (arith, e))
@@ -140,6 +207,32 @@ map_err (Err e) P Q f holds = f e holds
 pub handed_on : {X E : Type 0} (r : Result X E) (e : E) (P : E → Type 0) → IsErrAnd r (λ f. f ≡ e) → P e → IfErr r P
 handed_on (Ok x) e P is holds = tt
 handed_on (Err f) e P is holds = subst P (sym is) holds
+
+-- and answers nothing
+pub nothing_answered : {X E : Type 0} (r : Result X E) (e : E) (P : X → Type 0) → IsErrAnd r (λ f. f ≡ e) → IfOk r P
+nothing_answered (Ok x) e P is = absurd is
+nothing_answered (Err f) e P is = tt
+
+pub handed_on_of : {X E : Type 0} (r : Result X E) (e : E) (P : X → Type 0) (Q : E → Type 0) → IsErrAnd r (λ f. f ≡ e) → Q e → MatchResult r P Q
+handed_on_of (Ok x) e P Q is holds = absurd is
+handed_on_of (Err f) e P Q is holds = subst Q (sym is) holds
+
+-- a refusal answers nothing, and an answer refuses nothing
+pub none_answered : {X E : Type 0} (r : Result X E) (P : X → Type 0) → is_ok r ≡ false → IfOk r P
+none_answered (Ok x) P is = cc
+none_answered (Err e) P is = tt
+
+pub none_refused : {X E : Type 0} (r : Result X E) (P : E → Type 0) → is_ok r ≡ true → IfErr r P
+none_refused (Ok x) P is = tt
+none_refused (Err e) P is = cc
+
+pub not_answered : {X E : Type 0} (r : Result X E) (P : X → Type 0) → is_err r ≡ true → IfOk r P
+not_answered (Ok x) P is = cc
+not_answered (Err e) P is = tt
+
+pub not_refused : {X E : Type 0} (r : Result X E) (P : E → Type 0) → is_err r ≡ false → IfErr r P
+not_refused (Ok x) P is = tt
+not_refused (Err e) P is = cc
 
 pub err_not_ok : {X E A : Type 0} (r : Result X E) (e : E) → r ≡ Err e → is_ok r ≡ true → A
 err_not_ok (Ok x) e same is = cc

@@ -1,10 +1,12 @@
 -- Ticks that were lost, and the one that is won.
-use Rattle.std.proofs.Common.{◌≡◌, ◌≢◌, refl, ap, ◌∙◌, ℕ, ◌+◌, ◌<◌, Bool, true, false, cond, List, eq-eqb}
-use Rattle.stm_core.specs.Client.{Client, running, committed, ticked, inserted}
+use Rattle.std.proofs.Common.{◌≡◌, ◌≢◌, inl, refl, sym, ap, ◌∙◌, ℕ, ◌+◌, ◌<◌, Bool, true, false, cond, List, eq-eqb, arith}
+use Rattle.std.proofs.lemmas.Bool.{ne_eqb}
+use Rattle.stm_core.specs.Client.{Client, running, committed, is_committed, ticked, inserted}
 use Rattle.stm_core.specs.Event.{tick, after, won, versioned, committed_by, stepping, with_ticks, forgetting}
 use Rattle.stm_region.specs.Shown.{RegionShown, stripe_of, unplaced}
+use Rattle.stm_region.specs.Told.{IsLoneOpen}
 use Rattle.stm_attempt.specs.Committing.{ticked_record}
-use Rattle.stm_attempt.specs.CommitParts.{HasTicked, is_at_once}
+use Rattle.stm_attempt.specs.CommitParts.{HasTicked, HasFailed, is_at_once}
 use Rattle.stm_attempt.proofs.Named.{apart, same_attempt}
 use Rattle.stm_core.proofs.Conditions.{IsReading}
 
@@ -56,3 +58,45 @@ module _ (region : RegionShown) (tag : List ℕ) (writes : List (ℕ × ℕ)) (v
 
   pub has_won : (v' : Client) → v' ≡ after (unplaced region.renewal) (stripe_of region.stripes) (tick from tag writes) from w → HasTicked region tag writes v v' (from + 1)
   has_won v' stepped = won_by (is_at_once w (from + 1)) v' (stepped ∙ ap (λ (t : Bool). with_ticks (w.attempt.ticks + 1) from (stepping (ticked from from) (cond t (won (unplaced region.renewal) (from + 1) tag writes w) w))) (eq-eqb from from refl)) (ap (λ (x : Client). is_at_once x (from + 1)) ticking.same)
+
+-- no tick was made yet
+pub ticking_none : (v : Client) (from : ℕ) → v.attempt.ticks ≡ 0 → v.attempt.next_from ≡ from → IsTicking v v 0 from
+ticking_none v from none next = record {
+  same = refl;
+  ticks = none;
+  next = next;
+  steps = omega arith;
+  lost = λ some. absurd (omega (arith, some));
+}
+
+-- no tick was won
+pub has_lost : (v w : Client) (count from : ℕ) → IsTicking v w count from → v.spent ≡ false → IsReading v.attempt → HasFailed v w
+has_lost v w count from ticking unspent reading = record {
+  same = same_attempt v w (ap apart ticking.same);
+  records = ap (λ (x : Client). x.records) ticking.same;
+  held = ap (λ (x : Client). x.attempt.held) ticking.same;
+  floor = ap (λ (x : Client). x.floor) ticking.same;
+  able = (ap (λ (x : Client). x.spent) ticking.same ∙ unspent, inl (ap (λ (x : Client). x.attempt.phase) ticking.same ∙ reading.0));
+  unversioned = ap (λ (x : Client). x.attempt.wv) ticking.same ∙ reading.1;
+}
+
+-- a tick more was lost
+pub lost_on : (region : RegionShown) (tag : List ℕ) (writes : List (ℕ × ℕ)) (v w d : Client) (count from found : ℕ) → IsTicking v w count from → found ≢ from → d ≡ after (unplaced region.renewal) (stripe_of region.stripes) (tick from tag writes) found w → IsTicking v d (count + 1) found
+lost_on region tag writes v w d count from found ticking other e =
+    let stepped : d ≡ with_ticks (w.attempt.ticks + 1) found (stepping (ticked from found) w) =
+    e ∙ ap (λ (t : Bool). with_ticks (w.attempt.ticks + 1) found (stepping (ticked from found) (cond t (won (unplaced region.renewal) (from + 1) tag writes w) w))) (ne_eqb found from other) in
+    record {
+      same = ap unticked stepped ∙ ticking.same;
+      ticks = ap (λ (x : Client). x.attempt.ticks) stepped ∙ ap (λ (n : ℕ). n + 1) ticking.ticks;
+      next = ap (λ (x : Client). x.attempt.next_from) stepped;
+      steps = let a : d.attempt.steps ≡ w.attempt.steps + 1 = ap (λ (x : Client). x.attempt.steps) stepped in let b = ticking.steps in omega (arith, a, b);
+      lost = λ _. (from, ap (λ (x : Client). x.attempt.last) stepped, λ same. other (sym same));
+    }
+
+-- a lone attempt is not decided before a tick is won
+pub still_open : (v w : Client) (count from : ℕ) → IsTicking v w count from → IsReading v.attempt → v.attempt.lone ≡ true → IsLoneOpen w
+still_open v w count from ticking reading lone = (ap (λ (x : Client). x.attempt.lone) ticking.same ∙ lone, ap is_committed (ap (λ (x : Client). x.attempt.phase) ticking.same ∙ reading.0))
+
+-- what was lost was not won
+pub not_won : {A : Type 0} → false ≡ true → A
+not_won e = cc

@@ -10,7 +10,7 @@ use Rattle.stm_attempt.specs.Committing.{HasCommitted, HasStopped, WasDecided}
 use Rattle.stm_attempt.specs.Answers.{IsSpent}
 use Rattle.stm_region.specs.Told.{Decides}
 use Rattle.stm_attempt.specs.CommitParts.{IsDecided, CanSettle, CanGiveBack, HasSettled, HasFailedDeciding, returned}
-use Rattle.stm_attempt.proofs.Parts.{still_ready, some_pairs, map_ok, map_err, ok_of, err_of, has_committed, steps_committed, stopped_locking, stopped_deciding, err_not_ok}
+use Rattle.stm_attempt.proofs.Parts.{still_ready, some_pairs, map_ok, map_err, ok_of, err_of, has_committed, steps_committed, stopped_locking, stopped_deciding, err_not_ok, none_answered, none_refused}
 use Rattle.stm_attempt.proofs.commit.commit_writes.Goals as goal
 use Rattle.stm_attempt.proofs.commit.commit_writes.Goals.{in-Ok, in-Err}
 
@@ -193,3 +193,39 @@ returns-else-is_ok-clause-steps g c =
           (let at = ap (λ (s : ClientShown). s.value.attempt.steps) w.client-is in
           omega (arith, few, w.in-Err.ensures.failed.steps, w.in-Err.ensures.few, at, c.give_back_first.ensures.steps))
     ]
+
+pub settle-requires-clause-own : goal.settle-requires-clause-own
+settle-requires-clause-own g c =
+    elim c.match-lock_all.branch [
+      | in-Ok w ↦ ap (λ (s : ClientShown). s.table) w.client-is ∙ w.decide-answer.ensures.own ∙ c.lock_all.ensures.own ∙ c.requires.own
+      | in-Err w ↦ ap (λ (s : ClientShown). s.table) w.client-is ∙ c.lock_all.ensures.own ∙ c.requires.own
+    ]
+
+pub give_back_first-requires-clause-own : goal.give_back_first-requires-clause-own
+give_back_first-requires-clause-own g c =
+    elim c.match-lock_all.branch [
+      | in-Ok w ↦ ap (λ (s : ClientShown). s.table) w.client-is ∙ w.decide-answer.ensures.own ∙ c.lock_all.ensures.own ∙ c.requires.own
+      | in-Err w ↦ ap (λ (s : ClientShown). s.table) w.client-is ∙ c.lock_all.ensures.own ∙ c.requires.own
+    ]
+
+pub returns-else-is_ok-clause-own : goal.returns-else-is_ok-clause-own
+returns-else-is_ok-clause-own g c =
+    elim c.match-lock_all.branch [
+      | in-Ok w ↦ c.give_back_first.ensures.own ∙ ap (λ (s : ClientShown). s.table) w.client-is ∙ w.decide-answer.ensures.own ∙ c.lock_all.ensures.own
+      | in-Err w ↦ c.give_back_first.ensures.own ∙ ap (λ (s : ClientShown). s.table) w.client-is ∙ c.lock_all.ensures.own
+    ]
+
+pub returns-else-is_ok-clause-ok : goal.returns-else-is_ok-clause-ok
+returns-else-is_ok-clause-ok g c = none_answered c.match-lock_all.answer _ (sym c.if-is_ok.ensures.value)
+
+pub returns-else-is_ok-clause-version : goal.returns-else-is_ok-clause-version
+returns-else-is_ok-clause-version g c = none_answered c.match-lock_all.answer _ (sym c.if-is_ok.ensures.value)
+
+pub returns-else-is_ok-clause-decides : goal.returns-else-is_ok-clause-decides
+returns-else-is_ok-clause-decides g c = none_answered c.match-lock_all.answer _ (sym c.if-is_ok.ensures.value)
+
+pub returns-then-is_ok-clause-lone : goal.returns-then-is_ok-clause-lone
+returns-then-is_ok-clause-lone g c = λ lone. none_refused c.match-lock_all.answer _ (sym c.if-is_ok.ensures.value)
+
+pub returns-then-is_ok-clause-stopped : goal.returns-then-is_ok-clause-stopped
+returns-then-is_ok-clause-stopped g c = none_refused c.match-lock_all.answer _ (sym c.if-is_ok.ensures.value)

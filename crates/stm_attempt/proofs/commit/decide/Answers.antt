@@ -1,8 +1,10 @@
-use Rattle.std.proofs.Common.{sym, subst, ◌∙◌, ◌<◌, arith}
-use Rattle.stm_attempt.specs.CommitParts.{IsDecided}
+use Rattle.std.proofs.Common.{◌≡◌, sym, ap, subst, ◌∙◌, ◌+◌, ◌<◌, inl, inr, arith}
+use Rattle.stm_attempt.specs.CommitParts.{IsDecided, HasFailedDeciding}
+use Rattle.stm_attempt.specs.Answers.{IsSpent}
+use Rattle.stm_region.specs.Told.{Decides}
 use Rattle.stm_region.specs.Shown.{ClientShown}
 use Rattle.stm_logs.specs.Log.{log_pairs}
-use Rattle.stm_attempt.proofs.Parts.{may_validate, once_is, decided_at_once, decided_after_validation}
+use Rattle.stm_attempt.proofs.Parts.{may_validate, once_is, decided_at_once, decided_after_validation, decided_so, not_decided, handed_on, handed_on_of, nothing_answered, failed_ticking, failed_validating}
 use Rattle.stm_attempt.proofs.Writing.{log_may_write}
 use Rattle.stm_attempt.proofs.commit.decide.Goals as goal
 use Rattle.stm_attempt.proofs.commit.decide.Goals.{then-not-decides_at_once+in_default, else-not-decides_at_once}
@@ -26,4 +28,68 @@ returns-clause-ok g c =
       | else-not-decides_at_once w ↦
           subst (λ (s : ClientShown). IsDecided c.args.region.now (g.T.Tag.numbers c.args.tag.now) (log_pairs c.args.logs.now.writes) c.args.client.now.value s.value c.in_ok-version.version) (sym w.client-is)
           (decided_at_once c.args.region.now (g.T.Tag.numbers c.args.tag.now) (log_pairs c.args.logs.now.writes) c.args.client.now.value c.tick.new.client.value c.in_ok-version.version c.in_ok-version.ensures.won later c.tick.ensures.steps (sym once ∙ sym c.decides_at_once.ensures ∙ w.if-not-decides_at_once.false))
+    ]
+
+pub returns-in_err-version-clause-own : goal.returns-in_err-version-clause-own
+returns-in_err-version-clause-own g c = c.tick.ensures.own
+
+pub returns-in_err-version-clause-ok : goal.returns-in_err-version-clause-ok
+returns-in_err-version-clause-ok g c = nothing_answered c.from_residual.result c.in_err-version.field-0.0 _ c.from_residual.ensures.1
+
+pub returns-in_err-version-clause-version : goal.returns-in_err-version-clause-version
+returns-in_err-version-clause-version g c = nothing_answered c.from_residual.result c.in_err-version.field-0.0 _ c.from_residual.ensures.1
+
+pub returns-in_err-version-clause-decides : goal.returns-in_err-version-clause-decides
+returns-in_err-version-clause-decides g c = nothing_answered c.from_residual.result c.in_err-version.field-0.0 _ c.from_residual.ensures.1
+
+pub returns-in_err-version-clause-lone : goal.returns-in_err-version-clause-lone
+returns-in_err-version-clause-lone g c = λ lone. handed_on c.from_residual.result c.in_err-version.field-0.0 (λ stop. IsSpent stop) c.from_residual.ensures.1 (c.in_err-version.ensures.lone lone)
+
+pub returns-in_err-version-clause-next : goal.returns-in_err-version-clause-next
+returns-in_err-version-clause-next g c = λ lone. handed_on_of c.from_residual.result c.in_err-version.field-0.0 (λ version. version ≡ c.args.rv + 1) (λ _. c.args.rv ≡ c.args.region.now.last) c.from_residual.ensures.1 (c.in_err-version.ensures.next lone)
+
+pub returns-in_err-version-clause-failed : goal.returns-in_err-version-clause-failed
+returns-in_err-version-clause-failed g c =
+    handed_on c.from_residual.result c.in_err-version.field-0.0 (λ stop. HasFailedDeciding c.args.region.now c.args.logs.now.writes stop c.args.client.now.value c.tick.new.client.value) c.from_residual.ensures.1
+    (failed_ticking c.args.region.now c.args.logs.now.writes c.in_err-version.field-0.0 c.args.client.now.value c.tick.new.client.value c.in_err-version.ensures.failed c.in_err-version.ensures.shown c.in_err-version.ensures.counted c.tick.ensures.steps)
+
+pub returns-in-Err-clause-own : goal.returns-in-Err-clause-own
+returns-in-Err-clause-own g c = c.validate_reads.ensures.own ∙ c.tick.ensures.own
+
+pub returns-in-Err-clause-lone : goal.returns-in-Err-clause-lone
+returns-in-Err-clause-lone g c = λ lone. (
+    let once = once_is c.args.client.now.value c.args.logs.now.reads _ _ c.in_ok-version.version c.len.ensures c.requires.logged.reads c.requires.ready.begun_at in
+    not_decided c.args.region.now (g.T.Tag.numbers c.args.tag.now) (log_pairs c.args.logs.now.writes) c.args.client.now.value c.tick.new.client.value c.in_ok-version.version c.in_ok-version.ensures.won (sym once ∙ sym c.decides_at_once.ensures ∙ c.if-not-decides_at_once.true) (c.in_ok-version.ensures.lone lone))
+
+pub returns-in-Err-clause-next : goal.returns-in-Err-clause-next
+returns-in-Err-clause-next g c = λ lone. (
+    let once = once_is c.args.client.now.value c.args.logs.now.reads _ _ c.in_ok-version.version c.len.ensures c.requires.logged.reads c.requires.ready.begun_at in
+    not_decided c.args.region.now (g.T.Tag.numbers c.args.tag.now) (log_pairs c.args.logs.now.writes) c.args.client.now.value c.tick.new.client.value c.in_ok-version.version c.in_ok-version.ensures.won (sym once ∙ sym c.decides_at_once.ensures ∙ c.if-not-decides_at_once.true) (c.in_ok-version.ensures.lone lone))
+
+pub returns-in-Err-clause-failed : goal.returns-in-Err-clause-failed
+returns-in-Err-clause-failed g c =
+    let once = once_is c.args.client.now.value c.args.logs.now.reads _ _ c.in_ok-version.version c.len.ensures c.requires.logged.reads c.requires.ready.begun_at in
+    failed_validating c.args.region.now (g.T.Tag.numbers c.args.tag.now) (log_pairs c.args.logs.now.writes) c.args.logs.now.writes c.in-Err.conflict c.args.client.now.value c.tick.new.client.value c.validate_reads.new.client.value c.args.rv c.in_ok-version.version c.in_ok-version.ensures.won
+    c.requires.ready.known c.in_ok-version.ensures.version.0 (sym once ∙ sym c.decides_at_once.ensures ∙ c.if-not-decides_at_once.true) c.tick.ensures.steps c.in-Err.ensures.failed (inr (inl c.in-Err.ensures.shown))
+
+pub returns-clause-own : goal.returns-clause-own
+returns-clause-own g c =
+    elim c.if-not-decides_at_once.branch [
+      | then-not-decides_at_once+in_default w ↦ ap (λ (s : ClientShown). s.table) w.client-is ∙ w.validate_reads.ensures.own ∙ c.tick.ensures.own
+      | else-not-decides_at_once w ↦ ap (λ (s : ClientShown). s.table) w.client-is ∙ c.tick.ensures.own
+    ]
+
+pub returns-clause-version : goal.returns-clause-version
+returns-clause-version g c = c.in_ok-version.ensures.version.1
+
+pub returns-clause-next : goal.returns-clause-next
+returns-clause-next g c = λ lone. c.in_ok-version.ensures.next lone
+
+pub returns-clause-decides : goal.returns-clause-decides
+returns-clause-decides g c =
+    let once = once_is c.args.client.now.value c.args.logs.now.reads _ _ c.in_ok-version.version c.len.ensures c.requires.logged.reads c.requires.ready.begun_at in
+    elim c.if-not-decides_at_once.branch [
+      | then-not-decides_at_once+in_default w ↦ subst (λ (s : ClientShown). Decides g.L.Law.fits g.L.Law.lawful c.args.region.now s.value) (sym w.client-is) w.in_default.ensures.decides
+      | else-not-decides_at_once w ↦ subst (λ (s : ClientShown). Decides g.L.Law.fits g.L.Law.lawful c.args.region.now s.value) (sym w.client-is)
+          (c.in_ok-version.ensures.decides (decided_so c.args.region.now (g.T.Tag.numbers c.args.tag.now) (log_pairs c.args.logs.now.writes) c.args.client.now.value c.tick.new.client.value c.in_ok-version.version c.in_ok-version.ensures.won (sym once ∙ sym c.decides_at_once.ensures ∙ w.if-not-decides_at_once.false)))
     ]

@@ -4,7 +4,7 @@ use Rattle.stm_core.specs.Event.{finish}
 use Rattle.stm_core.proofs.Conditions.{may_act_so}
 use Rattle.stm_region.specs.Shown.{ClientShown, bounds, stripe_of}
 use Rattle.stm_attempt.specs.Committing.{HasCommitted}
-use Rattle.stm_attempt.proofs.Parts.{no_pairs, has_finished}
+use Rattle.stm_attempt.proofs.Parts.{no_pairs, has_finished, not_answered, not_refused}
 use Rattle.stm_attempt.proofs.commit.end.Goals as goal
 use Rattle.stm_attempt.proofs.commit.end.Goals.{in-Some, in-None+then-len-eq0, in-None+else-len-eq0}
 
@@ -32,3 +32,37 @@ returns-else-is_err-clause-ok g c =
       | in-None+else-len-eq0 w ↦ subst (λ r. IfOk r (λ version. HasCommitted c.args.region.now tag pairs v c.match-stopped.client.value version)) (sym w.answer-is)
           (subst (λ (s : ClientShown). IfOk w.commit_writes.result (λ version. HasCommitted c.args.region.now tag pairs v s.value version)) (sym w.client-is) w.commit_writes.ensures.ok)
     ]
+
+pub returns-then-is_err-clause-own : goal.returns-then-is_err-clause-own
+returns-then-is_err-clause-own g c =
+    elim c.match-stopped.branch [
+      | in-Some w ↦ ap (λ (s : ClientShown). s.table) w.client-is
+      | in-None+then-len-eq0 w ↦ ap (λ (s : ClientShown). s.table) (w.client-is ∙ w.finish.ensures.client.1)
+      | in-None+else-len-eq0 w ↦ ap (λ (s : ClientShown). s.table) w.client-is ∙ w.commit_writes.ensures.own
+    ]
+
+pub returns-else-is_err-clause-own : goal.returns-else-is_err-clause-own
+returns-else-is_err-clause-own g c =
+    elim c.match-stopped.branch [
+      | in-Some w ↦ ap (λ (s : ClientShown). s.table) w.client-is
+      | in-None+then-len-eq0 w ↦ ap (λ (s : ClientShown). s.table) (w.client-is ∙ w.finish.ensures.client.1)
+      | in-None+else-len-eq0 w ↦ ap (λ (s : ClientShown). s.table) w.client-is ∙ w.commit_writes.ensures.own
+    ]
+
+pub returns-then-is_err-clause-ok : goal.returns-then-is_err-clause-ok
+returns-then-is_err-clause-ok g c = not_answered c.match-stopped.answer _ (sym c.if-is_err.ensures.value)
+
+pub returns-then-is_err-clause-version : goal.returns-then-is_err-clause-version
+returns-then-is_err-clause-version g c = not_answered c.match-stopped.answer _ (sym c.if-is_err.ensures.value)
+
+pub returns-then-is_err-clause-decides : goal.returns-then-is_err-clause-decides
+returns-then-is_err-clause-decides g c = not_answered c.match-stopped.answer _ (sym c.if-is_err.ensures.value)
+
+pub returns-else-is_err-clause-refused : goal.returns-else-is_err-clause-refused
+returns-else-is_err-clause-refused g c = λ _. not_refused c.match-stopped.answer _ (sym c.if-is_err.ensures.value)
+
+pub returns-else-is_err-clause-lone : goal.returns-else-is_err-clause-lone
+returns-else-is_err-clause-lone g c = λ _. not_refused c.match-stopped.answer _ (sym c.if-is_err.ensures.value)
+
+pub returns-else-is_err-clause-logs : goal.returns-else-is_err-clause-logs
+returns-else-is_err-clause-logs g c = not_refused c.match-stopped.answer _ (sym c.if-is_err.ensures.value)

@@ -10,3 +10,30 @@ pub returns-clause-met : goal.returns-clause-met
 returns-clause-met g c = λ conflict e.
     subst (λ (s : ClientShown). ∥ ((address : ℕ) × IsReadConflict (stripe_of c.args.self.region.now.stripes) address conflict s.value) ∥₁) (sym (c.end.ensures.again conflict e).1)
     ((c.args.self.running c.requires.running).shown conflict e)
+
+pub returns-clause-own : goal.returns-clause-own
+returns-clause-own g c = c.end.ensures.own
+
+pub returns-clause-free_handed : goal.returns-clause-free_handed
+returns-clause-free_handed g c = c.end.ensures.free_handed
+
+pub returns-clause-again : goal.returns-clause-again
+returns-clause-again g c = c.end.ensures.again
+
+pub returns-clause-lone : goal.returns-clause-lone
+returns-clause-lone g c = c.end.ensures.lone
+
+pub returns-clause-ok : goal.returns-clause-ok
+returns-clause-ok g c = c.end.ensures.ok
+
+pub returns-clause-version : goal.returns-clause-version
+returns-clause-version g c = c.end.ensures.version
+
+pub returns-clause-decides : goal.returns-clause-decides
+returns-clause-decides g c = c.end.ensures.decides
+
+pub returns-clause-refused : goal.returns-clause-refused
+returns-clause-refused g c = c.end.ensures.refused
+
+pub returns-clause-logs : goal.returns-clause-logs
+returns-clause-logs g c = c.end.ensures.logs
