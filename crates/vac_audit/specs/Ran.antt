@@ -135,7 +135,7 @@ HeapRan words blocks result = MatchResult result
     (λ report. audit (slice_index words) blocks ≡ Ok report)
     (λ fault. Faulted fault (λ flaw. audit (slice_index words) blocks ≡ Err flaw))
 
--- so many words are those of a heap of 1 to the most blocks
+-- so many words are those of a heap of one block or more, and of no more than there may be
 abbrev pub IsHeapSize : ℕ → Type 0
 IsHeapSize n = (blocks : ℕ) × ((n ≡ 16 + 8 * blocks) × (1 ≤ blocks) × (blocks ≤ MOST_BLOCKS))
 
