@@ -1,42 +1,27 @@
 //! Plain memory with a state, asked by tasks and commands.
-ghost use Rattle.std.specs.Prelude.{◌≡◌, ◌≤◌, IfOk};
-ghost use Rattle.vac_records.specs.Holds.{HoldsState};
+
+ghost use Rattle.std.specs.Prelude.{◌≤◌};
+ghost use Rattle.vac_model.specs.declared.limits.TheConstants.{MOST_BLOCKS};
 
 use std::alloc::{AllocError, Global};
-use std::marker::Model;
-use stm_words::{Flat, TxMem};
-use tx_alloc::place::MOST_BLOCKS;
-use tx_alloc::{FreeList, fresh_words};
+use tx_alloc::FreeList;
 use vac_audit::{AuditFault, audit_words};
 use vac_model::{Command, Kind, Reply, Report, Task};
-use vac_tasks::{only_reads, read_task, run_task};
+use vac_tasks::only_reads;
 
-/// Plain memory that holds a state.
+/// Plain memory that holds a state, with calls in few words.
 #[derive(Drop)]
 pub(crate) struct Heap {
-    memory: Flat,
-}
-
-impl Model for Heap {
-    ghost use Rattle.std.specs.Prelude.{ℕ, List};
-    ghost use Rattle.stm_words.specs.Plain.{flat_view};
-    ghost use Rattle.vac_records.specs.Holds.{HoldsState};
-
-    ghost Value = { List ℕ };
-
-    ghost view = { λ h. h.memory };
-
-    ghost invariant = { λ h. HoldsState (flat_view h.memory) };
+    memory: vac_plain::Heap,
 }
 
 impl Heap {
     /// The memory of a state without entries, with room for so many.
-    pub(crate) fn new(alloc: Global, blocks: usize) -> Result<Heap, AllocError>
+    pub(crate) fn new(alloc: Global, blocks: u32) -> Result<Heap, AllocError>
         requires some { 1 ≤ blocks }
         requires most { blocks ≤ MOST_BLOCKS }
     {
-        let words = fresh_words(alloc, blocks)?;
-        let memory = Flat::new(words);
+        let memory = vac_plain::Heap::new(alloc, blocks)?;
         Ok(Heap { memory })
     }
 
@@ -45,14 +30,15 @@ impl Heap {
         if !task.is_in_range() {
             return None;
         }
-        let Ok(reply) = run_task(&mut self.memory, task, FreeList::new(0));
-        Some(reply)
+        Some(self.memory.run(task, FreeList::new(0)))
     }
 
-    /// The reply to a task that only reads.
+    /// The reply to a task that only reads, or `None` to any other.
     pub(crate) fn look(&mut self, task: &Task) -> Option<Reply> {
-        let Ok(reply) = look(&mut self.memory, task);
-        reply
+        if !only_reads(task) {
+            return None;
+        }
+        Some(self.memory.read(task))
     }
 
     /// The heap as it is, and what the audit says of its words.
@@ -60,7 +46,7 @@ impl Heap {
         let Heap { memory } = self;
         let words = memory.words();
         let found = audit_words(alloc, words.as_slice());
-        let memory = Flat::new(words);
+        let memory = vac_plain::Heap::of_words(words);
         (Heap { memory }, found)
     }
 
@@ -94,17 +80,4 @@ impl Heap {
             num: 1,
         })
     }
-}
-
-/// The reply to a task that only reads, through the bound of a memory.
-fn look<M: TxMem>(memory: &mut M, task: &Task) -> Result<Option<Reply>, M::Stop>
-    requires { HoldsState (M.view memory.old) }
-    ensures origin { M.origin memory.new ≡ M.origin memory.old }
-    ensures state { IfOk result (λ _. HoldsState (M.view memory.new)) }
-{
-    if !only_reads(task) {
-        return Ok(None);
-    }
-    let reply = read_task(memory, task)?;
-    Ok(Some(reply))
 }

@@ -4,7 +4,7 @@ ghost use Rattle.std.specs.Prelude.{◌≤◌};
 use crate::heap::Heap;
 use std::alloc::{AllocError, Global};
 use std::test::Fail;
-use tx_alloc::place::MOST_BLOCKS;
+use vac_model::limits::MOST_BLOCKS;
 use vac_model::{Command, Joined, Kind, Pick, Reply, Task, TripReply, Why};
 
 /// A trip that found the customer so, and these picks.
@@ -51,7 +51,7 @@ fn four_blocks_for_two_customers(rt: HostRuntime) -> Result<(), Fail> {
 
 /// Three items, one of each kind, and a trip of customer 9 to all three, in a heap of so many
 /// blocks. The asks stand in another order than the kinds.
-fn one_of_each(alloc: Global, blocks: usize) -> Result<Option<Reply>, AllocError>
+fn one_of_each(alloc: Global, blocks: u32) -> Result<Option<Reply>, AllocError>
     requires some { 1 ≤ blocks }
     requires most { blocks ≤ MOST_BLOCKS }
 {

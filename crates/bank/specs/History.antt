@@ -6,7 +6,8 @@ use Rattle.stm_core.specs.Client.{Client, Record, inserted}
 use Rattle.stm_core.specs.Core.{Core}
 use Rattle.stm_core.specs.Invariant.{Rule}
 use Rattle.stm_core.specs.History.{Sub, all_records}
-use Rattle.stm_region.specs.Shown.{RegionShown, stripe_of}
+use Rattle.stm_region.specs.Shown.{RegionShown}
+use Rattle.stm_core.specs.Guards.{stripe_of}
 use Rattle.stm_region.specs.Closed.{Ends}
 use Rattle.stm_region.specs.declared.limits.TheConstants.{MOST_GRANTS}
 use Rattle.stm_attempt.specs.declared.conflict.Stop.{Stop}

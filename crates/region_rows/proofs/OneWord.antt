@@ -7,14 +7,14 @@ use Rattle.stm_words.specs.Image.{In}
 use Rattle.stm_core.specs.Client.{Client, running, committed, locked, ticked, word_before, without, writes_to}
 use Rattle.stm_core.specs.Core.{IsFreeHanded}
 use Rattle.stm_core.specs.Event.{begin, probe, lock, tick, put as put_word, release, give_back, after, stepping, holding, committed_by, versioned, with_ticks}
-use Rattle.stm_region.specs.Shown.{RegionShown, ClientShown, IsAllowed, acted, bounds, unplaced, stripe_of}
+use Rattle.stm_region.specs.Shown.{RegionShown, ClientShown, IsAllowed, acted, bounds, unplaced}
 use Rattle.std.specs.FinMap.{empty, get, get-empty, entries, entries-insert, len-entries, len-empty, put}
 use Rattle.std.specs.Ordering.{nat_cmp}
 use Rattle.std.proofs.lemmas.Cmp.{nat_cmp_total}
 use Rattle.stm_logs.specs.Log.{log_pairs, empty_log}
 use Rattle.stm_logs.specs.Held.{with_word}
 use Rattle.stm_core.proofs.Conditions.{MayWrite, may_act_so}
-use Rattle.stm_core.specs.Guards.{Holds}
+use Rattle.stm_core.specs.Guards.{Holds, stripe_of}
 
 no_length : (xs : List (ℕ × ℕ)) → length xs ≡ 0 → xs ≡ []
 no_length [] e = refl

@@ -10,7 +10,8 @@ use Rattle.stm_words.specs.Seen.{same_or, get_here, get_other}
 use Rattle.stm_words.proofs.Paired.{with_pairs-append, get-with_pairs, in_later}
 use Rattle.stm_core.specs.Client.{Client}
 use Rattle.stm_logs.specs.Log.{LogValue, empty_log}
-use Rattle.stm_region.specs.Shown.{RegionShown, stripe_of}
+use Rattle.stm_region.specs.Shown.{RegionShown}
+use Rattle.stm_core.specs.Guards.{stripe_of}
 use Rattle.stm_region.specs.Told.{StandsOn}
 use Rattle.stm_attempt.specs.Begun.{HasReadWord, IsPlaced, addresses}
 use Rattle.stm_attempt.specs.declared.conflict.Conflict.{Conflict}

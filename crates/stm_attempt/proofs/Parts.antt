@@ -11,7 +11,8 @@ use Rattle.stm_core.specs.Event.{is_empty, after, finish}
 use Rattle.stm_logs.specs.Log.{LogValue, SameAddresses, log_pairs, log_locks}
 use Rattle.stm_logs.proofs.LockLemmas.{locks_few}
 use Rattle.stm_region.specs.Told.{StandsOn}
-use Rattle.stm_region.specs.Shown.{RegionShown, stripe_of, unplaced}
+use Rattle.stm_region.specs.Shown.{RegionShown, unplaced}
+use Rattle.stm_core.specs.Guards.{stripe_of}
 use Rattle.stm_attempt.specs.Begun.{addresses, IsBegun, AreInside}
 use Rattle.stm_attempt.specs.Conflicts.{IsLockConflict, IsValidateConflict, IsTickConflict, IsReadLock, IsCommitConflict}
 use Rattle.stm_attempt.specs.Committing.{settling, ticked_record, commit_record, IsCommitVersion, IsCommitStop, IsCounted, HasCommitted, HasStopped}

@@ -14,7 +14,7 @@ use Rattle.stm_core.proofs.Held.{old_in}
 use Rattle.stm_logs.specs.Log.{LogValue, log_groups, log_pairs, log_locks, is_number, pairs_of, SameAddresses}
 use Rattle.stm_logs.proofs.LockLemmas.{in_locks, locks_rise}
 use Rattle.stm_logs.proofs.RisingLemmas.{Rising, rising_entries, rising_map, rising_filter, filter_in, in_filter, in_get, get_in, in_map, map_in, In as Among}
-use Rattle.stm_region.specs.Shown.{RegionShown, stripe_of, bounds}
+use Rattle.stm_region.specs.Shown.{RegionShown, bounds}
 use Rattle.stm_attempt.specs.Begun.{addresses, address_of, IsPlaced}
 use Rattle.stm_attempt.specs.Committing.{settling}
 use Rattle.stm_attempt.specs.CommitParts.{CanSettle, IsAllStored, HasStored}
@@ -22,7 +22,7 @@ use Rattle.stm_attempt.specs.StoredPairs.{AreStorable, IsUnstored, HasStoredPair
 use Rattle.stm_attempt.proofs.Locks.{among_held, rising_before, among_middle, among_front}
 use Rattle.stm_attempt.proofs.Counting.{count_shares, one_kept}
 use Rattle.stm_core.proofs.Conditions.{may_act_so}
-use Rattle.stm_core.specs.Guards.{Holds, May}
+use Rattle.stm_core.specs.Guards.{Holds, May, stripe_of}
 
 pub among_in : {X : Type 0} (x : X) (xs : List X) → Among x xs → In x xs
 among_in x [] i = absurd i

@@ -3,7 +3,8 @@ use Rattle.std.proofs.Common.{◌≡◌, ◌≢◌, inl, refl, sym, ap, ◌∙�
 use Rattle.std.proofs.lemmas.Bool.{ne_eqb}
 use Rattle.stm_core.specs.Client.{Client, running, committed, is_committed, ticked, inserted}
 use Rattle.stm_core.specs.Event.{tick, after, won, versioned, committed_by, stepping, with_ticks, forgetting}
-use Rattle.stm_region.specs.Shown.{RegionShown, stripe_of, unplaced}
+use Rattle.stm_region.specs.Shown.{RegionShown, unplaced}
+use Rattle.stm_core.specs.Guards.{stripe_of}
 use Rattle.stm_region.specs.Told.{IsLoneOpen}
 use Rattle.stm_attempt.specs.Committing.{ticked_record}
 use Rattle.stm_attempt.specs.CommitParts.{HasTicked, HasFailed, is_at_once}

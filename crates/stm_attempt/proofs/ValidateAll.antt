@@ -6,7 +6,7 @@ use mathlib.Core.Option.{some}
 use lib.ListN.{get_elem?}
 use Rattle.stm_core.specs.Client.{Client, Record, running, validated, inserted, writes_to, RecordLaw}
 use Rattle.stm_core.specs.Event.{Bounds, validate, committed_by, stepping, marking, counting, forgetting}
-use Rattle.stm_region.specs.Shown.{RegionShown, stripe_of, unplaced}
+use Rattle.stm_region.specs.Shown.{RegionShown, unplaced}
 use Rattle.stm_attempt.specs.Begun.{addresses, address_of, AreInside}
 use Rattle.stm_attempt.specs.Committing.{ticked_record}
 use Rattle.stm_attempt.specs.CommitParts.{HasFailedValidating, HasValidated}
@@ -15,7 +15,7 @@ use Rattle.stm_attempt.specs.Conflicts.{IsReadLock}
 use Rattle.stm_attempt.specs.Validating.{HasValidatedLock}
 use Rattle.stm_attempt.proofs.ValidateOne.{by_validate}
 use Rattle.stm_core.proofs.Conditions.{may_act_so}
-use Rattle.stm_core.specs.Guards.{May}
+use Rattle.stm_core.specs.Guards.{May, stripe_of}
 
 -- the client's value without what the validation of a lock changes that passes
 abbrev pub unvalidated : Client → Client

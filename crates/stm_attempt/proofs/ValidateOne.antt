@@ -9,7 +9,8 @@ use Rattle.stm_logs.specs.Log.{LogValue, log_locks}
 use Rattle.stm_logs.proofs.TableLemmas.{true_false}
 use Rattle.stm_core.specs.Client.{Client, validated, version_of, is_free, writes_to}
 use Rattle.stm_core.specs.Event.{validate, after, passing, failing, stepping, marking}
-use Rattle.stm_region.specs.Shown.{RegionShown, ClientShown, acted, stripe_of, unplaced}
+use Rattle.stm_region.specs.Shown.{RegionShown, ClientShown, acted, unplaced}
+use Rattle.stm_core.specs.Guards.{stripe_of}
 use Rattle.stm_attempt.specs.Begun.{addresses}
 use Rattle.stm_attempt.specs.Conflicts.{IsValidateConflict}
 use Rattle.stm_attempt.specs.Validating.{HasValidatedLock}

@@ -8,11 +8,11 @@ use Rattle.stm_logs.proofs.RisingLemmas.{Rising, rising_entries, in_map, get_in,
 use Rattle.stm_logs.proofs.LockLemmas.{in_locks, locks_in}
 use Rattle.stm_logs.proofs.TableLemmas.{both_bool, some_none}
 use Rattle.stm_core.specs.Client.{writes_to}
-use Rattle.stm_region.specs.Shown.{RegionShown, stripe_of}
+use Rattle.stm_region.specs.Shown.{RegionShown}
 use Rattle.stm_attempt.specs.Begun.{IsPlaced, addresses}
 use Rattle.stm_attempt.proofs.Locks.{held_among, among_held}
 use Rattle.stm_core.proofs.Conditions.{LocksMatch, write_test}
-use Rattle.stm_core.specs.Guards.{is_map, may_write}
+use Rattle.stm_core.specs.Guards.{is_map, may_write, stripe_of}
 
 -- the pairs name an address exactly where it is among their addresses
 pub written_among : (ps : List (ℕ × ℕ)) (a : ℕ) → writes_to ps a ≡ true → (x : ℕ) × Among (a, x) ps

@@ -6,7 +6,8 @@ use Rattle.stm_words.specs.View.{View}
 use Rattle.stm_words.specs.declared.law.Law as Law
 use Rattle.stm_core.specs.Client.{Client}
 use Rattle.stm_logs.specs.Log.{LogValue, empty_log, log_pairs}
-use Rattle.stm_region.specs.Shown.{ClientShown, stripe_of}
+use Rattle.stm_region.specs.Shown.{ClientShown}
+use Rattle.stm_core.specs.Guards.{stripe_of}
 use Rattle.stm_attempt.specs.Meaning.{memory_of, Origin, origin_of}
 use Rattle.stm_attempt.specs.Conflicts.{refused, most_steps}
 use Rattle.stm_attempt.specs.Answers.{HasReadRegion, HasWritten}

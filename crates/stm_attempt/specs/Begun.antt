@@ -5,7 +5,8 @@ use Rattle.stm_words.specs.Image.{In}
 use Rattle.stm_core.specs.Client.{Client, Phase, idle, running, ending, committed, finished}
 use Rattle.stm_core.specs.Event.{forgetting}
 use Rattle.stm_logs.specs.Log.{LogValue}
-use Rattle.stm_region.specs.Shown.{RegionShown, stripe_of}
+use Rattle.stm_region.specs.Shown.{RegionShown}
+use Rattle.stm_core.specs.Guards.{stripe_of}
 use Rattle.stm_attempt.specs.Conflicts.{HasMet, refused}
 use Rattle.stm_attempt.specs.declared.conflict.Conflict.{Conflict}
 

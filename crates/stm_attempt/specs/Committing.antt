@@ -4,7 +4,8 @@ use Rattle.stm_core.specs.declared.limits.TheConstants.{MOST_TICKS}
 use Rattle.stm_core.specs.Client.{Client, Record, inserted, RecordLaw}
 use Rattle.stm_core.specs.Event.{forgetting, versioned, writer_record, reader_record}
 use Rattle.stm_logs.specs.Log.{LogValue, log_pairs, log_locks}
-use Rattle.stm_region.specs.Shown.{RegionShown, stripe_of, unplaced}
+use Rattle.stm_region.specs.Shown.{RegionShown, unplaced}
+use Rattle.stm_core.specs.Guards.{stripe_of}
 use Rattle.stm_region.specs.Told.{Decides}
 use Rattle.stm_attempt.specs.Conflicts.{IsCommitConflict}
 use Rattle.stm_attempt.specs.declared.conflict.Stop.{Stop}

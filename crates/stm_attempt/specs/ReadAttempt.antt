@@ -4,7 +4,7 @@ use Rattle.stm_words.specs.View.{View}
 use Rattle.stm_words.specs.declared.law.Law as Law
 use Rattle.stm_core.specs.Client.{Client}
 use Rattle.stm_logs.specs.Log.{empty_log}
-use Rattle.stm_region.specs.Shown.{stripe_of}
+use Rattle.stm_core.specs.Guards.{stripe_of}
 use Rattle.stm_attempt.specs.Begun.{is_unfinished}
 use Rattle.stm_attempt.specs.Meaning.{memory_of, Origin, origin_of}
 use Rattle.stm_attempt.specs.Conflicts.{refused, most_steps}

@@ -2,7 +2,8 @@
 use Rattle.std.specs.Prelude.{◌≡◌, ℕ, Bool}
 use Rattle.stm_core.specs.Client.{Client}
 use Rattle.stm_core.specs.Event.{validate, after, passes}
-use Rattle.stm_region.specs.Shown.{RegionShown, stripe_of, unplaced}
+use Rattle.stm_region.specs.Shown.{RegionShown, unplaced}
+use Rattle.stm_core.specs.Guards.{stripe_of}
 
 -- this lock was validated, and passed or not
 abbrev pub HasValidatedLock : RegionShown → ℕ → Bool → Client → Client → Type 0

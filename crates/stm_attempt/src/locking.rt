@@ -1,7 +1,7 @@
 //! The locks of a commit: taken in ascending order, and given back.
 ghost use Rattle.std.specs.Prelude.{◌≡◌, ◌+◌, ◌<◌, ◌≤◌, ◌*◌, ◌⊎◌, [], true, false, length, take, IfOk, IfErr, IsOk};
 ghost use Rattle.stm_logs.specs.Log.{log_locks};
-ghost use Rattle.stm_region.specs.Shown.{stripe_of};
+ghost use Rattle.stm_core.specs.Guards.{stripe_of};
 ghost use Rattle.stm_attempt.specs.Begun.{IsPlaced, addresses};
 ghost use Rattle.stm_attempt.specs.Conflicts.{IsLockConflict, IsCommitConflict};
 ghost use Rattle.stm_attempt.specs.CommitParts.{returned, IsAbove, CanLock, HasTaken, HasTakenAll, CanGiveBack, HasFailed, HasFailedLocking};

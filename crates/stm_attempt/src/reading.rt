@@ -2,7 +2,7 @@
 ghost use Rattle.std.specs.Prelude.{◌≡◌, ◌+◌, ◌<◌, ◌≤◌, ◌^◌, IfOk, IfErr, IfSome, IfNone, IsOk, true};
 ghost use Rattle.stm_words.specs.LockWord.{free_word};
 ghost use Rattle.stm_core.specs.Client.{running};
-ghost use Rattle.stm_region.specs.Shown.{stripe_of};
+ghost use Rattle.stm_core.specs.Guards.{stripe_of};
 ghost use Rattle.stm_region.specs.Told.{StandsOn};
 ghost use Rattle.stm_attempt.specs.Begun.{still, IsBegun, HasReadWord, is_unfinished};
 ghost use Rattle.stm_attempt.specs.Conflicts.{IsHeld, IsReadConflict};

@@ -2,9 +2,8 @@
 ghost use Rattle.std.specs.Prelude.{◌≡◌, ◌+◌, ◌<◌, ◌≤◌, ◌^◌, true, IfOk, IfErr, MatchResult};
 ghost use Rattle.stm_core.specs.Client.{decided};
 ghost use Rattle.stm_core.specs.declared.limits.TheConstants.{MOST_TICKS};
-ghost use Rattle.stm_core.specs.Guards.{may_write};
+ghost use Rattle.stm_core.specs.Guards.{may_write, stripe_of};
 ghost use Rattle.stm_logs.specs.Log.{log_pairs};
-ghost use Rattle.stm_region.specs.Shown.{stripe_of};
 ghost use Rattle.stm_region.specs.Told.{Decides};
 ghost use Rattle.stm_attempt.specs.Answers.{IsSpent};
 ghost use Rattle.stm_attempt.specs.Committing.{IsCommitStop, IsCounted};

@@ -3,7 +3,8 @@ ghost use Rattle.std.specs.Prelude.{◌≡◌, ℕ, ◌<◌, ◌≤◌, true, fa
 ghost use Rattle.stm_core.specs.Client.{decided};
 ghost use Rattle.stm_core.specs.Event.{validate as validates};
 ghost use Rattle.stm_logs.specs.Log.{log_locks};
-ghost use Rattle.stm_region.specs.Shown.{IsAllowed, stripe_of};
+ghost use Rattle.stm_region.specs.Shown.{IsAllowed};
+ghost use Rattle.stm_core.specs.Guards.{stripe_of};
 ghost use Rattle.stm_region.specs.Told.{Decides};
 ghost use Rattle.stm_attempt.specs.Begun.{addresses};
 ghost use Rattle.stm_attempt.specs.Conflicts.{IsValidateConflict, IsReadLock};

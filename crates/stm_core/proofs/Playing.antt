@@ -12,7 +12,8 @@ use Rattle.stm_core.specs.Event.{decision, Action, begin, probe, fetch, check, l
 use Rattle.stm_core.specs.Core.{Core, bounds_of, found, stepped, divided, gathered, renewed, IsFreeHanded, Event, acts, splits, gathers, renews, client_of, Allowed, played, Leads, opened}
 use Rattle.stm_core.specs.Version.{At, IsOpen}
 use Rattle.stm_core.specs.Invariant.{now, Rule}
-use Rattle.stm_core.specs.Theorem.{stripe_of, IsHistory, is_settled, Stands, EveryListStands}
+use Rattle.stm_core.specs.Theorem.{IsHistory, is_settled, Stands, EveryListStands}
+use Rattle.stm_core.specs.Guards.{stripe_of}
 use Rattle.stm_core.proofs.Lists.{at_set, set_here, same_at, by_bool, clash, nothing_in, only_one}
 use Rattle.stm_core.proofs.Steps.{undecided_at, by_case}
 use Rattle.stm_core.proofs.Histories.{Ahead, Ranked, rank_writer, rank_reader, serial, image_last}

@@ -3,7 +3,8 @@ use Rattle.std.specs.Prelude.{◌≡◌, ℕ, true, false, List, [], ◌∷◌, 
 use Rattle.stm_core.specs.Client.{Record}
 use Rattle.stm_core.specs.Event.{begin, probe, fetch, check, lock, tick, validate, put, release, finish}
 use Rattle.stm_core.specs.Core.{Core, Event, acts, splits, opened}
-use Rattle.stm_core.specs.Theorem.{free_law, stripe_of, Reaches}
+use Rattle.stm_core.specs.Theorem.{free_law, Reaches}
+use Rattle.stm_core.specs.Guards.{stripe_of}
 use Rattle.stm_core.specs.Listed.{decisions, begins}
 
 abbrev pub zeros : List ℕ

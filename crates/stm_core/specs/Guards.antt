@@ -1,11 +1,15 @@
 -- When a client may make a step. Each guard is a test; a tick and a finish ask, beside it, that the
 -- record which they may make is lawful.
-use Rattle.std.specs.Prelude.{◌≡◌, ℕ, zero, suc, Bool, true, false, not, ◌&&◌, ◌||◌, ◌==◌, nat_lt, nat_le, List, [], ◌∷◌}
+use Rattle.std.specs.Prelude.{◌≡◌, ℕ, zero, suc, Bool, true, false, not, ◌&&◌, ◌||◌, ◌==◌, ◌%◌, nat_lt, nat_le, List, [], ◌∷◌}
 use Rattle.std.specs.List.{list_any, list_all}
 use Rattle.stm_words.specs.Image.{In}
 use Rattle.stm_core.specs.Client.{Attempt, Client, Phase, running, ending, Step, probed, fetched, version_of, is_free, is_committed, writes_to, RecordLaw}
 use Rattle.stm_core.specs.Event.{is_empty, Bounds, Action, begin, probe, fetch, check, lock, tick, validate, put, release, give_back, finish}
 use Rattle.stm_core.specs.declared.limits.TheConstants.{MOST_TICKS}
+
+-- the lock of an address, among so many
+abbrev pub stripe_of : ℕ → ℕ → ℕ
+stripe_of stripes address = address % stripes
 
 abbrev pub is_running : Phase → Bool
 is_running running = true

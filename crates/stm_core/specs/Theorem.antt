@@ -1,16 +1,13 @@
 -- What holds of every core that a list of allowed events leads to.
-use Rattle.std.specs.Prelude.{◌≡◌, ◌≢◌, ℕ, suc, ◌%◌, ◌<◌, Bool, true, false, List, [], ◌++◌}
+use Rattle.std.specs.Prelude.{◌≡◌, ◌≢◌, ℕ, suc, ◌<◌, Bool, true, false, List, [], ◌++◌}
 use Rattle.stm_words.specs.Image.{In, Agrees}
 use Rattle.stm_core.specs.Client.{Client, Record, decided, Phase, running, ending, RecordLaw}
 use Rattle.stm_core.specs.Core.{Core, Event, Leads, opened}
 use Rattle.stm_core.specs.Version.{At}
 use Rattle.stm_core.specs.Invariant.{Rule, GoesOn}
 use Rattle.stm_core.specs.History.{Serial, image_after, image_at, Ascending, ByPoint}
+use Rattle.stm_core.specs.Guards.{stripe_of}
 use Rattle.stm_core.specs.Listed.{IsOfList}
-
--- the lock of an address
-abbrev pub stripe_of : ℕ → ℕ → ℕ
-stripe_of stripes a = a % stripes
 
 -- every record is lawful
 abbrev pub free_law : List ℕ → List (ℕ × ℕ) → List (ℕ × ℕ) → Type 0

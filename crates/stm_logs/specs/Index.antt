@@ -1,6 +1,7 @@
 -- The index of a write log: an open-addressed table of the nodes by kind and number.
 use Rattle.std.specs.Prelude.{◌≡◌, ◌≢◌, ℕ, ◌+◌, ◌*◌, ◌/◌, ◌%◌, ◌<◌, ◌≤◌, Bool, cond, List, [], ◌∷◌, length, nat_eq}
 use Rattle.stm_logs.specs.declared.nodes.Node.{Node}
+use Rattle.stm_logs.specs.declared.nodes.TheConstants.{MAX_PLACES}
 use Rattle.stm_logs.specs.Nodes.{at}
 
 -- a node is a lock where it has no parent, and else a word
@@ -59,7 +60,7 @@ Reaches ns is_lock number q =
 -- nodes 1 to n are indexed, and nothing else
 pub record IsIndexed (ns : List Node) (n : ℕ) : Type 0 where
   pub room : n < length ns
-  pub limit : length ns ≤ 2147483648
+  pub limit : length ns ≤ MAX_PLACES
   pub count : taken ns ≡ n
   pub places : (e : ℕ) → 0 < e → e ≤ n → HasPlace ns e
   pub slots : (q : ℕ) → q < length ns → IsTaken ns q → LeadsTo ns n q

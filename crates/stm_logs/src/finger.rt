@@ -1,6 +1,7 @@
 //! The fingers of a write log: where a walk along a long chain may start. A finger is a guess, and
 //! is looked at before it is followed.
 ghost use Rattle.std.specs.Prelude.{◌≡◌, ℕ, ◌+◌, ◌<◌, ◌≤◌, length};
+ghost use Rattle.stm_logs.specs.declared.nodes.TheConstants.{MAX_PLACES};
 ghost use Rattle.stm_logs.specs.Nodes.{at, with_node};
 ghost use Rattle.stm_logs.specs.Tree.{IsTree, IsBelow, OnlyFingers, with_finger};
 
@@ -56,7 +57,7 @@ fn widths_of(parent: usize, len: usize) -> Widths
 #[inline]
 fn place(scale: u64, parent: usize, step: u64, len: usize) -> usize
     requires some { 0 < len }
-    requires limit { len ≤ 2147483648 }
+    requires limit { len ≤ MAX_PLACES }
     requires parent { parent < len }
     requires few { (step < 4294967296) × (scale < 5) }
     ensures { result < len }
@@ -109,7 +110,7 @@ fn nearer_by<A: Allocator>(
 ) -> usize
     requires tree { IsTree nodes.now.list nodes.now.count }
     requires room { nodes.now.count < length nodes.now.list }
-    requires limit { length nodes.now.list ≤ 2147483648 }
+    requires limit { length nodes.now.list ≤ MAX_PLACES }
     requires near { IsBelow nodes.now.list nodes.now.count parent number near }
     requires parent { parent ≤ nodes.now.count }
     requires width { 0 < width }
@@ -136,7 +137,7 @@ pub(crate) fn nearer<A: Allocator>(
 ) -> usize
     requires tree { IsTree nodes.now.list nodes.now.count }
     requires room { nodes.now.count < length nodes.now.list }
-    requires limit { length nodes.now.list ≤ 2147483648 }
+    requires limit { length nodes.now.list ≤ MAX_PLACES }
     requires near { IsBelow nodes.now.list nodes.now.count parent number near }
     requires parent { parent ≤ nodes.now.count }
     ensures { IsBelow nodes.now.list nodes.now.count parent number result }
@@ -164,7 +165,7 @@ pub(crate) fn nearer<A: Allocator>(
 #[inline]
 fn set_finger<A: Allocator>(nodes: &mut Nodes<A>, place: usize, e: usize)
     requires inside { place < length nodes.old.list }
-    requires fits { e ≤ 2147483648 }
+    requires fits { e ≤ MAX_PLACES }
     ensures { nodes.new ≡ with_node nodes.old place (with_finger (at nodes.old.list place) e) }
 {
     let node = *nodes.get(place);
@@ -187,9 +188,9 @@ fn point_at<A: Allocator>(
     number: u32,
     e: usize,
 )
-    requires limit { length nodes.old.list ≤ 2147483648 }
+    requires limit { length nodes.old.list ≤ MAX_PLACES }
     requires parent { parent < length nodes.old.list }
-    requires fits { e ≤ 2147483648 }
+    requires fits { e ≤ MAX_PLACES }
     requires width { 0 < width }
     requires scale { scale < 5 }
     ensures same { OnlyFingers nodes.old.list nodes.new.list }
@@ -201,9 +202,9 @@ fn point_at<A: Allocator>(
 
 /// Points the fingers of a number to its node.
 pub(crate) fn point<A: Allocator>(nodes: &mut Nodes<A>, parent: usize, number: u32, e: usize)
-    requires limit { length nodes.old.list ≤ 2147483648 }
+    requires limit { length nodes.old.list ≤ MAX_PLACES }
     requires parent { parent < length nodes.old.list }
-    requires fits { e ≤ 2147483648 }
+    requires fits { e ≤ MAX_PLACES }
     ensures same { OnlyFingers nodes.old.list nodes.new.list }
     ensures count { nodes.new.count ≡ nodes.old.count }
 {

@@ -4,11 +4,8 @@ ghost use Rattle.stm_logs.specs.Nodes.{at};
 ghost use Rattle.stm_logs.specs.Held.{IsLog, IsRoomy, Copied};
 
 use crate::index::{enter, probe};
-use crate::nodes::{Node, Nodes};
+use crate::nodes::{MAX_PLACES, Node, Nodes};
 use std::alloc::{AllocError, Allocator};
-
-/// The places of the largest block.
-const MAX_PLACES: usize = 2_147_483_648;
 
 /// Whether the block is to grow before two nodes more enter, so that half of the index stays free.
 #[inline]
@@ -37,7 +34,7 @@ pub(crate) fn grown<A: Allocator + Copy>(old: &Nodes<A>) -> Result<Nodes<A>, All
 fn copy<A: Allocator>(old: &Nodes<A>, new: &mut Nodes<A>)
     requires log { IsLog old.now.list old.now.count }
     requires twice { length new.old.list ≡ 2 * length old.now.list }
-    requires limit { length new.old.list ≤ 2147483648 }
+    requires limit { length new.old.list ≤ MAX_PLACES }
     requires blank { (new.old.count ≡ 0) × ((k : ℕ) → (at new.old.list k).slot ≡ 0) }
     ensures copied { Copied old.now.list new.new.list old.now.count }
     ensures count { new.new.count ≡ old.now.count }

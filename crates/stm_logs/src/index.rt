@@ -1,5 +1,6 @@
 //! The index of a write log: open addressing with linear probing.
 ghost use Rattle.std.specs.Prelude.{◌≡◌, ◌↔◌, ℕ, ◌+◌, ◌*◌, ◌<◌, ◌≤◌, Bool, true, false, IsTrue, List, length, slice_set};
+ghost use Rattle.stm_logs.specs.declared.nodes.TheConstants.{MAX_PLACES};
 ghost use Rattle.stm_logs.specs.Nodes.{Block, at};
 ghost use Rattle.stm_logs.specs.Index.{home, is_lock_node, HasKey, IsFound, IsIndexed, HasNone, Answers, Entered};
 
@@ -17,7 +18,7 @@ pub(crate) const NUMBERS: u64 = 4_294_967_296;
 #[inline]
 pub(crate) fn start(is_lock: bool, number: u32, len: usize) -> usize
     requires some { 0 < len }
-    requires limit { len ≤ 2147483648 }
+    requires limit { len ≤ MAX_PLACES }
     ensures place { result ≡ home is_lock number len }
     ensures inside { result < len }
 {

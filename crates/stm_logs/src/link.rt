@@ -1,5 +1,6 @@
 //! The chains of a tree: each node's children by ascending number.
 ghost use Rattle.std.specs.Prelude.{◌≡◌, ◌↔◌, ℕ, ◌+◌, ◌*◌, ◌<◌, ◌≤◌, Bool, true, false, IsTrue, List, length, slice_set};
+ghost use Rattle.stm_logs.specs.declared.nodes.TheConstants.{MAX_PLACES};
 ghost use Rattle.stm_logs.specs.Nodes.{Block, at, with_node};
 ghost use Rattle.stm_logs.specs.Index.{is_lock_node, HasNone};
 ghost use Rattle.stm_logs.specs.Tree.{IsTree, IsBelow, IsBefore, ComesFirst, GoesBehind, IsWaiting, Linked, with_next, with_first, with_recent};
@@ -11,7 +12,7 @@ use std::alloc::Allocator;
 #[inline]
 fn set_next<A: Allocator>(nodes: &mut Nodes<A>, e: usize, next: usize)
     requires inside { e < length nodes.old.list }
-    requires fits { next ≤ 2147483648 }
+    requires fits { next ≤ MAX_PLACES }
     ensures { nodes.new ≡ with_node nodes.old e (with_next (at nodes.old.list e) next) }
 {
     let node = *nodes.get(e);
@@ -27,7 +28,7 @@ fn set_next<A: Allocator>(nodes: &mut Nodes<A>, e: usize, next: usize)
 #[inline]
 fn set_first<A: Allocator>(nodes: &mut Nodes<A>, e: usize, first: usize)
     requires inside { e < length nodes.old.list }
-    requires fits { first ≤ 2147483648 }
+    requires fits { first ≤ MAX_PLACES }
     ensures { nodes.new ≡ with_node nodes.old e (with_first (at nodes.old.list e) first) }
 {
     let node = *nodes.get(e);
@@ -44,7 +45,7 @@ fn set_first<A: Allocator>(nodes: &mut Nodes<A>, e: usize, first: usize)
 #[inline]
 fn set_recent<A: Allocator>(nodes: &mut Nodes<A>, e: usize, recent: usize)
     requires inside { e < length nodes.old.list }
-    requires fits { recent ≤ 2147483648 }
+    requires fits { recent ≤ MAX_PLACES }
     ensures { nodes.new ≡ with_node nodes.old e (with_recent (at nodes.old.list e) recent) }
 {
     let node = *nodes.get(e);
@@ -89,7 +90,7 @@ pub(crate) fn link<A: Allocator>(
 )
     requires waits { IsWaiting nodes.old.list nodes.old.count parent }
     requires room { nodes.old.count + 1 < length nodes.old.list }
-    requires limit { length nodes.old.list ≤ 2147483648 }
+    requires limit { length nodes.old.list ≤ MAX_PLACES }
     requires child { child ≡ nodes.old.count + 1 }
     requires number { number ≡ (at nodes.old.list child).number }
     ensures linked { Linked nodes.old.list nodes.new.list nodes.old.count }
@@ -131,7 +132,7 @@ fn comes_next<A: Allocator>(nodes: &Nodes<A>, before: usize, number: u32) -> boo
 pub(crate) fn link_only<A: Allocator>(nodes: &mut Nodes<A>, parent: usize, child: usize)
     requires waits { IsWaiting nodes.old.list nodes.old.count parent }
     requires room { nodes.old.count + 1 < length nodes.old.list }
-    requires limit { length nodes.old.list ≤ 2147483648 }
+    requires limit { length nodes.old.list ≤ MAX_PLACES }
     requires child { child ≡ nodes.old.count + 1 }
     requires last { parent ≡ nodes.old.count }
     requires next { (at nodes.old.list child).next ≡ 0 }
@@ -152,7 +153,7 @@ fn link_far<A: Allocator>(
 )
     requires waits { IsWaiting nodes.old.list nodes.old.count parent }
     requires room { nodes.old.count + 1 < length nodes.old.list }
-    requires limit { length nodes.old.list ≤ 2147483648 }
+    requires limit { length nodes.old.list ≤ MAX_PLACES }
     requires child { child ≡ nodes.old.count + 1 }
     requires number { number ≡ (at nodes.old.list child).number }
     requires start { IsBelow nodes.old.list nodes.old.count parent number start }
@@ -169,7 +170,7 @@ fn link_far<A: Allocator>(
 fn link_first<A: Allocator>(nodes: &mut Nodes<A>, parent: usize, child: usize)
     requires waits { IsWaiting nodes.old.list nodes.old.count parent }
     requires room { nodes.old.count + 1 < length nodes.old.list }
-    requires limit { length nodes.old.list ≤ 2147483648 }
+    requires limit { length nodes.old.list ≤ MAX_PLACES }
     requires child { child ≡ nodes.old.count + 1 }
     requires front { ComesFirst nodes.old.list parent (at nodes.old.list child).number }
     ensures linked { Linked nodes.old.list nodes.new.list nodes.old.count }
@@ -184,7 +185,7 @@ fn link_first<A: Allocator>(nodes: &mut Nodes<A>, parent: usize, child: usize)
 fn link_behind<A: Allocator>(nodes: &mut Nodes<A>, parent: usize, before: usize, child: usize)
     requires waits { IsWaiting nodes.old.list nodes.old.count parent }
     requires room { nodes.old.count + 1 < length nodes.old.list }
-    requires limit { length nodes.old.list ≤ 2147483648 }
+    requires limit { length nodes.old.list ≤ MAX_PLACES }
     requires child { child ≡ nodes.old.count + 1 }
     requires before { GoesBehind nodes.old.list nodes.old.count parent child before }
     ensures linked { Linked nodes.old.list nodes.new.list nodes.old.count }

@@ -36,6 +36,9 @@ pub(crate) struct Node {
 /// chain ends at the root, to which the last node leads.
 pub(crate) const TOP: u32 = 4_294_967_295;
 
+/// The places of the largest block.
+pub(crate) const MAX_PLACES: usize = 2_147_483_648;
+
 /// An empty place.
 pub(crate) const BLANK: Node = Node {
     value: 0,
@@ -88,7 +91,7 @@ impl<A: Allocator> Nodes<A> {
 
     /// A block of `len` blank places.
     pub(crate) fn new(alloc: A, len: usize) -> Result<Nodes<A>, AllocError>
-        requires { len ≤ 2147483648 }
+        requires { len ≤ MAX_PLACES }
         ensures { IfOk result (λ s. IsBlank s len) }
     {
         let (mut row, right) = unsafe { Row::reserve(&alloc, len)? };

@@ -1,6 +1,7 @@
 //! The tree of a write log: the words of the log below their locks, in one block of nodes.
 ghost use Rattle.std.specs.Prelude.{◌≡◌, ◌≢◌, ◌↔◌, ℕ, ◌+◌, ◌*◌, ◌<◌, ◌≤◌, true, false, IsTrue, None, Some, Ok, length, nat_eq, IfOk, OnErr};
 ghost use Rattle.std.specs.FinMap.{get, len};
+ghost use Rattle.stm_logs.specs.declared.nodes.TheConstants.{MAX_PLACES};
 ghost use Rattle.stm_logs.specs.Nodes.{Block, at, with_node};
 ghost use Rattle.stm_logs.specs.Index.{HasNone, IsIndexed, Answers, unslotted};
 ghost use Rattle.stm_logs.specs.Tree.{IsReady, Added, block_log};
@@ -141,7 +142,7 @@ impl<A: Allocator + Copy> Tree<A> {
         ensures entered { result ≡ Ok true → IsEntered self.old self.new number lock value }
         ensures refused { OnErr result
             ((self.new ≡ self.old) × (get self.old.words number ≡ None)) }
-        ensures few { len self.old.words < 2147483648 }
+        ensures few { len self.old.words < MAX_PLACES }
     {
         let place = probe(&self.nodes, false, number);
         let word = self.nodes.get(place).slot as usize;

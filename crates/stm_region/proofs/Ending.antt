@@ -10,7 +10,8 @@ use Rattle.stm_core.specs.Event.{opener, renewing}
 use Rattle.stm_core.specs.History.{Serial, image_after}
 use Rattle.stm_core.proofs.Renewing.{opening_rules, begins_rules, past_before}
 use Rattle.stm_core.proofs.Whole.{closes, all_grants, knows, own_sorted}
-use Rattle.stm_region.specs.Shown.{Opened, RegionShown, opened_with, stripe_of}
+use Rattle.stm_region.specs.Shown.{Opened, RegionShown, opened_with}
+use Rattle.stm_core.specs.Guards.{stripe_of}
 use Rattle.stm_region.specs.Layout.{padding, first_cell}
 use Rattle.stm_region.specs.Rule.{listed, Holds}
 use Rattle.stm_region.specs.Closed.{Ends}

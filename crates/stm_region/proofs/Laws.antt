@@ -13,7 +13,8 @@ use Rattle.stm_core.proofs.Facts.{one_version}
 use Rattle.stm_core.proofs.Lones.{at_map}
 use Rattle.stm_core.proofs.Playing.{every_list_stands}
 use Rattle.stm_core.proofs.Whole.{whole_serial, whole_lawful, whole_shared}
-use Rattle.stm_region.specs.Shown.{Opened, stripe_of, joined}
+use Rattle.stm_region.specs.Shown.{Opened, joined}
+use Rattle.stm_core.specs.Guards.{stripe_of}
 use Rattle.stm_region.specs.Traced.{Mirrors}
 use Rattle.stm_region.specs.Rule.{Holds, listed}
 use Rattle.stm_region.specs.Running.{IsListed}

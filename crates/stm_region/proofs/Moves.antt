@@ -16,14 +16,14 @@ use Rattle.stm_core.specs.History.{Serial, SomeFits, all_records}
 use Rattle.stm_core.specs.Invariant.{now, Rule}
 use Rattle.stm_core.proofs.Eras.{in_append, of_is}
 use Rattle.stm_core.proofs.Lones.{at_map, goes_on}
-use Rattle.stm_core.specs.Guards.{Holds as Holding, MayAct, May}
+use Rattle.stm_core.specs.Guards.{Holds as Holding, MayAct, May, stripe_of}
 use Rattle.stm_core.proofs.Conditions.{can_act}
 use Rattle.stm_core.proofs.Renewals.{step_rules}
 use Rattle.stm_core.proofs.Renewing.{split_rules, gather_rules}
 use Rattle.stm_core.proofs.Whole.{whole_shared, opening_fits, knows}
 use Rattle.stm_core.proofs.Histories.{image_fits}
 use Rattle.stm_core.proofs.Facts.{some_fits, grants_of_two, ahead, all_lawful, one_version}
-use Rattle.stm_region.specs.Shown.{Opened, RegionShown, joined, opened_with, bounds, unplaced, stripe_of}
+use Rattle.stm_region.specs.Shown.{Opened, RegionShown, joined, opened_with, bounds, unplaced}
 use Rattle.stm_region.specs.Layout.{place, first_cell, InRange, IsLaid, IsStore}
 use Rattle.stm_region.specs.Told.{IsLockWord, IsVersion, StandsOn, IsRightAfter, IsOfOneVersionAt, DecidesAt, Told, acting, IsEarlier, AreEarlier}
 use Rattle.stm_region.specs.Traced.{IsTraced}

@@ -3,7 +3,7 @@ use Rattle.std.proofs.Common.{◌≡◌, ◌≢◌, ℕ, zero, suc, ◌+◌, ◌
 use Rattle.stm_core.specs.Client.{Client}
 use Rattle.stm_core.specs.Core.{Core, found, left, written}
 use Rattle.stm_core.specs.Event.{Action, begin, probe, fetch, check, lock, tick, validate, put, release, give_back, finish}
-use Rattle.stm_region.specs.Shown.{stripe_of}
+use Rattle.stm_core.specs.Guards.{stripe_of}
 use Rattle.stm_region.specs.Layout.{place, padding, first_cell, InRange}
 use Rattle.stm_region.specs.Rule.{listed}
 

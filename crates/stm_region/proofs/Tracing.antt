@@ -8,12 +8,12 @@ use Rattle.stm_words.specs.declared.version.TheConstants.{VERSION_LIMIT}
 use Rattle.stm_core.specs.declared.limits.TheConstants.{MOST_RENEWALS}
 use Rattle.stm_core.specs.Client.{Client, Stamp, RecordLaw}
 use Rattle.stm_core.specs.Event.{Action, after, giving, fresh, taking, renewing, gone, opener}
-use Rattle.stm_core.specs.Guards.{may_act, IsLawful, May}
+use Rattle.stm_core.specs.Guards.{may_act, IsLawful, May, stripe_of}
 use Rattle.stm_core.specs.Core.{Core, bounds_of, found, stepped, divided, gathered, renewed, IsFreeHanded, Event, acts, splits, gathers, renews, stamp_of, client_of, is_out, others_spent, Allowed, played, Leads, opened, begun_on}
 use Rattle.stm_core.proofs.Conditions.{IsOut, IsAlone, out_test, and3, and5, not_test, eq_test, empty_test, lt_test, le_test}
 use Rattle.stm_core.proofs.Lists.{in_range, same_at, clash}
 use Rattle.stm_core.proofs.Renewing.{at_below}
-use Rattle.stm_region.specs.Shown.{Opened, unplaced, stripe_of}
+use Rattle.stm_region.specs.Shown.{Opened, unplaced}
 use Rattle.stm_region.specs.Traced.{unplaced_attempt, unplaced_client, IsShadow, Mirrors, IsTraced}
 use Rattle.stm_region.proofs.Mirroring.{shadow_after, shadow_giving, shadow_fresh, shadow_taking, after_spent, mirrors_set, mirrors_both, mirrors_longer, mirrors_opening, mirrors_renewed, may_shadow, lawful_shadow, found_same, WordsAfter, words_same, both_true, others_are, value_there}
 

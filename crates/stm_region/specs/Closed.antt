@@ -7,7 +7,8 @@ use Rattle.stm_core.specs.Client.{Client, Record, RecordLaw}
 use Rattle.stm_core.specs.Core.{Core}
 use Rattle.stm_core.specs.Invariant.{Rule, Sorted}
 use Rattle.stm_core.specs.History.{Serial, image_after}
-use Rattle.stm_region.specs.Shown.{RegionShown, opened_with, stripe_of}
+use Rattle.stm_region.specs.Shown.{RegionShown, opened_with}
+use Rattle.stm_core.specs.Guards.{stripe_of}
 use Rattle.stm_region.specs.Traced.{IsTraced}
 
 -- the words and the version are those of a last core state, in which the closing client had this

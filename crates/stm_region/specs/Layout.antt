@@ -4,7 +4,8 @@ use Rattle.std.specs.Prelude.{◌≡◌, ℕ, ◌+◌, ◌-◌, ◌%◌, ◌<◌
 use Rattle.stm_core.specs.Client.{Client}
 use Rattle.stm_core.specs.Core.{left}
 use Rattle.stm_core.specs.Event.{Action, begin, probe, fetch, check, lock, tick, validate, put, release, give_back, finish}
-use Rattle.stm_region.specs.Shown.{Opened, stripe_of}
+use Rattle.stm_region.specs.Shown.{Opened}
+use Rattle.stm_core.specs.Guards.{stripe_of}
 use Rattle.stm_region.specs.declared.layout.TheConstants.{CLOCK, FIRST_LOCK, LINE_WORDS, LINE_START}
 use Rattle.stm_words.specs.declared.version.TheConstants.{VERSION_LIMIT}
 use Rattle.stm_core.specs.declared.limits.TheConstants.{MOST_WORDS, MOST_STRIPES}

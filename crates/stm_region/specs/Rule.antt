@@ -6,7 +6,8 @@ use Rattle.atomic_table.specs.Table.{State}
 use Rattle.stm_core.specs.Client.{Client, RecordLaw}
 use Rattle.stm_core.specs.Core.{Core}
 use Rattle.stm_core.specs.Invariant.{Rule}
-use Rattle.stm_region.specs.Shown.{Opened, stripe_of}
+use Rattle.stm_region.specs.Shown.{Opened}
+use Rattle.stm_core.specs.Guards.{stripe_of}
 use Rattle.stm_region.specs.Layout.{padding}
 use Rattle.stm_region.specs.Traced.{IsTraced}
 use Rattle.stm_region.specs.declared.layout.TheConstants.{FIRST_LOCK}

@@ -5,7 +5,8 @@ use Rattle.atomic_table.specs.Table.{State}
 use Rattle.stm_core.specs.Client.{Client, RecordLaw}
 use Rattle.stm_core.specs.Core.{Core, Event, opened}
 use Rattle.stm_core.specs.Theorem.{Reaches, Stands}
-use Rattle.stm_region.specs.Shown.{Opened, stripe_of}
+use Rattle.stm_region.specs.Shown.{Opened}
+use Rattle.stm_core.specs.Guards.{stripe_of}
 use Rattle.stm_region.specs.Layout.{padding}
 use Rattle.stm_region.specs.Traced.{Mirrors}
 use Rattle.stm_region.specs.Rule.{listed}

@@ -1,8 +1,8 @@
 -- What contracts see of a region and of its clients.
-use Rattle.std.specs.Prelude.{◌≡◌, ◌≢◌, ℕ, ◌+◌, ◌%◌, ◌<◌, min, length, List, [], Option, None, Some, Result, MatchResult}
+use Rattle.std.specs.Prelude.{◌≡◌, ◌≢◌, ℕ, ◌+◌, ◌<◌, min, length, List, [], Option, None, Some, Result, MatchResult}
 use Rattle.atomic_table.specs.Seated.{TableId}
 use Rattle.stm_core.specs.Client.{Client, Stamp, Step, nothing, began, probed, fetched, checked, locked, ticked, validated, ended, RecordLaw}
-use Rattle.stm_core.specs.Guards.{May}
+use Rattle.stm_core.specs.Guards.{May, stripe_of}
 use Rattle.stm_core.specs.Event.{Action, Bounds, after, giving, fresh, taking, renewing, opener}
 use Rattle.stm_region.specs.declared.limits.TheConstants.{MOST_GRANTS}
 
@@ -94,10 +94,6 @@ opened_on table image last stripes = record {
   renewal = 0;
   start = opener;
 }
-
--- the lock of an address
-abbrev pub stripe_of : ℕ → ℕ → ℕ
-stripe_of stripes address = address % stripes
 
 abbrev pub bounds : RegionShown → Bounds
 bounds r = record { last = r.last; stripes = r.stripes; size = r.size }

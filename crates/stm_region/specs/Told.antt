@@ -8,9 +8,9 @@ use Rattle.stm_core.specs.Client.{Client, Record, decided, version_of, IsFree, w
 use Rattle.stm_core.specs.Core.{Core, found, stepped, acts}
 use Rattle.stm_core.specs.Invariant.{Rule, now}
 use Rattle.stm_core.specs.Event.{Action, begin, probe, fetch, check, lock, tick, validate, put, release, give_back, finish}
-use Rattle.stm_core.specs.Guards.{Holds}
+use Rattle.stm_core.specs.Guards.{Holds, stripe_of}
 use Rattle.stm_core.specs.History.{Serial, Sub, all_records, image_at}
-use Rattle.stm_region.specs.Shown.{RegionShown, opened_with, unplaced, value_after, stripe_of}
+use Rattle.stm_region.specs.Shown.{RegionShown, opened_with, unplaced, value_after}
 use Rattle.stm_region.specs.Traced.{IsTraced}
 use Rattle.stm_region.specs.declared.limits.TheConstants.{MOST_GRANTS}
 use Rattle.stm_words.specs.declared.version.TheConstants.{VERSION_LIMIT}

@@ -7,7 +7,8 @@ ghost use Rattle.stm_core.specs.Client.{Record};
 ghost use Rattle.stm_core.specs.History.{Sub};
 ghost use Rattle.stm_core.specs.Core.{IsFreeHanded};
 ghost use Rattle.stm_core.specs.Event.{opener};
-ghost use Rattle.stm_region.specs.Shown.{HasSplit, joined, opened_on, opened_with, stripe_of};
+ghost use Rattle.stm_region.specs.Shown.{HasSplit, joined, opened_on, opened_with};
+ghost use Rattle.stm_core.specs.Guards.{stripe_of};
 ghost use Rattle.stm_region.specs.Layout.{first_cell};
 ghost use Rattle.stm_region.specs.Refused.{IsSize, IsLast, IsStripes, OpensNot};
 

@@ -3,12 +3,12 @@ ghost use Rattle.std.specs.Prelude.{◌≡◌, ◌≢◌, ℕ, ◌+◌, ◌*◌,
 ghost use Rattle.stm_core.specs.Client.{word_before, decided};
 ghost use Rattle.stm_core.specs.Event.{begin as begins, probe as probes, fetch as fetches, check as checks, lock as locks, tick as ticks, validate as validates, put as puts, release as releases, give_back as gives_back, finish as finishes};
 ghost use Rattle.stm_logs.specs.Log.{log_pairs};
-ghost use Rattle.stm_region.specs.Shown.{Exchanged, IsAllowed, acted, stripe_of};
+ghost use Rattle.stm_region.specs.Shown.{Exchanged, IsAllowed, acted};
 ghost use Rattle.stm_region.specs.declared.limits.TheConstants.{MOST_GRANTS};
 ghost use Rattle.stm_region.specs.Told.{IsLockWord, IsLoneOpen, StandsOn, IsOfOneVersion, IsOfOneVersionAt, AreEarlier, Decides, DecidesAt};
 ghost use Rattle.std.specs.Prelude.{◌⊎◌};
 ghost use Rattle.stm_core.specs.Client.{version_of, IsFree};
-ghost use Rattle.stm_core.specs.Guards.{Holds};
+ghost use Rattle.stm_core.specs.Guards.{Holds, stripe_of};
 
 use crate::client::Client;
 use crate::layout::{CLOCK, FIRST_LOCK};

@@ -9,7 +9,7 @@ use Rattle.stm_core.specs.Client.{shed, Client, Record, Stamp, checked, locked, 
 use Rattle.stm_core.specs.Event.{decision, Action, begin, check, lock, tick, validate, release, give_back, committed_by, stepping, failing, read_too, holding, versioned, decides_at_once, won, passes, passing, after, giving, fresh, taking, renewing, gone, with_ticks, marking, counting}
 use Rattle.stm_core.specs.History.{ByPoint}
 use Rattle.stm_core.specs.Core.{stamp_of, Core, bounds_of, found, left, written, Event, acts, splits, gathers, renews, Allowed, client_of, played, Leads, opened, is_out, are_spent, others_spent, may_play}
-use Rattle.stm_core.specs.Theorem.{stripe_of, free_law, IsHistory}
+use Rattle.stm_core.specs.Theorem.{free_law, IsHistory}
 use Rattle.stm_core.specs.Invariant.{Inv, now, Rule}
 use Rattle.stm_replay.specs.Seat.{blank, seat_after}
 use Rattle.stm_replay.specs.Running.{Running, IsSane, stripes_of, may_run, has_number, entered, run_acts, run_played, run_opened, found_of, shown, ran}
@@ -24,7 +24,7 @@ use Rattle.stm_replay.proofs.Placing.{order_of, as_kept, decision_shown, entered
 use Rattle.stm_core.proofs.Facts.{grants_of_two}
 use Rattle.stm_core.proofs.Conditions.{can_play, free_event, out_test}
 use Rattle.stm_replay.proofs.Counting.{run_test}
-use Rattle.stm_core.specs.Guards.{may_act}
+use Rattle.stm_core.specs.Guards.{may_act, stripe_of}
 
 get_map : (l : List Client) (i : ℕ) → get_or (map blank l) i gone ≡ blank (get_or l i gone)
 get_map [] i = refl

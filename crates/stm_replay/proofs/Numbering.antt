@@ -7,11 +7,11 @@ use Rattle.stm_core.specs.Client.{Client, Record, Stamp, checked, locked, ticked
 use Rattle.stm_core.specs.Event.{Action, begin, check, lock, tick, validate, finish, Bounds, committed_by, stepping, failing, read_too, holding, versioned, decides_at_once, won, passes, passing, after, giving, fresh, taking, renewing, gone, writer_record, reader_record, with_ticks, marking, counting}
 use Rattle.stm_core.specs.Core.{Core, bounds_of, found, left, written, stepped, divided, gathered, renewed, Event, acts, splits, gathers, renews, Allowed, client_of, played, Leads, opened, is_out, are_spent, others_spent, may_play}
 use Rattle.stm_core.specs.Version.{At}
-use Rattle.stm_core.specs.Theorem.{stripe_of, free_law}
+use Rattle.stm_core.specs.Theorem.{free_law}
 use Rattle.stm_replay.specs.Numbered.{AllowedWithNumbers, SameButTags, numbered_action, numbered_event, numbered_record, numbered_client, numbered_core}
 use Rattle.stm_core.proofs.Steps.{by_case}
 use Rattle.stm_core.proofs.Conditions.{CanAct, can_play, free_event}
-use Rattle.stm_core.specs.Guards.{may_act}
+use Rattle.stm_core.specs.Guards.{may_act, stripe_of}
 use Rattle.stm_core.proofs.Lones.{at_map}
 
 module _ (number : List ℕ → ℕ) where

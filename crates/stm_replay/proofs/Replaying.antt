@@ -3,7 +3,8 @@ use Rattle.std.proofs.Common.{◌≡◌, ℕ, suc, ◌-◌, ◌≤◌, true, Lis
 use Rattle.std.proofs.lemmas.List.{length-map}
 use Rattle.stm_core.specs.Event.{after, giving, fresh, taking, renewing, gone, begin, probe, fetch, check, lock, tick, validate, put, release, give_back, finish}
 use Rattle.stm_core.specs.Core.{Core, Event, acts, splits, gathers, renews, stamp_of, client_of, found, played, Leads, opened}
-use Rattle.stm_core.specs.Theorem.{stripe_of, free_law}
+use Rattle.stm_core.specs.Theorem.{free_law}
+use Rattle.stm_core.specs.Guards.{stripe_of}
 use Rattle.stm_replay.specs.Running.{has_number, run_opened, ran}
 use Rattle.stm_replay.specs.declared.event.Event.TheVariants.{Begin, Probe, Fetch, Check, Lock, Tick, Validate, Put, Release, GiveBack, Finish, Split, Gather, Renew}
 use Rattle.stm_replay.specs.Numbered.{numbered_event, numbered_client, numbered_core, EveryEventIsPlayable, MayRun, PlayedWithNumbers}

@@ -9,7 +9,8 @@ use Rattle.stm_core.specs.Core.{Core, Event, acts, Allowed, played, Leads, opene
 use Rattle.stm_core.specs.Version.{At}
 use Rattle.stm_core.specs.Invariant.{Rule}
 use Rattle.stm_core.specs.History.{Serial, ByPoint}
-use Rattle.stm_core.specs.Theorem.{stripe_of, free_law, IsHistory, Stands}
+use Rattle.stm_core.specs.Theorem.{free_law, IsHistory, Stands}
+use Rattle.stm_core.specs.Guards.{stripe_of}
 use Rattle.stm_replay.specs.Seat.{tag_number}
 use Rattle.stm_replay.specs.Numbered.{numbered_event, numbered_record, numbered_client, numbered_core, tags_of, TellsApart, EveryListHasNumbers, IsLegal, LegalHistories}
 use Rattle.stm_core.proofs.Lists.{nothing_in}

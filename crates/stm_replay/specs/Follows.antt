@@ -2,7 +2,8 @@
 use Rattle.std.specs.Prelude.{◌≡◌, ℕ, ◌<◌, ◌↔◌, true, List, map}
 use Rattle.stm_core.specs.Client.{Record}
 use Rattle.stm_core.specs.Core.{Core, Event, Allowed}
-use Rattle.stm_core.specs.Theorem.{stripe_of, free_law, Reaches, IsHistory}
+use Rattle.stm_core.specs.Theorem.{free_law, Reaches, IsHistory}
+use Rattle.stm_core.specs.Guards.{stripe_of}
 use Rattle.stm_replay.specs.Running.{Running, entry_of, stripes_of, may_run, has_number, shown, run_opened, found_of, ran}
 use Rattle.stm_replay.specs.declared.event.Entry.{Entry}
 use Rattle.stm_words.specs.declared.version.TheConstants.{VERSION_LIMIT}

@@ -4,7 +4,7 @@ use Rattle.stm_words.specs.Image.{In}
 use Rattle.stm_core.specs.Client.{Record, found_by, old_version, writes_to, is_committed}
 use Rattle.stm_core.specs.Event.{Action, decision, giving, fresh, taking, renewing, gone, opener}
 use Rattle.stm_core.specs.Core.{Core, found, left, written, client_of, stamp_of, is_out, Event, acts, splits, gathers, renews, may_play}
-use Rattle.stm_core.specs.Theorem.{stripe_of}
+use Rattle.stm_core.specs.Guards.{stripe_of}
 use Rattle.stm_replay.specs.Seat.{blank, seat_after, tag_number}
 use Rattle.stm_replay.specs.Placing.{Placed, put_in}
 use Rattle.stm_replay.specs.declared.event.Entry.{Entry}

@@ -4,8 +4,7 @@ ghost use Rattle.std.specs.Prelude.{◌≡◌, ◌==◌, ◌<◌, ◌%◌, ◌&&
 ghost use Rattle.std.specs.List.{list_any, list_all};
 ghost use Rattle.stm_core.specs.Client.{writes_to, old_version, is_free, without};
 ghost use Rattle.stm_core.specs.Event.{is_empty};
-ghost use Rattle.stm_core.specs.Guards.{is_map, is_next, are_stored, may_write};
-ghost use Rattle.stm_core.specs.Theorem.{stripe_of};
+ghost use Rattle.stm_core.specs.Guards.{is_map, is_next, are_stored, may_write, stripe_of};
 ghost use Rattle.stm_words.specs.LockWord.{free_word};
 ghost use Rattle.stm_words.specs.declared.version.TheConstants.{VERSION_LIMIT};
 

@@ -1,16 +1,16 @@
 //! Lists of bookings over plain memory and over a region.
 ghost use Rattle.std.specs.Prelude.{◌≡◌, ◌+◌, ◌*◌, ◌<◌, IfOk};
 ghost use Rattle.stm_core.specs.Core.{IsFreeHanded};
-ghost use Rattle.tx_list.specs.Stock.{IsStock, IsStockKey, HasStock, stock_block, stock_word};
+ghost use Rattle.stock_rows.specs.Stock.{HasStock};
 
 use crate::words::{has_words, place_of};
-use std::alloc::{AllocError, Global};
+use std::alloc::Global;
 use std::test::Fail;
 use stm_attempt::{Attempt, Logs};
 use stm_region::{Client, Region};
 use stm_words::{Addr, Flat, Law, TxMem, TxRead};
-use tx_alloc::Block;
-use tx_list::{Key, find, first, insert, next, remove};
+use stock_rows::{HEAD, look, stock_words, turn};
+use tx_list::{Key, first, next};
 
 /// An image fits where its head leads to a list and each block has its key, and a record is lawful
 /// where it keeps fitting images that agree with its reads.
@@ -19,7 +19,7 @@ struct ListLaw;
 impl Law for ListLaw {
     ghost use Rattle.stm_attempt.specs.Leading.{KeepsFitting};
     ghost use Rattle.stm_rows.specs.Laws.{Fits};
-    ghost use Rattle.tx_list.specs.Stock.{IsStocked};
+    ghost use Rattle.stock_rows.specs.Stock.{IsStocked};
 
     ghost fits = { λ image. Fits IsStocked image };
 
@@ -27,73 +27,6 @@ impl Law for ListLaw {
         KeepsFitting (λ image. Fits IsStocked image) reads writes };
 
     ghost keeps = { λ tag image reads writes f a l. l image f a };
-}
-
-const HEAD: Addr = Addr(5);
-
-const IDS: u32 = 40;
-
-const WORDS: usize = 976;
-
-/// The block that has this key written from the start.
-fn block_of(key: Key) -> Block
-    requires { IsStockKey key }
-    ensures { result ≡ stock_block (40 * key.kind + key.id) }
-{
-    Block(Addr(16 + 8 * (IDS * key.kind as u32 + key.id as u32)))
-}
-
-/// A word of the memory before the first change.
-fn word_at(place: usize) -> u64
-    requires { place < WORDS }
-    ensures { result ≡ stock_word place }
-{
-    if place < 16 {
-        return if place == 5 { 0 } else { 1000 + place as u64 };
-    }
-    let block = (place as u64 - 16) / 8;
-    match place % 8 {
-        0 => block / 40,
-        1 => block % 40,
-        _ => 1000 + place as u64,
-    }
-}
-
-fn stock_words(alloc: Global) -> Result<Vec<u64>, AllocError>
-    ensures { IfOk result (λ words. IsStock words.items) }
-{
-    let mut words = Vec::from_elem(alloc, 0u64, WORDS)?;
-    for place in 0..WORDS {
-        words[place] = word_at(place);
-    }
-    Ok(words)
-}
-
-/// Takes the booking of a key out, or hangs it in where there is none.
-fn turn<M: TxMem>(memory: &mut M, key: Key) -> Result<Option<Block>, M::Stop>
-    requires stock { HasStock (M.view memory.old) }
-    requires key { IsStockKey key }
-    ensures origin { M.origin memory.new ≡ M.origin memory.old }
-    ensures stock { IfOk result (λ _. HasStock (M.view memory.new)) }
-{
-    let removed = remove(memory, HEAD, key)?;
-    match removed {
-        None => {
-            insert(memory, HEAD, key, block_of(key))?;
-            Ok(None)
-        }
-        Some(block) => Ok(Some(block)),
-    }
-}
-
-fn look<M: TxRead>(memory: &mut M, key: Key) -> Result<Option<Block>, M::Stop>
-    requires stock { HasStock (M.view memory.old) }
-    requires key { IsStockKey key }
-    ensures origin { M.origin memory.new ≡ M.origin memory.old }
-    ensures stock { IfOk result (λ _. HasStock (M.view memory.new)) }
-{
-    let found = find(memory, HEAD, key)?;
-    Ok(found)
 }
 
 /// Where the first two blocks of the list are.

@@ -4,9 +4,17 @@ use Rattle.stm_words.specs.View.{View, Sees, Stands, Kept, IsWrite}
 use Rattle.tx_alloc.specs.Steps.{mem}
 use Rattle.tx_alloc.specs.declared.place.TheConstants.{LISTS, FIRST_HEAD, FIRST_BLOCK, BLOCK_WORDS}
 
+-- the first word of block b
+abbrev pub block_place : ℕ → ℕ
+block_place b = FIRST_BLOCK + BLOCK_WORDS * b
+
+-- how many words a heap of so many blocks has
+abbrev pub heap_words : ℕ → ℕ
+heap_words blocks = FIRST_BLOCK + BLOCK_WORDS * blocks
+
 -- a is the first word of a block of a memory of n words
 abbrev pub IsBlock : ℕ → ℕ → Type 0
-IsBlock n a = (b : ℕ) × ((a + BLOCK_WORDS ≤ n) × (a ≡ FIRST_BLOCK + BLOCK_WORDS * b))
+IsBlock n a = (b : ℕ) × ((a + BLOCK_WORDS ≤ n) × (a ≡ block_place b))
 
 -- p leads to these blocks, linked by their first word
 abbrev pub Free : (ℕ → ℕ) → ℕ → ℕ → List ℕ → Type 0
@@ -37,7 +45,7 @@ with_block used b x = cond (nat_eq b x) 1 0 + used x
 pub record IsPool (m : ℕ → ℕ) (n : ℕ) (free : ℕ → List ℕ) (used : ℕ → ℕ) (count : ℕ) : Type 0 where
   pub lists : (i : ℕ) → i < LISTS → Free m n (m (FIRST_HEAD + i)) (free i)
   pub once : (x : ℕ) → IsBlock n x → sum_below LISTS (λ i. held x (free i)) + used x ≡ 1
-  pub all : FIRST_BLOCK + BLOCK_WORDS * (sum_below LISTS (λ i. length (free i)) + count) ≡ n
+  pub all : heap_words (sum_below LISTS (λ i. length (free i)) + count) ≡ n
 
 pub record SomePool (m : ℕ → ℕ) (n : ℕ) : Type 0 where
   pub free : ℕ → List ℕ
@@ -113,23 +121,23 @@ pub record Given (s s' : View) (start b : ℕ) : Type 0 where
 
 -- the place of block b of n blocks, or 0 where there is none
 abbrev pub place_of : ℕ → ℕ → ℕ
-place_of n b = cond (nat_lt b n) (FIRST_BLOCK + BLOCK_WORDS * b) 0
+place_of n b = cond (nat_lt b n) (block_place b) 0
 
 -- the words of a heap of n free blocks: block b is in list b mod 8, the lists ascend, and all
 -- other words are 0
 pub record IsEmptyHeap (xs : List ℕ) (n : ℕ) : Type 0 where
-  pub size : length xs ≡ FIRST_BLOCK + BLOCK_WORDS * n
+  pub size : length xs ≡ heap_words n
   pub heads : (i : ℕ) → i < LISTS → slice_index xs (FIRST_HEAD + i) ≡ place_of n i
   pub nexts : (b : ℕ) → b < n →
-      slice_index xs (FIRST_BLOCK + BLOCK_WORDS * b) ≡ place_of n (b + LISTS)
+      slice_index xs (block_place b) ≡ place_of n (b + LISTS)
   pub others : (x : ℕ) → ((i : ℕ) → i < LISTS → x ≢ FIRST_HEAD + i) →
-      ((b : ℕ) → b < n → x ≢ FIRST_BLOCK + BLOCK_WORDS * b) → slice_index xs x ≡ 0
+      ((b : ℕ) → b < n → x ≢ block_place b) → slice_index xs x ≡ 0
 
 -- the blocks b, b + 8, b + 16 and so on below n, at most f of them
 abbrev pub strided : ℕ → ℕ → ℕ → List ℕ
 strided zero b n = []
 strided (suc f) b n =
-    cond (nat_lt b n) ((FIRST_BLOCK + BLOCK_WORDS * b) ∷ strided f (b + LISTS) n) []
+    cond (nat_lt b n) (block_place b ∷ strided f (b + LISTS) n) []
 
 -- the lists of a heap of n free blocks
 abbrev pub fresh_lists : ℕ → ℕ → List ℕ

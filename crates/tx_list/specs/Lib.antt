@@ -1,4 +1,3 @@
 pub mod Bookings
 pub mod Lists
 pub mod Search
-pub mod Stock

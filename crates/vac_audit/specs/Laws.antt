@@ -1,6 +1,7 @@
 -- The audit of words is right: it meets no flaw exactly where the words are those of a balanced
 -- state, and then its report is the state's.
 use Rattle.std.specs.Prelude.{◌≡◌, ℕ, ◌+◌, ◌*◌, ◌<◌, ◌≤◌, Ok, Err}
+use Rattle.tx_alloc.specs.Pool.{heap_words}
 use Rattle.vac_model.specs.declared.limits.TheConstants.{MOST_BLOCKS}
 use Rattle.vac_model.specs.declared.replies.Report.{Report}
 use Rattle.vac_model.specs.State.{State, report}
@@ -12,7 +13,7 @@ use Rattle.vac_audit.specs.declared.Flaw.TheVariants.{Pointer, Shared, Lost, Ord
 -- the memory represents a balanced state with this report
 pub record StateWith (m : ℕ → ℕ) (blocks : ℕ) (found : Report) : Type 0 where
   pub state : State
-  pub represented : IsState m (16 + 8 * blocks) state
+  pub represented : IsState m (heap_words blocks) state
   pub report_is : report state ≡ found
 
 -- words without a flaw are those of a balanced state
@@ -22,13 +23,13 @@ StateFound = (m : ℕ → ℕ) (blocks : ℕ) (found : Report) → blocks ≤ MO
 
 -- the words of a balanced state have no flaw
 abbrev pub StateClean : Type 0
-StateClean = (m : ℕ → ℕ) (blocks : ℕ) (state : State) → IsState m (16 + 8 * blocks) state →
+StateClean = (m : ℕ → ℕ) (blocks : ℕ) (state : State) → IsState m (heap_words blocks) state →
     audit m blocks ≡ Ok (report state)
 
 -- words with a flaw are those of no balanced state
 abbrev pub FlawedIsNone : Type 0
 FlawedIsNone = (m : ℕ → ℕ) (blocks : ℕ) (flaw : Flaw) → audit m blocks ≡ Err flaw →
-    (state : State) → IsState m (16 + 8 * blocks) state → ⊥
+    (state : State) → IsState m (heap_words blocks) state → ⊥
 
 -- a walk never runs out of levels: with more of them it answers the same
 abbrev pub EnoughLevels : Type 0
@@ -48,4 +49,4 @@ word_of (Bookings a) = a
 -- that is a word of the heap
 abbrev pub FlawInside : Type 0
 FlawInside = (m : ℕ → ℕ) (blocks : ℕ) (flaw : Flaw) → audit m blocks ≡ Err flaw →
-    word_of flaw < 16 + 8 * blocks
+    word_of flaw < heap_words blocks

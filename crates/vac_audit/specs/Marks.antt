@@ -1,7 +1,8 @@
 -- What the running walk knows: a mark for each block that was reached.
 use Rattle.std.specs.Prelude.{◌≡◌, ℕ, ◌+◌, ◌*◌, ◌<◌, ◌≤◌, ◌^◌, ◌≢◌, Bool, false, not, cond, List, [], ◌∷◌, length, nat_eq, slice_index, slice_index_or, Result, Ok, Err, MatchResult, MatchOption, Option, suc, sum_by, ⊤}
-use Rattle.tx_alloc.specs.Pool.{held, IsBlock}
+use Rattle.tx_alloc.specs.Pool.{held, heap_words, block_place, IsBlock}
 use Rattle.tx_alloc.specs.declared.place.TheConstants.{MOST_BLOCKS}
+use Rattle.vac_model.specs.declared.limits.TheConstants.{MOST_AMOUNT, MOST_UNITS}
 use Rattle.vac_audit.specs.Noted.{InOrder, keys_in, blocks_in, booked_in, codes_in}
 use Rattle.vac_audit.specs.Walk.{then, wants, is_in_order, is_booking, walk_bookings, units_in, follow, walk_free, walk_lists, check_reached}
 use Rattle.tx_alloc.specs.Rows.{Rows, block_at}
@@ -11,11 +12,11 @@ use Rattle.vac_audit.specs.declared.Flaw.TheVariants.{Order, Bookings}
 
 pub record Marks (marks : List Bool) (seen : List ℕ) : Type 0 where
   pub is : (b : ℕ) → b < length marks →
-      slice_index_or marks b false ≡ not (nat_eq (held (16 + 8 * b) seen) 0)
+      slice_index_or marks b false ≡ not (nat_eq (held (block_place b) seen) 0)
 
 -- marks for words: one for each block
 pub record IsMarked (words : List ℕ) (marks : List Bool) : Type 0 where
-  pub size : length words ≡ 16 + 8 * length marks
+  pub size : length words ≡ heap_words (length marks)
   pub few : length marks ≤ MOST_BLOCKS
 
 -- the pointer was followed
@@ -105,9 +106,10 @@ BookingLooked words codes p lo result =
 pub record Counting (notes : Notes) (left : ℕ) : Type 0 where
   pub order : InOrder notes.items.items
   pub booked : (i : ℕ) →
-      slice_index (booked_in notes.items.items) i + 10000 * left ≤ 10000 * MOST_BLOCKS
-  pub bookings : notes.tally.bookings + 10000 * left ≤ 10000 * MOST_BLOCKS
-  pub billed : notes.tally.billed + 10000000000 * left ≤ 10000000000 * MOST_BLOCKS
+      slice_index (booked_in notes.items.items) i + MOST_UNITS * left ≤ MOST_UNITS * MOST_BLOCKS
+  pub bookings : notes.tally.bookings + MOST_UNITS * left ≤ MOST_UNITS * MOST_BLOCKS
+  pub billed :
+      notes.tally.billed + MOST_UNITS * MOST_AMOUNT * left ≤ MOST_UNITS * MOST_AMOUNT * MOST_BLOCKS
 
 -- the same items
 pub record SameItems (notes notes' : Notes) : Type 0 where

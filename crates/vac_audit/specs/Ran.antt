@@ -1,6 +1,7 @@
 -- What the running audit does.
 use Rattle.std.specs.Prelude.{◌≡◌, ◌⊎◌, ℕ, ◌+◌, ◌*◌, ◌<◌, ◌≤◌, Bool, List, [], ◌++◌, length, suc, Result, Ok, Err, MatchResult, slice_index, sum_by, ⊤}
 use Rattle.std.specs.List.{All, AllWithin, HoldsAt}
+use Rattle.tx_alloc.specs.Pool.{heap_words}
 use Rattle.tx_alloc.specs.Rows.{Rows}
 use Rattle.vac_model.specs.declared.replies.Report.{Report}
 use Rattle.vac_records.specs.Heap.{over}
@@ -137,7 +138,7 @@ HeapRan words blocks result = MatchResult result
 
 -- so many words are those of a heap of one block or more, and of no more than there may be
 abbrev pub IsHeapSize : ℕ → Type 0
-IsHeapSize n = (blocks : ℕ) × ((n ≡ 16 + 8 * blocks) × (1 ≤ blocks) × (blocks ≤ MOST_BLOCKS))
+IsHeapSize n = (blocks : ℕ) × ((n ≡ heap_words blocks) × (1 ≤ blocks) × (blocks ≤ MOST_BLOCKS))
 
 -- what the audit says, as the call answers it
 abbrev pub answer : Result Report Flaw → Result Report AuditFault

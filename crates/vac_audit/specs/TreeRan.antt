@@ -4,6 +4,7 @@ use Rattle.tx_alloc.specs.Pool.{held, IsBlock}
 use Rattle.tx_alloc.specs.declared.place.TheConstants.{MOST_BLOCKS}
 use Rattle.tx_alloc.specs.Rows.{Rows}
 use Rattle.vac_model.specs.declared.items.Kind.{Kind}
+use Rattle.vac_model.specs.declared.limits.TheConstants.{MOST_TOTAL}
 use Rattle.vac_model.specs.State.{kind_number}
 use Rattle.vac_records.specs.Heap.{over}
 use Rattle.vac_audit.specs.Tree.{Tree, leaf, blacks, is_red}
@@ -136,9 +137,9 @@ Noted Customers m notes notes' rs lists = CustomersNoted m notes notes' rs lists
 
 -- the sums of as many items
 pub record Summed (tally : Tally) (items : ℕ) : Type 0 where
-  pub used : tally.used ≤ 1000000000 * items
-  pub free : tally.free ≤ 1000000000 * items
-  pub total : tally.total ≤ 1000000000 * items
+  pub used : tally.used ≤ MOST_TOTAL * items
+  pub free : tally.free ≤ MOST_TOTAL * items
+  pub total : tally.total ≤ MOST_TOTAL * items
 
 -- what was written down allows a walk of such a table that reaches this many blocks more
 abbrev pub Ready : Table → Notes → ℕ → Type 0

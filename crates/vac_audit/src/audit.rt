@@ -8,6 +8,7 @@ ghost use Rattle.vac_audit.specs.Ran.{Inside, UsedRan, HeapRan, IsHeapSize, Audi
 ghost use Rattle.vac_audit.specs.Represented.{StateOf, Recognised};
 ghost use Rattle.vac_audit.specs.TreeRan.{Summed};
 ghost use Rattle.tx_alloc.specs.declared.place.TheConstants.{MOST_BLOCKS};
+ghost use Rattle.tx_alloc.specs.Pool.{heap_words};
 ghost use Rattle.vac_audit.specs.declared.audit.AuditFault.TheVariants.{Size};
 ghost use Rattle.vac_audit.specs.declared.audit.TheConstants.{MOST_HEAP_WORDS};
 
@@ -113,7 +114,7 @@ fn check_used(words: &[u64], notes: &Notes) -> Result<(), Flaw>
 fn audit_heap(alloc: Global, words: &[u64], blocks: usize) -> Result<Report, Fault>
     requires some { 1 ≤ blocks }
     requires few { blocks ≤ MOST_BLOCKS }
-    requires size { length words.now ≡ 16 + 8 * blocks }
+    requires size { length words.now ≡ heap_words blocks }
     ensures ran { HeapRan words.now blocks result }
 {
     let mut reached = Vec::from_elem(alloc, false, blocks)?;

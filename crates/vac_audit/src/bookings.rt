@@ -59,7 +59,7 @@ fn look_at_booking(
     requires last { HasShortId last }
     ensures item { IfOk result (λ i. (i < length items.now)
         × (slice_index (codes_in items.now) i ≡ place_code (slice_index words.now) booking)) }
-    ensures units { OnOk result (slice_index words.now (booking + 4) ≤ 10000) }
+    ensures units { OnOk result (slice_index words.now (booking + 4) ≤ MOST_UNITS) }
     ensures sum { OnOk result (slice_index words.now (booking + 2) ≤ 10000000000) }
     ensures looked { BookingLooked words.now (codes_in items.now) booking (after last) result }
 {

@@ -10,13 +10,13 @@ ghost use Rattle.vac_commands.specs.CustomerSteps.{RanOn, ItemsStayOn, HasSeat, 
 ghost use Rattle.vac_commands.specs.Ran.{Ran, Asked, CustomerGone, joining};
 
 use crate::bookings::cancel_at;
-use crate::find::{CUSTOMERS, find_customer, find_item};
+use crate::find::{find_customer, find_item};
 use stm_words::{TxMem, TxRead, load};
 use tx_alloc::place::MOST_BLOCKS;
 use tx_alloc::{Block, FreeList, give, take};
 use tx_list::Spot;
 use vac_model::{Command, Kind, Reply, Why};
-use vac_records::{init_customer, place};
+use vac_records::{CUSTOMERS, init_customer, place};
 
 /// Makes a customer without bookings, in a block of the first free list that has one, from `start`
 /// on.

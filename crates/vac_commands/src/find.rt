@@ -1,28 +1,13 @@
 //! Finding entries in the tables.
 
-ghost use Rattle.std.specs.Prelude.{◌≡◌, ◌+◌, IfOk, IfErr, MatchOption};
-ghost use Rattle.vac_model.specs.State.{kind_number};
+ghost use Rattle.std.specs.Prelude.{◌≡◌, IfOk, IfErr, MatchOption};
 ghost use Rattle.vac_records.specs.Holds.{HoldsState, OnlyRead};
 ghost use Rattle.vac_commands.specs.Entries.{LacksItem, HasItemAt, LacksCustomer, HasCustomerAt};
 
-use stm_words::{Addr, TxRead};
+use stm_words::TxRead;
 use tx_alloc::Block;
 use vac_model::Kind;
-
-/// The word that leads to the table of customers.
-pub(crate) const CUSTOMERS: Addr = Addr(4);
-
-/// The word that leads to the table of a kind.
-#[inline]
-pub(crate) fn root_of(kind: Kind) -> Addr
-    ensures { result.0 ≡ 1 + kind_number kind }
-{
-    match kind {
-        Kind::Car => Addr(1),
-        Kind::Flight => Addr(2),
-        Kind::Room => Addr(3),
-    }
-}
+use vac_records::{CUSTOMERS, root_of};
 
 /// The block of an item, if the item is there.
 pub fn find_item<M: TxRead>(memory: &mut M, kind: Kind, id: u32) -> Result<Option<Block>, M::Stop>

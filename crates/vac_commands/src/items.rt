@@ -9,13 +9,13 @@ ghost use Rattle.vac_commands.specs.Entries.{LacksItem, HasItem, HasItemAt};
 ghost use Rattle.vac_commands.specs.ItemSteps.{PriceGiven};
 ghost use Rattle.vac_commands.specs.Ran.{Ran, Asked, ItemGone};
 
-use crate::find::{find_item, root_of};
+use crate::find::find_item;
 use stm_words::{TxMem, TxRead};
 use tx_alloc::{Block, FreeList, give, take};
 use vac_model::limits::MOST_TOTAL;
 use vac_model::{Command, Kind, Reply, Why};
 use vac_records::{
-    add_total, free_at, init_item, price_at, set_price, sub_total, total_at, used_at,
+    add_total, free_at, init_item, price_at, root_of, set_price, sub_total, total_at, used_at,
 };
 
 /// How many units of an item can be booked, if the item is there.

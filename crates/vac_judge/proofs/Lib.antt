@@ -1,7 +1,6 @@
 pub mod Order
 pub mod Linearized
 pub mod Arrows
-pub mod Heaps
 pub mod Keeping
 pub mod Lines
 pub mod Cutting

@@ -3,7 +3,6 @@ pub mod Parts
 pub mod Order
 pub mod Verdict
 pub mod Laws
-pub mod Holds
 pub mod Follows
 pub mod Judging
 pub mod Reading

@@ -14,12 +14,13 @@ ghost use Rattle.vac_judge.specs.Verdict.{summary_of};
 use crate::call::{CallLine, read_call};
 use crate::ends::Ends;
 use crate::fault::{CallFault, JudgeFault};
-use crate::heap::Heap;
 use crate::verdict::{Summary, Verdict, Wrong};
 use std::alloc::{AllocError, Global};
+use tx_alloc::FreeList;
 use vac_lines::{LineFault, print_reply};
 use vac_model::Reply;
 use vac_model::limits::MOST_BLOCKS;
+use vac_plain::Heap;
 
 /// A judge of a history that is given line by line: the state that the calls so far leave, and
 /// what the order of a further call is judged by.
@@ -103,7 +104,7 @@ impl Judge {
         if let Some(wrong) = self.judge_times(call) {
             return Ok(Some(wrong));
         }
-        let reply = self.heap.run(&call.task);
+        let reply = self.heap.run(&call.task, FreeList::new(0));
         if !is_text_of(&mut self.expected, &reply, call.reply)? {
             return Ok(Some(Wrong::Reply(reply)));
         }

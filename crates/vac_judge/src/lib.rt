@@ -11,7 +11,6 @@ mod arrow;
 mod call;
 mod ends;
 mod fault;
-mod heap;
 mod judge;
 mod laws;
 mod reading;

@@ -8,7 +8,8 @@ use Rattle.stm_core.specs.History.{all_records}
 use Rattle.stm_core.specs.Invariant.{Sorted}
 use Rattle.stm_core.proofs.Lists.{nothing_in}
 use Rattle.stm_core.proofs.Whole.{all_grants, own_sorted}
-use Rattle.stm_region.specs.Shown.{RegionShown, stripe_of}
+use Rattle.stm_region.specs.Shown.{RegionShown}
+use Rattle.stm_core.specs.Guards.{stripe_of}
 use Rattle.vac_model.specs.declared.tasks.Task.{Task}
 use Rattle.vac_model.specs.declared.replies.Reply.{Reply}
 use Rattle.vac_model.specs.State.{State, empty_state}

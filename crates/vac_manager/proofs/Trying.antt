@@ -5,7 +5,8 @@ use Rattle.stm_core.proofs.Lists.{by_bool}
 use Rattle.stm_logs.specs.Log.{LogValue, log_pairs}
 use Rattle.stm_core.specs.Event.{begin, finish}
 use Rattle.stm_core.specs.declared.limits.TheConstants.{MOST_GRANTS}
-use Rattle.stm_region.specs.Shown.{RegionShown, ClientShown, acted, stripe_of}
+use Rattle.stm_region.specs.Shown.{RegionShown, ClientShown, acted}
+use Rattle.stm_core.specs.Guards.{stripe_of}
 use Rattle.stm_attempt.specs.Begun.{still}
 use Rattle.stm_attempt.specs.Answers.{IsSpent as IsSpentStop}
 use Rattle.stm_attempt.specs.Conflicts.{IsReadConflict}

@@ -7,7 +7,8 @@ use Rattle.stm_core.specs.Client.{Client, Record}
 use Rattle.stm_core.specs.Core.{Core}
 use Rattle.stm_core.specs.Invariant.{Rule}
 use Rattle.stm_core.specs.History.{Sub, Serial, image_after, all_records}
-use Rattle.stm_region.specs.Shown.{RegionShown, stripe_of}
+use Rattle.stm_region.specs.Shown.{RegionShown}
+use Rattle.stm_core.specs.Guards.{stripe_of}
 use Rattle.vac_model.specs.declared.tasks.Task.{Task}
 use Rattle.vac_model.specs.declared.replies.Reply.{Reply}
 use Rattle.vac_model.specs.State.{State, empty_state}

@@ -4,6 +4,7 @@ use Rattle.stm_core.specs.Client.{Client, of_renewal}
 use Rattle.stm_core.specs.Event.{opener}
 use Rattle.stm_region.specs.Shown.{RegionShown}
 use Rattle.stm_region.specs.Closed.{Ends}
+use Rattle.tx_alloc.specs.Pool.{heap_words}
 use Rattle.vac_model.specs.declared.limits.TheConstants.{MOST_BLOCKS}
 use Rattle.vac_model.specs.State.{State, empty_state}
 use Rattle.stm_core.specs.declared.limits.TheConstants.{MOST_STRIPES}
@@ -33,7 +34,7 @@ is_opening blocks last stripes = is_block_count blocks && (is_last last && is_st
 -- record
 pub record Opens (blocks last stripes : ℕ) (region : RegionShown) (client : CallerShown) :
     Type 0 where
-  pub size : region.size ≡ 16 + 8 * blocks
+  pub size : region.size ≡ heap_words blocks
   pub last_is : region.last ≡ last
   pub stripes_is : region.stripes ≡ stripes
   pub capacity : capacity_of region ≡ blocks

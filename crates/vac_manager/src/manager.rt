@@ -5,6 +5,7 @@ ghost use Rattle.stm_core.specs.declared.limits.TheConstants.{MOST_STRIPES};
 ghost use Rattle.stm_core.specs.History.{Sub};
 ghost use Rattle.stm_region.specs.Shown.{joined};
 ghost use Rattle.stm_region.specs.Refused.{ClosesNot};
+ghost use Rattle.tx_alloc.specs.Pool.{heap_words};
 ghost use Rattle.vac_manager.specs.Called.{HasAllGrants, HasCalled, Splits, SplitsNot, OnlyOf};
 ghost use Rattle.vac_manager.specs.Placed.{IsPlaced, Took, WasPlaced, nothing_done, replied};
 ghost use Rattle.vac_manager.specs.Opening.{is_opening, Opens, Closes};
@@ -19,6 +20,7 @@ use std::marker::Model;
 use stm_attempt::{Gate, Logs, NoGate};
 use stm_region::{MOST_STRIPES, Region, RegionFault};
 use stm_words::{VERSION_LIMIT, Version};
+use tx_alloc::place::{BLOCK_WORDS, FIRST_BLOCK};
 use tx_alloc::{FreeList, fresh_words};
 use vac_model::limits::{MOST_BLOCKS, MOST_TRIES};
 use vac_model::{Reply, Task};
@@ -50,7 +52,7 @@ impl Manager {
     /// of 1,048,576 goes.
     pub fn new(alloc: Global, blocks: u32, last: u64) -> Result<(Manager, Client), Fault>
         ensures ok { IfOk result (λ r. Opens blocks last
-            (min (16 + 8 * blocks) MOST_STRIPES) r.0 r.1) }
+            (min (heap_words blocks) MOST_STRIPES) r.0 r.1) }
         ensures arguments { IsErrOf result Fault.Arguments ↔ (is_opening blocks last 1 ≡ false) }
         ensures memory { IfErr result
             (λ fault. (fault ≡ Fault.Arguments) ⊎ (fault ≡ Fault.Memory)) }
@@ -58,7 +60,7 @@ impl Manager {
         if blocks == 0 || blocks > MOST_BLOCKS {
             return Err(Fault::Arguments);
         }
-        let words = 16 + 8 * blocks;
+        let words = FIRST_BLOCK + BLOCK_WORDS * blocks;
         Self::with_stripes(alloc, blocks, last, words.min(MOST_STRIPES))
     }
 

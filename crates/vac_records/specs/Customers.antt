@@ -7,6 +7,7 @@ use Rattle.vac_model.specs.State.{Place, kind_number}
 use Rattle.vac_model.specs.Step.{new_booking}
 use Rattle.tx_alloc.specs.Pointer.{pointer, IsWithin}
 use Rattle.tx_alloc.specs.Pool.{IsBlock}
+use Rattle.tx_alloc.specs.declared.place.TheConstants.{MOST_BLOCKS}
 use Rattle.tx_alloc.specs.Rows.{Rows, times, put_row, cut_row, block_at, Relinks}
 use Rattle.tx_list.specs.Lists.{IsListAt, IsOutside}
 use Rattle.tx_list.specs.Search.{SpotAt}
@@ -156,7 +157,7 @@ sum_in m (r ∷ rs) = m (r.1 + 2) + sum_in m rs
 -- the customer has these bookings, at most 262,144, whose sums add up to a word
 pub record HasBill (m : ℕ → ℕ) (n customer : ℕ) (rows : Rows) : Type 0 where
   pub list : IsListAt m n (head_of customer) rows
-  pub few : length rows ≤ 262144
+  pub few : length rows ≤ MOST_BLOCKS
   pub fits : sum_in m rows < 2 ^ 64
 
 pub record SomeBill (m : ℕ → ℕ) (n customer : ℕ) : Type 0 where

@@ -5,6 +5,7 @@ use Rattle.std.specs.FinMap.{empty, get, insert, remove, entries}
 use Rattle.vac_model.specs.declared.items.Kind.{Kind}
 use Rattle.vac_model.specs.State.{State, Bookings, Place, kind_number, empty_state, item_of, with_item, without_item, bookings_of, with_bookings, without_customer, size, bill_of}
 use Rattle.tx_alloc.specs.Pool.{IsBlock, IsTaking, IsGiving, IsUsed, IsPool, IsEmptyHeap, fresh_lists}
+use Rattle.tx_alloc.specs.declared.place.TheConstants.{MOST_BLOCKS}
 use Rattle.tx_alloc.specs.Rows.{Rows, put_row, cut_row, block_at, Relinks}
 use Rattle.tx_tree.specs.Table.{IsTable, Table}
 use Rattle.tx_list.specs.Bookings.{IsList}
@@ -254,7 +255,7 @@ HandThere =
 abbrev pub TableThere : Type 0
 TableThere =
     (m : ℕ → ℕ) (n : ℕ) (out : List ℕ) (s : State) (i : ℕ) (h : Represents m n out s) →
-    s.capacity ≤ 262144 → i < 4 → Table m n (1 + i) (h.parts.tables i)
+    s.capacity ≤ MOST_BLOCKS → i < 4 → Table m n (1 + i) (h.parts.tables i)
 
 -- a customer's head word leads to the list of bookings
 abbrev pub ListThere : Type 0

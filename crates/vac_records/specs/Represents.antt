@@ -6,6 +6,7 @@ use Rattle.vac_model.specs.declared.items.Item.{Item}
 use Rattle.vac_model.specs.declared.items.Booking.{Booking}
 use Rattle.vac_model.specs.State.{State, Bookings, Place, kind_number, table_of}
 use Rattle.vac_model.specs.Fits.{IsSmall}
+use Rattle.tx_alloc.specs.Pool.{heap_words}
 use Rattle.tx_alloc.specs.Rows.{Rows}
 use Rattle.vac_records.specs.Items.{item_in}
 use Rattle.vac_records.specs.Bookings.{place_in, booking_in}
@@ -30,7 +31,7 @@ opened customers = map (λ c. (c.0, entries c.1)) customers
 -- a memory of n words represents a state, while these blocks are in hand: each block is an entry of
 -- one structure, free or in hand, and the structures have the state's entries
 pub record Represents (m : ℕ → ℕ) (n : ℕ) (out : List ℕ) (s : State) : Type 0 where
-  pub size : n ≡ 16 + 8 * s.capacity
+  pub size : n ≡ heap_words s.capacity
   pub parts : Parts
   pub heap : IsHeap m n parts
   pub held : parts.out ≡ out

@@ -2,6 +2,7 @@
 use Rattle.std.specs.Prelude.{◌≡◌, ℕ, ◌+◌, ◌<◌, ◌≤◌, ◌^◌, List, [], ◌∷◌, length, sum_by}
 use Rattle.std.specs.FinMap.{len, values}
 use Rattle.stm_words.specs.View.{View, Sees, Stands}
+use Rattle.tx_alloc.specs.declared.place.TheConstants.{MOST_BLOCKS}
 use Rattle.tx_alloc.specs.Rows.{Rows}
 use Rattle.tx_list.specs.Lists.{IsListAt}
 use Rattle.vac_model.specs.declared.items.Kind.{Kind}
@@ -94,7 +95,7 @@ words_at m place (r ∷ rs) = m (r.1 + place) + words_at m place rs
 -- the customer has these bookings, at most 262,144, whose units and sums add up to words
 pub record HasSums (m : ℕ → ℕ) (n customer : ℕ) (rows : Rows) : Type 0 where
   pub list : IsListAt m n (head_of customer) rows
-  pub few : length rows ≤ 262144
+  pub few : length rows ≤ MOST_BLOCKS
   pub units : words_at m 4 rows < 2 ^ 64
   pub sums : words_at m 2 rows < 2 ^ 64
 

@@ -4,14 +4,11 @@ ghost use Rattle.std.specs.Prelude.{◌≡◌, IfOk, IfErr};
 ghost use Rattle.vac_records.specs.Holds.{HoldsState};
 ghost use Rattle.vac_report.specs.Sums.{CustomersFit, customers_together, CanCount, CustomerCounted, CustomersSummed};
 
-use stm_words::{Addr, TxRead};
+use stm_words::TxRead;
 use tx_alloc::Block;
 use tx_alloc::place::MOST_BLOCKS;
 use vac_records::place::BOOKINGS;
-use vac_records::{sum_at, units_at};
-
-/// The root word of the table of customers.
-const CUSTOMERS: Addr = Addr(4);
+use vac_records::{CUSTOMERS, sum_at, units_at};
 
 /// How many customers there are, and the units and the sums of their bookings added up.
 #[derive(Clone, Copy)]

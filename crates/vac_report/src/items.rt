@@ -1,16 +1,15 @@
 //! Items, added up.
 
-ghost use Rattle.std.specs.Prelude.{◌≡◌, ◌+◌, IfOk, IfErr};
-ghost use Rattle.vac_model.specs.State.{kind_number};
+ghost use Rattle.std.specs.Prelude.{◌≡◌, IfOk, IfErr};
 ghost use Rattle.vac_records.specs.Items.{IsNode};
 ghost use Rattle.vac_records.specs.Holds.{HoldsState};
 ghost use Rattle.vac_report.specs.Sums.{ItemsFit, items_together, ItemCounted, ItemsSummed};
 
-use stm_words::{Addr, TxRead};
+use stm_words::TxRead;
 use tx_alloc::Block;
 use tx_alloc::place::MOST_BLOCKS;
 use vac_model::Kind;
-use vac_records::{free_at, total_at, used_at};
+use vac_records::{free_at, root_of, total_at, used_at};
 
 /// How many items there are, and their numbers added up.
 #[derive(Clone, Copy)]
@@ -33,17 +32,6 @@ impl ItemSums {
             free: self.free + other.free,
             total: self.total + other.total,
         }
-    }
-}
-
-/// The root word of the table of a kind.
-fn root_of(kind: Kind) -> Addr
-    ensures { result.0 ≡ 1 + kind_number kind }
-{
-    match kind {
-        Kind::Car => Addr(1),
-        Kind::Flight => Addr(2),
-        Kind::Room => Addr(3),
     }
 }
 

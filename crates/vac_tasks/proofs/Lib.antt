@@ -1,4 +1,3 @@
 pub mod Parts
 pub mod Choosing
 pub mod Booking
-pub mod Plain

@@ -1,5 +1,5 @@
 use Rattle.std.proofs.Common.{arith}
-use Rattle.vac_tasks.proofs.Plain.{fresh_holds}
+use Rattle.vac_plain.proofs.Heaps.{fresh_holds}
 use Rattle.audit_rows.proofs.reports.no_entries.Goals as goal
 
 pub report-requires : goal.report-requires

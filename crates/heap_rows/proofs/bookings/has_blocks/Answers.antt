@@ -1,6 +1,6 @@
 use Rattle.std.proofs.Common.{◌∙◌}
 use Rattle.tx_list.proofs.After.{next_booking}
-use Rattle.heap_rows.proofs.Stocked.{stock_read}
+use Rattle.stock_rows.proofs.Stocked.{stock_read}
 use Rattle.heap_rows.proofs.bookings.has_blocks.Goals as goal
 
 pub loop-block-preserved : goal.loop-block-preserved

@@ -1,6 +1,6 @@
 use Rattle.std.proofs.Common.{◌≡◌, ℕ, Some}
 use Rattle.tx_list.specs.Lists.{HasBooking}
-use Rattle.tx_list.specs.Stock.{HasStock}
+use Rattle.stock_rows.specs.Stock.{HasStock}
 use Rattle.heap_rows.proofs.bookings.has_blocks.Given as goal
 
 abbrev pub invariant-loop-block : goal.invariant-loop-block

@@ -1,4 +1,4 @@
-use Rattle.heap_rows.proofs.Stocked.{stock_flat}
+use Rattle.stock_rows.proofs.Stocked.{stock_flat}
 use Rattle.heap_rows.proofs.bookings.random_changes_beside_an_ordered_map.Goals as goal
 
 pub loop-init : goal.loop-init

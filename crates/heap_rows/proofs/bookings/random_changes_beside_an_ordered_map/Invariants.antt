@@ -1,5 +1,5 @@
 use Rattle.stm_words.specs.Plain.{flat_view}
-use Rattle.tx_list.specs.Stock.{HasStock}
+use Rattle.stock_rows.specs.Stock.{HasStock}
 use Rattle.heap_rows.proofs.bookings.random_changes_beside_an_ordered_map.Given as goal
 
 abbrev pub invariant-loop : goal.invariant-loop

@@ -2,7 +2,8 @@ use Rattle.std.proofs.Common.{sym, subst, ap, ◌∙◌, IfOk}
 use Rattle.stm_logs.specs.Log.{log_pairs}
 use Rattle.stm_core.specs.Event.{finish}
 use Rattle.stm_core.proofs.Conditions.{may_act_so}
-use Rattle.stm_region.specs.Shown.{ClientShown, bounds, stripe_of}
+use Rattle.stm_region.specs.Shown.{ClientShown, bounds}
+use Rattle.stm_core.specs.Guards.{stripe_of}
 use Rattle.stm_attempt.specs.Committing.{HasCommitted}
 use Rattle.stm_attempt.proofs.Parts.{no_pairs, has_finished, not_answered, not_refused}
 use Rattle.stm_attempt.proofs.commit.end.Goals as goal

@@ -1,5 +1,6 @@
 use Rattle.std.proofs.Common.{refl, sym, ap, subst, ◌∙◌, ◌≤◌, ℕ, List, [], length, take}
-use Rattle.stm_region.specs.Shown.{ClientShown, bounds, stripe_of, unplaced}
+use Rattle.stm_region.specs.Shown.{ClientShown, bounds, unplaced}
+use Rattle.stm_core.specs.Guards.{stripe_of}
 use Rattle.stm_attempt.proofs.Returning.{may_return, return_logged, returned_one}
 use Rattle.stm_attempt.proofs.locking.give_back_first.Goals as goal
 

@@ -1,6 +1,6 @@
 use Rattle.std.proofs.Common.{inl, sym, ◌∙◌, arith}
 use Rattle.stm_attempt.specs.CommitParts.{HasFailedLocking}
-use Rattle.stm_region.specs.Shown.{stripe_of}
+use Rattle.stm_core.specs.Guards.{stripe_of}
 use Rattle.stm_attempt.specs.Conflicts.{IsCommitConflict}
 use Rattle.stm_attempt.proofs.Locks.{next_above, next_logged, room}
 use Rattle.stm_attempt.proofs.Parts.{handed_on, nothing_answered, climbing_none, climbing_on, failed_climbing}

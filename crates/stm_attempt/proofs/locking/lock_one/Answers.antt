@@ -1,5 +1,6 @@
 use Rattle.std.proofs.Common.{ap}
-use Rattle.stm_region.specs.Shown.{ClientShown, bounds, stripe_of, unplaced}
+use Rattle.stm_region.specs.Shown.{ClientShown, bounds, unplaced}
+use Rattle.stm_core.specs.Guards.{stripe_of}
 use Rattle.stm_attempt.proofs.Climbing.{held_shown, may_lock}
 use Rattle.stm_attempt.proofs.Lone.{open_reading, none_held}
 use Rattle.stm_attempt.proofs.locking.lock_one.Goals as goal

@@ -1,5 +1,6 @@
 use Rattle.std.proofs.Common.{ap, ◌∙◌}
-use Rattle.stm_region.specs.Shown.{ClientShown, bounds, stripe_of, unplaced}
+use Rattle.stm_region.specs.Shown.{ClientShown, bounds, unplaced}
+use Rattle.stm_core.specs.Guards.{stripe_of}
 use Rattle.stm_attempt.proofs.Releasing.{may_release, release_logged, released_one}
 use Rattle.stm_attempt.proofs.storing.release_all.Goals as goal
 

@@ -1,5 +1,6 @@
 use Rattle.std.proofs.Common.{◌∙◌, ℕ, arith}
-use Rattle.stm_region.specs.Shown.{bounds, stripe_of}
+use Rattle.stm_region.specs.Shown.{bounds}
+use Rattle.stm_core.specs.Guards.{stripe_of}
 use Rattle.stm_attempt.specs.Conflicts.{IsReadLock, IsValidateConflict}
 use Rattle.stm_attempt.specs.CommitParts.{HasFailedValidating}
 use Rattle.stm_attempt.proofs.Parts.{handed_on}

@@ -1,4 +1,4 @@
-use Rattle.stm_rows.proofs.Stocked.{stock_flat}
+use Rattle.stock_rows.proofs.Stocked.{stock_flat}
 use Rattle.stm_rows.proofs.lists.a_list_of_plain_memory_and_of_a_region.Goals as goal
 
 pub change-requires : goal.change-requires

@@ -1,4 +1,4 @@
-use Rattle.tx_list.specs.Stock.{IsStocked}
+use Rattle.stock_rows.specs.Stock.{IsStocked}
 use Rattle.stm_rows.proofs.Begun.{held_begun}
 use Rattle.stm_rows.proofs.Stocked.{stock_held}
 use Rattle.stm_rows.proofs.lists.change_in_an_attempt.Goals as goal

@@ -1,5 +1,5 @@
 use Rattle.tx_list.proofs.After.{first_booking}
-use Rattle.stm_rows.proofs.Stocked.{stock_list, stock_read}
+use Rattle.stock_rows.proofs.Stocked.{stock_list, stock_read}
 use Rattle.stm_rows.proofs.lists.first_and_next.Goals as goal
 
 pub next-requires : goal.next-requires

@@ -1,5 +1,6 @@
 use Rattle.std.proofs.Common.{sym, subst, ℕ}
-use Rattle.stm_region.specs.Shown.{ClientShown, stripe_of}
+use Rattle.stm_region.specs.Shown.{ClientShown}
+use Rattle.stm_core.specs.Guards.{stripe_of}
 use Rattle.stm_attempt.specs.Conflicts.{IsReadConflict}
 use Rattle.stm_attempt.proofs.attempt.Attempt.commit.Goals as goal
 

@@ -2,7 +2,8 @@ use Rattle.std.proofs.Common.{rules, sym, ap, subst}
 use Rattle.stm_core.specs.Event.{finish}
 use Rattle.stm_core.specs.Invariant.{Sorted}
 use Rattle.stm_core.proofs.Whole.{after_sorted}
-use Rattle.stm_region.specs.Shown.{unplaced, stripe_of}
+use Rattle.stm_region.specs.Shown.{unplaced}
+use Rattle.stm_core.specs.Guards.{stripe_of}
 use Rattle.stm_region.specs.Told.{DecidesAt}
 use Rattle.stm_region.proofs.region.Region.finish.Goals as goal
 

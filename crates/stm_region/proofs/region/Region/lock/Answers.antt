@@ -1,7 +1,7 @@
 use Rattle.std.proofs.Common.{sym, subst}
 use Rattle.stm_core.specs.Event.{lock}
-use Rattle.stm_core.specs.Guards.{May}
-use Rattle.stm_region.specs.Shown.{ClientShown, bounds, stripe_of}
+use Rattle.stm_core.specs.Guards.{May, stripe_of}
+use Rattle.stm_region.specs.Shown.{ClientShown, bounds}
 use Rattle.stm_region.proofs.region.Region.lock.Goals as goal
 
 pub exchange_as-found-requires-clause-allowed : goal.exchange_as-found-requires-clause-allowed

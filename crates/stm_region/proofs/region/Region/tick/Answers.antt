@@ -3,7 +3,8 @@ use Rattle.stm_core.specs.Event.{tick}
 use Rattle.stm_core.specs.Invariant.{Sorted}
 use Rattle.stm_core.proofs.Whole.{after_sorted}
 use Rattle.stm_logs.specs.Log.{log_pairs}
-use Rattle.stm_region.specs.Shown.{unplaced, stripe_of}
+use Rattle.stm_region.specs.Shown.{unplaced}
+use Rattle.stm_core.specs.Guards.{stripe_of}
 use Rattle.stm_region.specs.Told.{DecidesAt}
 use Rattle.stm_region.proofs.region.Region.tick.Goals as goal
 

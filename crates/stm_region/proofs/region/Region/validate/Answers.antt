@@ -3,7 +3,8 @@ use Rattle.stm_core.specs.Event.{validate}
 use Rattle.stm_core.specs.Invariant.{Sorted}
 use Rattle.stm_core.proofs.Conditions.{can_act}
 use Rattle.stm_core.proofs.Whole.{after_sorted}
-use Rattle.stm_region.specs.Shown.{RegionShown, bounds, unplaced, stripe_of}
+use Rattle.stm_region.specs.Shown.{RegionShown, bounds, unplaced}
+use Rattle.stm_core.specs.Guards.{stripe_of}
 use Rattle.stm_region.specs.Told.{DecidesAt}
 use Rattle.stm_region.proofs.region.Region.validate.Goals as goal
 

@@ -1,5 +1,0 @@
-use Rattle.vac_tasks.proofs.Plain.{fresh_holds}
-use Rattle.audit_rows.proofs.heap.Heap.new.Goals as goal
-
-pub invariant_of-result : goal.invariant_of-result
-invariant_of-result c = rw c.new-memory.ensures (fresh_holds _ _ c.requires.most c.in_ok-words.ensures.words c.in_ok-words.ensures.pool)

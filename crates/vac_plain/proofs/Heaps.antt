@@ -1,0 +1,90 @@
+-- Plain memory that holds a state.
+use Rattle.std.proofs.Common.{List, Option, ap, arith, inl, inr, length, slice_index, subst, sym, unwrap_or, ℕ, ◌∙◌, ◌≡◌, ◌≤◌}
+use Rattle.std.proofs.lemmas.List.{get_or_past}
+use Rattle.std.proofs.lemmas.Bool.{cases_lt}
+use Rattle.stm_words.specs.View.{View, memory}
+use Rattle.stm_words.specs.Plain.{flat_view, numbered}
+use Rattle.stm_words.specs.PlainSeen.{flat_seen, get_at, get_behind}
+use Rattle.vac_model.specs.declared.replies.Reply.{Reply}
+use Rattle.vac_model.specs.declared.replies.Report.{Report}
+use Rattle.vac_model.specs.declared.tasks.Task.{Task}
+use Rattle.vac_model.specs.State.{State, empty_state, report}
+use Rattle.vac_model.specs.Run.{run}
+use Rattle.vac_model.proofs.Empty.{empty-small}
+use Rattle.tx_alloc.specs.Pool.{IsEmptyHeap, IsPool, fresh_lists}
+use Rattle.vac_records.specs.Items.{mem}
+use Rattle.vac_records.specs.Represents.{IsState}
+use Rattle.vac_records.proofs.Fresh.{fresh_state}
+use Rattle.vac_commands.specs.Ran.{IsOutcome}
+use Rattle.vac_tasks.specs.RanTask.{RanTask}
+use Rattle.vac_report.specs.Reported.{Reported}
+use Rattle.vac_plain.specs.Holds.{Holds}
+use Rattle.vac_records.specs.Holds.{HoldsState}
+use Rattle.vac_records.specs.Steps.{stood}
+
+-- the memory that plain memory means, over any image of its size
+flat_at : (xs image : List ℕ) (a : ℕ) → length image ≡ length xs → memory image (numbered 0 xs) a ≡ slice_index xs a
+flat_at xs image a e = elim (cases_lt a (length xs)) [
+  | inl inside ↦ ap (λ (o : Option ℕ). unwrap_or o (slice_index image a)) (get_at xs a inside)
+  | inr behind ↦ ap (λ (o : Option ℕ). unwrap_or o (slice_index image a)) (get_behind xs 0 a (omega arith)) ∙ (get_or_past image a 0 (omega arith) ∙ sym (get_or_past xs a 0 behind))
+]
+
+flat_mem : (xs image : List ℕ) → length image ≡ length xs → mem (flat_view xs) image ≡ slice_index xs
+flat_mem xs image e = λ i a. flat_at xs image a e i
+
+-- the words under an image of their size
+under : (xs image : List ℕ) (s : State) → length image ≡ length xs → Holds xs s → IsState (mem (flat_view xs) image) (length image) s
+under xs image s e h = subst (λ m. IsState m (length image) s) (sym (flat_mem xs image e)) (subst (λ n. IsState (slice_index xs) n s) (sym e) h)
+
+over : (xs image : List ℕ) (s : State) → length image ≡ length xs → IsState (mem (flat_view xs) image) (length image) s → Holds xs s
+over xs image s e h = subst (λ n. IsState (slice_index xs) n s) e (subst (λ m. IsState m (length image) s) (flat_mem xs image e) h)
+
+pub holds_empty : (words heap : List ℕ) (blocks : ℕ) → blocks ≤ 262144 → IsEmptyHeap words blocks
+    → IsPool (λ (a : ℕ). slice_index words a) (length words) (fresh_lists blocks) (λ (x : ℕ). 0) 0 → heap ≡ words → Holds heap (empty_state blocks)
+holds_empty words heap blocks few empty pool e = subst (λ w. Holds w (empty_state blocks)) (sym e) (record {
+  represents = fresh_state words blocks empty pool;
+  small = empty-small blocks few;
+})
+
+-- what a task did
+outcome : (xs ys : List ℕ) (t : Task) (r : Reply) (s : State) (ran : RanTask (flat_view xs) (flat_view ys) t r) → Holds xs s
+    → IsOutcome (mem (flat_view ys) (flat_seen ys).0) (length (flat_seen ys).0) (run s t) r
+outcome xs ys t r s ran h =
+    let image = (flat_seen ys).0 in
+    let stands = (flat_seen ys).1 in
+    ran.outcome image s stands.sees (under xs image s (stands.size ∙ ran.kept.size) h)
+
+pub holds_run : (xs ys : List ℕ) (t : Task) (r : Reply) → RanTask (flat_view xs) (flat_view ys) t r → (s : State) → Holds xs s → Holds ys (run s t).0
+holds_run xs ys t r ran s h = over ys (flat_seen ys).0 (run s t).0 (flat_seen ys).1.size (outcome xs ys t r s ran h).state
+
+pub reply_run : (xs ys : List ℕ) (t : Task) (r : Reply) → RanTask (flat_view xs) (flat_view ys) t r → (s : State) → Holds xs s → (run s t).1 ≡ r
+reply_run xs ys t r ran s h = (outcome xs ys t r s ran h).reply_is
+
+pub report_is : (xs ys : List ℕ) (r : Report) → Reported (flat_view xs) (flat_view ys) r → (s : State) → Holds xs s → report s ≡ r
+report_is xs ys r said s h =
+    let image = (flat_seen ys).0 in
+    let stands = (flat_seen ys).1 in
+    said.is image s stands.sees (under xs image s (stands.size ∙ said.reads.kept.size) h)
+
+-- the words of an empty heap
+pub fresh_holds : (xs : List ℕ) (blocks : ℕ) → blocks ≤ 262144 → IsEmptyHeap xs blocks →
+    IsPool (λ (a : ℕ). slice_index xs a) (length xs) (fresh_lists blocks) (λ (x : ℕ). 0) 0 → HoldsState (flat_view xs)
+fresh_holds xs blocks few heap pool = record {
+  inside = omega (arith, heap.size);
+  small = omega (arith, heap.size);
+  under = λ image i. (
+    empty_state blocks,
+    rw (flat_mem xs image i.sees.fits, i.sees.fits) (record {
+      represents = fresh_state xs blocks heap pool;
+      small = empty-small blocks few;
+    }),
+  );
+}
+
+-- the memory after a task holds a state
+pub held_task : (s s' : View) (t : Task) (r : Reply) → RanTask s s' t r → HoldsState s → HoldsState s'
+held_task s s' t r ran h = record {
+  inside = omega (arith, h.inside, ran.kept.size);
+  small = omega (arith, h.small, ran.kept.size);
+  under = λ image i. (let t0 = h.under image (stood ran.kept image i) in ((run t0.0 t).0, (ran.outcome image t0.0 i.sees t0.1).state));
+}

@@ -1,0 +1,96 @@
+//! Plain memory that holds a state of the reservation system.
+
+ghost use Rattle.std.specs.Prelude.{◌≡◌, ◌≤◌, IfOk, IsTrue, true};
+ghost use Rattle.stm_words.specs.Plain.{flat_view};
+ghost use Rattle.vac_model.specs.State.{State, empty_state, report as report_of};
+ghost use Rattle.vac_model.specs.Ranges.{is_task};
+ghost use Rattle.vac_model.specs.Run.{run as runs};
+ghost use Rattle.vac_records.specs.Holds.{HoldsState};
+ghost use Rattle.vac_tasks.specs.Reading as reading;
+ghost use Rattle.vac_plain.specs.Holds.{Holds};
+
+use std::alloc::{AllocError, Global};
+use std::marker::Model;
+use stm_words::Flat;
+use tx_alloc::{FreeList, fresh_words};
+use vac_model::limits::MOST_BLOCKS;
+use vac_model::{Reply, Report, Task};
+use vac_report::report;
+use vac_tasks::{read_task, run_task};
+
+/// Plain memory that holds a state. Contracts see its words.
+#[derive(Drop)]
+pub struct Heap {
+    memory: Flat,
+}
+
+impl Model for Heap {
+    ghost use Rattle.std.specs.Prelude.{ℕ, List};
+    ghost use Rattle.stm_words.specs.Plain.{flat_view};
+    ghost use Rattle.vac_records.specs.Holds.{HoldsState};
+
+    ghost Value = { List ℕ };
+
+    ghost view = { λ h. h.memory };
+
+    ghost invariant = { λ h. HoldsState (flat_view h.memory) };
+}
+
+impl Heap {
+    /// The memory of the state with no entries, with room for so many.
+    pub fn new(alloc: Global, blocks: u32) -> Result<Heap, AllocError>
+        requires some { 1 ≤ blocks }
+        requires most { blocks ≤ MOST_BLOCKS }
+        ensures { IfOk result (λ heap. Holds heap (empty_state blocks)) }
+    {
+        let words = fresh_words(alloc, blocks as usize)?;
+        let memory = Flat::new(words);
+        Ok(Heap { memory })
+    }
+
+    /// The memory that has these words, which hold a state.
+    pub fn of_words(words: Vec<u64>) -> Heap
+        requires { HoldsState (flat_view words.items) }
+        ensures { result ≡ words.items }
+    {
+        let memory = Flat::new(words);
+        Heap { memory }
+    }
+
+    /// Runs a task, and answers its reply. New entries take their blocks from free list `start` on.
+    pub fn run(&mut self, task: &Task, start: FreeList) -> Reply
+        requires { is_task task.now ≡ true }
+        ensures state { (s : State) → Holds self.old s → Holds self.new (runs s task.now).0 }
+        ensures reply { (s : State) → Holds self.old s → (runs s task.now).1 ≡ result }
+    {
+        let Ok(reply) = run_task(&mut self.memory, task, start);
+        reply
+    }
+
+    /// The reply to a task that only reads.
+    pub fn read(&mut self, task: &Task) -> Reply
+        requires { IsTrue (reading.only_reads task.now) }
+        ensures state { (s : State) → Holds self.old s → Holds self.new (runs s task.now).0 }
+        ensures reply { (s : State) → Holds self.old s → (runs s task.now).1 ≡ result }
+    {
+        let Ok(reply) = read_task(&mut self.memory, task);
+        reply
+    }
+
+    /// The report of the state.
+    pub fn report(&mut self) -> Report
+        ensures { (s : State) → Holds self.old s → report_of s ≡ result }
+    {
+        let Ok(found) = report(&mut self.memory);
+        found
+    }
+
+    /// The words, which hold the state.
+    pub fn words(self) -> Vec<u64>
+        ensures words { result.items ≡ self }
+        ensures state { HoldsState (flat_view result.items) }
+    {
+        let Heap { memory } = self;
+        memory.words()
+    }
+}
