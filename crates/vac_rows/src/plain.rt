@@ -42,7 +42,11 @@ fn compare(rt: &impl Abort, alloc: Global, seed: u64) {
         let looked = look(&mut heap, &task);
         assert!(rt; looked.is_none() || looked == Some(wanted), "at task {at}");
         let start = FreeList::new(draws.next_u32() % LISTS);
-        assert_eq!(rt; answer(&mut heap, &task, start), Some(wanted), "at task {at}");
+        assert_eq!(rt;
+            answer(&mut heap, &task, start),
+            Some(wanted),
+            "at task {at}"
+        );
     }
     let wanted = plain.report();
     assert_eq!(rt; heap.report(), wanted);
