@@ -52,14 +52,7 @@ in_order region region' v v' same h d e =
     let all = all_records k.decides.core.clients in
     let records : k.then.records ≡ v.records = ap (λ (c : Client). c.records) (sym k.same) in
     record {
-      core = k.decides.core;
-      rule = k.decides.rule;
-      first = k.decides.first;
-      renewal = k.decides.renewal;
-      number = k.decides.number;
-      teller = k.then;
-      member = k.decides.member;
-      records = records;
+      decided = k;
       last = image_after region.first all;
       history = history region.first all h.first k.decides.serial k.decides.abides;
       among = subst (λ (rs : List Record). Sub rs all) records k.decides.among;
@@ -73,7 +66,7 @@ read_in_order region region' v v' same h k e = in_order region region' v v' same
 pub opening_sum : (region : RegionShown) (v v' : Client) (total : ℕ) → WasInOrder region v' → Adds (Sum total) v v' → total ≡ sum region.first
 opening_sum region v v' total w a =
     let i : In a.0 v'.records = subst (λ (rs : List Record). In a.0 rs) (sym a.2) (inserted_in a.0 v.records) in
-    sum_in total region.first (all_records w.core.clients) w.last a.0 w.history (in_sub a.0 w.among i) a.1
+    sum_in total region.first (all_records w.decided.decides.core.clients) w.last a.0 w.history (in_sub a.0 w.among i) a.1
 
 pub closes : (region region' : RegionShown) (v v' : Client) (words : List ℕ) (version : ℕ) → IsOpened region → Ends (λ (tag : List ℕ) reads writes. IsLawful tag reads writes) region v words version → region' ≡ region → v' ≡ v → Closes region' v' words version
 closes region region' v v' words version h k e f =

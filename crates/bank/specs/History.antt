@@ -1,15 +1,11 @@
 -- What is known of the records of all tellers.
 use Rattle.std.specs.Prelude.{◌≡◌, ℕ, List, [], ◌∷◌, Result, Ok, Err, sum}
-use mathlib.Core.Option.{some}
-use lib.ListN.{get_elem?}
 use Rattle.stm_core.specs.Client.{Client, Record, inserted}
-use Rattle.stm_core.specs.Core.{Core}
-use Rattle.stm_core.specs.Invariant.{Rule}
 use Rattle.stm_core.specs.History.{Sub, all_records}
 use Rattle.stm_region.specs.Shown.{RegionShown}
-use Rattle.stm_core.specs.Guards.{stripe_of}
 use Rattle.stm_region.specs.Closed.{Ends}
 use Rattle.stm_region.specs.declared.limits.TheConstants.{MOST_GRANTS}
+use Rattle.stm_attempt.specs.Committing.{WasDecided}
 use Rattle.stm_attempt.specs.declared.conflict.Stop.{Stop}
 use Rattle.stm_attempt.specs.declared.conflict.Stop.TheVariants.{Memory, Conflict, Spent}
 use Rattle.bank.specs.declared.entry.Entry.{Entry}
@@ -37,21 +33,14 @@ abbrev pub Records : {A E : Type 0} → (A → Entry) → Result A E → Client 
 Records entry (Ok a) v v' = Adds (entry a) v v'
 Records entry (Err e) v v' = v'.records ≡ v.records
 
--- when a teller that now has this value decided its last record, in this core state of the bank's
--- region, the records of all tellers were a history from the opening, and its own stood among
--- them, each once and in their order
+-- when a teller that now has this value decided its last record, in the core state of the bank's
+-- region right after that step, the records of all tellers were a history from the opening, and its
+-- own stood among them, each once and in their order
 pub record WasInOrder (region : RegionShown) (v : Client) : Type 0 where
-  pub core : Core
-  pub rule : Rule IsLawful (stripe_of region.stripes) core
-  pub first : core.first ≡ region.first
-  pub renewal : core.renewal ≡ region.renewal
-  pub number : ℕ
-  pub teller : Client
-  pub member : get_elem? core.clients number ≡ some teller
-  pub records : teller.records ≡ v.records
+  pub decided : WasDecided IsBank IsLawful region v
   pub last : List ℕ
-  pub history : IsHistory region.first (all_records core.clients) last
-  pub among : Sub v.records (all_records core.clients)
+  pub history : IsHistory region.first (all_records decided.decides.core.clients) last
+  pub among : Sub v.records (all_records decided.decides.core.clients)
 
 -- the words and the version are the last ones of the bank's region, and the closing teller's
 -- records are a history that leads from the opening to the words, which add up to the same

@@ -1,7 +1,6 @@
 //! Why a transaction stopped.
 ghost use Rattle.std.specs.Prelude.{◌≡◌};
-ghost use Rattle.stm_attempt.specs.declared.conflict.Stop.TheVariants.{Memory};
-ghost use Rattle.stm_attempt.specs.declared.conflict.Refusal.TheVariants.{Memory as OutOfMemory};
+ghost use Rattle.stm_attempt.specs.declared.conflict.Refusal.TheVariants.{Memory};
 
 use std::alloc::AllocError;
 use stm_words::Version;
@@ -47,7 +46,7 @@ pub enum Refusal {
 }
 
 impl From<AllocError> for Refusal {
-    ghost from_gives = { λ _ refusal. refusal ≡ OutOfMemory };
+    ghost from_gives = { λ _ refusal. refusal ≡ Memory };
 
     fn from(_error: AllocError) -> Refusal {
         Refusal::Memory
@@ -59,21 +58,14 @@ impl From<AllocError> for Refusal {
 #[derive(Clone, Copy, Debug, PartialEq, Eq)]
 pub struct Stopped;
 
-/// Why a commit was refused.
+/// Why an attempt of a task stopped. A commit takes no memory, so that it never answers `Memory`:
+/// that is for whoever runs a task's body in an attempt.
 #[derive(Clone, Copy, Debug, PartialEq, Eq)]
 pub enum Stop {
-    /// A log could not grow. The attempt is as it was, and may go on.
+    /// A log could not grow.
     Memory,
     /// The attempt met a conflict, and can only end.
     Conflict(Conflict),
     /// The clock is at the last version, so that nothing more can be written.
     Spent { version: Version },
-}
-
-impl From<AllocError> for Stop {
-    ghost from_gives = { λ _ stop. stop ≡ Memory };
-
-    fn from(_error: AllocError) -> Stop {
-        Stop::Memory
-    }
 }

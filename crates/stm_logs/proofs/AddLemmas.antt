@@ -1,8 +1,7 @@
 -- A node enters the index and is chained.
 use Rattle.std.proofs.Common.{◌≡◌, ℕ, suc, ◌+◌, ◌<◌, ◌≤◌, nat_eq, List, [], ◌∷◌, length, refl, sym, ap, ◌∙◌, arith}
-use Rattle.stm_logs.specs.declared.nodes.Node.{Node}
 use Rattle.stm_logs.specs.declared.nodes.TheConstants.{TOP}
-use Rattle.stm_logs.specs.Nodes.{at}
+use Rattle.stm_logs.specs.Nodes.{Node, at}
 use Rattle.stm_logs.specs.Index.{is_lock_node, HasNone, SameNode, IsIndexed, IsTaken, home, taken, Entered}
 use Rattle.stm_logs.specs.Tree.{Least, IsTree, IsWaiting, SameKeys, Linked, IsReady, Added}
 use Rattle.stm_logs.proofs.NodeLemmas.{bit, none_taken}

@@ -4,8 +4,7 @@ use Rattle.std.specs.FinMap.{FinMap, get, empty, entries, keys, from_entries, le
 use Rattle.std.specs.Ordering.{nat_cmp}
 use Rattle.std.proofs.lemmas.Bool.Decides.{nat_tests}
 use Rattle.std.proofs.Math.ListN.{length-map}
-use Rattle.stm_logs.specs.declared.nodes.Node.{Node}
-use Rattle.stm_logs.specs.Nodes.{Block, at}
+use Rattle.stm_logs.specs.Nodes.{Node, Block, at}
 use Rattle.stm_logs.specs.Log.{LogValue, empty_log, log_groups, log_pairs, log_locks, is_number, pairs_of}
 use Rattle.stm_logs.specs.Index.{is_lock_node, HasKey, HasNone}
 use Rattle.stm_logs.specs.Tree.{Least, IsTree, block_log, log_value, table, trues, is_word_at, is_lock_at}

@@ -1,7 +1,6 @@
 -- The nodes leave the index one after the other.
 use Rattle.std.proofs.Common.{◌≡◌, ◌≢◌, inl, inr, ℕ, ◌+◌, ◌<◌, List, length, set, length-set, refl, sym, ap, ◌∙◌, arith}
-use Rattle.stm_logs.specs.declared.nodes.Node.{Node}
-use Rattle.stm_logs.specs.Nodes.{at}
+use Rattle.stm_logs.specs.Nodes.{Node, at}
 use Rattle.stm_logs.specs.Held.{IsLog, Cleared}
 use Rattle.stm_logs.proofs.NodeLemmas.{same_or, put_here, put_other, field_kept}
 use Rattle.stm_logs.proofs.LogLemmas.{none_log}

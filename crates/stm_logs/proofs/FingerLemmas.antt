@@ -1,7 +1,6 @@
 -- A finger is pointed elsewhere.
 use Rattle.std.proofs.Common.{ℕ, ◌<◌, List, length, set, length-set, refl, ◌∙◌}
-use Rattle.stm_logs.specs.declared.nodes.Node.{Node}
-use Rattle.stm_logs.specs.Nodes.{at}
+use Rattle.stm_logs.specs.Nodes.{Node, at}
 use Rattle.stm_logs.specs.Tree.{Linked, OnlyFingers, with_finger}
 use Rattle.stm_logs.proofs.NodeLemmas.{field_kept}
 use Rattle.stm_logs.proofs.AddLemmas.{chains_of, tree_kept}

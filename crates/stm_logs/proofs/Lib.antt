@@ -3,6 +3,7 @@ pub mod Leases
 pub mod Lent
 pub mod ChunkLemmas
 pub mod NodeLemmas
+pub mod BesideLemmas
 pub mod IndexLemmas
 pub mod TreeLemmas
 pub mod AddLemmas

@@ -6,9 +6,8 @@ use Rattle.std.proofs.lemmas.Cmp.{nat_cmp_total}
 use Rattle.std.proofs.lemmas.Bool.Decides.{nat_tests}
 use Rattle.std.proofs.lemmas.Bool.{cases_lt}
 use Rattle.stm_words.specs.View.{Words}
-use Rattle.stm_logs.specs.declared.nodes.Node.{Node}
 use Rattle.stm_logs.specs.declared.nodes.TheConstants.{TOP}
-use Rattle.stm_logs.specs.Nodes.{Block, at}
+use Rattle.stm_logs.specs.Nodes.{Node, Block, at, bare, entry_of, with_entry}
 use Rattle.stm_logs.specs.Log.{LogValue, empty_log}
 use Rattle.stm_logs.specs.Index.{is_lock_node, home, HasKey, HasNone, SameNode, IsIndexed, IsFound, IsTaken, Answers, Entered}
 use Rattle.stm_logs.specs.Tree.{IsTree, IsReady, SameSight, Added, trues, is_word_at, log_value, block_log}
@@ -246,11 +245,14 @@ copy_is_new old new n e log l c i z m key =
     let s = c.same i m in
     absurd (omega (arith, log.ready.tree.alone i (e + 1) z (omega arith) (omega arith) (omega arith) (ap (λ p. nat_eq p 0) (sym s.parent) ∙ key.1) (sym s.number ∙ key.0)))
 
-pub copied_more : (old new more : List Node) (e : ℕ) → Copied old new e → Entered new more e (at old (e + 1)) → Copied old more (e + 1)
+pub copied_more : (old new more : List Node) (e : ℕ) → Copied old new e → Entered new more e (bare (entry_of (at old (e + 1)))) → Copied old more (e + 1)
 copied_more old new more e c w = record {
   indexed = w.indexed;
   same = λ i m. elim (same_or i (e + 1)) [
-    | inl is ↦ subst (λ j. SameNode (at old j) (at more j)) (sym is) w.here
+    | inl is ↦ (
+        let h = w.here in
+        subst (λ j. SameNode (at old j) (at more j)) (sym is)
+        (record { value = h.value; number = h.number; parent = h.parent; first = h.first; recent = h.recent; next = h.next }))
     | inr ne ↦ (
         let a = c.same i (omega arith) in let b = w.others i ne in
         record { value = b.value ∙ a.value; number = b.number ∙ a.number; parent = b.parent ∙ a.parent; first = b.first ∙ a.first; recent = b.recent ∙ a.recent; next = b.next ∙ a.next })
@@ -278,20 +280,19 @@ pub few_in : (b : Block) (w : LogValue) → IsLog b.list b.count → block_log b
 few_in b w log is = subst (λ (x : LogValue). len x.words < 2147483648) is (few_log _ _ log)
 
 -- a free place of the index tells that the word is not there
-pub absent_at : (b : Block) (w : LogValue) (x : Node) (a q : ℕ) → block_log b ≡ w → Answers b.list b.count false a q → x ≡ at b.list q → x.slot ≡ 0
+pub absent_at : (b : Block) (w : LogValue) (x a q : ℕ) → block_log b ≡ w → Answers b.list b.count false a q → x ≡ (at b.list q).slot → x ≡ 0
     → get w.words a ≡ None
 absent_at b w x a q is an node free =
-    sym (ap (λ (v : LogValue). get v.words a) is) ∙ no_word _ _ _ (an.free (sym (ap (λ (y : Node). y.slot) node) ∙ free)).0
+    sym (ap (λ (v : LogValue). get v.words a) is) ∙ no_word _ _ _ (an.free (sym node ∙ free)).0
 
 pub refused : {T E : Type 0} (r : Result T E) {P : Type 0} → P → OnErr r P
 refused (Ok x) p = tt
 refused (Err e) p = p
 
 -- a taken one leads to the word
-pub found_at : (ns : List Node) (n : ℕ) (x : Node) (a q : ℕ) → Answers ns n false a q → x ≡ at ns q → 0 < x.slot → IsFound ns n false a x.slot
+pub found_at : (ns : List Node) (n x a q : ℕ) → Answers ns n false a q → x ≡ (at ns q).slot → 0 < x → IsFound ns n false a x
 found_at ns n x a q an node some =
-    let slot : x.slot ≡ (at ns q).slot = ap (λ (y : Node). y.slot) node in
-    subst (IsFound ns n false a) (sym slot) (an.found (omega (arith, some, slot)))
+    subst (IsFound ns n false a) (sym node) (an.found (omega (arith, some, node)))
 
 -- ---- an address that is there, and one that is not
 pub locks_follow : (ns : List Node) (n a : ℕ) → IsTree ns n → (get (log_value ns n).words a ≡ None → get (log_value ns n).locks a ≡ None) × (get (log_value ns n).locks a ≡ None → get (log_value ns n).words a ≡ None)
@@ -315,12 +316,12 @@ len_there w a v some =
     ] in
     go (get w a) refl
 
-pub copied_start : (old new : List Node) → 0 < length new → length new ≤ 2147483648 → ((k : ℕ) → (at new k).slot ≡ 0) → Copied old (set new 0 (record (at old 0) { slot = 0 })) 0
+pub copied_start : (old new : List Node) → 0 < length new → length new ≤ 2147483648 → ((k : ℕ) → (at new k).slot ≡ 0) → Copied old (set new 0 (with_entry (at new 0) (entry_of (at old 0)))) 0
 copied_start old new some limit free =
-    let y : Node = record (at old 0) { slot = 0 } in
+    let y : Node = with_entry (at new 0) (entry_of (at old 0)) in
     let l : length (set new 0 y) ≡ length new = length-set new 0 y in
     record {
-      indexed = indexed_none (set new 0 y) (omega (arith, l)) (omega (arith, l)) (λ q _. field_kept (λ x. x.slot) new 0 y some (sym (free 0)) q ∙ free q);
+      indexed = indexed_none (set new 0 y) (omega (arith, l)) (omega (arith, l)) (λ q _. field_kept (λ x. x.slot) new 0 y some refl q ∙ free q);
       same = λ i m.
           let is : i ≡ 0 = omega arith in
           let root : at (set new 0 y) 0 ≡ y = put_here new 0 y some in

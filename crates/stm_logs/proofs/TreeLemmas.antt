@@ -1,8 +1,7 @@
 -- A node is chained below its parent.
 use Rattle.std.proofs.Common.{◌≡◌, ◌≢◌, inl, inr, ℕ, ◌+◌, ◌<◌, ◌≤◌, nat_eq, List, length, set, refl, sym, ap, ◌∙◌, arith, length-set, subst}
 use Rattle.std.proofs.lemmas.Bool.{cases_lt}
-use Rattle.stm_logs.specs.declared.nodes.Node.{Node}
-use Rattle.stm_logs.specs.Nodes.{at}
+use Rattle.stm_logs.specs.Nodes.{Node, at}
 use Rattle.stm_logs.specs.Index.{is_lock_node}
 use Rattle.stm_logs.specs.declared.nodes.TheConstants.{TOP}
 use Rattle.stm_logs.specs.Tree.{Least, IsTree, IsBefore, IsWaiting, SameKeys, Linked, with_next, with_first, with_recent}

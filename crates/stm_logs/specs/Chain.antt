@@ -2,8 +2,7 @@
 use Rattle.std.specs.Prelude.{◌≡◌, ℕ, ◌<◌, cond, Option, Some, None, List, [], ◌∷◌, length, nat_eq}
 use Prim.Native.Nat.{zero, suc}
 use Rattle.std.specs.Borrow.{Bor}
-use Rattle.stm_logs.specs.declared.nodes.Node.{Node}
-use Rattle.stm_logs.specs.Nodes.{Block, at}
+use Rattle.stm_logs.specs.Nodes.{Node, Block, at}
 
 -- what f says of the nodes of a chain from p on, of at most so many
 abbrev pub chain : {X : Type 0} → (Node → X) → List Node → ℕ → ℕ → List X

@@ -2,9 +2,8 @@
 use Rattle.std.specs.Prelude.{◌≡◌, ◌≢◌, ℕ, ◌+◌, ◌%◌, ◌<◌, ◌≤◌, Bool, false, Option, Some, None, List, length, slice_index_or}
 use Rattle.std.specs.FinMap.{get, insert}
 use Rattle.stm_words.specs.View.{Words}
-use Rattle.stm_logs.specs.declared.nodes.Node.{Node}
 use Rattle.stm_logs.specs.declared.write.TheConstants.{MARKS}
-use Rattle.stm_logs.specs.Nodes.{Block, at}
+use Rattle.stm_logs.specs.Nodes.{Node, Block, at}
 use Rattle.stm_logs.specs.Log.{LogValue, empty_log}
 use Rattle.stm_logs.specs.Index.{IsIndexed, SameNode, IsTaken}
 use Rattle.stm_logs.specs.Tree.{IsReady, SameSight, block_log}

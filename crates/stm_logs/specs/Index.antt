@@ -1,8 +1,7 @@
 -- The index of a write log: an open-addressed table of the nodes by kind and number.
 use Rattle.std.specs.Prelude.{◌≡◌, ◌≢◌, ℕ, ◌+◌, ◌*◌, ◌/◌, ◌%◌, ◌<◌, ◌≤◌, Bool, cond, List, [], ◌∷◌, length, nat_eq}
-use Rattle.stm_logs.specs.declared.nodes.Node.{Node}
 use Rattle.stm_logs.specs.declared.nodes.TheConstants.{MAX_PLACES}
-use Rattle.stm_logs.specs.Nodes.{at}
+use Rattle.stm_logs.specs.Nodes.{Node, at}
 
 -- a node is a lock where it has no parent, and else a word
 abbrev pub is_lock_node : Node → Bool

@@ -4,9 +4,8 @@ use Rattle.std.specs.Prelude.{◌≡◌, ◌≢◌, ℕ, ◌+◌, ◌<◌, ◌�
 use Prim.Native.Nat.{zero, suc}
 use Rattle.std.specs.FinMap.{FinMap, empty, insert}
 use Rattle.std.specs.Ordering.{nat_cmp}
-use Rattle.stm_logs.specs.declared.nodes.Node.{Node}
 use Rattle.stm_logs.specs.declared.nodes.TheConstants.{TOP}
-use Rattle.stm_logs.specs.Nodes.{Block, at}
+use Rattle.stm_logs.specs.Nodes.{Node, Block, at}
 use Rattle.stm_logs.specs.Index.{is_lock_node, HasNone, IsIndexed, IsTaken, SameNode}
 use Rattle.stm_logs.specs.Log.{LogValue}
 

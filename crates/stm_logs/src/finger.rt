@@ -2,11 +2,10 @@
 //! is looked at before it is followed.
 ghost use Rattle.std.specs.Prelude.{◌≡◌, ℕ, ◌+◌, ◌<◌, ◌≤◌, length};
 ghost use Rattle.stm_logs.specs.declared.nodes.TheConstants.{MAX_PLACES};
-ghost use Rattle.stm_logs.specs.Nodes.{at, with_node};
-ghost use Rattle.stm_logs.specs.Tree.{IsTree, IsBelow, OnlyFingers, with_finger};
+ghost use Rattle.stm_logs.specs.Tree.{IsTree, IsBelow, OnlyFingers};
 
 use crate::index::{NUMBERS, start};
-use crate::nodes::{Node, Nodes};
+use crate::nodes::Nodes;
 use std::alloc::Allocator;
 
 /// The numbers that share a narrow finger.
@@ -83,7 +82,7 @@ fn nearer_at<A: Allocator>(
     requires inside { place < length nodes.now.list }
     ensures { IsBelow nodes.now.list nodes.now.count parent number result }
 {
-    let finger = nodes.get(place).finger as usize;
+    let finger = nodes.finger(place);
     if finger == 0 || finger > nodes.count() {
         return near;
     }
@@ -162,22 +161,6 @@ pub(crate) fn nearer<A: Allocator>(
     nearer_by(nodes, 4, widths.widest, parent, near, number)
 }
 
-#[inline]
-fn set_finger<A: Allocator>(nodes: &mut Nodes<A>, place: usize, e: usize)
-    requires inside { place < length nodes.old.list }
-    requires fits { e ≤ MAX_PLACES }
-    ensures { nodes.new ≡ with_node nodes.old place (with_finger (at nodes.old.list place) e) }
-{
-    let node = *nodes.get(place);
-    nodes.put(
-        place,
-        Node {
-            finger: e as u32,
-            ..node
-        },
-    );
-}
-
 /// Points the finger of one scale.
 #[inline]
 fn point_at<A: Allocator>(
@@ -197,7 +180,7 @@ fn point_at<A: Allocator>(
     ensures count { nodes.new.count ≡ nodes.old.count }
 {
     let place = place(scale, parent, number as u64 / width, nodes.len());
-    set_finger(nodes, place, e);
+    nodes.set_finger(place, e as u32);
 }
 
 /// Points the fingers of a number to its node.

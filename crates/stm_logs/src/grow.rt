@@ -4,7 +4,7 @@ ghost use Rattle.stm_logs.specs.Nodes.{at};
 ghost use Rattle.stm_logs.specs.Held.{IsLog, IsRoomy, Copied};
 
 use crate::index::{enter, probe};
-use crate::nodes::{MAX_PLACES, Node, Nodes};
+use crate::nodes::{MAX_PLACES, Nodes};
 use std::alloc::{AllocError, Allocator};
 
 /// Whether the block is to grow before two nodes more enter, so that half of the index stays free.
@@ -41,7 +41,7 @@ fn copy<A: Allocator>(old: &Nodes<A>, new: &mut Nodes<A>)
     ensures places { length new.new.list ≡ length new.old.list }
 {
     let root = *old.get(0);
-    new.put(0, Node { slot: 0, ..root });
+    new.put(0, root);
     for e in 0..old.count() {
         let node = *old.get(e + 1);
         let place = probe(new, node.parent == 0, node.number);

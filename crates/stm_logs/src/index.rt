@@ -1,10 +1,10 @@
 //! The index of a write log: open addressing with linear probing.
 ghost use Rattle.std.specs.Prelude.{◌≡◌, ◌↔◌, ℕ, ◌+◌, ◌*◌, ◌<◌, ◌≤◌, Bool, true, false, IsTrue, List, length, slice_set};
 ghost use Rattle.stm_logs.specs.declared.nodes.TheConstants.{MAX_PLACES};
-ghost use Rattle.stm_logs.specs.Nodes.{Block, at};
+ghost use Rattle.stm_logs.specs.Nodes.{Block, at, bare};
 ghost use Rattle.stm_logs.specs.Index.{home, is_lock_node, HasKey, IsFound, IsIndexed, HasNone, Answers, Entered};
 
-use crate::nodes::{Node, Nodes};
+use crate::nodes::{Entry, Nodes};
 use std::alloc::Allocator;
 
 const WORD_FACTOR: u64 = 2_654_435_769;
@@ -28,8 +28,8 @@ pub(crate) fn start(is_lock: bool, number: u32, len: usize) -> usize
 }
 
 #[inline]
-fn has_key(node: &Node, is_lock: bool, number: u32) -> bool
-    ensures { IsTrue result ↔ HasKey node.now is_lock number }
+fn has_key(node: &Entry, is_lock: bool, number: u32) -> bool
+    ensures { IsTrue result ↔ HasKey (bare node.now) is_lock number }
 {
     node.number == number && (node.parent == 0) == is_lock
 }
@@ -54,7 +54,7 @@ pub(crate) fn probe<A: Allocator>(nodes: &Nodes<A>, is_lock: bool, number: u32) 
     let len = nodes.len();
     let mut place = start(is_lock, number, len);
     loop {
-        let slot = nodes.get(place).slot as usize;
+        let slot = nodes.slot(place);
         if slot == 0 {
             return place;
         }
@@ -73,37 +73,28 @@ pub(crate) fn find<A: Allocator>(nodes: &Nodes<A>, is_lock: bool, number: u32) -
     ensures none { result ≡ 0 → HasNone nodes.now.list nodes.now.count is_lock number }
 {
     let place = probe(nodes, is_lock, number);
-    nodes.get(place).slot as usize
+    nodes.slot(place)
 }
 
 /// A node enters behind the others and at the free place of the index that its key led to. It
 /// is not counted yet.
 #[inline]
-pub(crate) fn enter<A: Allocator>(nodes: &mut Nodes<A>, position: usize, place: usize, node: Node)
+pub(crate) fn enter<A: Allocator>(nodes: &mut Nodes<A>, position: usize, place: usize, node: Entry)
     requires indexed { IsIndexed nodes.old.list nodes.old.count }
     requires room { nodes.old.count + 1 < length nodes.old.list }
     requires position { position ≡ nodes.old.count + 1 }
-    requires place { Answers nodes.old.list nodes.old.count (is_lock_node node) node.number place }
+    requires place { Answers nodes.old.list nodes.old.count
+        (is_lock_node (bare node)) node.number place }
     requires free { (at nodes.old.list place).slot ≡ 0 }
-    ensures entered { Entered nodes.old.list nodes.new.list nodes.old.count node }
+    ensures entered { Entered nodes.old.list nodes.new.list nodes.old.count (bare node) }
     ensures count { nodes.new.count ≡ nodes.old.count }
 {
-    let old = *nodes.get(position);
     nodes.put(
         position,
-        Node {
+        Entry {
             place: place as u32,
-            slot: old.slot,
-            finger: old.finger,
             ..node
         },
     );
-    let there = *nodes.get(place);
-    nodes.put(
-        place,
-        Node {
-            slot: position as u32,
-            ..there
-        },
-    );
+    nodes.set_slot(place, position as u32);
 }

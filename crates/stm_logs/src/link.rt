@@ -6,7 +6,7 @@ ghost use Rattle.stm_logs.specs.Index.{is_lock_node, HasNone};
 ghost use Rattle.stm_logs.specs.Tree.{IsTree, IsBelow, IsBefore, ComesFirst, GoesBehind, IsWaiting, Linked, with_next, with_first, with_recent};
 
 use crate::finger::{nearer, point};
-use crate::nodes::{Node, Nodes};
+use crate::nodes::{Entry, Nodes};
 use std::alloc::Allocator;
 
 #[inline]
@@ -18,7 +18,7 @@ fn set_next<A: Allocator>(nodes: &mut Nodes<A>, e: usize, next: usize)
     let node = *nodes.get(e);
     nodes.put(
         e,
-        Node {
+        Entry {
             next: next as u32,
             ..node
         },
@@ -34,7 +34,7 @@ fn set_first<A: Allocator>(nodes: &mut Nodes<A>, e: usize, first: usize)
     let node = *nodes.get(e);
     nodes.put(
         e,
-        Node {
+        Entry {
             first: first as u32,
             recent: first as u32,
             ..node
@@ -51,7 +51,7 @@ fn set_recent<A: Allocator>(nodes: &mut Nodes<A>, e: usize, recent: usize)
     let node = *nodes.get(e);
     nodes.put(
         e,
-        Node {
+        Entry {
             recent: recent as u32,
             ..node
         },

@@ -1,17 +1,17 @@
-//! The one raw block of a write log.
+//! The nodes of a write log and its index, in two raw blocks.
 ghost use Rattle.std.specs.Prelude.{◌≡◌, ℕ, ◌+◌, ◌*◌, ◌<◌, ◌≤◌, List, length, slice_set, IfOk};
 
 use crate::row::{Right, Row, fill, release};
 use std::alloc::{AllocError, Allocator};
 use std::marker::Model;
 
-/// A place of the block. It has a node, and beside it a place of the index.
+/// A node of the tree of a write log.
 ///
-/// The nodes are a tree of three levels: the root at place 0, below it a node for each lock, and
-/// below each lock a node for each of its words. Positions are places of the block, and 0 stands
-/// for none, since nothing leads to the root.
+/// The tree has three levels: the root at position 0, below it a node for each lock, and below each
+/// lock a node for each of its words. Positions are places of the block, and 0 stands for none,
+/// since nothing leads to the root.
 #[derive(Clone, Copy)]
-pub(crate) struct Node {
+pub(crate) struct Entry {
     /// A word's value.
     pub(crate) value: u64,
     /// A word's address, or a lock's number.
@@ -26,8 +26,14 @@ pub(crate) struct Node {
     pub(crate) next: u32,
     /// The place of the index that leads to this node.
     pub(crate) place: u32,
-    /// The index at this place: the node that it leads to.
-    pub(crate) slot: u32,
+}
+
+/// A place of the index. The index stands apart from the nodes: a look-up meets a place at random,
+/// and eight places share a cache line.
+#[derive(Clone, Copy)]
+pub(crate) struct Slot {
+    /// The node that the place leads to, or 0.
+    pub(crate) node: u32,
     /// The finger at this place: a node where a walk may start, or any number.
     pub(crate) finger: u32,
 }
@@ -39,8 +45,8 @@ pub(crate) const TOP: u32 = 4_294_967_295;
 /// The places of the largest block.
 pub(crate) const MAX_PLACES: usize = 2_147_483_648;
 
-/// An empty place.
-pub(crate) const BLANK: Node = Node {
+/// A position without a node.
+pub(crate) const BLANK: Entry = Entry {
     value: 0,
     number: TOP,
     parent: 0,
@@ -48,29 +54,35 @@ pub(crate) const BLANK: Node = Node {
     recent: 0,
     next: 0,
     place: 0,
-    slot: 0,
-    finger: 0,
 };
 
-/// A block of places, all of them filled, and the number of nodes beside the root.
+/// A place that leads nowhere.
+pub(crate) const FREE: Slot = Slot { node: 0, finger: 0 };
+
+/// A block of nodes and one of as many places of the index, all of them filled, and the number of
+/// nodes beside the root.
 pub(crate) struct Nodes<A: Allocator> {
     alloc: A,
-    row: Row<Node>,
-    right: Right<Node, A>,
+    row: Row<Entry>,
+    right: Right<Entry, A>,
+    index: Row<Slot>,
+    index_right: Right<Slot, A>,
     len: usize,
     count: usize,
 }
 
 impl<A: Allocator> Model for Nodes<A> {
-    ghost use Rattle.stm_logs.specs.Nodes.{Block};
+    ghost use Rattle.std.specs.Prelude.{◌≡◌};
+    ghost use Rattle.stm_logs.specs.Nodes.{Block, beside};
 
     ghost Value = { Block };
 
     ghost use Rattle.stm_logs.specs.Frees.{Frees, IsFull};
 
-    ghost view = { λ s. record { list = s.row.items; count = s.count } };
+    ghost view = { λ s. record { list = beside s.row.items s.index.items; count = s.count } };
 
-    ghost invariant = { λ s. IsFull s.row s.len × Frees s.alloc s.row s.right };
+    ghost invariant = { λ s. IsFull s.row s.len × Frees s.alloc s.row s.right
+        × IsFull s.index s.len × Frees s.alloc s.index s.index_right };
 }
 
 impl<A: Allocator> Drop for Nodes<A> {
@@ -79,15 +91,19 @@ impl<A: Allocator> Drop for Nodes<A> {
             alloc,
             row,
             right,
+            index,
+            index_right,
             len: _,
             count: _,
         } = self;
         release(&alloc, row, right);
+        release(&alloc, index, index_right);
     }
 }
 
 impl<A: Allocator> Nodes<A> {
-    ghost use Rattle.stm_logs.specs.Nodes.{at, with_node, IsBlank};
+    ghost use Rattle.stm_logs.specs.Nodes.{at, entry_of, with_entry, with_slot, with_node, IsBlank};
+    ghost use Rattle.stm_logs.specs.Tree.{with_finger};
 
     /// A block of `len` blank places.
     pub(crate) fn new(alloc: A, len: usize) -> Result<Nodes<A>, AllocError>
@@ -95,17 +111,27 @@ impl<A: Allocator> Nodes<A> {
         ensures { IfOk result (λ s. IsBlank s len) }
     {
         let (mut row, right) = unsafe { Row::reserve(&alloc, len)? };
+        let (mut index, index_right) = match unsafe { Row::reserve(&alloc, len) } {
+            Ok(reserved) => reserved,
+            Err(refused) => {
+                release(&alloc, row, right);
+                return Err(refused);
+            }
+        };
         fill(&mut row, len, BLANK);
+        fill(&mut index, len, FREE);
         Ok(Nodes {
             alloc,
             row,
             right,
+            index,
+            index_right,
             len,
             count: 0,
         })
     }
 
-    /// The allocator of the block.
+    /// The allocator of the blocks.
     pub(crate) fn alloc(&self) -> A
     where
         A: Copy,
@@ -136,20 +162,57 @@ impl<A: Allocator> Nodes<A> {
         self.count = count;
     }
 
-    /// The place at a position.
+    /// The node at a position.
     #[inline]
-    pub(crate) fn get(&self, i: usize) -> &Node
+    pub(crate) fn get(&self, i: usize) -> &Entry
         requires { i < length self.now.list }
-        ensures { result.now ≡ at self.now.list i }
+        ensures { result.now ≡ entry_of (at self.now.list i) }
     {
         self.row.get(i)
     }
 
     #[inline]
-    pub(crate) fn put(&mut self, i: usize, node: Node)
+    pub(crate) fn put(&mut self, i: usize, entry: Entry)
         requires { i < length self.old.list }
-        ensures { self.new ≡ with_node self.old i node }
+        ensures { self.new ≡ with_node self.old i (with_entry (at self.old.list i) entry) }
     {
-        self.row.put(i, node);
+        self.row.put(i, entry);
+    }
+
+    /// The node that a place of the index leads to, or 0.
+    #[inline]
+    pub(crate) fn slot(&self, place: usize) -> usize
+        requires { place < length self.now.list }
+        ensures { result ≡ (at self.now.list place).slot }
+    {
+        self.index.get(place).node as usize
+    }
+
+    #[inline]
+    pub(crate) fn set_slot(&mut self, place: usize, node: u32)
+        requires { place < length self.old.list }
+        ensures { self.new ≡ with_node self.old place (with_slot (at self.old.list place) node) }
+    {
+        let finger = self.index.get(place).finger;
+        self.index.put(place, Slot { node, finger });
+    }
+
+    /// The finger at a place.
+    #[inline]
+    pub(crate) fn finger(&self, place: usize) -> usize
+        requires { place < length self.now.list }
+        ensures { result ≡ (at self.now.list place).finger }
+    {
+        self.index.get(place).finger as usize
+    }
+
+    #[inline]
+    pub(crate) fn set_finger(&mut self, place: usize, finger: u32)
+        requires { place < length self.old.list }
+        ensures { self.new
+            ≡ with_node self.old place (with_finger (at self.old.list place) finger) }
+    {
+        let node = self.index.get(place).node;
+        self.index.put(place, Slot { node, finger });
     }
 }

@@ -14,12 +14,12 @@ use crate::chain::{ByLock, Locks, Words};
 use crate::grow::{grown, is_full};
 use crate::index::{enter, find, probe};
 use crate::link::{link, link_only};
-use crate::nodes::{BLANK, Node, Nodes};
+use crate::nodes::{BLANK, Entry, Nodes};
 use std::alloc::{AllocError, Allocator};
 use std::marker::Model;
 
 /// The nodes of a log whose chains are so short that a walk needs no finger.
-const SHORT: usize = 128;
+const SHORT: usize = 256;
 
 /// The places of a first block.
 const PLACES: usize = 64;
@@ -145,13 +145,13 @@ impl<A: Allocator + Copy> Tree<A> {
         ensures few { len self.old.words < MAX_PLACES }
     {
         let place = probe(&self.nodes, false, number);
-        let word = self.nodes.get(place).slot as usize;
+        let word = self.nodes.slot(place);
         if word == 0 {
             put_new(&mut self.nodes, place, number, lock, value)?;
             return Ok(true);
         }
         let node = *self.nodes.get(word);
-        self.nodes.put(word, Node { value, ..node });
+        self.nodes.put(word, Entry { value, ..node });
         Ok(false)
     }
 
@@ -194,27 +194,18 @@ fn clear_nodes<A: Allocator>(nodes: &mut Nodes<A>)
 {
     for e in 0..nodes.count() {
         let place = nodes.get(e + 1).place as usize;
-        set_free(nodes, place);
+        nodes.set_slot(place, 0);
     }
     let root = *nodes.get(0);
     nodes.put(
         0,
-        Node {
+        Entry {
             first: 0,
             recent: 0,
             ..root
         },
     );
     nodes.set_count(0);
-}
-
-#[inline]
-fn set_free<A: Allocator>(nodes: &mut Nodes<A>, place: usize)
-    requires { place < length nodes.old.list }
-    ensures { nodes.new ≡ with_node nodes.old place (unslotted (at nodes.old.list place)) }
-{
-    let node = *nodes.get(place);
-    nodes.put(place, Node { slot: 0, ..node });
 }
 
 /// Puts a word that is not there at its free place of the index, where memory is not refused.
@@ -316,7 +307,7 @@ fn spot_of<A: Allocator>(nodes: &Nodes<A>, lock: u32) -> (usize, usize)
     ensures there { result.1 ≡ (at nodes.now.list result.0).slot }
 {
     let place = probe(nodes, true, lock);
-    (place, nodes.get(place).slot as usize)
+    (place, nodes.slot(place))
 }
 
 /// Puts a word that is not there below the node of its lock. There are few such where there are
@@ -374,7 +365,7 @@ fn place_of_word<A: Allocator>(nodes: &Nodes<A>, place: usize, number: u32) -> u
         → Answers nodes.now.list nodes.now.count false number place }
     ensures { Answers nodes.now.list nodes.now.count false number result }
 {
-    if nodes.get(place).slot == 0 {
+    if nodes.slot(place) == 0 {
         place
     } else {
         probe(nodes, false, number)
@@ -399,7 +390,7 @@ fn add_first<A: Allocator>(
     ensures added { Added nodes.old.list nodes.new.list nodes.old.count parent number value }
     ensures count { nodes.new.count ≡ nodes.old.count + 1 }
 {
-    let node = Node {
+    let node = Entry {
         value,
         number,
         parent: parent as u32,
@@ -430,7 +421,7 @@ fn add<A: Allocator>(
     ensures count { nodes.new.count ≡ nodes.old.count + 1 }
     ensures position { result ≡ nodes.old.count + 1 }
 {
-    let node = Node {
+    let node = Entry {
         value,
         number,
         parent: parent as u32,

@@ -12,8 +12,8 @@ pub fn an_audit_finds_the_balanced_states()
     ensures flawed { FlawedIsNone }
 {}
 
-/// Worked heaps: two without a flaw, one for each way in which words may be damaged, and one for
-/// each pair of flaws whose order counts.
+/// Worked heaps: three without a flaw, one for each way in which words may be damaged, and twelve
+/// with two flaws, of which the first counts.
 pub fn damaged_words_have_their_flaws()
     ensures sound { SoundHeaps }
     ensures one { OneFlaw }

@@ -1,8 +1,8 @@
 -- The lines that a load writes.
-use Rattle.std.specs.Prelude.{◌≡◌, ℕ, ◌⊎◌, true, false, Bool, List, ◌∷◌, ◌++◌, map, Option, codes, decimal}
+use Rattle.std.specs.Prelude.{◌≡◌, ℕ, ◌⊎◌, true, false, Bool, List, ◌∷◌, ◌++◌, map, Option, codes}
 use Rattle.std.specs.Io.KnownBytes.{Appends}
 use Rattle.vac_lines.specs.Script.{as_line}
-use Rattle.vac_lines.specs.Text.{report_text}
+use Rattle.vac_lines.specs.Text.{field_text, report_text}
 use Rattle.vac_load.specs.declared.tally.Tally.{Tally}
 use Rattle.vac_load.specs.declared.load.LoadReport.{LoadReport}
 use Rattle.vac_load.specs.declared.load.LoadFault.{LoadFault}
@@ -18,17 +18,13 @@ use Rattle.vac_load.specs.Streams.{LoadedBySeed}
 use Rattle.vac_lines.specs.Writing.{AppendsPrefix}
 use Rattle.vac_cli.specs.Ending.{NamedAfter, load_fault_line}
 
--- a name and how often it came
-abbrev pub count_text : List ℕ → ℕ → List ℕ
-count_text name n = name ++ decimal n
-
 -- how many tasks were answered, and how many met other clients in each try
 abbrev pub tried_text : Tally → List ℕ
-tried_text t = count_text (codes "answered ") t.answered ++ count_text (codes " busy ") t.busy
+tried_text t = field_text (codes "answered ") t.answered ++ field_text (codes " busy ") t.busy
 
 -- how many wanted memory, and how many wanted a version
 abbrev pub wanting_text : Tally → List ℕ
-wanting_text t = count_text (codes " memory ") t.memory ++ count_text (codes " spent ") t.spent
+wanting_text t = field_text (codes " memory ") t.memory ++ field_text (codes " spent ") t.spent
 
 -- how the tasks ended
 abbrev pub tally_text : Tally → List ℕ

@@ -3,14 +3,14 @@
 ghost use Rattle.std.specs.Prelude.{◌≡◌, ◌≤◌, ◌++◌, ◌↔◌, ◌⊎◌, false, vec_len, IfOk, OnOk};
 ghost use Rattle.vac_draws.specs.Setting.{is_settings};
 ghost use Rattle.vac_load.specs.Streams.{LoadedBySeed};
-ghost use Rattle.vac_cli.specs.Load.{count_text, tried_text, wanting_text};
+ghost use Rattle.vac_cli.specs.Load.{tried_text, wanting_text};
 ghost use Rattle.vac_cli.specs.Load.{tally_text, load_text, NamedFault};
 ghost use Rattle.vac_cli.specs.Program.{Loads};
 ghost use Rattle.std.specs.Io.KnownBytes.{Appends};
 ghost use Rattle.vac_cli.specs.Ending.{load_fault_line};
 ghost use Rattle.vac_lines.specs.Script.{as_line};
 ghost use Rattle.vac_lines.specs.Writing.{AppendsPrefix};
-ghost use Rattle.vac_lines.specs.Text.{report_text};
+ghost use Rattle.vac_lines.specs.Text.{field_text, report_text};
 
 use crate::noting::{load_noted, run_told};
 use crate::stats::{Span, tell_stats};
@@ -104,7 +104,7 @@ fn write_load<W: Write>(alloc: Global, report: &LoadReport, output: &mut W) -> u
 
 /// Appends a name and how often it came.
 fn append_count(out: &mut Vec<u8>, name: &[u8], count: u64) -> Result<(), AllocError>
-    ensures { OnOk result (out.new.items ≡ out.old.items ++ count_text name.now count) }
+    ensures { OnOk result (out.new.items ≡ out.old.items ++ field_text name.now count) }
 {
     out.extend_from_slice(name)?;
     print_reply(&Reply::Number(Some(count)), out)

@@ -52,10 +52,16 @@ all_of_one (x ∷ cs) (suc i) v e s f =
 pub whole : (region : RegionShown) (v : Client) → WasLegal region v → HasAllGrants v → IsWhole region v
 whole region v h all =
     let law : List ℕ → List (ℕ × ℕ) → List (ℕ × ℕ) → Type 0 = λ tag reads writes. IsLawful tag reads writes in
-    let alone = all_grants law (stripe_of region.stripes) h.core h.rule h.number h.caller h.member h.out (h.grants ∙ all) in
-    let sorted = own_sorted law (stripe_of region.stripes) h.core h.rule h.number h.caller h.member in
-    let mine = all_of_one h.core.clients h.number h.caller h.member sorted (λ j w t n. ap (λ (c : Client). c.records) (h.rule.past.spent j w t (alone j w t n))) in
-    (h.last, subst (λ (rs : List Record). IsHistory region rs h.last) (mine ∙ h.records) h.legal)
+    let k = h.decided.decides in
+    let then : Client = h.decided.then in
+    let same = sym h.decided.same in
+    let out : then.spent ≡ false = ap (λ (c : Client). c.spent) same ∙ h.out in
+    let grants : then.grants ≡ v.grants = ap (λ (c : Client). c.grants) same in
+    let records : then.records ≡ v.records = ap (λ (c : Client). c.records) same in
+    let alone = all_grants law (stripe_of region.stripes) k.core k.rule k.number then k.member out (grants ∙ all) in
+    let sorted = own_sorted law (stripe_of region.stripes) k.core k.rule k.number then k.member in
+    let mine = all_of_one k.core.clients k.number then k.member sorted (λ j w t n. ap (λ (c : Client). c.records) (k.rule.past.spent j w t (alone j w t n))) in
+    (h.last, subst (λ (rs : List Record). IsHistory region rs h.last) (mine ∙ records) h.legal)
 
 -- a record's tag says its task and its reply
 one_step : (r : Record) (s a b : State) → Runs r s a → Runs r s b → a ≡ b

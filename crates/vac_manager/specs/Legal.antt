@@ -1,21 +1,17 @@
 -- Histories of tasks: when a list of records is what running tasks one after the other gives.
 use Rattle.std.specs.Prelude.{◌≡◌, ℕ, ◌-◌, ◌/◌, List, [], ◌∷◌, IsTrue, true, false}
-use mathlib.Core.Option.{some}
-use lib.ListN.{get_elem?}
 use Rattle.stm_words.specs.Image.{In}
 use Rattle.stm_core.specs.Client.{Client, Record}
-use Rattle.stm_core.specs.Core.{Core}
-use Rattle.stm_core.specs.Invariant.{Rule}
 use Rattle.stm_core.specs.History.{Sub, Serial, image_after, all_records}
 use Rattle.stm_region.specs.Shown.{RegionShown}
-use Rattle.stm_core.specs.Guards.{stripe_of}
+use Rattle.stm_attempt.specs.Committing.{WasDecided}
 use Rattle.vac_model.specs.declared.tasks.Task.{Task}
 use Rattle.vac_model.specs.declared.replies.Reply.{Reply}
 use Rattle.vac_model.specs.State.{State, empty_state}
 use Rattle.vac_model.specs.Run.{run}
 use Rattle.vac_model.specs.Ranges.{is_task}
 use Rattle.vac_model.specs.Code.{code}
-use Rattle.vac_manager.specs.Law.{Shows, IsLawful}
+use Rattle.vac_manager.specs.Law.{Shows, IsFitting, IsLawful}
 
 -- from the state s the record's task gives the record's reply and the state s', which is s where
 -- the record wrote nothing
@@ -63,20 +59,12 @@ capacity_of region = (region.size - 16) / 8
 abbrev pub IsHistory : RegionShown → List Record → State → Type 0
 IsHistory region records last = IsLegal (empty_state (capacity_of region)) records last
 
--- when a client that now has this value decided its last record, in this core state of its region,
--- the records of all clients were a history, and its own stood among them, each once and in their
--- order
+-- when a client that now has this value decided its last record, in the core state of its region
+-- right after that step, the records of all clients were a history, and its own stood among them,
+-- each once and in their order
 pub record WasLegal (region : RegionShown) (v : Client) : Type 0 where
-  pub core : Core
-  pub rule : Rule IsLawful (stripe_of region.stripes) core
-  pub first : core.first ≡ region.first
-  pub renewal : core.renewal ≡ region.renewal
-  pub number : ℕ
-  pub caller : Client
-  pub member : get_elem? core.clients number ≡ some caller
-  pub out : caller.spent ≡ false
-  pub grants : caller.grants ≡ v.grants
-  pub records : caller.records ≡ v.records
+  pub decided : WasDecided IsFitting IsLawful region v
+  pub out : v.spent ≡ false
   pub last : State
-  pub legal : IsHistory region (all_records core.clients) last
-  pub among : Sub v.records (all_records core.clients)
+  pub legal : IsHistory region (all_records decided.decides.core.clients) last
+  pub among : Sub v.records (all_records decided.decides.core.clients)

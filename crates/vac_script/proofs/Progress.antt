@@ -4,8 +4,8 @@ use Rattle.std.specs.Io.KnownBytes.{Appends, Consumes, IsAtEnd, Keeps}
 use Rattle.std.proofs.KnownBytes.{Consumes-nil, Consumes-trans, Consumes-kept, Appends-nil, Appends-trans}
 use Rattle.vac_model.specs.State.{State, empty_state}
 use Rattle.vac_lines.specs.Text.{Extends}
-use Rattle.vac_lines.specs.Script.{script_state}
-use Rattle.vac_script.specs.Script.{script_out, pending, leaves, LeavesSame, WrotePrefix}
+use Rattle.vac_lines.specs.Script.{script_state, script_out}
+use Rattle.vac_script.specs.Script.{pending, leaves, LeavesSame, WrotePrefix}
 use Rattle.vac_manager.specs.Session.{SessionShown}
 use Rattle.vac_script.specs.System.{StandsAt, RanAll}
 use Rattle.vac_lines.proofs.Extends.{extends_more}

@@ -1,22 +1,18 @@
 -- What a script writes, as a function of all its bytes.
 use Rattle.std.specs.Prelude.{◌≡◌, ℕ, ◌+◌, Option, IfSome, Result, List, ◌++◌, map, length, ◌≤◌}
 use Rattle.std.specs.Io.KnownBytes.{Appends, Consumes, IsAtEnd}
-use Rattle.vac_model.specs.State.{State, empty_state}
+use Rattle.vac_model.specs.State.{State}
 use Rattle.vac_model.specs.declared.tasks.Task.{Task}
 use Rattle.vac_lines.specs.declared.fault.LineFault.{LineFault}
 use Rattle.vac_lines.specs.declared.line.TheConstants.{LINE_BYTES}
 use Rattle.vac_lines.specs.Lines.{lines_of, HasNo}
-use Rattle.vac_lines.specs.Script.{script}
+use Rattle.vac_lines.specs.Script.{script, script_out}
 use Rattle.vac_lines.specs.Text.{Extends}
 use Rattle.vac_lines.specs.LineTable.{line_task}
 
 -- the output lines of these lines, one after another
 abbrev pub answers : State → List (Result Task LineFault) → List ℕ
 answers s lines = (script s lines).1
-
--- what a script writes for a system of n blocks
-abbrev pub script_out : ℕ → List ℕ → List ℕ
-script_out n bytes = answers (empty_state n) (map line_task (lines_of bytes))
 
 -- the input was read to its end, and its script output was written and nothing else
 pub record WroteAll (n : ℕ) (unread left held holds : Option (List ℕ)) : Type 0 where

@@ -5,13 +5,13 @@ use Rattle.std.specs.Io.KnownBytes.{Appends, Consumes, IsAtEnd}
 use Rattle.vac_model.specs.State.{State, empty_state}
 use Rattle.vac_model.specs.declared.tasks.Task.{Task}
 use Rattle.vac_lines.specs.declared.fault.LineFault.{LineFault}
-use Rattle.vac_lines.specs.Script.{answer, script_state}
+use Rattle.vac_lines.specs.Script.{answer, script_state, script_out}
 use Rattle.vac_lines.specs.Text.{Extends}
 use Rattle.vac_manager.specs.Legal.{IsHistory, capacity_of}
 use Rattle.vac_manager.specs.Called.{HasAllGrants}
 use Rattle.vac_manager.specs.Session.{SessionShown, IsOwn}
 use Rattle.vac_script.specs.declared.system.TheConstants.{LAST_VERSION}
-use Rattle.vac_script.specs.Script.{pending, leaves, LeavesSame, script_out}
+use Rattle.vac_script.specs.Script.{pending, leaves, LeavesSame}
 
 -- the client is alone: it has all grants. The clock ends at the last version that there is
 pub record IsAlone (y : SessionShown) : Type 0 where

@@ -6,7 +6,7 @@ use std::alloc::AllocError;
 use thiserror::Error;
 use vac_lines::NotWritten;
 
-/// Why a script did not run to its end. The numbers are those of the protocol.
+/// Why a script did not run to its end.
 #[derive(Clone, Copy, Debug, PartialEq, Eq, Error)]
 pub enum RunFault {
     /// The input could not be read.

@@ -1,6 +1,6 @@
 use Rattle.std.proofs.Common.{◌≡◌, ◌<◌, ◌+◌, List, length, set, length-set, sym, ap, ◌∙◌, arith, subst}
-use Rattle.stm_logs.specs.declared.nodes.Node.{Node}
-use Rattle.stm_logs.specs.Nodes.{Block, at}
+use Rattle.stm_logs.specs.declared.nodes.Entry.{Entry}
+use Rattle.stm_logs.specs.Nodes.{Node, Block, at, bare, entry_of, with_entry}
 use Rattle.stm_logs.specs.Index.{HasNone, Entered, is_lock_node, IsIndexed}
 use Rattle.stm_logs.specs.Held.{Copied}
 use Rattle.stm_logs.proofs.LogLemmas.{copied_start, copied_more, copy_is_new, free_answer}
@@ -10,9 +10,8 @@ pub loop-e-init : goal.loop-e-init
 loop-e-init g c =
     let old : List Node = c.args.old.now.list in
     let new : List Node = c.args.new.now.list in
-    let root : c.get-root.result.now ≡ at old 0 = c.get-root.ensures in
-    let y : Node = record (at old 0) { slot = 0 } in
-    let list : c.put.new.self.list ≡ set new 0 y = ap (λ (b : Block). b.list) c.put.ensures ∙ ap (λ (x : Node). set new 0 (record x { slot = 0 })) root in
+    let y : Node = with_entry (at new 0) (entry_of (at old 0)) in
+    let list : c.put.new.self.list ≡ set new 0 y = ap (λ (b : Block). b.list) c.put.ensures ∙ ap (λ (x : Entry). set new 0 (with_entry (at new 0) x)) c.get-root.ensures in
     record {
       count = ap (λ (b : Block). b.count) c.put.ensures ∙ c.requires.blank.0;
       copied = subst (λ xs. Copied old xs 0) (sym list) (copied_start old new (omega (arith, c.requires.twice, c.requires.log.places)) c.requires.limit c.requires.blank.1);
@@ -24,8 +23,8 @@ enter-requires-clause-free g c =
     let old : List Node = c.args.old.now.list in
     let new : List Node = c.loop-e.new.list in
     let less : c.loop-e.e < c.args.old.now.count = omega arith in
-    let key_is_new : HasNone new c.loop-e.new.count (is_lock_node c.get-node.result.now) c.get-node.result.now.number =
-    subst (λ (x : Node). HasNone new c.loop-e.new.count (is_lock_node x) x.number) (sym c.get-node.ensures)
+    let key_is_new : HasNone new c.loop-e.new.count (is_lock_node (bare c.get-node.result.now)) c.get-node.result.now.number =
+    subst (λ (x : Entry). HasNone new c.loop-e.new.count (is_lock_node (bare x)) x.number) (sym c.get-node.ensures)
     (subst (λ k. HasNone new k (is_lock_node (at old (c.loop-e.e + 1))) (at old (c.loop-e.e + 1)).number) (sym c.loop-e.invariant.count)
     (copy_is_new old new c.args.old.now.count c.loop-e.e c.requires.log less c.loop-e.invariant.copied)) in
     let indexed : IsIndexed new c.loop-e.new.count = subst (λ k. IsIndexed new k) (sym c.loop-e.invariant.count) c.loop-e.invariant.copied.indexed in
@@ -36,8 +35,9 @@ loop-e-preserved g c =
     let old : List Node = c.args.old.now.list in
     let new : List Node = c.loop-e.new.list in
     let more : List Node = c.enter.new.nodes.list in
-    let entered : Entered new more c.loop-e.e (at old (c.loop-e.e + 1)) =
-    subst (λ k. Entered new more k (at old (c.loop-e.e + 1))) c.loop-e.invariant.count (subst (λ (x : Node). Entered new more c.loop-e.new.count x) c.get-node.ensures c.enter.ensures.entered) in
+    let node : Node = bare (entry_of (at old (c.loop-e.e + 1))) in
+    let entered : Entered new more c.loop-e.e node =
+    subst (λ k. Entered new more k node) c.loop-e.invariant.count (subst (λ (x : Entry). Entered new more c.loop-e.new.count (bare x)) c.get-node.ensures c.enter.ensures.entered) in
     let list : c.set_count.new.self.list ≡ more = ap (λ (b : Block). b.list) c.set_count.ensures in
     record {
       count = ap (λ (b : Block). b.count) c.set_count.ensures;

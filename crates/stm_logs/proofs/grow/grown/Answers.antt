@@ -1,5 +1,5 @@
 use Rattle.std.proofs.Common.{◌≡◌, ◌*◌, ◌<◌, ◌≤◌, ℕ, List, length, sym, subst, ap, ◌∙◌, arith}
-use Rattle.stm_logs.specs.declared.nodes.Node.{Node}
+use Rattle.stm_logs.specs.Nodes.{Node}
 use Rattle.stm_logs.specs.Held.{IsLog}
 use Rattle.stm_logs.specs.Tree.{log_value}
 use Rattle.stm_logs.proofs.LogLemmas.{copied_log, copied_value}

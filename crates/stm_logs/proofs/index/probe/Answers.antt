@@ -1,6 +1,6 @@
-use Rattle.std.proofs.Common.{◌≡◌, ◌<◌, false, IsTrue, List, length, arith, ap, sym, ◌∙◌, subst}
-use Rattle.stm_logs.specs.declared.nodes.Node.{Node}
-use Rattle.stm_logs.specs.Nodes.{at}
+use Rattle.std.proofs.Common.{◌≡◌, ℕ, ◌<◌, false, IsTrue, List, length, arith, ap, sym, ◌∙◌, subst}
+use Rattle.stm_logs.specs.declared.nodes.Entry.{Entry}
+use Rattle.stm_logs.specs.Nodes.{Node, at, entry_of, bare}
 use Rattle.stm_logs.specs.Index.{home, HasKey, IsOther}
 use Rattle.stm_logs.proofs.IndexLemmas.{stepped, Stepped}
 use Rattle.stm_logs.proofs.index.probe.Given as given
@@ -14,11 +14,10 @@ stepping : (g : given.Over) (c : goal.After-behind-place g)
 stepping g c =
     let ns : List Node = c.args.nodes.now.list in
     let len : c.len-len.result ≡ length ns = c.loop-is_lock.invariant.len in
-    let node : c.get.result.now ≡ at ns c.loop-is_lock.place = c.get.ensures in
-    let there : c.get-in-loop-is_lock.result.now ≡ at ns ((at ns c.loop-is_lock.place).slot) = c.get-in-loop-is_lock.ensures ∙ ap (λ (x : Node). at ns x.slot) node in
-    let slot : c.get.result.now.slot ≡ (at ns c.loop-is_lock.place).slot = ap (λ (x : Node). x.slot) node in
+    let slot : c.slot-slot.result ≡ (at ns c.loop-is_lock.place).slot = c.slot-slot.ensures in
+    let there : c.get.result.now ≡ entry_of (at ns ((at ns c.loop-is_lock.place).slot)) = c.get.ensures ∙ ap (λ (x : ℕ). entry_of (at ns x)) slot in
     let other : IsOther ns c.args.is_lock c.args.number c.loop-is_lock.place =
-    (omega arith, λ key. not_true (c.if-has_key.ensures.1 (subst (λ (x : Node). HasKey x c.args.is_lock c.args.number) (sym there) key))) in
+    (omega arith, λ key. not_true (c.if-has_key.ensures.1 (subst (λ (x : Entry). HasKey (bare x) c.args.is_lock c.args.number) (sym there) key))) in
     let start : c.start-place.result ≡ home c.args.is_lock c.args.number (length ns) = c.start-place.ensures.place ∙ ap (home c.args.is_lock c.args.number) len in
     stepped ns c.args.nodes.now.count c.args.is_lock c.args.number _ c.loop-is_lock.place c.behind-place.result c.requires
     (subst (λ s. s < length ns) start (omega arith)) c.loop-is_lock.invariant.inside

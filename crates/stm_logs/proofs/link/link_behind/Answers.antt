@@ -1,6 +1,6 @@
 use Rattle.std.proofs.Common.{◌≡◌, ◌+◌, ℕ, List, set, sym, ap, ◌∙◌, subst}
-use Rattle.stm_logs.specs.declared.nodes.Node.{Node}
-use Rattle.stm_logs.specs.Nodes.{at}
+use Rattle.stm_logs.specs.declared.nodes.Entry.{Entry}
+use Rattle.stm_logs.specs.Nodes.{Node, at}
 use Rattle.stm_logs.specs.Tree.{Linked, IsBefore, with_next, with_recent}
 use Rattle.stm_logs.proofs.TreeLemmas.{behind_linked, behind_one, behind_two, behind_three}
 use Rattle.stm_logs.proofs.link.link_behind.Goals as goal
@@ -12,7 +12,7 @@ returns-clause-linked g c =
     let l : ℕ = c.args.parent in
     let b : ℕ = c.args.before in
     let child : c.args.child ≡ n + 1 = c.requires.child in
-    let next : c.get.result.now.next ≡ (at ns b).next = ap (λ (x : Node). x.next) c.get.ensures in
+    let next : c.get.result.now.next ≡ (at ns b).next = ap (λ (x : Entry). x.next) c.get.ensures in
     let one : c.set_next.new.nodes.list ≡ behind_one ns n b =
     ap (λ s. s.list) c.set_next.ensures ∙ ap (λ i. set ns i (with_next (at ns i) c.get.result.now.next)) child ∙ ap (λ q. set ns (n + 1) (with_next (at ns (n + 1)) q)) next in
     let two : c.set_next-2.new.nodes.list ≡ behind_two ns n b =

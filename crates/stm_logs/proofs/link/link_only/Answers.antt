@@ -1,6 +1,5 @@
 use Rattle.std.proofs.Common.{◌≡◌, ◌+◌, ℕ, List, set, sym, ap, ◌∙◌, subst}
-use Rattle.stm_logs.specs.declared.nodes.Node.{Node}
-use Rattle.stm_logs.specs.Nodes.{at}
+use Rattle.stm_logs.specs.Nodes.{Node, at}
 use Rattle.stm_logs.specs.Tree.{IsWaiting, Linked, with_first}
 use Rattle.stm_logs.proofs.TreeLemmas.{only_linked}
 use Rattle.stm_logs.proofs.link.link_only.Goals as goal

@@ -1,5 +1,5 @@
 use Rattle.std.proofs.Common.{◌≡◌, ℕ, refl, sym, ap, subst}
-use Rattle.stm_logs.specs.declared.nodes.Node.{Node}
+use Rattle.stm_logs.specs.Nodes.{Node}
 use Rattle.stm_logs.specs.Tree.{IsWaiting, Linked, Added}
 use Rattle.stm_logs.proofs.AddLemmas.{waiting, added}
 use Rattle.stm_logs.proofs.tree.add.Goals as goal

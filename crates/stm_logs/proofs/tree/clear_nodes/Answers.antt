@@ -1,6 +1,6 @@
 use Rattle.std.proofs.Common.{◌≡◌, ◌<◌, ◌+◌, ℕ, List, set, sym, ap, ◌∙◌, arith, subst}
-use Rattle.stm_logs.specs.declared.nodes.Node.{Node}
-use Rattle.stm_logs.specs.Nodes.{Block, at}
+use Rattle.stm_logs.specs.declared.nodes.Entry.{Entry}
+use Rattle.stm_logs.specs.Nodes.{Node, Block, at, with_entry}
 use Rattle.stm_logs.specs.Held.{IsLog, Cleared}
 use Rattle.stm_logs.proofs.ClearLemmas.{cleared_more, cleared_place, cleared_log}
 use Rattle.stm_logs.proofs.tree.clear_nodes.Goals as goal
@@ -11,11 +11,11 @@ loop-e-preserved g c =
     let new : List Node = c.loop-e.nodes.list in
     let n : ℕ = c.args.nodes.now.count in
     let less : c.loop-e.e < n = omega arith in
-    let place : c.get.result.now.place ≡ (at new (c.loop-e.e + 1)).place = ap (λ (x : Node). x.place) c.get.ensures in
+    let place : c.get.result.now.place ≡ (at new (c.loop-e.e + 1)).place = ap (λ (x : Entry). x.place) c.get.ensures in
     let inside = cleared_place old new n c.loop-e.e c.requires c.loop-e.invariant.cleared less in
-    let list : c.set_free.new.nodes.list ≡ set new c.get.result.now.place (record (at new c.get.result.now.place) { slot = 0 }) = ap (λ (b : Block). b.list) c.set_free.ensures in
+    let list : c.set_slot.new.self.list ≡ set new c.get.result.now.place (record (at new c.get.result.now.place) { slot = 0 }) = ap (λ (b : Block). b.list) c.set_slot.ensures in
     record {
-      count = ap (λ (b : Block). b.count) c.set_free.ensures ∙ c.loop-e.invariant.count;
+      count = ap (λ (b : Block). b.count) c.set_slot.ensures ∙ c.loop-e.invariant.count;
       cleared = subst (λ xs. Cleared old xs n (c.loop-e.e + 1)) (sym list) (cleared_more old new n c.loop-e.e c.get.result.now.place c.loop-e.invariant.cleared place (omega (arith, inside, place)));
     }
 
@@ -28,5 +28,5 @@ returns-clause-log g c =
     let cleared : Cleared old new n n = subst (λ k. Cleared old new n k) end c.loop-e.invariant.cleared in
     let count : c.set_count.new.self.count ≡ 0 = ap (λ (b : Block). b.count) c.set_count.ensures in
     let list : c.set_count.new.self.list ≡ set new 0 (record (at new 0) { first = 0; recent = 0 }) =
-    ap (λ (b : Block). b.list) c.set_count.ensures ∙ ap (λ (b : Block). b.list) c.put.ensures ∙ ap (λ (x : Node). set new 0 (record x { first = 0; recent = 0 })) c.get-root.ensures in
+    ap (λ (b : Block). b.list) c.set_count.ensures ∙ ap (λ (b : Block). b.list) c.put.ensures ∙ ap (λ (x : Entry). set new 0 (with_entry (at new 0) (record x { first = 0; recent = 0 }))) c.get-root.ensures in
     subst (λ k. IsLog c.set_count.new.self.list k) (sym count) (subst (λ xs. IsLog xs 0) (sym list) (cleared_log old new n c.requires cleared))

@@ -1,5 +1,6 @@
 use Rattle.std.proofs.Common.{List, sym, ap, ◌∙◌, arith, subst}
-use Rattle.stm_logs.specs.declared.nodes.Node.{Node}
+use Rattle.stm_logs.specs.declared.nodes.Entry.{Entry}
+use Rattle.stm_logs.specs.Nodes.{Node}
 use Rattle.stm_logs.specs.Chain.{chain, Ends, pair_of}
 use Rattle.stm_logs.proofs.ChainLemmas.{chain_zero, ends_zero, pairs_none, pairs_chain}
 use Rattle.stm_logs.proofs.tree.first_word.Goals as goal
@@ -15,10 +16,10 @@ pub returns-clause-ends : goal.returns-clause-ends
 returns-clause-ends g c =
     let h = c.find-there.ensures.there (omega arith) in
     let ns : List Node = c.args.nodes.now.list in
-    subst (λ p. Ends ns c.args.nodes.now.count p) (sym (ap (λ (x : Node). x.first) c.get.ensures)) (pairs_chain ns c.args.nodes.now.count c.args.lock c.find-there.result c.requires (omega arith) h.0 h.1).1
+    subst (λ p. Ends ns c.args.nodes.now.count p) (sym (ap (λ (x : Entry). x.first) c.get.ensures)) (pairs_chain ns c.args.nodes.now.count c.args.lock c.find-there.result c.requires (omega arith) h.0 h.1).1
 
 pub returns-clause-pairs : goal.returns-clause-pairs
 returns-clause-pairs g c =
     let h = c.find-there.ensures.there (omega arith) in
     let ns : List Node = c.args.nodes.now.list in
-    ap (λ (x : Node). chain pair_of ns c.args.nodes.now.count x.first) c.get.ensures ∙ (pairs_chain ns c.args.nodes.now.count c.args.lock c.find-there.result c.requires (omega arith) h.0 h.1).0
+    ap (λ (x : Entry). chain pair_of ns c.args.nodes.now.count x.first) c.get.ensures ∙ (pairs_chain ns c.args.nodes.now.count c.args.lock c.find-there.result c.requires (omega arith) h.0 h.1).0

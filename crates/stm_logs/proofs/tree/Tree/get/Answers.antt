@@ -1,6 +1,6 @@
 use Rattle.std.proofs.Common.{sym, ap, ◌∙◌, arith, Some}
 use Rattle.std.specs.FinMap.{get}
-use Rattle.stm_logs.specs.declared.nodes.Node.{Node}
+use Rattle.stm_logs.specs.declared.nodes.Entry.{Entry}
 use Rattle.stm_logs.specs.Log.{LogValue}
 use Rattle.stm_logs.proofs.LogLemmas.{get_word, no_word}
 use Rattle.stm_logs.proofs.tree.Tree.get.Goals as goal
@@ -11,4 +11,4 @@ returns-then-word-eq0 g c = sym (no_word _ _ _ (c.find-word.ensures.none c.if-wo
 pub returns-else-word-eq0 : goal.returns-else-word-eq0
 returns-else-word-eq0 g c =
     let h = c.find-word.ensures.there (omega arith) in
-    ap (λ (x : Node). Some x.value) c.get.ensures ∙ sym (get_word _ _ _ _ c.self.invariant.ready.tree (omega arith) h.0 h.1) ∙ ap (λ (w : LogValue). get w.words c.args.number) c.self.view_is
+    ap (λ (x : Entry). Some x.value) c.get.ensures ∙ sym (get_word _ _ _ _ c.self.invariant.ready.tree (omega arith) h.0 h.1) ∙ ap (λ (w : LogValue). get w.words c.args.number) c.self.view_is

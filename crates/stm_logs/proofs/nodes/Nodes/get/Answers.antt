@@ -1,0 +1,22 @@
+use Rattle.std.proofs.Common.{rules, ◌≡◌, ℕ, ◌<◌, true, false, List, length, sym, ap, ◌∙◌, arith, get_or, set, subst}
+use Rattle.stm_logs.specs.declared.nodes.Slot.{Slot}
+use Rattle.stm_logs.specs.Nodes.{Node, Block, at, entry_of, with_entry, with_slot, with_node}
+use Rattle.stm_logs.proofs.BesideLemmas.{place_in, entry_here, slot_here, entry_put, slot_put}
+use Rattle.stm_logs.proofs.nodes.Nodes.get.Goals as goal
+
+pub get-requires : goal.get-requires
+get-requires g c =
+    let s = c.self.inside in
+    let list = ap (λ (b : Block). b.list) c.self.view_is in
+    let p = place_in _ _ s.len s.row.items s.index.items _ c.args.i s.row.ok.0 s.index.ok.0 c.self.invariant.0.0 c.self.invariant.2.0 list c.requires in
+    let l : c.args.i < length s.row.items = omega (arith, p.1, s.row.ok.0, c.self.invariant.0.0) in
+    let there : get_or s.row.filled c.args.i false ≡ true = c.self.invariant.0.1 c.args.i (omega arith) p.1 in
+    (omega (arith, l, s.row.ok.0), rw there (search rules))
+
+pub returns : goal.returns
+returns g c =
+    let s = c.self.inside in
+    let list = ap (λ (b : Block). b.list) c.self.view_is in
+    let p = place_in _ _ s.len s.row.items s.index.items _ c.args.i s.row.ok.0 s.index.ok.0 c.self.invariant.0.0 c.self.invariant.2.0 list c.requires in
+    let l : c.args.i < length s.row.items = omega (arith, p.1, s.row.ok.0, c.self.invariant.0.0) in
+    c.get.ensures ∙ entry_here _ _ _ _ _ p.0 l list
