@@ -1,10 +1,11 @@
 -- For tests: the words of a heap of seven blocks, all of them taken.
 use Rattle.std.specs.Prelude.{ℕ, List, [], ◌∷◌, ◌++◌}
 
--- words 1 to 4 lead to the tables, and no list has a free block
+-- words 1 to 4 lead to the tables
 abbrev pub roots : List ℕ
 roots = 0 ∷ 16 ∷ 0 ∷ 32 ∷ 40 ∷ 0 ∷ 0 ∷ 0 ∷ []
 
+-- the eight lists of free blocks, all of them empty
 abbrev pub heads : List ℕ
 heads = 0 ∷ 0 ∷ 0 ∷ 0 ∷ 0 ∷ 0 ∷ 0 ∷ 0 ∷ []
 
@@ -23,5 +24,6 @@ customers =
     0 ∷ 1 ∷ 90 ∷ 64 ∷ 2 ∷ 0 ∷ 0 ∷ 0 ∷
     2 ∷ 9 ∷ 75 ∷ 0 ∷ 1 ∷ 0 ∷ 0 ∷ 0 ∷ []
 
+-- the words of the whole heap: roots, heads, items, customers with their bookings
 abbrev pub stock_words : List ℕ
 stock_words = roots ++ heads ++ items ++ customers

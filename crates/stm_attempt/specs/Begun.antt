@@ -40,6 +40,7 @@ IsUnstopped v stopped = v.attempt.lone ≡ true → stopped ≡ None
 abbrev pub AreInside : ℕ → List (ℕ × ℕ) → Type 0
 AreInside size reads = (address x : ℕ) → In (address, x) reads → address < size
 
+-- the address at which a value was read
 abbrev pub address_of : ℕ × ℕ → ℕ
 address_of p = p.0
 

@@ -32,6 +32,7 @@ pub record Origin : Type 0 where
   pub client : ClientShown
   pub in_use : Bool
 
+-- the origin of an attempt over this region, with this client and these logs
 abbrev pub origin_of : Bool → RegionShown → ℕ → ℕ → ClientShown → Origin
 origin_of in_use region client_name logs_name client = record {
   region = region;

@@ -106,6 +106,7 @@ pub record Stamp : Type 0 where
   pub place : ℕ
   pub renewal : ℕ
 
+-- whether this is the phase of a decided writer
 abbrev pub is_committed : Phase → Bool
 is_committed committed = true
 is_committed _ = false
@@ -115,6 +116,7 @@ is_committed _ = false
 abbrev pub decided : Client → Bool
 decided c = is_committed c.attempt.phase
 
+-- the version in a lock word: of one that is held, the old version
 abbrev pub version_of : ℕ → ℕ
 version_of word = word / 2
 
@@ -122,6 +124,7 @@ version_of word = word / 2
 abbrev pub IsFree : ℕ → Type 0
 IsFree word = word ≡ free_word (version_of word)
 
+-- the same as a test
 abbrev pub is_free : ℕ → Bool
 is_free word = eqb word (free_word (version_of word))
 
@@ -146,10 +149,12 @@ word_before (probed k n) = n
 word_before (fetched a n x) = n
 word_before _ = 0
 
+-- the value that this step found, where it is a fetch; else 0
 abbrev pub value_fetched : Step → ℕ
 value_fetched (fetched a n x) = x
 value_fetched _ = 0
 
+-- the word that this step found, if it found one
 abbrev pub word_found : Step → Option ℕ
 word_found nothing = None
 word_found (began n) = Some n

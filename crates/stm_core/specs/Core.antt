@@ -24,6 +24,7 @@ pub record Core : Type 0 where
   pub cells : List ℕ
   pub clients : List Client
 
+-- the last version of the present clock, and how many lock words and data words there are
 abbrev pub bounds_of : Core → Bounds
 bounds_of c = record { last = c.last; stripes = length c.locks; size = length c.cells }
 
@@ -66,12 +67,14 @@ stepped t lk e i v c =
     let d = written e (left e n v) c in
     record d { clients = slice_set c.clients i (after t lk e n v); events = c.events + 1 }
 
+-- the core after a split by client i, whose value is v: the new client comes last
 abbrev pub divided : ℕ → Client → Core → Core
 divided i v c = record c {
   clients = slice_set c.clients i (giving v) ++ fresh v ∷ [];
   events = c.events + 1;
 }
 
+-- the core after client i, whose value is v, took in client j, whose value is w
 abbrev pub gathered : ℕ → Client → ℕ → Client → Core → Core
 gathered i v j w c = record c {
   clients = slice_set (slice_set c.clients i (taking v w)) j gone;
@@ -114,6 +117,7 @@ stamp_of c k = record { client = k; place = c.events; renewal = c.renewal }
 abbrev pub is_out : Core → ℕ → Bool
 is_out c k = nat_lt 0 k && nat_lt (k - 1) (length c.clients) && not (client_of c k).spent
 
+-- whether each of these clients was gathered
 abbrev pub are_spent : List Client → Bool
 are_spent [] = true
 are_spent (v ∷ vs) = v.spent && are_spent vs
@@ -142,6 +146,7 @@ module _ (lawful : RecordLaw) where
   MakesLawful (acts k e) c = IsLawful lawful e (client_of c k).attempt
   MakesLawful _ c = Unit {0}
 
+  -- the event may come next, and the record that it would make, if any, is lawful
   abbrev pub Allowed : (ℕ → ℕ) → Event → Core → Type 0
   Allowed lk e c = (may_play lk e c ≡ true) × MakesLawful e c
 

@@ -24,7 +24,7 @@ pub record Bounds : Type 0 where
   pub stripes : ℕ
   pub size : ℕ
 
--- the record that an attempt makes as a writer, and as a reader with this tag
+-- the record that an attempt makes as a writer: its point is the tick that it won
 abbrev pub writer_record : Stamp → Attempt → Record
 writer_record s t = record {
   tag = t.tag;
@@ -38,6 +38,7 @@ writer_record s t = record {
   client = s.client;
 }
 
+-- the record that an attempt makes as a reader with this tag: its point is its begin
 abbrev pub reader_record : Stamp → List ℕ → Attempt → Record
 reader_record s tag t = record {
   tag = tag;
@@ -119,9 +120,11 @@ marking mine = on_attempt (λ t. record t { mine = mine })
 abbrev pub failing : Client → Client
 failing = on_attempt (λ t. record t { phase = ending })
 
+-- x was read at a as well, and checked
 abbrev pub read_too : ℕ → ℕ → Client → Client
 read_too a x = on_attempt (λ t. record t { reads = t.reads ++ (a, x) ∷ [] })
 
+-- lock k is held as well, which had the old version u
 abbrev pub holding : ℕ → ℕ → Client → Client
 holding k u = on_attempt (λ t. record t { held = t.held ++ (k, u) ∷ [] })
 
@@ -147,6 +150,7 @@ versioned s n tag writes c = record c {
   };
 }
 
+-- whether there are no such pairs
 abbrev pub is_empty : List (ℕ × ℕ) → Bool
 is_empty [] = true
 is_empty (p ∷ ps) = false
@@ -156,6 +160,7 @@ is_empty (p ∷ ps) = false
 abbrev pub decides_at_once : Client → Bool
 decides_at_once c = is_empty c.attempt.reads || eqb c.attempt.wv (c.attempt.rv + 1)
 
+-- the client has won the tick to version n, and is decided where that decides at once
 abbrev pub won : Stamp → ℕ → List ℕ → List (ℕ × ℕ) → Client → Client
 won s n tag writes c =
     let w = versioned s n tag writes c in cond (decides_at_once w) (committed_by s w) w
@@ -164,6 +169,7 @@ won s n tag writes c =
 abbrev pub passes : ℕ → ℕ → Client → Bool
 passes k n c = (is_free n || writes_to c.attempt.held k) && leb (version_of n) c.attempt.rv
 
+-- one validation more has passed, and the client is decided where it was the last one
 abbrev pub passing : Stamp → Client → Client
 passing s c =
     let w = counting c in

@@ -7,12 +7,15 @@ use Rattle.stm_core.specs.Theorem.{free_law, Reaches}
 use Rattle.stm_core.specs.Guards.{stripe_of}
 use Rattle.stm_core.specs.Listed.{decisions, begins}
 
+-- the image on which the worked lists open: 32 words, all of them 0
 abbrev pub zeros : List ℕ
 zeros = replicate 32 0
 
+-- the list is allowed from that image on, with 32 lock words and the last version 100
 abbrev pub IsAllowedList : List Event → Type 0
 IsAllowedList events = (c : Core) × Reaches free_law zeros 100 32 events c
 
+-- the records that the events of a list decide from there on
 abbrev pub decided_by : List Event → List Record
 decided_by = decisions (stripe_of 32) (opened zeros 100 32)
 
@@ -75,6 +78,7 @@ abandoned =
     acts 1 begin ∷ acts 1 (probe 9) ∷ acts 1 (fetch 9) ∷ acts 1 (check 9)
     ∷ acts 1 begin ∷ acts 1 (finish (7 ∷ [])) ∷ []
 
+-- the second attempt alone has a record
 abbrev pub abandoned_records : List Record
 abandoned_records =
     record {
@@ -90,6 +94,7 @@ abandoned_records =
     }
     ∷ []
 
+-- both lists are allowed and decide just these records
 pub record WorkedLists : Type 0 where
   pub overtaken_is_allowed : IsAllowedList overtaken
   pub overtaken_decides : decided_by overtaken ≡ overtaken_records

@@ -11,10 +11,12 @@ use Rattle.stm_core.specs.declared.limits.TheConstants.{MOST_TICKS}
 abbrev pub stripe_of : ℕ → ℕ → ℕ
 stripe_of stripes address = address % stripes
 
+-- whether the attempt runs: it may still read, lock and tick
 abbrev pub is_running : Phase → Bool
 is_running running = true
 is_running _ = false
 
+-- whether the attempt has begun and is not decided: it may give back its locks
 abbrev pub may_end : Phase → Bool
 may_end running = true
 may_end ending = true
@@ -101,8 +103,10 @@ module _ (lawful : RecordLaw) where
   IsLawful (finish tag) t = lawful tag t.reads []
   IsLawful _ t = Unit {0}
 
+  -- the attempt may make this step, and the record that it would make, if any, is lawful
   abbrev pub MayAct : (ℕ → ℕ) → Bounds → Action → Attempt → Type 0
   MayAct lk b e t = (may_act lk b e t ≡ true) × IsLawful e t
 
+  -- the client was not gathered, and its attempt may make this step
   abbrev pub May : (ℕ → ℕ) → Bounds → Action → Client → Type 0
   May lk b e c = (c.spent ≡ false) × MayAct lk b e c.attempt

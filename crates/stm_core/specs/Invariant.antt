@@ -61,6 +61,7 @@ pub record IsLone (lk : ℕ → ℕ) (clock : ℕ) (locks : List ℕ) (v : Clien
   -- while it runs, the lock word that it probed stays as it is
   pub seen : v.attempt.phase ≡ running → Unmoved lk locks v.attempt.last
 
+-- this holds of each client whose attempt is lone
 abbrev pub Lone : (ℕ → ℕ) → ℕ → List ℕ → List Client → Type 0
 Lone lk clock locks cs =
     (i : ℕ) (v : Client) → At cs i v → v.attempt.lone ≡ true → IsLone lk clock locks v

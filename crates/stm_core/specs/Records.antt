@@ -19,6 +19,7 @@ value_in [] d b a = d
 value_in (w ∷ ws) d zero a = d
 value_in (w ∷ ws) d (suc b) a = value_in ws (over d w a) b a
 
+-- the value at a in the image of version b, where this image stood at the opening
 abbrev pub value_of : List ℕ → List (List (ℕ × ℕ)) → ℕ → ℕ → ℕ
 value_of image story b a = value_in story (slice_index image a) b a
 

@@ -15,6 +15,7 @@ pub record World : Type 0 where
   pub val : ℕ → ℕ → ℕ
   pub wrote : ℕ → ℕ → Bool
 
+-- v is the value of the client at place i of the list, counted from 0
 abbrev pub At : List Client → ℕ → Client → Type 0
 At cs i v = get_elem? cs i ≡ some v
 

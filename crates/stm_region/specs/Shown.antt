@@ -95,6 +95,7 @@ opened_on table image last stripes = record {
   start = opener;
 }
 
+-- what bounds the events of a region: its last version, its lock words and its data words
 abbrev pub bounds : RegionShown → Bounds
 bounds r = record { last = r.last; stripes = r.stripes; size = r.size }
 

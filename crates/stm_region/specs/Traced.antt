@@ -9,10 +9,11 @@ use Rattle.stm_core.specs.Core.{Core, Event}
 use Rattle.stm_core.specs.Theorem.{Reaches}
 use Rattle.stm_region.specs.Shown.{Opened}
 
--- a record and an attempt without places in the list of events, and without whose the record is
+-- a record without its place in the list of events, and without whose it is
 abbrev pub unplaced_record : Record → Record
 unplaced_record r = record r { point = 0; client = 0 }
 
+-- an attempt without the places of its begin and its won tick
 abbrev pub unplaced_attempt : Attempt → Attempt
 unplaced_attempt t = record t { began_at = 0; ticked_at = 0 }
 

@@ -3,6 +3,7 @@ use Rattle.std.specs.Prelude.{ℕ, ◌+◌, cond, ltb, List, [], ◌∷◌}
 use Rattle.std.specs.List.{list_all, insert}
 use Rattle.stm_replay.specs.declared.event.Entry.{Entry}
 
+-- what is kept of each decided record, and the place of its point step
 pub record Placed : Type 0 where
   pub entries : List Entry
   pub points : List ℕ

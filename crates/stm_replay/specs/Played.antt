@@ -5,6 +5,7 @@ use Rattle.stm_core.specs.Core as core
 use Rattle.stm_replay.specs.declared.event.Event.{Event}
 use Rattle.stm_replay.specs.declared.event.Event.TheVariants.{Begin, Probe, Fetch, Check, Lock, Tick, Validate, Put, Release, GiveBack, Finish, Split, Gather, Renew}
 
+-- the event that one of the running core stands for; its number is the tag
 abbrev pub event_of : {A : Type 0} → Event A → core.Event
 event_of (Begin k) = core.acts k event.begin
 event_of (Probe k n) = core.acts k (event.probe n)

@@ -18,6 +18,7 @@ pub record Running : Type 0 where
   pub core : Core
   pub order : Placed
 
+-- the lock of an address in this core
 abbrev pub stripes_of : Core → ℕ → ℕ
 stripes_of c = stripe_of (length c.locks)
 
@@ -31,6 +32,7 @@ abbrev pub may_run : (ℕ → ℕ) → Event → Core → Bool
 may_run lk (splits k) c = may_play lk (splits k) c && nat_lt (length c.clients) MOST_CLIENTS
 may_run lk e c = may_play lk e c
 
+-- what is kept of a decided record: no reads and no writes, and its tag as a number
 abbrev pub entry_of : Record → Entry
 entry_of r = record {
   client = r.client;
@@ -40,11 +42,12 @@ entry_of r = record {
   renewal = r.renewal;
 }
 
+-- the records that one event decided, which are one or none, come to their place
 abbrev pub entered : List Record → Running → Running
 entered [] s = s
 entered (r ∷ rs) s = record s { order = put_in (entry_of r) r.point s.order }
 
--- the running core after an event
+-- the running core after a step of client k
 abbrev pub run_acts : ℕ → Action → Running → Running
 run_acts k e s =
     let c = s.core in
@@ -55,6 +58,7 @@ run_acts k e s =
     entered (decision (stamp_of c k) e n v)
     (record s { core = record d { clients = seats; events = c.events + 1 } })
 
+-- the running core after an event
 abbrev pub run_played : Event → Running → Running
 run_played (acts k e) s = run_acts k e s
 run_played (splits k) s =

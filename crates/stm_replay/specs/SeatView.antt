@@ -8,6 +8,7 @@ use Rattle.stm_replay.specs.declared.seat.Step.{Step}
 use Rattle.stm_replay.specs.declared.seat.Step.TheVariants.{Nothing, Began, Probed, Fetched, Checked, Locked, Ticked, Validated, Ended}
 use Rattle.stm_replay.specs.declared.seat.Seat.TheInside.{Inside}
 
+-- the phase that the running core keeps, as one of the core
 abbrev pub phase_of : Phase → client.Phase
 phase_of Idle = client.idle
 phase_of Running = client.running
@@ -15,6 +16,7 @@ phase_of Ending = client.ending
 phase_of Committed = client.committed
 phase_of Finished = client.finished
 
+-- the step that the running core keeps, as one of the core
 abbrev pub step_of : Step → client.Step
 step_of Nothing = client.nothing
 step_of (Began n) = client.began n
@@ -26,10 +28,12 @@ step_of (Ticked f m) = client.ticked f m
 step_of (Validated k n) = client.validated k n
 step_of (Ended n) = client.ended n
 
+-- the tag that the running core keeps: a number, or none yet
 abbrev pub tag_of : Option ℕ → List ℕ
 tag_of None = []
 tag_of (Some n) = n ∷ []
 
+-- the client's value that a seat stands for, without what a seat does not keep
 abbrev pub client_of_seat : {A : Type 0} → Inside A → client.Client
 client_of_seat s = record {
   grants = s.grants;

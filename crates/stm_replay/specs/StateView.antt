@@ -3,6 +3,7 @@ use Rattle.std.specs.Prelude.{◌≡◌, ◌<◌, [], length}
 use Rattle.stm_replay.specs.Running.{Running}
 use Rattle.stm_replay.specs.declared.state.State.TheInside.{Inside}
 
+-- the running core, without its images and earlier renewals, which it does not keep
 abbrev pub running_of : {A : Type 0} → Inside A → Running
 running_of s = record {
   core = record {
@@ -20,6 +21,7 @@ running_of s = record {
   order = s.order;
 }
 
+-- there is a lock word, and their number is kept right
 pub record IsWhole {A : Type 0} (s : Inside A) : Type 0 where
   pub stripes : s.stripes ≡ length s.locks.items
   pub some : 0 < s.stripes

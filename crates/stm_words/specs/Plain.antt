@@ -8,6 +8,7 @@ abbrev pub numbered : ℕ → List ℕ → Words
 numbered i [] = empty
 numbered i (x ∷ xs) = insert (numbered (i + 1) xs) i x
 
+-- plain memory: what it means is that all its words were written and none was read
 abbrev pub flat_view : List ℕ → View
 flat_view xs = record {
   size = length xs;

@@ -21,6 +21,7 @@ stock_word i =
     (cond (nat_eq (i % 8) 0) (((i - 16) / 8) / 40)
     (cond (nat_eq (i % 8) 1) (((i - 16) / 8) % 40) (1000 + i)))
 
+-- these are the words before the first change
 abbrev pub IsStock : List ℕ → Type 0
 IsStock xs = (length xs ≡ 976) × ((i : ℕ) → i < 976 → slice_index xs i ≡ stock_word i)
 
@@ -31,6 +32,7 @@ pub record IsStocked (m : ℕ → ℕ) (n : ℕ) : Type 0 where
   pub kind_is : (j : ℕ) → j < 120 → m (stock_block j + 0) ≡ j / 40
   pub id_is : (j : ℕ) → j < 120 → m (stock_block j + 1) ≡ j % 40
 
+-- under each image of its size the memory has the blocks with their keys, and a list
 pub record HasStock (s : View) : Type 0 where
   pub size : s.size ≡ 976
   pub under : (image : List ℕ) → Stands s image → IsStocked (mem s image) (length image)

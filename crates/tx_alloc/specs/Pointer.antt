@@ -3,6 +3,7 @@ use Rattle.std.specs.Prelude.{ℕ, ◌+◌, ◌≤◌, Option, Some, None}
 use Rattle.stm_words.specs.View.{View}
 use Rattle.tx_alloc.specs.declared.place.TheConstants.{FIRST_BLOCK, BLOCK_WORDS}
 
+-- the word that leads to a block, or to none
 abbrev pub pointer : Option ℕ → ℕ
 pointer None = 0
 pointer (Some b) = b

@@ -47,6 +47,7 @@ pub record IsPool (m : ℕ → ℕ) (n : ℕ) (free : ℕ → List ℕ) (used : 
   pub once : (x : ℕ) → IsBlock n x → sum_below LISTS (λ i. held x (free i)) + used x ≡ 1
   pub all : heap_words (sum_below LISTS (λ i. length (free i)) + count) ≡ n
 
+-- the words are a pool, whichever blocks are free and whichever are taken
 pub record SomePool (m : ℕ → ℕ) (n : ℕ) : Type 0 where
   pub free : ℕ → List ℕ
   pub used : ℕ → ℕ
@@ -94,6 +95,7 @@ pub record IsUsed (m : ℕ → ℕ) (n : ℕ) (free : ℕ → List ℕ) (used : 
   pub block : IsBlock n b
   pub pool : IsPool m n free (with_block used b) (count + 1)
 
+-- the words are a pool in which the block b is taken
 pub record SomeUsed (m : ℕ → ℕ) (n b : ℕ) : Type 0 where
   pub free : ℕ → List ℕ
   pub used : ℕ → ℕ

@@ -1,6 +1,7 @@
 -- Rows: the keys of a structure with their blocks, by ascending key.
 use Rattle.std.specs.Prelude.{◌≡◌, ◌≢◌, ◌⊎◌, ℕ, ◌+◌, ◌<◌, ◌≤◌, cond, List, [], ◌∷◌, nat_eq, nat_lt}
 
+-- the key and the block of each entry
 abbrev pub Rows : Type 0
 Rows = List (ℕ × ℕ)
 

@@ -9,9 +9,11 @@ use Rattle.tx_list.specs.declared.place.TheConstants.{KIND, ID, NEXT, KINDS}
 abbrev pub key_code : ℕ → ℕ → ℕ
 key_code kind id = kind * 2 ^ 32 + id
 
+-- the key as one number, by which a list is ordered
 abbrev pub code_of : Key → ℕ
 code_of key = key_code key.kind key.id
 
+-- the kind is one of three, and the id has 32 bits
 abbrev pub IsKey : Key → Type 0
 IsKey key = (key.kind < KINDS) × (key.id < 2 ^ 32)
 

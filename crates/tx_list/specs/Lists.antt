@@ -19,6 +19,7 @@ pub record IsListAt (m : ℕ → ℕ) (n head : ℕ) (rs : Rows) : Type 0 where
   pub list : IsList m n (m head) rs
   pub outside : (a : ℕ) → 0 < times a rs → IsOutside head a
 
+-- the word head leads to a list, whichever bookings it has
 pub record SomeList (m : ℕ → ℕ) (n head : ℕ) : Type 0 where
   pub entries : Rows
   pub is : IsListAt m n head entries
@@ -46,6 +47,7 @@ pub record First (s s' : View) (head : ℕ) (found : Option ℕ) : Type 0 where
   pub is : (image : List ℕ) (rs : Rows) → Sees s' image →
       IsListAt (mem s image) (length image) head rs → pointer found ≡ first_block rs
 
+-- b is the block of a booking in some list
 pub record SomeBooking (m : ℕ → ℕ) (n b : ℕ) : Type 0 where
   pub start : ℕ
   pub entries : Rows
@@ -76,6 +78,7 @@ pub record Fresh (m : ℕ → ℕ) (n head : ℕ) (rs : Rows) (key : Key) (b : �
   pub kind_is : m (b + KIND) ≡ key.kind
   pub id_is : m (b + ID) ≡ key.id
 
+-- this is so under each image of the memory's size, of each list that head leads to
 pub record IsFresh (s : View) (head : ℕ) (key : Key) (b : ℕ) : Type 0 where
   pub under : (image : List ℕ) (rs : Rows) → Stands s image →
       IsListAt (mem s image) (length image) head rs →

@@ -7,6 +7,7 @@ use Rattle.tx_alloc.specs.declared.place.TheConstants.{FIRST_BLOCK, MOST_BLOCKS}
 use Rattle.tx_alloc.specs.Rows.{Rows}
 use Rattle.tx_tree.specs.Table.{IsTable}
 
+-- the root word leads to a table with this many entries
 pub record SomeEntries (m : ℕ → ℕ) (n root count : ℕ) : Type 0 where
   pub entries : Rows
   pub table : IsTable m n (m root) entries

@@ -40,6 +40,7 @@ HangsWay m n root top = Unit {0}
 HangsWay m n root (step right c r o w) = IsNode m n (m (link_of root w)) c r ×
     (Hangs m n (m (r.1 + off (not right))) o × HangsWay m n root w)
 
+-- how often a way has a block, as a node or in what it passes by
 abbrev pub way_has : ℕ → Way → ℕ
 way_has x top = 0
 way_has x (step right c r o w) = times x (r ∷ []) + (has x o + way_has x w)

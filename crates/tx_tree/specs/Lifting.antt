@@ -19,6 +19,7 @@ pub record LiftAt (m : ℕ → ℕ) (n root : ℕ) (total : ℕ → ℕ) (link p
   pub black : is_red o ≡ false
   pub short : Short (step right c (k, p) o w) t h
 
+-- in some tree p's child on this side lacks a black node, and q beside it is black
 pub record SomeLift (m : ℕ → ℕ) (n link p q side : ℕ) : Type 0 where
   pub root : ℕ
   pub total : ℕ → ℕ
@@ -31,6 +32,7 @@ pub record SomeLift (m : ℕ → ℕ) (n link p q side : ℕ) : Type 0 where
   pub blacks : ℕ
   pub at : LiftAt m n root total link p q side way right colour key other tree blacks
 
+-- this is so under each image of the memory's size, which is 16 to 2^32 words
 pub record HasLift (s : View) (link p q side : ℕ) : Type 0 where
   pub small : s.size ≤ 2 ^ 32
   pub room : 16 ≤ s.size
@@ -47,6 +49,7 @@ pub record ShortHere (m m' : ℕ → ℕ) (n root : ℕ) (total : ℕ → ℕ) (
     pub is : rows (plug w tree) ≡ rs
     pub touches : Touches m m' root total
 
+-- the lack is mended, or, where it is not, is one of the whole subtree that the link leads to
 pub record Lifted (s s' : View) (link p q side : ℕ) (done : Bool) : Type 0 where
   pub kept : Kept s s'
   pub ends : done ≡ true → (image : List ℕ) → Sees s' image →
@@ -70,6 +73,7 @@ pub record ShortUp (m m' : ℕ → ℕ) (n root : ℕ) (total : ℕ → ℕ) (xs
   pub is : rows (plug way tree) ≡ rs
   pub touches : Touches m m' root total
 
+-- the lack at the end of the path is mended, or stands one step of the path further up
 pub record Stepped (s s' : View) (xs : List ℕ) (d : ℕ) (done : Bool) : Type 0 where
   pub kept : Kept s s'
   pub ends : done ≡ true → (image : List ℕ) → Sees s' image →

@@ -17,11 +17,13 @@ pub record Rising (m m' : ℕ → ℕ) (link p c side v v' : ℕ) : Type 0 where
   pub child : IsWrite m1 m2 (c + 3) v
   pub parent : IsWrite m2 m' (p + 3) v'
 
+-- under each image the child c came up, and c and p got these colours
 pub record Raising (s s' : View) (link p c side v v' : ℕ) : Type 0 where
   pub kept : Kept s s'
   pub rising : (image : List ℕ) → Sees s' image →
       Rising (mem s image) (mem s' image) link p c side v v'
 
+-- under each image the child c came up, and the colours are as before
 pub record Rotated (s s' : View) (link p c side : ℕ) : Type 0 where
   pub kept : Kept s s'
   pub turning : (image : List ℕ) → Sees s' image →
@@ -37,6 +39,7 @@ pub record WayAt (m : ℕ → ℕ) (n : ℕ) (xs : List ℕ) (d : ℕ) : Type 0 
   pub path : IsPath xs root way
   pub deep : d ≡ depth way
 
+-- this is so under each image of the memory's size
 pub record HasWay (s : View) (xs : List ℕ) (d : ℕ) : Type 0 where
   pub small : s.size ≤ 2 ^ 32
   pub room : 16 ≤ s.size
@@ -62,6 +65,7 @@ pub record RaisedAt (m : ℕ → ℕ) (n root : ℕ) (total : ℕ → ℕ) (xs :
   pub deep : d ≡ depth w
   pub raised : Raised w (node true l (k, b) o) h
 
+-- in some tree the path ends at the red node b, and the one above it may be red, too
 pub record SomeRaised (m : ℕ → ℕ) (n : ℕ) (xs : List ℕ) (d b : ℕ) : Type 0 where
   pub root : ℕ
   pub total : ℕ → ℕ
@@ -72,6 +76,7 @@ pub record SomeRaised (m : ℕ → ℕ) (n : ℕ) (xs : List ℕ) (d b : ℕ) : 
   pub blacks : ℕ
   pub at : RaisedAt m n root total xs d b way left key right blacks
 
+-- this is so under each image of the memory's size
 pub record HasRaised (s : View) (xs : List ℕ) (d b : ℕ) : Type 0 where
   pub small : s.size ≤ 2 ^ 32
   pub room : 16 ≤ s.size
@@ -79,6 +84,7 @@ pub record HasRaised (s : View) (xs : List ℕ) (d b : ℕ) : Type 0 where
   pub deep : d < 40
   pub under : (image : List ℕ) → Stands s image → SomeRaised (mem s image) (length image) xs d b
 
+-- under each image the tree with that red node became as it should be, with the same rows
 pub record Settled (s s' : View) (xs : List ℕ) (d b : ℕ) : Type 0 where
   pub kept : Kept s s'
   pub ends : (image : List ℕ) → Sees s' image →
@@ -92,6 +98,7 @@ pub record IsToTurn (m : ℕ → ℕ) (l u : ℕ) : Type 0 where
   pub parent : m (l - l % 8 + 3) ≡ 1
   pub uncle : m (u - u % 8 + (3 - u % 8)) ≢ 0 → m (m (u - u % 8 + (3 - u % 8)) + 3) ≢ 1
 
+-- this is so under each image, with the last two links of the path
 pub record NeedsTurn (s : View) (xs : List ℕ) (d : ℕ) : Type 0 where
   pub under : (image : List ℕ) → Sees s image →
       IsToTurn (mem s image) (slice_index xs d) (slice_index xs (d - 1))
@@ -104,6 +111,7 @@ pub record ShortAt (m : ℕ → ℕ) (n root : ℕ) (total : ℕ → ℕ) (xs : 
   pub deep : d ≡ depth w
   pub short : Short w t h
 
+-- in some tree the path ends at a subtree that lacks a black node, and has no red root
 pub record SomeShort (m : ℕ → ℕ) (n : ℕ) (xs : List ℕ) (d : ℕ) : Type 0 where
   pub root : ℕ
   pub total : ℕ → ℕ
@@ -112,6 +120,7 @@ pub record SomeShort (m : ℕ → ℕ) (n : ℕ) (xs : List ℕ) (d : ℕ) : Typ
   pub blacks : ℕ
   pub at : ShortAt m n root total xs d way tree blacks
 
+-- this is so under each image of the memory's size
 pub record HasShort (s : View) (xs : List ℕ) (d : ℕ) : Type 0 where
   pub small : s.size ≤ 2 ^ 32
   pub room : 16 ≤ s.size
@@ -119,6 +128,7 @@ pub record HasShort (s : View) (xs : List ℕ) (d : ℕ) : Type 0 where
   pub deep : d < 40
   pub under : (image : List ℕ) → Stands s image → SomeShort (mem s image) (length image) xs d
 
+-- under each image the tree with that lack became as it should be, with the same rows
 pub record Mended (s s' : View) (xs : List ℕ) (d : ℕ) : Type 0 where
   pub kept : Kept s s'
   pub ends : (image : List ℕ) → Sees s' image →

@@ -25,6 +25,7 @@ pub record Replacing (m m' : ℕ → ℕ) (link a b : ℕ) : Type 0 where
   pub w3 : IsWrite mb mc (b + 3) v3
   pub w4 : IsWrite mc m' link b
 
+-- under each image the block b took the place of a
 pub record Replaced (s s' : View) (link a b : ℕ) : Type 0 where
   pub kept : Kept s s'
   pub replacing : (image : List ℕ) → Sees s' image →
@@ -40,6 +41,7 @@ pub record BothAt (m : ℕ → ℕ) (n root : ℕ) (total : ℕ → ℕ) (xs : L
   pub some : m (b + 2) ≢ 0
   pub tall : height (plug w (node c l (k, b) t)) ≤ 36
 
+-- in some tree the path ends at the node b, which has a right side
 pub record SomeBoth (m : ℕ → ℕ) (n : ℕ) (xs : List ℕ) (d b : ℕ) : Type 0 where
   pub root : ℕ
   pub total : ℕ → ℕ
@@ -51,6 +53,7 @@ pub record SomeBoth (m : ℕ → ℕ) (n : ℕ) (xs : List ℕ) (d b : ℕ) : Ty
   pub blacks : ℕ
   pub at : BothAt m n root total xs d b way colour left key right blacks
 
+-- this is so under each image of the memory's size
 pub record HasBoth (s : View) (xs : List ℕ) (d b : ℕ) : Type 0 where
   pub small : s.size ≤ 2 ^ 32
   pub room : 16 ≤ s.size
@@ -68,6 +71,7 @@ pub record GoneEnds (m m' : ℕ → ℕ) (n root : ℕ) (total : ℕ → ℕ) (b
   pub is : rows tree ≡ rs
   pub touches : Touches m m' root total
 
+-- under each image b left its tree, which is as it should be and has all other rows
 pub record NextUnlinked (s s' : View) (xs : List ℕ) (d b : ℕ) : Type 0 where
   pub kept : Kept s s'
   pub ends : (image : List ℕ) → Sees s' image →

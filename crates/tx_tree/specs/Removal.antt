@@ -22,6 +22,7 @@ pub record LooseAt (m : ℕ → ℕ) (n root : ℕ) (total : ℕ → ℕ) (xs : 
   pub apart : IsApart t
   pub fits : IsApartWay w false
 
+-- in some tree the path ends at a subtree, to which p leads, that lacks a black node
 pub record SomeLoose (m : ℕ → ℕ) (n : ℕ) (xs : List ℕ) (d p : ℕ) : Type 0 where
   pub root : ℕ
   pub total : ℕ → ℕ
@@ -30,6 +31,7 @@ pub record SomeLoose (m : ℕ → ℕ) (n : ℕ) (xs : List ℕ) (d p : ℕ) : T
   pub blacks : ℕ
   pub at : LooseAt m n root total xs d p way tree blacks
 
+-- this is so under each image of the memory's size
 pub record HasLoose (s : View) (xs : List ℕ) (d p : ℕ) : Type 0 where
   pub small : s.size ≤ 2 ^ 32
   pub room : 16 ≤ s.size
@@ -37,6 +39,7 @@ pub record HasLoose (s : View) (xs : List ℕ) (d p : ℕ) : Type 0 where
   pub deep : d < 40
   pub under : (image : List ℕ) → Stands s image → SomeLoose (mem s image) (length image) xs d p
 
+-- under each image the tree with that lack became as it should be, with the same rows
 pub record Lightened (s s' : View) (xs : List ℕ) (d p : ℕ) : Type 0 where
   pub kept : Kept s s'
   pub ends : (image : List ℕ) → Sees s' image →
@@ -53,6 +56,7 @@ pub record LastAt (m : ℕ → ℕ) (n root : ℕ) (total : ℕ → ℕ) (xs : L
   pub leads : m (b + off (not right)) ≡ p
   pub sound : Sound w (join right c leaf (k, b) t) h
 
+-- in some tree the path ends at the node b, which has one side at most, to which p leads
 pub record SomeLast (m : ℕ → ℕ) (n : ℕ) (xs : List ℕ) (d b p : ℕ) : Type 0 where
   pub root : ℕ
   pub total : ℕ → ℕ
@@ -64,6 +68,7 @@ pub record SomeLast (m : ℕ → ℕ) (n : ℕ) (xs : List ℕ) (d b p : ℕ) : 
   pub blacks : ℕ
   pub at : LastAt m n root total xs d b p way right colour key tree blacks
 
+-- this is so under each image of the memory's size
 pub record HasLast (s : View) (xs : List ℕ) (d b p : ℕ) : Type 0 where
   pub small : s.size ≤ 2 ^ 32
   pub room : 16 ≤ s.size
@@ -71,6 +76,7 @@ pub record HasLast (s : View) (xs : List ℕ) (d b p : ℕ) : Type 0 where
   pub deep : d < 40
   pub under : (image : List ℕ) → Stands s image → SomeLast (mem s image) (length image) xs d b p
 
+-- under each image b left its tree, which is as it should be and has all other rows
 pub record Unlinked (s s' : View) (xs : List ℕ) (d b p : ℕ) : Type 0 where
   pub kept : Kept s s'
   pub ends : (image : List ℕ) → Sees s' image →

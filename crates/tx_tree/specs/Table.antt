@@ -31,6 +31,7 @@ pub record Table (m : ℕ → ℕ) (n root : ℕ) (rs : Rows) : Type 0 where
   pub table : IsTable m n (m root) rs
   pub few : length rs ≤ MOST_BLOCKS
 
+-- the root word leads to a table, whichever rows it has
 pub record SomeTable (m : ℕ → ℕ) (n root : ℕ) : Type 0 where
   pub entries : Rows
   pub is : Table m n root entries
@@ -83,6 +84,7 @@ pub record Fresh (m : ℕ → ℕ) (n : ℕ) (rs : Rows) (key b : ℕ) : Type 0 
   pub absent : block_at rs key ≡ 0
   pub key_is : m b ≡ key
 
+-- this is so under each image of the memory's size, of each table that root leads to
 pub record IsFresh (s : View) (root key b : ℕ) : Type 0 where
   pub under : (image : List ℕ) (rs : Rows) → Stands s image →
       Table (mem s image) (length image) root rs → Fresh (mem s image) (length image) rs key b

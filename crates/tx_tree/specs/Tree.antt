@@ -2,6 +2,7 @@
 use Rattle.std.specs.Prelude.{◌≡◌, ℕ, ◌+◌, Bool, true, false, cond, max, [], ◌∷◌, ◌++◌}
 use Rattle.tx_alloc.specs.Rows.{Rows}
 
+-- a node has a colour, what is on its left, its row, and what is on its right
 pub data Tree : Type 0 where
   leaf : Tree
   node : (red : Bool) → (l : Tree) → (r : ℕ × ℕ) → (t : Tree) → Tree
@@ -27,9 +28,11 @@ abbrev pub IsEven : Tree → Type 0
 IsEven leaf = Unit {0}
 IsEven (node c l r t) = (blacks l ≡ blacks t) × IsEven l × IsEven t
 
+-- each way down has h black nodes
 abbrev pub EvenAt : Tree → ℕ → Type 0
 EvenAt t h = IsEven t × (blacks t ≡ h)
 
+-- whether there is a root and it is red
 abbrev pub is_red : Tree → Bool
 is_red leaf = false
 is_red (node c l r t) = c
@@ -40,6 +43,7 @@ IsApart leaf = Unit {0}
 IsApart (node c l r t) = (c ≡ true → (is_red l ≡ false) × (is_red t ≡ false)) × IsApart l ×
     IsApart t
 
+-- how many nodes the longest way down has
 abbrev pub height : Tree → ℕ
 height leaf = 0
 height (node c l r t) = 1 + max (height l) (height t)

@@ -13,6 +13,7 @@ abbrev pub plug : Way → Tree → Tree
 plug top t = t
 plug (step right c r o w) t = plug w (join right c t r o)
 
+-- how many nodes are above the hole
 abbrev pub depth : Way → ℕ
 depth top = 0
 depth (step right c r o w) = depth w + 1
@@ -22,12 +23,13 @@ abbrev pub under : Way → Way → Way
 under top w = w
 under (step right c r o v) w = step right c r o (under v w)
 
--- the rows in front of the hole, and those behind it
+-- the rows in front of the hole
 abbrev pub front : Way → Rows
 front top = []
 front (step false c r o w) = front w
 front (step true c r o w) = front w ++ (rows o ++ (r ∷ []))
 
+-- the rows behind the hole
 abbrev pub behind : Way → Rows
 behind top = []
 behind (step false c r o w) = r ∷ (rows o ++ behind w)

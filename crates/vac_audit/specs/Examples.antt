@@ -5,17 +5,20 @@ use Rattle.vac_audit.specs.Walk.{audit}
 use Rattle.vac_audit.specs.declared.Flaw.{Flaw}
 use Rattle.vac_audit.specs.declared.Flaw.TheVariants.{Pointer, Shared, Lost, Order, Colour, Counts, Bookings}
 
--- the words of blocks
+-- the words of an item's block
 abbrev item : ℕ → ℕ → ℕ → ℕ → ℕ → ℕ → List ℕ
 item key left right colour used total =
     key ∷ left ∷ right ∷ colour ∷ used ∷ (total - used) ∷ total ∷ 50 ∷ []
 
+-- the words of a customer's block, which has no left side
 abbrev customer : ℕ → ℕ → ℕ → ℕ → List ℕ
 customer key right colour head = key ∷ 0 ∷ right ∷ colour ∷ head ∷ 0 ∷ 0 ∷ 0 ∷ []
 
+-- the words of a booking's block
 abbrev booking : ℕ → ℕ → ℕ → ℕ → ℕ → List ℕ
 booking kind id sum next units = kind ∷ id ∷ sum ∷ next ∷ units ∷ 0 ∷ 0 ∷ 0 ∷ []
 
+-- the words of a free block, which leads to the next one
 abbrev free : ℕ → List ℕ
 free next = next ∷ 0 ∷ 0 ∷ 0 ∷ 0 ∷ 0 ∷ 0 ∷ 0 ∷ []
 
@@ -23,6 +26,7 @@ free next = next ∷ 0 ∷ 0 ∷ 0 ∷ 0 ∷ 0 ∷ 0 ∷ 0 ∷ []
 abbrev heads : ℕ → ℕ → List ℕ
 heads third fifth = 0 ∷ 0 ∷ 0 ∷ third ∷ 0 ∷ fifth ∷ 0 ∷ 0 ∷ []
 
+-- the words of these blocks, one block behind the other
 abbrev joined : List (List ℕ) → List ℕ
 joined [] = []
 joined (b ∷ bs) = b ++ joined bs
@@ -31,6 +35,7 @@ joined (b ∷ bs) = b ++ joined bs
 abbrev roots : ℕ → ℕ → ℕ → ℕ → List ℕ
 roots cars flights rooms customers = cars ∷ flights ∷ rooms ∷ customers ∷ []
 
+-- the word at an address of a heap with these roots, heads and blocks
 abbrev heap : List ℕ → List ℕ → List (List ℕ) → ℕ → ℕ
 heap tables lists blocks =
     slice_index (0 ∷ (tables ++ (0 ∷ 0 ∷ 0 ∷ (lists ++ joined blocks))))
@@ -45,16 +50,19 @@ audit_of car book lists =
 abbrev car_7 : List ℕ
 car_7 = item 7 0 0 0 2 5
 
+-- the booking of these two units
 abbrev two_of_7 : List ℕ
 two_of_7 = booking 0 7 90 0 2
 
--- the audit of that heap with another car, another booking or other heads
+-- the audit of that heap with another car
 abbrev with_car : List ℕ → Result Report Flaw
 with_car car = audit_of car two_of_7 (heads 40 0)
 
+-- the audit of that heap with another booking
 abbrev with_booking : List ℕ → Result Report Flaw
 with_booking book = audit_of car_7 book (heads 40 0)
 
+-- the audit of that heap with other heads of the free lists
 abbrev with_heads : List ℕ → Result Report Flaw
 with_heads lists = audit_of car_7 two_of_7 lists
 

@@ -10,6 +10,7 @@ use Rattle.vac_audit.specs.declared.Flaw.{Flaw}
 use Rattle.vac_audit.specs.declared.notes.Notes.{Notes}
 use Rattle.vac_audit.specs.declared.Flaw.TheVariants.{Order, Bookings}
 
+-- the blocks with a mark are just those that were reached
 pub record Marks (marks : List Bool) (seen : List ℕ) : Type 0 where
   pub is : (b : ℕ) → b < length marks →
       slice_index_or marks b false ≡ not (nat_eq (held (block_place b) seen) 0)
@@ -47,15 +48,17 @@ Fewer marks marks' result = MatchResult result
     (λ p. unmarked marks' + 1 ≡ unmarked marks))
     (λ flaw. Unit {0})
 
--- the definition's walks of these words, with a level for each block and one more
+-- the definition's walk of a free list of these words, with a level for each block and one more
 abbrev pub free_list : List ℕ → ℕ → ℕ → List ℕ → Result (List ℕ × List ℕ) Flaw
 free_list words blocks head seen =
     walk_free (slice_index words) (length words) (suc blocks) head seen
 
+-- the definition's walk of all eight free lists
 abbrev pub free_lists : List ℕ → ℕ → List ℕ → Result ((ℕ → List ℕ) × List ℕ) Flaw
 free_lists words blocks seen =
     walk_lists (slice_index words) (length words) (suc blocks) 8 seen
 
+-- the definition's walk of a customer's bookings
 abbrev pub booking_list : List ℕ → ℕ → (ℕ → Rows) → ℕ → List ℕ → Result (Rows × List ℕ) Flaw
 booking_list words blocks tables head seen =
     walk_bookings (slice_index words) (length words) tables (suc blocks) head 0 seen

@@ -6,13 +6,15 @@ use Rattle.tx_list.specs.Bookings.{code_of}
 use Rattle.tx_list.specs.declared.key.Key.{Key}
 use Rattle.vac_audit.specs.declared.notes.NotedItem.{NotedItem}
 
--- the keys of these items, their blocks, and how many units were found booked of each
+-- the keys of these items
 abbrev pub keys_in : List NotedItem → List Key
 keys_in items = map (λ item. item.key) items
 
+-- the blocks of these items
 abbrev pub blocks_in : List NotedItem → List ℕ
 blocks_in items = map (λ item. item.block) items
 
+-- how many units were found booked of each of these items
 abbrev pub booked_in : List NotedItem → List ℕ
 booked_in items = map (λ item. item.booked) items
 

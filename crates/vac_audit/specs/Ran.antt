@@ -35,15 +35,17 @@ three m word a b c =
     sum_by (λ r. m (r.1 + word)) a + sum_by (λ r. m (r.1 + word)) b
     + sum_by (λ r. m (r.1 + word)) c
 
--- the definition's walks of these words, with a level for each block and one more
+-- the definition's walk of a table of items, with a level for each block and one more
 abbrev pub item_table : List ℕ → ℕ → ℕ → Seen → Result (Rows × Seen) Flaw
 item_table words blocks root s =
     walk_table (slice_index words) (length words) (look_at_item (slice_index words)) (suc blocks)
     root s
 
+-- the definition's walk of the three tables of items
 abbrev pub all_items : List ℕ → ℕ → Seen → Result ((ℕ → Rows) × Seen) Flaw
 all_items words blocks s = walk_items (slice_index words) (length words) (suc blocks) 3 s
 
+-- the definition's walk of the table of customers and their bookings
 abbrev pub customer_table : List ℕ → ℕ → (ℕ → Rows) → Seen → Result (Rows × Seen) Flaw
 customer_table words blocks tables s =
     walk_table (slice_index words) (length words)
@@ -72,6 +74,7 @@ pub record ItemsWalked (words : List ℕ) (marks marks' : List Bool) (notes' : N
   pub flights : kinds.flights ≡ length b
   pub rooms : kinds.rooms ≡ length c
 
+-- the tables of items were walked, or the flaw is the one that the definition finds there
 abbrev pub ItemsRan : List ℕ → List Bool → List Bool → Notes → Result Kinds Fault → Type 0
 ItemsRan words marks marks' notes' result =
     (s : Seen) → Marks marks s.blocks → MatchResult result
@@ -101,6 +104,7 @@ pub record CustomersWalked (words : List ℕ) (marks marks' : List Bool) (notes 
   pub billed :
       notes'.tally.billed ≡ over (sum_by (λ r. slice_index words (r.1 + 2))) rows s'.lists
 
+-- the customers were walked, or the flaw is the one that the definition finds there
 abbrev pub CustomersRan : List ℕ → List Bool → List Bool → Notes → Notes → Result ℕ Fault →
     Type 0
 CustomersRan words marks marks' notes notes' result =
@@ -125,6 +129,7 @@ pub record FirstUnused (words : List ℕ) (items : List NotedItem) (flaw : Flaw)
   pub other : HoldsAt (λ item. IsUsed words item → ⊥) items i
   pub earlier : AllWithin (IsUsed words) items 0 i
 
+-- of each item as many units are used as are booked, or the flaw is that of the first other one
 abbrev pub UsedRan : List ℕ → List NotedItem → Result ⊤ Flaw → Type 0
 UsedRan words items result = MatchResult result
     (λ _. All (IsUsed words) items)

@@ -25,6 +25,7 @@ use Rattle.vac_audit.specs.declared.tree.Table.TheVariants.{Items, Customers}
 use Rattle.vac_audit.specs.declared.tree.Turn.{Turn}
 use Rattle.vac_audit.specs.declared.tree.Turn.TheVariants.{Down, Up}
 
+-- the counts of the item in node p fit each other, or they are the flaw
 abbrev pub ItemLooked : List ℕ → ℕ → Result ⊤ Flaw → Type 0
 ItemLooked words p result = MatchResult result
     (λ _. is_item (slice_index words) p ≡ true)
@@ -82,6 +83,7 @@ pub record Entered (words : List ℕ) (marks marks' : List Bool) (path path' : L
   pub fewer : unmarked marks' + 1 ≡ unmarked marks
   pub followed : Followed words marks marks' at (Ok (Some node))
 
+-- the pointer led down to a node, or it ends
 abbrev pub WentDown : List ℕ → List Bool → List Bool → List Step → List Step → ℕ → Turn → Type 0
 WentDown words marks marks' path path' at (Down next) =
     Entered words marks marks' path path' at next
@@ -106,6 +108,7 @@ abbrev pub look_of : (ℕ → ℕ) → ℕ → (ℕ → Rows) → ℕ → Table 
 look_of m n tables levels (Items kind) = look_at_item m
 look_of m n tables levels Customers = look_at_customer m n tables levels
 
+-- where customers are walked, the items that were written down are those of these tables
 abbrev pub Indexed : Table → Notes → (ℕ → Rows) → Type 0
 Indexed (Items kind) notes tables = Unit {0}
 Indexed Customers notes tables = IsIndex (codes_in notes.items.items) tables
@@ -131,6 +134,7 @@ pub record CustomersNoted (m : ℕ → ℕ) (notes notes' : Notes) (rs : Rows) (
   pub billed :
       notes'.tally.billed ≡ notes.tally.billed + over (sum_by (λ r. m (r.1 + 2))) rs lists
 
+-- what was looked at in such a table was written down
 abbrev pub Noted : Table → (ℕ → ℕ) → Notes → Notes → Rows → (ℕ → Rows) → Type 0
 Noted (Items kind) m notes notes' rs lists = ItemsNoted m kind notes notes' rs
 Noted Customers m notes notes' rs lists = CustomersNoted m notes notes' rs lists
@@ -178,6 +182,7 @@ pub record NodeLooked (words : List ℕ) (marks marks' : List Bool) (notes notes
   pub kept : (q : ℕ) → (q ≡ p → ⊥) → s'.lists q ≡ s.lists q
   pub more : (q : ℕ) → held q s.blocks ≤ held q s'.blocks
 
+-- a node was looked at, or the flaw is the one that the definition finds there
 abbrev pub LookRan : List ℕ → List Bool → List Bool → Notes → Notes → Table → ℕ →
     Result ⊤ Fault → Type 0
 LookRan words marks marks' notes notes' table p result =

@@ -21,9 +21,11 @@ up_to n = after (below n) (λ k. always (k + 1))
 abbrev pub kind_at : ℕ → Kind
 kind_at n = if n == 0 then Car else if n == 1 then Flight else Room
 
+-- a kind, by one word
 abbrev pub kind : Reader Kind
 kind = after (below 3) (λ n. always (kind_at n))
 
+-- a price, by one word: one of LEVELS, PRICE_STEP apart, from LOWEST_PRICE on
 abbrev pub price : Reader ℕ
 price = after (below LEVELS) (λ level. always (level * PRICE_STEP + LOWEST_PRICE))
 
@@ -39,6 +41,7 @@ trip s =
     after (times count (ask s)) (λ asks.
     always (task.Trip customer asks))))
 
+-- a leave: the customer
 abbrev pub leave : Settings → Reader Task
 leave s = after (up_to s.items) (λ customer. always (task.Leave customer))
 

@@ -65,6 +65,7 @@ pub record IsReadBack (call : Call) : Type 0 where
   pub fits : length (call_text call) ≤ CALL_BYTES
   pub read : line_call (call_text call) ≡ Ok call
 
+-- the line that is written of an answered call is read back as that call
 abbrev pub CallTextsAreRead : Type 0
 CallTextsAreRead = (call : Call) (answer : Reply) → IsAnswered call answer → IsReadBack call
 
@@ -82,5 +83,6 @@ pub record IsTheirHistory (calls : List Call) : Type 0 where
   pub judged : (n : ℕ) → (is_legal (verdict_on n (history_text calls)) ≡ true)
       ↔ IsLinearization n calls
 
+-- the text of any answered calls is their history, and is judged as such
 abbrev pub HistoriesAreRead : Type 0
 HistoriesAreRead = (calls : List Call) → AreAnswered calls → IsTheirHistory calls

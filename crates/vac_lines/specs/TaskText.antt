@@ -94,9 +94,11 @@ FITTING_CHANGES = 25
 abbrev pub FITTING_DIGITS : ℕ
 FITTING_DIGITS = 5
 
+-- the number has no more digits than that
 abbrev pub is_short : ℕ → Bool
 is_short n = nat_lt n (10 ^ FITTING_DIGITS)
 
+-- a price that is given has no more digits than that
 abbrev pub is_short_price : Option ℕ → Bool
 is_short_price None = true
 is_short_price (Some price) = is_short price

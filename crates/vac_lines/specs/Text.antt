@@ -81,6 +81,7 @@ picks_text picks =
     flat_map (λ p. p.0 ++ pick_text p.1)
     (zip (codes " car=" ∷ codes " flight=" ∷ codes " room=" ∷ []) picks)
 
+-- the reply of a trip: what became of its customer, then what it picked of each kind
 abbrev pub trip_text : TripReply → List ℕ
 trip_text trip = codes "trip cust=" ++ joined_text trip.joined ++ picks_text trip.picks
 

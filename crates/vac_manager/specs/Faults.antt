@@ -4,6 +4,7 @@ use Rattle.stm_attempt.specs.declared.conflict.Stop.TheVariants as stop
 use Rattle.vac_manager.specs.declared.fault.Fault.{Fault}
 use Rattle.vac_manager.specs.declared.fault.Fault.TheVariants as fault
 
+-- the fault of a call whose last attempt stopped so
 abbrev pub fault_of : Stop → Fault
 fault_of stop.Memory = fault.Memory
 fault_of (stop.Conflict conflict) = fault.Busy conflict

@@ -34,6 +34,7 @@ number_code n = n ∷ []
 abbrev pub ask_code : Place → List ℕ
 ask_code ask = kind_number ask.0 ∷ ask.1 ∷ []
 
+-- a command: its place among the commands, then its fields
 abbrev pub command_code : Command → List ℕ
 command_code (command.Add kind id num price) =
     0 ∷ kind_number kind ∷ id ∷ num ∷ option_code number_code price
@@ -49,6 +50,7 @@ command_code (command.Reserve customer kind id num) =
 command_code (command.Cancel customer kind id) = 9 ∷ customer ∷ kind_number kind ∷ id ∷ []
 command_code command.Audit = 10 ∷ []
 
+-- a task: its place among the tasks, then its fields
 abbrev pub task_code : Task → List ℕ
 task_code (task.One c) = 0 ∷ command_code c
 task_code (task.Trip customer asks) = 1 ∷ customer ∷ list_code ask_code asks
@@ -69,22 +71,27 @@ why_place SoldOut = 8
 why_place NotBooked = 9
 why_place UnitLimit = 10
 
+-- a refusal: its place
 abbrev pub why_code : Why → List ℕ
 why_code why = why_place why ∷ []
 
+-- a report: its nine numbers
 abbrev pub report_code : Report → List ℕ
 report_code r =
     r.cars ∷ r.flights ∷ r.rooms ∷ r.customers ∷ r.bookings
     ∷ r.used ∷ r.free ∷ r.total ∷ r.billed ∷ []
 
+-- what became of the customer of a trip, and why a new one was refused
 abbrev pub joined_code : Joined → List ℕ
 joined_code joined.NotAsked = 0 ∷ []
 joined_code joined.Added = 1 ∷ []
 joined_code (joined.Refused why) = 2 ∷ why_code why
 
+-- what a trip picked of a kind, and why it was not reserved, if it was not
 abbrev pub pick_code : Pick → List ℕ
 pick_code p = p.id ∷ p.price ∷ option_code why_code p.refused
 
+-- a reply: its place among the replies, then its fields
 abbrev pub reply_code : Reply → List ℕ
 reply_code reply.Done = 0 ∷ []
 reply_code (reply.Number n) = 1 ∷ option_code number_code n

@@ -7,6 +7,7 @@ use Rattle.vac_model.specs.declared.items.Kind.TheVariants.{Car, Flight, Room}
 use Rattle.vac_model.specs.declared.items.Item.{Item}
 use Rattle.vac_model.specs.State.{State, Booking, Bookings, Customers, Table, kind_number}
 
+-- the kind that a number stands for
 abbrev pub kind_of_number : ℕ → Kind
 kind_of_number zero = Car
 kind_of_number (suc zero) = Flight
@@ -17,26 +18,32 @@ kind_back Car = refl
 kind_back Flight = refl
 kind_back Room = refl
 
+-- a kind is coded by its number
 abbrev pub kind_coded : Coded Kind
 kind_coded = code_by ℕ coded_ℕ kind_number kind_of_number kind_back
 
+-- an item is coded by its counts and its price
 abbrev pub item_coded : Coded Item
 item_coded =
     code_by ((ℕ × ℕ) × (ℕ × ℕ)) (coded× (coded× coded_ℕ coded_ℕ) (coded× coded_ℕ coded_ℕ))
     (λ i. ((i.used, i.free), (i.total, i.price)))
     (λ p. record { used = p.0.0; free = p.0.1; total = p.1.0; price = p.1.1 }) (λ _. refl)
 
+-- a booking is coded by its units and its sum
 abbrev pub booking_coded : Coded Booking
 booking_coded =
     code_by (ℕ × ℕ) (coded× coded_ℕ coded_ℕ) (λ b. (b.units, b.sum))
     (λ p. record { units = p.0; sum = p.1 }) (λ _. refl)
 
+-- a table is coded as a finite map from ids to items
 abbrev pub table_coded : Coded Table
 table_coded = map.code coded_ℕ item_coded
 
+-- a customer's bookings are coded as a finite map from places to bookings
 abbrev pub bookings_coded : Coded Bookings
 bookings_coded = map.code (coded× kind_coded coded_ℕ) booking_coded
 
+-- the customers are coded as a finite map from ids to their bookings
 abbrev pub customers_coded : Coded Customers
 customers_coded = map.code coded_ℕ bookings_coded
 

@@ -108,6 +108,7 @@ add_more s kind id num price item =
     if nat_lt total_limit (item.total + num) then refused s TotalLimit
     else done (with_item s kind id (added item num price))
 
+-- Add makes the item, or changes the one that is there
 abbrev pub add : State → Kind → ℕ → ℕ → Option ℕ → Outcome
 add s kind id num price =
     when_found (item_of s kind id) (add_new s kind id num price) (add_more s kind id num price)

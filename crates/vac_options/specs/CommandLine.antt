@@ -40,18 +40,23 @@ number_option name least most default = record (valued_option name) {
   defaults = default ∷ [];
 }
 
+-- `--blocks`: how many items, customers and bookings there is room for
 abbrev pub blocks_option : Rule
 blocks_option = number_option (codes "blocks") 1 MOST_BLOCKS (codes "1024")
 
+-- `--clients`: how many clients there are
 abbrev pub clients_option : Rule
 clients_option = number_option (codes "clients") 1 MOST_CLIENTS (codes "4")
 
+-- `--tasks`: how many tasks each client has in each round
 abbrev pub tasks_option : Rule
 tasks_option = number_option (codes "tasks") 1 MOST_TASKS (codes "100")
 
+-- `--rounds`: how often the clients do so
 abbrev pub rounds_option : Rule
 rounds_option = number_option (codes "rounds") 1 MOST_ROUNDS (codes "1")
 
+-- `--tries`: how many attempts a task may take
 abbrev pub tries_option : Rule
 tries_option = number_option (codes "tries") 1 MOST_TRIES (codes "64")
 
@@ -59,12 +64,15 @@ tries_option = number_option (codes "tries") 1 MOST_TRIES (codes "64")
 abbrev pub client_options : List Rule
 client_options = clients_option ∷ tasks_option ∷ rounds_option ∷ tries_option ∷ []
 
+-- `--items`: how many items there are of each kind, and how many customers
 abbrev pub items_option : Rule
 items_option = number_option (codes "items") 1 MOST_ITEMS (codes "16")
 
+-- `--asks`: the most items that a task names
 abbrev pub asks_option : Rule
 asks_option = number_option (codes "asks") 1 MOST_PARTS (codes "4")
 
+-- `--user`: how many of a hundred tasks are trips
 abbrev pub user_option : Rule
 user_option = number_option (codes "user") 0 PERCENT (codes "80")
 

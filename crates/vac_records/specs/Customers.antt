@@ -92,6 +92,7 @@ pub record IsBooked (m m' : ℕ → ℕ) (n customer : ℕ) (rows : Rows) (place
   pub list : IsListAt m' n (head_of customer) (put_row rows (place_key place) b)
   pub relinks : Relinks between m' 3 (head_of customer) (put_row rows (place_key place) b)
 
+-- this is so under each image on which the customer has such a list and the block is loose
 pub record Booked (s s' : View) (customer : ℕ) (place : Place) (num price b : ℕ) : Type 0 where
   pub kept : Kept s s'
   pub booked : (image : List ℕ) (rows : Rows) → Sees s' image →
@@ -114,6 +115,7 @@ abbrev pub UnitsOf : (ℕ → ℕ) → Option (ℕ × ℕ) → Type 0
 UnitsOf m None = Unit {0}
 UnitsOf m (Some taken) = m (taken.0 + 4) ≡ taken.1
 
+-- the block of a booking that left its list
 abbrev pub block_of : Option (ℕ × ℕ) → Option ℕ
 block_of None = None
 block_of (Some taken) = Some taken.0
@@ -160,6 +162,7 @@ pub record HasBill (m : ℕ → ℕ) (n customer : ℕ) (rows : Rows) : Type 0 w
   pub few : length rows ≤ MOST_BLOCKS
   pub fits : sum_in m rows < 2 ^ 64
 
+-- the customer has such bookings, whichever they are
 pub record SomeBill (m : ℕ → ℕ) (n customer : ℕ) : Type 0 where
   pub entries : Rows
   pub is : HasBill m n customer entries

@@ -100,29 +100,31 @@ FreshState =
     IsPool (λ (a : ℕ). slice_index words a) (length words) (fresh_lists blocks) (λ (x : ℕ). 0) 0 →
     Represents (λ (a : ℕ). slice_index words a) (length words) [] (empty_state blocks)
 
--- an item that is there, by its block; a missing one
+-- an item that is there, by its block
 abbrev pub ItemFound : Type 0
 ItemFound =
     (m : ℕ → ℕ) (n : ℕ) (out : List ℕ) (s : State) (h : Represents m n out s) (kind : Kind)
     (id b : ℕ) → IsItemAt h kind id b → item_of s kind id ≡ Some (item_in m b)
 
+-- an item that no block has is not there
 abbrev pub ItemMissing : Type 0
 ItemMissing =
     (m : ℕ → ℕ) (n : ℕ) (out : List ℕ) (s : State) (h : Represents m n out s) (kind : Kind)
     (id : ℕ) → block_at (h.parts.tables (kind_number kind)) id ≡ 0 → item_of s kind id ≡ None
 
--- a customer that is there, by its block; a missing one
+-- a customer that is there, by its block
 abbrev pub CustomerFound : Type 0
 CustomerFound =
     (m : ℕ → ℕ) (n : ℕ) (out : List ℕ) (s : State) (h : Represents m n out s) (id c : ℕ) →
     block_at (h.parts.tables 3) id ≡ c → c ≢ 0 → HasBookings m (h.parts.lists c) s id
 
+-- a customer that no block has is not there
 abbrev pub CustomerMissing : Type 0
 CustomerMissing =
     (m : ℕ → ℕ) (n : ℕ) (out : List ℕ) (s : State) (h : Represents m n out s) (id : ℕ) →
     block_at (h.parts.tables 3) id ≡ 0 → bookings_of s id ≡ None
 
--- a booking that is there, by its block; a missing one
+-- a booking that is there, by its block
 abbrev pub BookingFound : Type 0
 BookingFound =
     (m : ℕ → ℕ) (n : ℕ) (out : List ℕ) (s : State) (h : Represents m n out s) (id c : ℕ)
@@ -130,6 +132,7 @@ BookingFound =
     IsCustomerAt h id c bookings → IsBookingAt h c place b →
     get bookings place ≡ Some (booking_in m b)
 
+-- a booking that no block of the list has is not there
 abbrev pub BookingMissing : Type 0
 BookingMissing =
     (m : ℕ → ℕ) (n : ℕ) (out : List ℕ) (s : State) (h : Represents m n out s) (id c : ℕ)

@@ -23,6 +23,7 @@ items_together a b = record {
   total = a.total + b.total;
 }
 
+-- the same of customers
 abbrev pub customers_together : CustomerSums → CustomerSums → CustomerSums
 customers_together a b = record {
   count = a.count + b.count;
@@ -37,6 +38,7 @@ pub record ItemsFit (a b : ItemSums) : Type 0 where
   pub free : a.free + b.free < 2 ^ 64
   pub total : a.total + b.total < 2 ^ 64
 
+-- the sums over two parts of the customers, taken together, fit words
 pub record CustomersFit (a b : CustomerSums) : Type 0 where
   pub count : a.count + b.count < 2 ^ 64
   pub units : a.units + b.units < 2 ^ 64
@@ -99,6 +101,7 @@ pub record HasSums (m : ℕ → ℕ) (n customer : ℕ) (rows : Rows) : Type 0 w
   pub units : words_at m 4 rows < 2 ^ 64
   pub sums : words_at m 2 rows < 2 ^ 64
 
+-- the customer has such bookings, whichever they are
 pub record SomeSums (m : ℕ → ℕ) (n customer : ℕ) : Type 0 where
   pub entries : Rows
   pub is : HasSums m n customer entries

@@ -62,6 +62,7 @@ pub record ChoiceIsAt (s : View) (kind : Kind) (c : Choice) : Type 0 where
   pub id : IsTrue (is_id c.id)
   pub at : ItemIsAt s kind c.id c.item
 
+-- so is each that is chosen
 pub record ChoicesAreAt (s : View) (cs : Choices) : Type 0 where
   pub known : (kind : Kind) → IfSome (choice_in cs kind) (λ c. ChoiceIsAt s kind c)
 
@@ -97,6 +98,7 @@ abbrev pub IsOwner : View → ℕ → Option ℕ → Type 0
 IsOwner s id block =
     MatchOption block (CustomerIsMissing s id) (λ c. CustomerIsAt s id c)
 
+-- the same of one image that represents a state
 abbrev pub IsOwnerAt : {m : ℕ → ℕ} {n : ℕ} {s : State} → IsState m n s → ℕ → Option ℕ → Type 0
 IsOwnerAt h id block =
     MatchOption block (customer_block h id ≡ 0) (λ c. customer_block h id ≡ c)

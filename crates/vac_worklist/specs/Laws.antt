@@ -19,6 +19,7 @@ pub record HasOneText (s : Settings) : Type 0 where
   pub is : IsTasksText s text
   pub only : (other : List ℕ) → IsTasksText s other → other ≡ text
 
+-- whatever the settings, a load of them has one text of its tasks
 abbrev pub TasksHaveOneText : Type 0
 TasksHaveOneText = (s : Settings) → HasOneText s
 
@@ -36,5 +37,6 @@ pub record AreReadBack (s : Settings) : Type 0 where
   pub of_client : (n : ℕ) (words rest : List ℕ) (tasks : List Task)
       → times n (task_of s) words ≡ Some (tasks, rest) → All IsReadBack tasks
 
+-- the lines of all drawn tasks are read back, where the settings fit each other
 abbrev pub DrawnLinesAreRead : Type 0
 DrawnLinesAreRead = (s : Settings) → is_settings s ≡ true → AreReadBack s
