@@ -19,7 +19,7 @@ words_of image address = slice_index image address
 abbrev pub Shows : List ℕ → State → Type 0
 Shows image s = IsState (words_of image) (length image) s
 
--- an image fits where it represents a balanced state, of any capacity
+-- an image fits where it represents a balanced state, of any capacity up to 262,144
 pub record IsFitting (image : List ℕ) : Type 0 where
   pub state : State
   pub shown : Shows image state
