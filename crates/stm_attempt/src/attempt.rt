@@ -25,7 +25,7 @@ pub struct Attempt<'a, L: Law, R: Allocator = Global, A: Allocator + Copy = Glob
     pub(crate) client: &'a mut Client<L>,
     pub(crate) logs: &'a mut Logs<A>,
     pub(crate) rv: Version,
-    // The conflict that a read met.
+    /// The conflict that a read met.
     pub(crate) stopped: Option<Conflict>,
     pub(crate) standing: Standing<L>,
     ghost own: { client.now.table ≡ region.now.table },

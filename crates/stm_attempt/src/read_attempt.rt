@@ -23,7 +23,7 @@ pub struct ReadAttempt<'a, L: Law, R: Allocator = Global> {
     pub(crate) region: &'a Region<L, R>,
     pub(crate) client: &'a mut Client<L>,
     pub(crate) rv: Version,
-    // The conflict that a read met.
+    /// The conflict that a read met.
     pub(crate) stopped: Option<Conflict>,
     pub(crate) standing: Standing<L>,
     ghost own: { client.now.table ≡ region.now.table },

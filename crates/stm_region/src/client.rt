@@ -16,9 +16,9 @@ use stm_words::{Law, Version};
 pub struct Client<L: Law> {
     pub(crate) seat: Seat<(), View>,
     pub(crate) grants: u64,
-    // The word that its last probe found.
+    /// The word that its last probe found.
     pub(crate) probed: u64,
-    // Its write version, 0 for none.
+    /// Its write version, 0 for none.
     pub(crate) version: Version,
     pub(crate) law: PhantomData<L>,
 }

@@ -1,6 +1,6 @@
-//! What each move of a region's table does to the clients that make it.
+//! What each move of a region's table does to the clients that make it, and what the steps on the
+//! table tell. These types are for the proofs alone.
 
-// What the steps on the table tell. These types are for the proofs alone.
 ghost use Rattle.stm_core.specs.Event.{Action, begin, giving, fresh, gone};
 ghost use Rattle.stm_region.specs.Shown.{RegionShown, joined, nowhere};
 ghost use Rattle.stm_region.specs.Told.{acting};

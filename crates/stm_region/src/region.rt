@@ -33,9 +33,9 @@ pub struct Region<L: Law, A: Allocator = Global> {
     pub(crate) size: usize,
     pub(crate) last: Version,
     pub(crate) stripes: u32,
-    // The place of the first data word.
+    /// The place of the first data word.
     pub(crate) cells: usize,
-    // How many renewals there were.
+    /// How many renewals there were.
     pub(crate) renewal: u32,
 }
 

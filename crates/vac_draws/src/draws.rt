@@ -10,7 +10,7 @@ use std::marker::Model;
 
 /// What words are drawn from.
 pub trait Draws {
-    // From the first state this word is drawn, and the last one is the state after it.
+    /// From the first state this word is drawn, and the last one is the state after it.
     ghost leads: { Self → ℕ → Self → Type 0 };
 
     /// Draws a word.

@@ -12,9 +12,9 @@ use tx_alloc::FreeList;
 pub struct Client {
     pub(crate) client: RegionClient<ManagerLaw>,
     pub(crate) logs: Logs,
-    // The free list that its new entries take their blocks from.
+    /// The free list that its new entries take their blocks from.
     pub(crate) start: FreeList,
-    // The same of the next client that it splits off.
+    /// The same of the next client that it splits off.
     pub(crate) next: FreeList,
 }
 

@@ -10,10 +10,10 @@ use vac_model::Task;
 
 /// What keeps the answered calls of a client, or does not.
 pub trait Keep {
-    // The calls that it keeps, in their order; none where it keeps nothing.
+    /// The calls that it keeps, in their order; none where it keeps nothing.
     ghost notes: { Self → Option (List Note) };
 
-    // It has room for one call more.
+    /// It has room for one call more.
     ghost ready: { Self → Type 0 };
 
     /// Makes room for a call that is about to begin.
