@@ -67,14 +67,14 @@ stepped t lk e i v c =
     let d = written e (left e n v) c in
     record d { clients = slice_set c.clients i (after t lk e n v); events = c.events + 1 }
 
--- the core after a split by client i, whose value is v: the new client comes last
+-- the core after the client at place i, whose value is v, split: the new client comes last
 abbrev pub divided : ℕ → Client → Core → Core
 divided i v c = record c {
   clients = slice_set c.clients i (giving v) ++ fresh v ∷ [];
   events = c.events + 1;
 }
 
--- the core after client i, whose value is v, took in client j, whose value is w
+-- the core after the client at place i, whose value is v, took in the one at j, whose value is w
 abbrev pub gathered : ℕ → Client → ℕ → Client → Core → Core
 gathered i v j w c = record c {
   clients = slice_set (slice_set c.clients i (taking v w)) j gone;

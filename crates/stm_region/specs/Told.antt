@@ -117,7 +117,7 @@ module _ (fits : List ℕ → Type 0) (lawful : RecordLaw) (region : RegionShown
   IsOfOneVersionAt =
       (d : IsOfOneVersion fits lawful region w) × (d.step ≡ e) × (d.word ≡ n) × (d.was ≡ v)
 
-  -- the deciding step is this one, which found this word and made the second value of the first
+  -- it is so at a decision: this is the step, the word that it found, and the value before it
   abbrev pub DecidesAt : Type 0
   DecidesAt = (d : Decides fits lawful region w) × (d.step ≡ e) × (d.word ≡ n) × (d.was ≡ v)
 

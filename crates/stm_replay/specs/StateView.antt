@@ -3,7 +3,7 @@ use Rattle.std.specs.Prelude.{◌≡◌, ◌<◌, [], length}
 use Rattle.stm_replay.specs.Running.{Running}
 use Rattle.stm_replay.specs.declared.state.State.TheInside.{Inside}
 
--- the running core, without its images and earlier renewals, which it does not keep
+-- the running core of a state, which keeps no images and no records of earlier renewals
 abbrev pub running_of : {A : Type 0} → Inside A → Running
 running_of s = record {
   core = record {

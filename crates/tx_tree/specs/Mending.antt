@@ -23,7 +23,7 @@ pub record Raising (s s' : View) (link p c side v v' : ℕ) : Type 0 where
   pub rising : (image : List ℕ) → Sees s' image →
       Rising (mem s image) (mem s' image) link p c side v v'
 
--- under each image the child c came up, and the colours are as before
+-- under each image the child c came up, and nothing else was written
 pub record Rotated (s s' : View) (link p c side : ℕ) : Type 0 where
   pub kept : Kept s s'
   pub turning : (image : List ℕ) → Sees s' image →

@@ -74,7 +74,7 @@ pub record ItemsWalked (words : List ℕ) (marks marks' : List Bool) (notes' : N
   pub flights : kinds.flights ≡ length b
   pub rooms : kinds.rooms ≡ length c
 
--- the tables of items were walked, or the flaw is the one that the definition finds there
+-- the tables of items were walked; a flaw that ended it is the one that the definition finds
 abbrev pub ItemsRan : List ℕ → List Bool → List Bool → Notes → Result Kinds Fault → Type 0
 ItemsRan words marks marks' notes' result =
     (s : Seen) → Marks marks s.blocks → MatchResult result
@@ -104,7 +104,7 @@ pub record CustomersWalked (words : List ℕ) (marks marks' : List Bool) (notes 
   pub billed :
       notes'.tally.billed ≡ over (sum_by (λ r. slice_index words (r.1 + 2))) rows s'.lists
 
--- the customers were walked, or the flaw is the one that the definition finds there
+-- the customers were walked; a flaw that ended it is the one that the definition finds
 abbrev pub CustomersRan : List ℕ → List Bool → List Bool → Notes → Notes → Result ℕ Fault →
     Type 0
 CustomersRan words marks marks' notes notes' result =

@@ -182,7 +182,7 @@ pub record NodeLooked (words : List ℕ) (marks marks' : List Bool) (notes notes
   pub kept : (q : ℕ) → (q ≡ p → ⊥) → s'.lists q ≡ s.lists q
   pub more : (q : ℕ) → held q s.blocks ≤ held q s'.blocks
 
--- a node was looked at, or the flaw is the one that the definition finds there
+-- a node was looked at; a flaw that was found in it is the one that the definition finds
 abbrev pub LookRan : List ℕ → List Bool → List Bool → Notes → Notes → Table → ℕ →
     Result ⊤ Fault → Type 0
 LookRan words marks marks' notes notes' table p result =

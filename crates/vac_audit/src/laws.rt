@@ -3,9 +3,9 @@
 ghost use Rattle.vac_audit.specs.Laws.{StateFound, StateClean, FlawedIsNone, FlawInside, EnoughLevels};
 ghost use Rattle.vac_audit.specs.Examples.{SoundHeaps, OneFlaw, TwoFlaws};
 
-/// Words in which the audit meets no flaw represent a balanced state of at most 262,144 blocks, and
-/// what was found is that state's report. The words of such a state have no flaw, so words with a
-/// flaw are those of no such state.
+/// Words in which the audit meets no flaw represent a balanced state of at most 262,144 blocks,
+/// and what was found is that state's report. The words of such a state have no flaw, so words
+/// with a flaw are those of no such state.
 pub fn an_audit_finds_the_balanced_states()
     ensures found { StateFound }
     ensures clean { StateClean }

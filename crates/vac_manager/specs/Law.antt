@@ -25,7 +25,7 @@ pub record IsFitting (image : List ℕ) : Type 0 where
   pub shown : Shows image state
 
 -- a record is lawful where its tag is that of a task that can be asked for and of a reply, and
--- under every image of a balanced state that agrees with the reads, the task gives this reply and
+-- under every image of such a state that agrees with the reads, the task gives this reply and
 -- the writes make the state after it
 pub record IsLawful (tag : List ℕ) (reads writes : List (ℕ × ℕ)) : Type 0 where
   pub task : Task
