@@ -56,8 +56,8 @@ abbrev pub call_parts : List ℕ → Option Parts
 call_parts line =
     parts_of (before_first is_arrow (words_of line)) (after_first is_arrow (words_of line))
 
--- goes on with what was read; the first fault ends the reading
 infixl 10 ◌>>=◌
+-- goes on with what was read; the first fault ends the reading
 abbrev pub ◌>>=◌ : {A B : Type 0} → Result A CallFault → (A → Result B CallFault)
     → Result B CallFault
 (Ok x) >>= f = f x

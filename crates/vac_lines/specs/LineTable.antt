@@ -21,8 +21,8 @@ use Rattle.vac_lines.specs.Lines.{words_of}
 use Rattle.vac_lines.specs.Names.{line_name}
 use Rattle.vac_lines.specs.Words.{kind_of, number_between, is_dash, is_separator}
 
--- goes on with what was read; the first fault ends the reading
 infixl 10 ◌>>=◌
+-- goes on with what was read; the first fault ends the reading
 abbrev pub ◌>>=◌ : {A B : Type 0} → Result A LineFault → (A → Result B LineFault)
     → Result B LineFault
 (Ok x) >>= f = f x
