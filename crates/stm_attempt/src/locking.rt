@@ -65,10 +65,11 @@ pub(crate) fn lock_all<L: Law, R: Allocator, A: Allocator + Copy>(
         writes.now conflict client.new.value) }
     ensures lone { client.old.value.attempt.lone ≡ true → IsOk result }
 {
-    let count = writes.lock_count();
+    writes.few_locks();
+    let most = writes.len();
     for lock in writes.locks() {
         lock_one(region, client, lock)?;
-        prove!(*taken < count);
+        prove!(*taken < most);
         *taken += 1;
     }
     Ok(())

@@ -6,7 +6,7 @@ ghost use Rattle.stm_logs.specs.Log.{log_locks};
 ghost use Rattle.stm_region.specs.Shown.{IsAllowed};
 ghost use Rattle.stm_core.specs.Guards.{stripe_of};
 ghost use Rattle.stm_region.specs.Told.{Decides};
-ghost use Rattle.stm_attempt.specs.Begun.{addresses};
+ghost use Rattle.stm_attempt.specs.Begun.{IsPlaced, addresses};
 ghost use Rattle.stm_attempt.specs.Conflicts.{IsValidateConflict, IsReadLock};
 ghost use Rattle.stm_attempt.specs.CommitParts.{CanValidate, HasValidated, HasFailedValidating};
 ghost use Rattle.stm_attempt.specs.Validating.{HasValidatedLock};
@@ -16,18 +16,21 @@ use crate::logs::Logs;
 use std::alloc::Allocator;
 use stm_logs::WriteLog;
 use stm_region::{Client, Region};
-use stm_words::{Law, LockWord, Version};
+use stm_words::{Addr, Law, LockWord, Version};
 
-/// Validates the lock of a read word: it must be free or the client's own, with a version of at
-/// most the read version.
+/// Validates the lock of a word that was read: it must be free or the client's own, with a version
+/// of at most the read version.
 fn validate_lock<L: Law, R: Allocator, A: Allocator + Copy>(
     region: &Region<L, R>,
     client: &mut Client<L>,
     rv: Version,
+    addr: Addr,
     lock: u32,
     writes: &WriteLog<A>,
 ) -> Result<(), Conflict>
     requires own { client.old.table ≡ region.now.table }
+    requires lock { lock ≡ stripe_of region.now.stripes addr.0 }
+    requires placed { IsPlaced region.now writes.now }
     requires allowed { IsAllowed L.lawful region.now (validates lock) client.old }
     requires version { client.old.value.attempt.rv ≡ rv }
     requires held { addresses client.old.value.attempt.held ≡ log_locks writes.now }
@@ -42,7 +45,7 @@ fn validate_lock<L: Law, R: Allocator, A: Allocator + Copy>(
 {
     let word = region.validate(client, lock);
     let (version, held) = LockWord::decode(word);
-    if held && !writes.has_lock(lock) {
+    if held && !writes.holds(addr, lock) {
         return Err(Conflict::Held { lock, word });
     }
     if version > rv {
@@ -61,6 +64,7 @@ pub(crate) fn validate_reads<L: Law, R: Allocator, A: Allocator + Copy>(
     requires own { client.old.table ≡ region.now.table }
     requires ready { CanValidate region.now client.old.value rv }
     requires logged { logs.now.reads ≡ addresses client.old.value.attempt.reads }
+    requires placed { IsPlaced region.now logs.now.writes }
     requires held { addresses client.old.value.attempt.held ≡ log_locks logs.now.writes }
     ensures own { client.new.table ≡ client.old.table }
     ensures ok { IfOk result (λ _. HasValidated region.now client.old.value client.new.value) }
@@ -71,8 +75,9 @@ pub(crate) fn validate_reads<L: Law, R: Allocator, A: Allocator + Copy>(
         IsValidateConflict lock conflict client.new.value) }
 {
     for i in 0..logs.reads.len() {
-        let lock = region.lock_of(logs.reads.get(i));
-        validate_lock(region, client, rv, lock, &logs.writes)?;
+        let addr = logs.reads.get(i);
+        let lock = region.lock_of(addr);
+        validate_lock(region, client, rv, addr, lock, &logs.writes)?;
     }
     Ok(())
 }

@@ -1,11 +1,9 @@
 -- Nodes and places of the index, side by side.
 use Rattle.std.proofs.Common.{◌≡◌, ℕ, zero, suc, ◌<◌, List, [], ◌∷◌, length, set, get_or, refl, sym, ap, ◌∙◌, arith}
-use Rattle.std.proofs.lemmas.List.{get_or_past}
 use Rattle.stm_logs.specs.declared.nodes.Entry.{Entry}
 use Rattle.stm_logs.specs.declared.nodes.Slot.{Slot}
 use Rattle.stm_logs.specs.declared.nodes.TheConstants.{BLANK, FREE}
-use Rattle.stm_logs.specs.Nodes.{Node, Block, at, blank, beside, bare, entry_of, with_entry, with_slot, with_node}
-use Rattle.stm_logs.specs.Tree.{with_finger}
+use Rattle.stm_logs.specs.Nodes.{Node, Block, at, blank, beside, bare, entry_of, with_entry, with_node}
 
 pub len_beside : (es : List Entry) (ss : List Slot) → length es ≡ length ss → length (beside es ss) ≡ length es
 len_beside [] ss e = refl
@@ -57,19 +55,19 @@ slot_here es ss list i s e l is =
     ∙ ap (λ (ns : List Node). let t : Slot = record { node = (at ns i).slot; finger = (at ns i).finger } in t) is
 
 -- a node is put at a position
-pub entry_put : (es : List Entry) (ss : List Slot) (n : ℕ) (b : Block) (i : ℕ) (x : Entry) (more : List Entry) → length es ≡ length ss → i < length es
-    → record { list = beside es ss; count = n } ≡ b → more ≡ set es i x
-    → record { list = beside more ss; count = n } ≡ with_node b i (with_entry (at b.list i) x)
-entry_put es ss n b i x more e l is put =
-    ap (λ (ns : List Node). let c : Block = record { list = ns; count = n } in c) (ap (λ (xs : List Entry). beside xs ss) put ∙ entry_set es ss i x e l)
+pub entry_put : (es : List Entry) (ss : List Slot) (n r : ℕ) (b : Block) (i : ℕ) (x : Entry) (more : List Entry) → length es ≡ length ss → i < length es
+    → record { list = beside es ss; count = n; recent = r } ≡ b → more ≡ set es i x
+    → record { list = beside more ss; count = n; recent = r } ≡ with_node b i (with_entry (at b.list i) x)
+entry_put es ss n r b i x more e l is put =
+    ap (λ (ns : List Node). let c : Block = record { list = ns; count = n; recent = r } in c) (ap (λ (xs : List Entry). beside xs ss) put ∙ entry_set es ss i x e l)
     ∙ ap (λ (c : Block). with_node c i (with_entry (at c.list i) x)) is
 
 -- a place of the index is put at a position
-pub slot_put : (es : List Entry) (ss : List Slot) (n : ℕ) (b : Block) (i : ℕ) (s : Slot) (more : List Slot) → length es ≡ length ss → i < length es
-    → record { list = beside es ss; count = n } ≡ b → more ≡ set ss i s
-    → record { list = beside es more; count = n } ≡ with_node b i (record (at b.list i) { slot = s.node; finger = s.finger })
-slot_put es ss n b i s more e l is put =
-    ap (λ (ns : List Node). let c : Block = record { list = ns; count = n } in c) (ap (λ (xs : List Slot). beside es xs) put ∙ slot_set es ss i s e l)
+pub slot_put : (es : List Entry) (ss : List Slot) (n r : ℕ) (b : Block) (i : ℕ) (s : Slot) (more : List Slot) → length es ≡ length ss → i < length es
+    → record { list = beside es ss; count = n; recent = r } ≡ b → more ≡ set ss i s
+    → record { list = beside es more; count = n; recent = r } ≡ with_node b i (record (at b.list i) { slot = s.node; finger = s.finger })
+slot_put es ss n r b i s more e l is put =
+    ap (λ (ns : List Node). let c : Block = record { list = ns; count = n; recent = r } in c) (ap (λ (xs : List Slot). beside es xs) put ∙ slot_set es ss i s e l)
     ∙ ap (λ (c : Block). with_node c i (record (at c.list i) { slot = s.node; finger = s.finger })) is
 
 pub blank_beside : (es : List Entry) (ss : List Slot) → length es ≡ length ss → ((k : ℕ) → get_or es k BLANK ≡ BLANK) → ((k : ℕ) → get_or ss k FREE ≡ FREE)

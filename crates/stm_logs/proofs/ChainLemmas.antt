@@ -1,265 +1,415 @@
--- A chain of a tree gives the children in ascending order.
-use Rattle.std.proofs.Common.{◌≡◌, inl, inr, ℕ, zero, suc, ◌+◌, ◌<◌, ◌≤◌, Bool, true, false, cond, not, nat_eq, Option, Some, None, MatchOption, List, [], ◌∷◌, map, filter, drop, get_or, length, refl, sym, ap, ◌∙◌, arith, subst}
-use Rattle.std.specs.FinMap.{FinMap, get, empty, entries, keys, from_entries, len, len-empty, len-entries}
+-- The nodes in their order give the words of a lock, the locks, and the locks with their words.
+use Rattle.std.proofs.Common.{◌≡◌, ◌≢◌, ◌⊎◌, inl, inr, ℕ, zero, suc, ◌+◌, ◌-◌, ◌<◌, ◌≤◌, Bool, true, false, cond, not, ◌&&◌, nat_eq, leb, Option, Some, None, MatchOption, List, [], ◌∷◌, map, filter, drop, get_or, length, refl, sym, ap, ◌∙◌, arith, subst}
+use Rattle.std.specs.FinMap.{get, empty, entries, keys, from_entries, len-empty, len-entries}
 use Rattle.std.specs.Ordering.{nat_cmp}
 use Rattle.std.proofs.lemmas.Bool.Decides.{nat_tests}
-use Rattle.std.proofs.Math.ListN.{length-map}
-use Rattle.stm_logs.specs.Nodes.{Node, Block, at}
+use Rattle.std.proofs.lemmas.Bool.{cases_lt}
+use Rattle.stm_logs.specs.declared.nodes.TheConstants.{TOP}
+use Rattle.stm_logs.specs.Nodes.{Node, at}
 use Rattle.stm_logs.specs.Log.{LogValue, empty_log, log_groups, log_pairs, log_locks, is_number, pairs_of}
-use Rattle.stm_logs.specs.Index.{is_lock_node, HasKey, HasNone}
-use Rattle.stm_logs.specs.Tree.{Least, IsTree, block_log, log_value, table, trues, is_word_at, is_lock_at}
-use Rattle.stm_logs.specs.Held.{IsLog}
-use Rattle.stm_logs.specs.Chain.{chain, Ends, EndBelow, group_of, number_of, pair_of}
+use Rattle.stm_logs.specs.Order.{rank_of, rank_in, Least, IsChained, IsBefore, log_value}
+use Rattle.stm_logs.specs.Chain.{Ends, pair_of, goes_on, words_from, locks_from, groups_from}
 use Rattle.stm_logs.proofs.NodeLemmas.{same_or}
-use Rattle.stm_logs.proofs.TableLemmas.{both_bool, true_false, Apart, get_source, get_there, len_table, mark}
-use Rattle.stm_logs.proofs.RisingLemmas.{In, Rising, rising_entries, get_in, in_get, in_map, map_in, rising_map, filter_in, in_filter, rising_filter, length_filter_le, rising_same}
+use Rattle.stm_logs.proofs.OrderLemmas.{after_node, rank_number}
+use Rattle.stm_logs.proofs.TableLemmas.{both_bool, true_false, get_source}
+use Rattle.stm_logs.proofs.RisingLemmas.{In, Rising, rising_entries, get_in, in_get, filter_in, in_filter, rising_filter, rising_same}
 use Rattle.stm_logs.proofs.LockLemmas.{locks_rise, locks_in, in_locks}
-use Rattle.stm_logs.proofs.LogLemmas.{zero_of, eq_zero, not_zero, not_true, numbers, values_at, locks_at, words_apart, get_word, get_lock, few_words, trues_le}
+use Rattle.stm_logs.proofs.LogLemmas.{eq_zero, not_zero, numbers, values_at, locks_at, get_word, get_lock}
 
--- what x says is what a child of l from low on says
-pub record Child {X : Type 0} (f : Node → X) (ns : List Node) (n l low : ℕ) (x : X) : Type 0 where
-  pub node : ℕ
-  pub some : 0 < node
-  pub inside : node ≤ n
-  pub parent : (at ns node).parent ≡ l
-  pub from : low ≤ (at ns node).number
-  pub says : x ≡ f (at ns node)
+-- ---- ranks and locks
+lock_up : (l k a b : ℕ) → a ≤ TOP → b ≤ TOP → rank_of l a < rank_of k b → l ≤ k
+lock_up l k a b ma mb less = omega arith
 
-module _ {X : Type 0} (key : X → ℕ) (f : Node → X) (same : (node : Node) → key (f node) ≡ node.number) (ns : List Node) (n l : ℕ) (t : IsTree ns n) (room : n < length ns) where
-  -- the chain from the least child on is the rising list of what the children say
-  pub chain_is : (most low p : ℕ) (xs : List X) → Rising key xs → Least ns n l low p
-      → ((x : X) → In x xs → Child f ns n l low x)
-      → ((e : ℕ) → 0 < e → e ≤ n → (at ns e).parent ≡ l → low ≤ (at ns e).number → In (f (at ns e)) xs)
-      → length xs ≤ most → (chain f ns most p ≡ xs) × Ends ns most p
-  chain_is most low p [] r least sound complete fits =
-      let none : p ≡ 0 = elim (same_or p 0) [
-        | inl is ↦ is
-        | inr ne ↦ (let some : 0 < p = omega arith in let s = least.some some in absurd (complete p some s.0 s.1 s.2))
-      ] in
-      go most none where
-        go : (k : ℕ) → p ≡ 0 → (chain f ns k p ≡ []) × Ends ns k p
-        go zero is = (refl, is)
-        go (suc k) is = (ap (λ b. cond b [] (f (at ns p) ∷ chain f ns k (at ns p).next)) (eq_zero p is), λ some. absurd (omega arith))
-  chain_is zero low p (x ∷ xs) r least sound complete fits = absurd (omega arith)
-  chain_is (suc most) low p (x ∷ xs) r least sound complete fits =
-      let c = sound x (inl refl) in
-      let c_some = c.some in let c_in = c.inside in let c_from = c.from in
-      let some : 0 < p = elim (same_or p 0) [ inl is ↦ absurd (omega (arith, least.none is c.node c_some c_in c.parent)) | inr ne ↦ omega arith ] in
-      let s = least.some some in
-      let p_in = s.0 in
-      let low_p = s.2 in
-      let le = least.least some c.node c_some c_in c.parent c_from in
-      let x_key : key x ≡ (at ns c.node).number = ap key c.says ∙ same _ in
-      let here : x ≡ f (at ns p) = elim (complete p some s.0 s.1 s.2) [
-        | inl is ↦ sym is
-        | inr i ↦ (let up = r.0 _ i in absurd (omega (arith, up, same (at ns p), x_key, le)))
-      ] in
-      let next : Least ns n l ((at ns p).number + 1) (at ns p).next = subst (λ k. Least ns n k ((at ns p).number + 1) (at ns p).next) s.1 (t.next p some p_in) in
-      let rest = chain_is most ((at ns p).number + 1) (at ns p).next xs r.1 next
-      (λ y i.
-      let d = sound y (inr i) in let up = r.0 y i in
-      record {
-        node = d.node;
-        some = d.some;
-        inside = d.inside;
-        parent = d.parent;
-        says = d.says;
-        from = omega (arith, up, ap key here, same (at ns p), ap key d.says, same (at ns d.node));
-      })
-      (λ e z m par up. elim (complete e z m par (omega (arith, up, low_p))) [
-        | inl is ↦ absurd (omega (arith, up, ap key is, same (at ns e), ap key here, same (at ns p)))
-        | inr i ↦ i
-      ]) (omega arith) in
-      (ap (λ b. cond b [] (f (at ns p) ∷ chain f ns most (at ns p).next)) (not_zero p some) ∙ (λ i. sym here i ∷ rest.0 i), λ _. (omega (arith, p_in, room), rest.1))
+lock_first : (l k a : ℕ) → a ≤ TOP → rank_of l 0 ≤ rank_of k a → l ≤ k
+lock_first l k a ma le = omega arith
 
-is_this : (o : Option ℕ) (lock : ℕ) → is_number o lock ≡ true → o ≡ Some lock
-is_this None lock t = absurd (true_false false t refl)
-is_this (Some k) lock t = let e : k ≡ lock = grind (arith, nat_tests) in ap Some e
+first_of_lock : (l k a : ℕ) → l ≤ k → rank_of l 0 ≤ rank_of k a
+first_of_lock l k a le = omega arith
 
-this_is : (o : Option ℕ) (lock : ℕ) → o ≡ Some lock → is_number o lock ≡ true
-this_is o lock e = ap (λ p. is_number p lock) e ∙ (let s : nat_eq lock lock ≡ true = grind (arith, nat_tests) in s)
+next_lock : (l k a : ℕ) → a ≤ TOP → l < k → rank_of l a + 1 ≤ rank_of k 0
+next_lock l k a ma less = omega arith
 
-some_same : (a b : ℕ) → Some a ≡ Some b → a ≡ b
-some_same a b e = cc
-
-lock_of_parent : (ns : List Node) (n e : ℕ) → IsTree ns n → 0 < e → e ≤ n → is_lock_node (at ns (at ns e).parent) ≡ true
-lock_of_parent ns n e t z m = eq_zero _ (t.parents e z m).1
-
-word_some : (p : ℕ) → nat_eq p 0 ≡ false → 0 < p
-word_some p e = elim (same_or p 0) [ inl is ↦ absurd (true_false _ (eq_zero p is) e) | inr ne ↦ omega arith ]
-
--- a pair of a lock comes from a word whose parent has its number
-word_of_pair : (ns : List Node) (n lock : ℕ) (x : ℕ × ℕ) → IsTree ns n → In x (pairs_of (log_value ns n) lock)
-    → (e : ℕ) × ((0 < e) × (e ≤ n) × (is_lock_node (at ns e) ≡ false) × ((at ns (at ns e).parent).number ≡ lock) × (x ≡ pair_of (at ns e)))
-word_of_pair ns n lock x t i =
-    let w : LogValue = log_value ns n in
-    let s = filter_in (λ (p : ℕ × ℕ). is_number (get w.locks p.0) lock) (log_pairs w) x i in
-    let source = get_source (is_word_at ns) (numbers ns) (values_at ns) n x.0 x.1 (in_get w.words x.0 x.1 s.0) in
-    let e : ℕ = source.node in
-    let kind : is_lock_node (at ns e) ≡ false = not_true _ source.passes in
-    let a_lock : get w.locks x.0 ≡ Some lock = is_this _ lock s.1 in
-    let here : get w.locks x.0 ≡ Some (locks_at ns e) = get_lock ns n e x.0 t source.some source.inside (source.key_is, kind) in
-    (e, (source.some, source.inside, kind, some_same _ _ (sym here ∙ a_lock), λ j. (sym source.key_is j, sym source.value_is j)))
-
-pub pairs_none : (ns : List Node) (n lock : ℕ) → IsTree ns n → HasNone ns n true lock → pairs_of (log_value ns n) lock ≡ []
-pairs_none ns n lock t none = empty_of (pairs_of (log_value ns n) lock) (λ x i.
-    let w = word_of_pair ns n lock x t i in
-    let p = t.parents w.0 w.1.0 w.1.1 in
-    let lock_there = p.0 in let e_in = w.1.1 in
-    none (at ns w.0).parent (word_some _ w.1.2) (omega arith) (w.1.3, lock_of_parent ns n w.0 t w.1.0 w.1.1))
+-- ---- whether a chain goes on with a lock
+pub going_on : (ns : List Node) (lock p : ℕ) → goes_on ns lock p ≡ true → (0 < p) × ((at ns p).lock ≡ lock)
+going_on ns lock p t = elim (same_or p 0) [
+  | inl is ↦ absurd (true_false _ t (ap (λ b. not b && nat_eq (at ns p).lock lock) (eq_zero p is)))
+  | inr ne ↦ (
+      let some : 0 < p = omega arith in
+      let there : nat_eq (at ns p).lock lock ≡ true = sym (ap (λ b. not b && nat_eq (at ns p).lock lock) (not_zero p some)) ∙ t in
+      (some, is_equal _ _ there))
+]
   where
-    empty_of : (xs : List (ℕ × ℕ)) → ((x : ℕ × ℕ) → In x xs → ⊥) → xs ≡ []
-    empty_of [] h = refl
-    empty_of (x ∷ xs) h = absurd (h x (inl refl))
+    is_equal : (a b : ℕ) → nat_eq a b ≡ true → a ≡ b
+    is_equal a b e = grind (arith, nat_tests, e)
 
--- the chain of a lock gives its pairs
-pub pairs_chain : (ns : List Node) (n lock l : ℕ) → IsLog ns n → 0 < l → l ≤ n → HasKey (at ns l) true lock
-    → (chain pair_of ns n (at ns l).first ≡ pairs_of (log_value ns n) lock) × Ends ns n (at ns l).first
-pairs_chain ns n lock l log z m key =
-    let t = log.ready.tree in
-    let w : LogValue = log_value ns n in
-    let test : ℕ × ℕ → Bool = λ p. is_number (get w.locks p.0) lock in
-    chain_is (λ p. p.0) pair_of (λ node. refl) ns n l t log.ready.indexed.room n 0 (at ns l).first (pairs_of w lock)
-    (rising_filter (λ p. p.0) test (log_pairs w) (rising_entries w.words))
-    (t.first l m)
-    (λ x i.
-    let s = word_of_pair ns n lock x t i in
-    let p = t.parents s.0 s.1.0 s.1.1 in let p_less = p.0 in let e_in = s.1.1 in
-    record {
-      node = s.0;
-      some = s.1.0;
-      inside = s.1.1;
-      from = omega arith;
-      says = s.1.4;
-      parent = t.alone (at ns s.0).parent l (word_some _ s.1.2) (omega arith) z m (lock_of_parent ns n s.0 t s.1.0 s.1.1 ∙ sym key.1) (s.1.3 ∙ sym key.0);
-    })
-    (λ e ez em par _.
-    let kind : is_lock_node (at ns e) ≡ false = ap (λ q. nat_eq q 0) par ∙ not_zero l z in
-    in_filter test (log_pairs w) (pair_of (at ns e)) (get_in w.words _ _ (get_word ns n e _ t ez em (refl, kind)))
-    (this_is _ lock (get_lock ns n e _ t ez em (refl, kind) ∙ ap (λ q. Some (at ns q).number) par ∙ ap Some key.0)))
-    (omega (arith, length_filter_le test (log_pairs w), sym (len-entries w.words), few_words ns n log.ready))
+pub goes_at : (ns : List Node) (lock p : ℕ) → 0 < p → (at ns p).lock ≡ lock → goes_on ns lock p ≡ true
+goes_at ns lock p some is = ap (λ b. not b && nat_eq (at ns p).lock lock) (not_zero p some) ∙ equal _ _ is
+  where
+    equal : (a b : ℕ) → a ≡ b → nat_eq a b ≡ true
+    equal a b e = grind (arith, nat_tests, e)
 
--- a lock of the log is the number of a node below the root
-lock_in : (ns : List Node) (n q : ℕ) → IsTree ns n → In q (log_locks (log_value ns n)) → (e : ℕ) × ((0 < e) × (e ≤ n) × ((at ns e).parent ≡ 0) × ((at ns e).number ≡ q))
-lock_in ns n q t i =
-    let s = locks_in (log_value ns n) q i in
-    let source = get_source (is_word_at ns) (numbers ns) (locks_at ns) n s.0 q s.1 in
-    let p = t.parents source.node source.some source.inside in
-    let p_less = p.0 in
-    let e_in = source.inside in
-    ((at ns source.node).parent, (word_some _ (not_true _ source.passes), omega arith, p.1, source.value_is))
+pub stops_at : (ns : List Node) (lock p : ℕ) → (p ≡ 0) ⊎ ((at ns p).lock ≢ lock) → goes_on ns lock p ≡ false
+stops_at ns lock p h = elim (both_bool (goes_on ns lock p)) [
+  | inr stops ↦ stops
+  | inl goes ↦ (
+      let here = going_on ns lock p goes in
+      let some = here.0 in
+      elim h [ inl none ↦ absurd (omega arith) | inr other ↦ absurd (other here.1) ])
+]
 
-in_lock : (ns : List Node) (n e : ℕ) → IsLog ns n → 0 < e → e ≤ n → (at ns e).parent ≡ 0 → In (at ns e).number (log_locks (log_value ns n))
-in_lock ns n e log z m top =
-    let t = log.ready.tree in
-    let w : LogValue = log_value ns n in
-    let u = log.used e z m top in
-    let f : ℕ = u.0 in
-    let kind : is_lock_node (at ns f) ≡ false = ap (λ q. nat_eq q 0) u.1.2 ∙ not_zero e z in
-    let at_f : get w.locks (at ns f).number ≡ Some (at ns e).number = get_lock ns n f _ t u.1.0 u.1.1 (refl, kind) ∙ ap (λ q. Some (at ns q).number) u.1.2 in
-    in_locks w (at ns f).number (at ns e).number at_f
+-- ---- a chain ends
+-- how many of the first n nodes have a rank from low on
+abbrev bit : ℕ → ℕ → ℕ
+bit low r = cond (leb low r) 1 0
 
-locks_apart : (ns : List Node) (n : ℕ) → IsTree ns n → Apart (is_lock_at ns) (numbers ns) (λ e. e) n
-locks_apart ns n t e f z m y k te tf num = t.alone e f z m y k (te ∙ sym tf) num
+abbrev above : List Node → ℕ → ℕ → ℕ
+above ns low zero = 0
+above ns low (suc e) = bit low (rank_in (at ns (suc e))) + above ns low e
 
--- the locks of the log are as many as the nodes below the root
-pub count_locks : (ns : List Node) (n : ℕ) → IsLog ns n → length (log_locks (log_value ns n)) ≡ trues (is_lock_at ns) n
-count_locks ns n log =
-    let t = log.ready.tree in
-    let m : FinMap nat_cmp ℕ = table (is_lock_at ns) (numbers ns) (λ e. e) n in
-    let rising : Rising (λ x. x) (keys m) = rising_map (λ (p : ℕ × ℕ). p.0) (λ p. p.0) (λ x. x) (λ x. refl) (entries m) (rising_entries m) in
-    let same : log_locks (log_value ns n) ≡ keys m = rising_same (log_locks (log_value ns n)) (keys m) (locks_rise (log_value ns n)) rising
-    (λ q i.
-    let s = lock_in ns n q t i in
-    subst (λ k. In k (keys m)) s.1.3 (in_map (λ (p : ℕ × ℕ). p.0) (entries m) ((at ns s.0).number, s.0) (get_in m _ _ (get_there (is_lock_at ns) (numbers ns) (λ e. e) n s.0 (locks_apart ns n t) s.1.0 s.1.1 (eq_zero _ s.1.2)))))
-    (λ q i.
-    let s = map_in (λ (p : ℕ × ℕ). p.0) (entries m) q i in
-    let source = get_source (is_lock_at ns) (numbers ns) (λ e. e) n s.0.0 s.0.1 (in_get m _ _ s.1.0) in
-    subst (λ k. In k (log_locks (log_value ns n))) (source.key_is ∙ sym s.1.1) (in_lock ns n source.node log source.some source.inside (zero_of _ source.passes))) in
-    ap length same ∙ length-map (entries m) (λ (p : ℕ × ℕ). p.0) ∙ sym (len-entries m) ∙ len_table (is_lock_at ns) (numbers ns) (λ e. e) n (locks_apart ns n t)
+bit_one : (low r : ℕ) → low ≤ r → bit low r ≡ 1
+bit_one low r l = grind (arith, nat_tests, l)
 
--- each node is a lock or a word
-both_kinds : (ns : List Node) (n : ℕ) → trues (is_word_at ns) n + trues (is_lock_at ns) n ≡ n
-both_kinds ns zero = refl
-both_kinds ns (suc n) =
-    let rest = both_kinds ns n in
-    elim (both_bool (is_lock_at ns (suc n))) [
-      | inl t ↦ (let a : mark (is_lock_at ns (suc n)) ≡ 1 = ap mark t in let b : mark (is_word_at ns (suc n)) ≡ 0 = ap (λ x. mark (not x)) t in omega (arith, rest, a, b))
-      | inr t ↦ (let a : mark (is_lock_at ns (suc n)) ≡ 0 = ap mark t in let b : mark (is_word_at ns (suc n)) ≡ 1 = ap (λ x. mark (not x)) t in omega (arith, rest, a, b))
+bit_none : (low r : ℕ) → r < low → bit low r ≡ 0
+bit_none low r l = grind (arith, nat_tests, l)
+
+above_le : (ns : List Node) (low n : ℕ) → above ns low n ≤ n
+above_le ns low zero = omega arith
+above_le ns low (suc e) =
+    let rest = above_le ns low e in
+    elim (cases_lt (rank_in (at ns (suc e))) low) [
+      | inl less ↦ omega (arith, rest, bit_none low (rank_in (at ns (suc e))) less)
+      | inr more ↦ omega (arith, rest, bit_one low (rank_in (at ns (suc e))) more)
     ]
 
-pub locks_and_words : (ns : List Node) (n : ℕ) → IsLog ns n → len (log_value ns n).words + length (log_locks (log_value ns n)) ≡ n
-locks_and_words ns n log =
-    omega (arith, count_locks ns n log, both_kinds ns n, len_table (is_word_at ns) (numbers ns) (values_at ns) n (words_apart ns n (values_at ns) log.ready.tree))
+above_down : (ns : List Node) (low high n : ℕ) → low ≤ high → above ns high n ≤ above ns low n
+above_down ns low high zero h = omega arith
+above_down ns low high (suc e) h =
+    let r : ℕ = rank_in (at ns (suc e)) in
+    let rest = above_down ns low high e h in
+    elim (cases_lt r high) [
+      | inl less ↦ (let none : bit high r ≡ 0 = bit_none high r less in omega (arith, rest, none))
+      | inr more ↦ (
+          let one : bit high r ≡ 1 = bit_one high r more in
+          let two : bit low r ≡ 1 = bit_one low r (omega arith) in
+          omega (arith, rest, one, two))
+    ]
 
--- the chain of the root gives the locks
-pub locks_chain : (ns : List Node) (n : ℕ) → IsLog ns n → (chain number_of ns n (at ns 0).first ≡ log_locks (log_value ns n)) × Ends ns n (at ns 0).first
-locks_chain ns n log =
-    let t = log.ready.tree in
-    chain_is (λ x. x) number_of (λ node. refl) ns n 0 t log.ready.indexed.room n 0 (at ns 0).first (log_locks (log_value ns n))
-    (locks_rise (log_value ns n)) (t.first 0 (omega arith))
-    (λ x i. let s = lock_in ns n x t i in record { node = s.0; some = s.1.0; inside = s.1.1; parent = s.1.2; from = omega arith; says = sym s.1.3 })
-    (λ e z m top _. in_lock ns n e log z m top)
-    (omega (arith, count_locks ns n log, trues_le (is_lock_at ns) n))
-
--- the chains below the locks of a chain, and the locks with their words
-groups : (block : Block) (most p : ℕ) → IsLog block.list block.count → (0 < p → (p ≤ block.count) × ((at block.list p).parent ≡ 0)) → Ends block.list most p
-    → EndBelow block.list block.count most p × (chain (group_of block) block.list most p ≡ map (λ lock. (lock, pairs_of (block_log block) lock)) (chain number_of block.list most p))
-groups block zero p log top ends = (ends, refl)
-groups block (suc most) p log top ends =
-    let ns : List Node = block.list in
-    let n : ℕ = block.count in
-    let pairs : ℕ → ℕ × List (ℕ × ℕ) = λ lock. (lock, pairs_of (block_log block) lock) in
-    elim (same_or p 0) [
+above_less : (ns : List Node) (low p n : ℕ) → 0 < p → p ≤ n → low ≤ rank_in (at ns p) → above ns (rank_in (at ns p) + 1) n + 1 ≤ above ns low n
+above_less ns low p zero z m h = absurd (omega arith)
+above_less ns low p (suc e) z m h =
+    let r : ℕ = rank_in (at ns (suc e)) in
+    let high : ℕ = rank_in (at ns p) + 1 in
+    elim (same_or p (suc e)) [
       | inl is ↦ (
-        (λ some. absurd (omega (arith, is, some))),
-        ap (λ b. cond b [] (group_of block (at ns p) ∷ chain (group_of block) ns most (at ns p).next)) (eq_zero p is)
-            ∙ sym (ap (λ b. map pairs (cond b [] (number_of (at ns p) ∷ chain number_of ns most (at ns p).next))) (eq_zero p is)),
-      )
+          let same : rank_in (at ns p) ≡ r = ap (λ j. rank_in (at ns j)) is in
+          let one : bit low r ≡ 1 = bit_one low r (omega arith) in
+          let none : bit high r ≡ 0 = bit_none high r (omega arith) in
+          let rest = above_down ns low high e (omega arith) in
+          omega (arith, one, none, rest))
       | inr ne ↦ (
-          let some : 0 < p = omega arith in
-          let here = top some in
-          let words = pairs_chain ns n (at ns p).number p log some here.0 (refl, eq_zero _ here.1) in
-          let rest = groups block most (at ns p).next log (λ z. let s = (log.ready.tree.next p some here.0).some z in (s.0, s.1 ∙ here.1)) (ends some).1 in (
-            (λ _. ((ends some).0, words.1, rest.0)),
-            ap (λ b. cond b [] (group_of block (at ns p) ∷ chain (group_of block) ns most (at ns p).next)) (not_zero p some)
-                ∙ (λ i. ((at ns p).number, words.0 i) ∷ rest.1 i)
-                ∙ sym (ap (λ b. map pairs (cond b [] (number_of (at ns p) ∷ chain number_of ns most (at ns p).next))) (not_zero p some)),
-          )
-          )
+          let rest = above_less ns low p e z (omega arith) h in
+          elim (cases_lt r high) [
+            | inl less ↦ (let none : bit high r ≡ 0 = bit_none high r less in omega (arith, rest, none))
+            | inr more ↦ (
+                let one : bit high r ≡ 1 = bit_one high r more in
+                let two : bit low r ≡ 1 = bit_one low r (omega arith) in
+                omega (arith, rest, one, two))
+          ])
     ]
 
--- the chain of the root gives the locks with their words
-pub groups_chain : (block : Block) → IsLog block.list block.count
-    → (chain (group_of block) block.list block.count (at block.list 0).first ≡ log_groups (block_log block)) × EndBelow block.list block.count block.count (at block.list 0).first
-groups_chain block log =
-    let ns : List Node = block.list in
-    let n : ℕ = block.count in
-    let locks = locks_chain ns n log in
-    let all = groups block n (at ns 0).first log (λ some. let s = (log.ready.tree.first 0 (omega arith)).some some in (s.0, s.1)) locks.1 in
-    (all.1 ∙ ap (map (λ lock. (lock, pairs_of (block_log block) lock))) locks.0, all.0)
+module _ (ns : List Node) (n : ℕ) (c : IsChained ns n) (room : n < length ns) where
+  -- what comes behind a node
+  behind : (p : ℕ) → 0 < p → p ≤ n → Least ns n (rank_in (at ns p) + 1) (at ns p).next
+  behind p z m = subst (λ l. Least ns n l (at ns p).next) (after_node ns p z) (c.next p m)
 
--- a lock node is there exactly for the locks of the log
-pub lock_there : (ns : List Node) (n lock e : ℕ) → IsLog ns n → 0 < e → e ≤ n → HasKey (at ns e) true lock → (a : ℕ) × (get (log_value ns n).locks a ≡ Some lock)
-lock_there ns n lock e log z m key =
-    let u = log.used e z m (zero_of _ key.1) in
-    let kind : is_lock_node (at ns u.0) ≡ false = ap (λ q. nat_eq q 0) u.1.2 ∙ not_zero e z in
-    ((at ns u.0).number, get_lock ns n u.0 _ log.ready.tree u.1.0 u.1.1 (refl, kind) ∙ ap (λ q. Some (at ns q).number) u.1.2 ∙ ap Some key.0)
+  ends_from : (most low p : ℕ) → Least ns n low p → above ns low n ≤ most → Ends ns most p
+  ends_from zero low p l few = elim (same_or p 0) [
+    | inl is ↦ is
+    | inr ne ↦ (
+        let s = l.some (omega arith) in
+        let less = above_less ns low p n (omega arith) s.0 s.1 in
+        absurd (omega (arith, few, less)))
+  ]
+  ends_from (suc most) low p l few = λ some. (
+      let s = l.some some in
+      let less = above_less ns low p n some s.0 s.1 in
+      let inside = s.0 in
+      (omega arith, ends_from most (rank_in (at ns p) + 1) (at ns p).next (behind p some s.0) (omega (arith, few, less))))
 
-pub lock_not_there : (ns : List Node) (n lock a : ℕ) → IsTree ns n → HasNone ns n true lock → get (log_value ns n).locks a ≡ Some lock → ⊥
-lock_not_there ns n lock a t none is =
-    let source = get_source (is_word_at ns) (numbers ns) (locks_at ns) n a lock is in
-    let p = t.parents source.node source.some source.inside in let p_less = p.0 in let e_in = source.inside in
-    none (at ns source.node).parent (word_some _ (not_true _ source.passes)) (omega arith) (source.value_is, eq_zero _ p.1)
+  pub ends : (low p : ℕ) → Least ns n low p → Ends ns n p
+  ends low p l = ends_from n low p l (above_le ns low n)
 
-pub chain_zero : {X : Type 0} (f : Node → X) (ns : List Node) (most : ℕ) → chain f ns most 0 ≡ []
-chain_zero f ns zero = refl
-chain_zero f ns (suc most) = refl
+  -- a node from low on is the least one, or lies behind it
+  first_or : (low p e : ℕ) → Least ns n low p → 0 < e → e ≤ n → low ≤ rank_in (at ns e) → (0 < p) × ((e ≡ p) ⊎ (rank_in (at ns p) + 1 ≤ rank_in (at ns e)))
+  first_or low p e l z m up =
+      let some : 0 < p = elim (same_or p 0) [ inl is ↦ absurd (omega (arith, l.none is e z m)) | inr ne ↦ omega arith ] in
+      let s = l.some some in
+      let le = l.least some e z m up in (
+        some,
+        elim (same_or e p) [
+          | inl is ↦ inl is
+          | inr ne ↦ (
+              let other : rank_in (at ns e) ≢ rank_in (at ns p) = λ is. ne (c.alone e p z m some s.0 (rank_number _ _ _ _ (c.fits e m) (c.fits p s.0) is).1) in
+              inr (omega (arith, le, other)))
+        ],
+      )
 
-pub ends_zero : (ns : List Node) (most : ℕ) → Ends ns most 0
-ends_zero ns zero = refl
-ends_zero ns (suc most) = λ some. absurd (omega arith)
+  -- ---- the words of a lock
+  -- what stands in the words of a lock from low on
+  record AreWords (lock low : ℕ) (xs : List (ℕ × ℕ)) : Type 0 where
+    rising : Rising (λ (x : ℕ × ℕ). x.0) xs
+    sound : (x : ℕ × ℕ) → In x xs → (e : ℕ) × ((0 < e) × (e ≤ n) × ((at ns e).lock ≡ lock) × (low ≤ rank_in (at ns e)) × (x ≡ pair_of (at ns e)))
+    complete : (e : ℕ) → 0 < e → e ≤ n → (at ns e).lock ≡ lock → low ≤ rank_in (at ns e) → In (pair_of (at ns e)) xs
 
+  no_words : (lock low p : ℕ) → rank_of lock 0 ≤ low → Least ns n low p → (0 < p → (at ns p).lock ≢ lock) → AreWords lock low []
+  no_words lock low p from l other = record {
+    rising = tt;
+    sound = λ x i. absurd i;
+    complete = λ e z m is up. (
+        let f = first_or low p e l z m up in
+        let s = l.some f.0 in
+        let at_p : lock ≤ (at ns p).lock = lock_first lock (at ns p).lock (at ns p).number (c.fits p s.0) (omega (arith, s.1, from)) in
+        absurd (elim f.1 [
+          | inl same ↦ other f.0 (sym (ap (λ j. (at ns j).lock) same) ∙ is)
+          | inr behind ↦ (
+              let up : (at ns p).lock ≤ (at ns e).lock = lock_up (at ns p).lock (at ns e).lock (at ns p).number (at ns e).number (c.fits p s.0) (c.fits e m) (omega arith) in
+              other f.0 (omega (arith, up, at_p, is)))
+        ]));
+  }
+
+  words_are : (lock most low p : ℕ) → rank_of lock 0 ≤ low → Least ns n low p → Ends ns most p → AreWords lock low (words_from ns lock most p)
+  words_are lock zero low p from l ends = no_words lock low p from l (λ some. absurd (omega (arith, ends)))
+  words_are lock (suc most) low p from l ends = elim (both_bool (goes_on ns lock p)) [
+    | inr stops ↦ subst (AreWords lock low) (sym (ap (λ b. cond b (pair_of (at ns p) ∷ words_from ns lock most (at ns p).next) []) stops))
+        (no_words lock low p from l (λ some is. true_false (goes_on ns lock p) (goes_at ns lock p some is) stops))
+    | inl goes_on_here ↦ (
+        let here = going_on ns lock p goes_on_here in
+        let some : 0 < p = here.0 in
+        let s = l.some some in
+        let rest = words_are lock most (rank_in (at ns p) + 1) (at ns p).next (omega (arith, s.1, from)) (behind p some s.0) (ends some).1 in
+        subst (AreWords lock low) (sym (ap (λ b. cond b (pair_of (at ns p) ∷ words_from ns lock most (at ns p).next) []) goes_on_here)) (record {
+          rising = (
+            (λ y i. (
+                let e = rest.sound y i in
+                let up = e.1.3 in
+                let same : (at ns e.0).lock ≡ (at ns p).lock = e.1.2 ∙ sym here.1 in
+                let key : y.0 ≡ (at ns e.0).number = ap (λ (x : ℕ × ℕ). x.0) e.1.4 in
+                omega (arith, up, same, key))),
+            rest.rising,
+          );
+          sound = λ x i. elim i [
+            | inl is ↦ (p, (some, s.0, here.1, s.1, is))
+            | inr j ↦ (let e = rest.sound x j in let up = e.1.3 in (e.0, (e.1.0, e.1.1, e.1.2, omega (arith, up, s.1), e.1.4)))
+          ];
+          complete = λ e z m is up. elim (first_or low p e l z m up).1 [
+            | inl same ↦ inl (ap (λ j. pair_of (at ns j)) same)
+            | inr later ↦ inr (rest.complete e z m is later)
+          ];
+        }))
+  ]
+
+  is_this : (o : Option ℕ) (lock : ℕ) → is_number o lock ≡ true → o ≡ Some lock
+  is_this None lock t = absurd (true_false false t refl)
+  is_this (Some k) lock t = (let e : k ≡ lock = grind (arith, nat_tests, t) in ap Some e)
+
+  this_is : (o : Option ℕ) (lock : ℕ) → o ≡ Some lock → is_number o lock ≡ true
+  this_is o lock e = ap (λ p. is_number p lock) e ∙ (let s : nat_eq lock lock ≡ true = grind (arith, nat_tests) in s)
+
+  -- the words from the first one of a lock on are the pairs of the lock
+  pub pairs_are : (lock most p : ℕ) → Least ns n (rank_of lock 0) p → Ends ns most p → words_from ns lock most p ≡ pairs_of (log_value ns n) lock
+  pairs_are lock most p l ends =
+      let w : LogValue = log_value ns n in
+      let test : ℕ × ℕ → Bool = λ x. is_number (get w.locks x.0) lock in
+      let words = words_are lock most (rank_of lock 0) p (omega arith) l ends in
+      rising_same (λ (x : ℕ × ℕ). x.0) (words_from ns lock most p) (pairs_of w lock) words.rising (rising_filter (λ (x : ℕ × ℕ). x.0) test (log_pairs w) (rising_entries w.words))
+      (λ x i. (
+      let e = words.sound x i in
+      let at_e : get w.locks (at ns e.0).number ≡ Some lock = get_lock ns n e.0 _ c e.1.0 e.1.1 refl ∙ ap Some e.1.2 in
+      subst (λ y. In y (pairs_of w lock)) (sym e.1.4)
+      (in_filter test (log_pairs w) (pair_of (at ns e.0)) (get_in w.words _ _ (get_word ns n e.0 _ c e.1.0 e.1.1 refl)) (this_is _ lock at_e))))
+      (λ x i. (
+      let s = filter_in test (log_pairs w) x i in
+      let source = get_source (numbers ns) (values_at ns) n x.0 x.1 (in_get w.words x.0 x.1 s.0) in
+      let e : ℕ = source.node in
+      let here : get w.locks x.0 ≡ Some (at ns e).lock = get_lock ns n e x.0 c source.some source.inside source.key_is in
+      let lock_is : (at ns e).lock ≡ lock = some_same _ _ (sym here ∙ is_this _ lock s.1) in
+      let pair : pair_of (at ns e) ≡ x = λ j. (source.key_is j, source.value_is j) in
+      subst (λ y. In y (words_from ns lock most p)) pair (words.complete e source.some source.inside lock_is (first_of_lock lock (at ns e).lock (at ns e).number (omega (arith, lock_is))))))
+    where
+      some_same : (a b : ℕ) → Some a ≡ Some b → a ≡ b
+      some_same a b e = cc
+
+  -- ---- the locks
+  -- what stands in the locks from low on
+  record AreLocks (low : ℕ) (xs : List ℕ) : Type 0 where
+    rising : Rising (λ x. x) xs
+    sound : (q : ℕ) → In q xs → (e : ℕ) × ((0 < e) × (e ≤ n) × (low ≤ rank_in (at ns e)) × ((at ns e).lock ≡ q))
+    complete : (e : ℕ) → 0 < e → e ≤ n → low ≤ rank_in (at ns e) → In (at ns e).lock xs
+
+  no_locks : (low p : ℕ) → p ≡ 0 → Least ns n low p → AreLocks low []
+  no_locks low p none l = record {
+    rising = tt;
+    sound = λ q i. absurd i;
+    complete = λ e z m up. absurd (omega (arith, l.none none e z m));
+  }
+
+  -- the next node has a greater lock
+  lock_ends : (p : ℕ) → 0 < p → p ≤ n → goes_on ns (at ns p).lock (at ns p).next ≡ false → (e : ℕ) → 0 < e → e ≤ n → rank_in (at ns p) + 1 ≤ rank_in (at ns e) → (at ns p).lock < (at ns e).lock
+  lock_ends p some m stops e z k up =
+      let q : ℕ = (at ns p).next in
+      let f = first_or _ q e (behind p some m) z k up in
+      let s = (behind p some m).some f.0 in
+      let s0 = s.0 in let s1 = s.1 in
+      let other : (at ns q).lock ≢ (at ns p).lock = λ is. true_false (goes_on ns (at ns p).lock q) (goes_at ns (at ns p).lock q f.0 is) stops in
+      let step : (at ns p).lock ≤ (at ns q).lock = lock_up (at ns p).lock (at ns q).lock (at ns p).number (at ns q).number (c.fits p m) (c.fits q s0) (omega arith) in
+      let on : (at ns q).lock ≤ (at ns e).lock = elim f.1 [
+        | inl same ↦ omega (arith, ap (λ j. (at ns j).lock) same)
+        | inr later ↦ lock_up (at ns q).lock (at ns e).lock (at ns q).number (at ns e).number (c.fits q s0) (c.fits e k) (omega arith)
+      ] in
+      omega (arith, other, step, on)
+
+  locks_are : (most low p : ℕ) → Least ns n low p → Ends ns most p → AreLocks low (locks_from ns most p)
+  locks_are zero low p l ends = no_locks low p ends l
+  locks_are (suc most) low p l ends = elim (same_or p 0) [
+    | inl none ↦ subst (AreLocks low) (sym (ap (λ b. cond b [] (cond (goes_on ns (at ns p).lock (at ns p).next) (locks_from ns most (at ns p).next) ((at ns p).lock ∷ locks_from ns most (at ns p).next))) (eq_zero p none))) (no_locks low p none l)
+    | inr ne ↦ (
+        let some : 0 < p = omega arith in
+        let s = l.some some in
+        let s1 = s.1 in
+        let rest = locks_are most (rank_in (at ns p) + 1) (at ns p).next (behind p some s.0) (ends some).1 in
+        let start : locks_from ns (suc most) p ≡ cond (goes_on ns (at ns p).lock (at ns p).next) (locks_from ns most (at ns p).next) ((at ns p).lock ∷ locks_from ns most (at ns p).next) =
+        ap (λ b. cond b [] (cond (goes_on ns (at ns p).lock (at ns p).next) (locks_from ns most (at ns p).next) ((at ns p).lock ∷ locks_from ns most (at ns p).next))) (not_zero p some) in
+        subst (AreLocks low) (sym start) (elim (both_bool (goes_on ns (at ns p).lock (at ns p).next)) [
+          | inl goes ↦ subst (AreLocks low) (sym (ap (λ b. cond b (locks_from ns most (at ns p).next) ((at ns p).lock ∷ locks_from ns most (at ns p).next)) goes)) (record {
+            rising = rest.rising;
+            sound = λ q i. (let e = rest.sound q i in let up = e.1.2 in (e.0, (e.1.0, e.1.1, omega (arith, up, s1), e.1.3)));
+            complete = λ e z m up. elim (first_or low p e l z m up).1 [
+              | inl same ↦ (
+                  let next = going_on ns (at ns p).lock (at ns p).next goes in
+                  let at_next = (behind p some s.0).some next.0 in
+                  subst (λ k. In k (locks_from ns most (at ns p).next)) (next.1 ∙ ap (λ j. (at ns j).lock) (sym same)) (rest.complete (at ns p).next next.0 at_next.0 at_next.1))
+              | inr later ↦ rest.complete e z m later
+            ];
+          })
+          | inr stops ↦ subst (AreLocks low) (sym (ap (λ b. cond b (locks_from ns most (at ns p).next) ((at ns p).lock ∷ locks_from ns most (at ns p).next)) stops)) (record {
+            rising = ((λ q i. (let e = rest.sound q i in let up = lock_ends p some s.0 stops e.0 e.1.0 e.1.1 e.1.2 in let is = e.1.3 in omega (arith, up, is))), rest.rising);
+            sound = λ q i. elim i [
+              | inl is ↦ (p, (some, s.0, s.1, sym is))
+              | inr j ↦ (let e = rest.sound q j in let up = e.1.2 in (e.0, (e.1.0, e.1.1, omega (arith, up, s1), e.1.3)))
+            ];
+            complete = λ e z m up. elim (first_or low p e l z m up).1 [
+              | inl same ↦ inl (ap (λ j. (at ns j).lock) same)
+              | inr later ↦ inr (rest.complete e z m later)
+            ];
+          })
+        ]))
+  ]
+
+  -- the locks from the first node on are those of the log
+  pub all_locks : (most p : ℕ) → Least ns n 0 p → Ends ns most p → locks_from ns most p ≡ log_locks (log_value ns n)
+  all_locks most p l ends =
+      let w : LogValue = log_value ns n in
+      let locks = locks_are most 0 p l ends in
+      rising_same (λ x. x) (locks_from ns most p) (log_locks w) locks.rising (locks_rise w)
+      (λ q i. (let e = locks.sound q i in subst (λ k. In k (log_locks w)) e.1.3 (in_locks w (at ns e.0).number (at ns e.0).lock (get_lock ns n e.0 _ c e.1.0 e.1.1 refl))))
+      (λ q i. (
+      let s = locks_in w q i in
+      let source = get_source (numbers ns) (locks_at ns) n s.0 q s.1 in
+      subst (λ k. In k (locks_from ns most p)) source.value_is (locks.complete source.node source.some source.inside (omega arith))))
+
+  -- ---- the locks with their words
+  groups_are : (whole start most low p : ℕ) → Least ns n low p → Ends ns most p → (0 < p → words_from ns (at ns p).lock whole start ≡ pairs_of (log_value ns n) (at ns p).lock)
+      → groups_from ns whole start most p ≡ map (λ lock. (lock, pairs_of (log_value ns n) lock)) (locks_from ns most p)
+  groups_are whole start zero low p l ends words = refl
+  groups_are whole start (suc most) low p l ends words =
+      let lock : ℕ = (at ns p).lock in
+      let next : ℕ = (at ns p).next in
+      let pairs : ℕ → ℕ × List (ℕ × ℕ) = λ k. (k, pairs_of (log_value ns n) k) in
+      let mine : Bool → Bool → List (ℕ × List (ℕ × ℕ)) = λ none goes. cond none [] (cond goes (groups_from ns whole start most next) ((lock, words_from ns lock whole start) ∷ groups_from ns most next most next)) in
+      let theirs : Bool → Bool → List ℕ = λ none goes. cond none [] (cond goes (locks_from ns most next) (lock ∷ locks_from ns most next)) in
+      elim (same_or p 0) [
+        | inl none ↦ ap (λ b. mine b (goes_on ns lock next)) (eq_zero p none) ∙ sym (ap (λ b. map pairs (theirs b (goes_on ns lock next))) (eq_zero p none))
+        | inr ne ↦ (
+            let some : 0 < p = omega arith in
+            let s = l.some some in
+            ap (λ b. mine b (goes_on ns lock next)) (not_zero p some) ∙ elim (both_bool (goes_on ns lock next)) [
+              | inl goes ↦ (
+                  let same = (going_on ns lock next goes).1 in
+                  ap (mine false) goes
+                  ∙ groups_are whole start most (rank_in (at ns p) + 1) next (behind p some s.0) (ends some).1
+                  (λ _. ap (λ k. words_from ns k whole start) same ∙ words some ∙ ap (pairs_of (log_value ns n)) (sym same))
+                  ∙ sym (ap (λ b. map pairs (theirs false b)) goes))
+              | inr stops ↦ (
+                  let rest = groups_are most next most (rank_in (at ns p) + 1) next (behind p some s.0) (ends some).1
+                  (λ there. pairs_are (at ns next).lock most next (least_of_lock p some s.0 stops there) (ends some).1) in
+                  ap (mine false) stops ∙ (λ i. (lock, words some i) ∷ rest i) ∙ sym (ap (λ b. map pairs (theirs false b)) stops))
+            ] ∙ sym (ap (λ b. map pairs (theirs b (goes_on ns lock next))) (not_zero p some)))
+      ]
+    where
+      least_of_lock : (p : ℕ) → 0 < p → p ≤ n → goes_on ns (at ns p).lock (at ns p).next ≡ false → 0 < (at ns p).next → Least ns n (rank_of (at ns ((at ns p).next)).lock 0) (at ns p).next
+      least_of_lock p some m stops there =
+          let q : ℕ = (at ns p).next in
+          let old = behind p some m in
+          let s = old.some there in
+          let up = lock_ends p some m stops q there s.0 s.1 in
+          let low : rank_in (at ns p) + 1 ≤ rank_of (at ns q).lock 0 = next_lock (at ns p).lock (at ns q).lock (at ns p).number (c.fits p m) up in
+          record {
+            none = λ z. absurd (omega arith);
+            some = λ _. (s.0, first_of_lock (at ns q).lock (at ns q).lock (at ns q).number (omega arith));
+            least = λ z f y k at_f. old.least z f y k (omega arith);
+          }
+
+  -- the locks with their words from the first node on are those of the log
+  pub all_groups : (most p : ℕ) → Least ns n 0 p → Ends ns most p → groups_from ns most p most p ≡ log_groups (log_value ns n)
+  all_groups most p l ends =
+      groups_are most p most 0 p l ends (λ some. pairs_are (at ns p).lock most p (first_lock p l some) ends)
+      ∙ ap (map (λ lock. (lock, pairs_of (log_value ns n) lock))) (all_locks most p l ends)
+    where
+      first_lock : (p : ℕ) → Least ns n 0 p → 0 < p → Least ns n (rank_of (at ns p).lock 0) p
+      first_lock p l some = record {
+        none = λ z. absurd (omega arith);
+        some = λ _. ((l.some some).0, first_of_lock (at ns p).lock (at ns p).lock (at ns p).number (omega arith));
+        least = λ z f y k _. l.least z f y k (omega arith);
+      }
+
+  -- ---- where a lock's words begin
+  pub least_behind : (x b : ℕ) → IsBefore ns n x b → Least ns n x (at ns b).next
+  least_behind x b before =
+      let old = c.next b before.below.inside in
+      let less = before.below.less in
+      record {
+        none = λ none f z m. (let l = old.none none f z m in omega (arith, l, less));
+        some = λ some. ((old.some some).0, before.last some);
+        least = λ some f z m up. old.least some f z m (omega (arith, up, less));
+      }
+
+  -- the first node is the least one
+  pub least_first : Least ns n 0 (at ns 0).next
+  least_first = c.next 0 (omega arith)
+
+  -- the first node from a lock on tells whether a word has the lock
+  pub lock_there : (lock p : ℕ) → Least ns n (rank_of lock 0) p → 0 < p → (at ns p).lock ≡ lock → (a : ℕ) × (get (log_value ns n).locks a ≡ Some lock)
+  lock_there lock p l some is = ((at ns p).number, get_lock ns n p _ c some (l.some some).0 refl ∙ ap Some is)
+
+  pub there_lock : (lock p a : ℕ) → Least ns n (rank_of lock 0) p → get (log_value ns n).locks a ≡ Some lock → (0 < p) × ((at ns p).lock ≡ lock)
+  there_lock lock p a l is =
+      let source = get_source (numbers ns) (locks_at ns) n a lock is in
+      let e : ℕ = source.node in
+      let lock_is = source.value_is in
+      let f = first_or (rank_of lock 0) p e l source.some source.inside (first_of_lock lock (at ns e).lock (at ns e).number (omega (arith, lock_is))) in
+      let s = l.some f.0 in
+      let from = s.1 in
+      let up : lock ≤ (at ns p).lock = lock_first lock (at ns p).lock (at ns p).number (c.fits p s.0) from in (
+        f.0,
+        elim f.1 [
+          | inl same ↦ ap (λ j. (at ns j).lock) (sym same) ∙ lock_is
+          | inr later ↦ (
+              let on : (at ns p).lock ≤ (at ns e).lock = lock_up (at ns p).lock (at ns e).lock (at ns p).number (at ns e).number (c.fits p s.0) (c.fits source.node source.inside) (omega arith) in
+              omega (arith, up, on, lock_is))
+        ],
+      )
+
+-- ---- logs without words
 no_length : {X : Type 0} (xs : List X) → length xs ≡ 0 → xs ≡ []
 no_length [] e = refl
 no_length (x ∷ xs) e = absurd (omega arith)
@@ -305,3 +455,56 @@ next_drop (Some x) xs ys zs n h e = sym (drop_more zs ys n x (sym e ∙ h)).0
 pub next_some : (r : Option ℕ) (xs ys zs : List ℕ) (n : ℕ) → MatchOption r ((xs ≡ []) × (ys ≡ [])) (λ x. xs ≡ x ∷ ys) → xs ≡ drop n zs → n < length zs → r ≡ Some (get_or zs n 0)
 next_some None xs ys zs n h e l = let few = drop_none zs n (sym e ∙ h.0) in absurd (omega arith)
 next_some (Some x) xs ys zs n h e l = ap Some (sym (drop_more zs ys n x (sym e ∙ h)).1)
+
+-- ---- one step along a chain
+pub step_inside : (ns : List Node) (most p : ℕ) → 0 < p → Ends ns most p → (0 < most) × (p < length ns) × Ends ns (most - 1) (at ns p).next
+step_inside ns zero p some ends = absurd (omega (arith, ends))
+step_inside ns (suc most) p some ends =
+    let up : suc most - 1 ≡ most = omega arith in
+    (omega arith, (ends some).0, subst (λ k. Ends ns k (at ns p).next) (sym up) (ends some).1)
+
+-- the same lock goes on
+pub step_on : (ns : List Node) (most p : ℕ) → 0 < p → Ends ns most p → goes_on ns (at ns p).lock (at ns p).next ≡ true
+    → (locks_from ns most p ≡ locks_from ns (most - 1) (at ns p).next)
+    × ((whole first : ℕ) → groups_from ns whole first most p ≡ groups_from ns whole first (most - 1) (at ns p).next)
+step_on ns zero p some ends goes = absurd (omega (arith, ends))
+step_on ns (suc most) p some ends goes =
+    let next : ℕ = (at ns p).next in
+    let up : suc most - 1 ≡ most = omega arith in (
+      ap (λ b. cond b [] (cond (goes_on ns (at ns p).lock next) (locks_from ns most next) ((at ns p).lock ∷ locks_from ns most next))) (not_zero p some)
+          ∙ ap (λ b. cond b (locks_from ns most next) ((at ns p).lock ∷ locks_from ns most next)) goes ∙ ap (λ k. locks_from ns k next) (sym up),
+      λ whole first.
+          ap (λ b. cond b [] (cond (goes_on ns (at ns p).lock next) (groups_from ns whole first most next) (((at ns p).lock, words_from ns (at ns p).lock whole first) ∷ groups_from ns most next most next))) (not_zero p some)
+          ∙ ap (λ b. cond b (groups_from ns whole first most next) (((at ns p).lock, words_from ns (at ns p).lock whole first) ∷ groups_from ns most next most next)) goes ∙ ap (λ k. groups_from ns whole first k next) (sym up),
+    )
+
+-- another lock follows, or none
+pub step_last : (ns : List Node) (most p : ℕ) → 0 < p → Ends ns most p → goes_on ns (at ns p).lock (at ns p).next ≡ false
+    → (locks_from ns most p ≡ (at ns p).lock ∷ locks_from ns (most - 1) (at ns p).next)
+    × ((whole first : ℕ) → groups_from ns whole first most p ≡ ((at ns p).lock, words_from ns (at ns p).lock whole first) ∷ groups_from ns (most - 1) (at ns p).next (most - 1) (at ns p).next)
+step_last ns zero p some ends stops = absurd (omega (arith, ends))
+step_last ns (suc most) p some ends stops =
+    let next : ℕ = (at ns p).next in
+    let up : suc most - 1 ≡ most = omega arith in (
+      ap (λ b. cond b [] (cond (goes_on ns (at ns p).lock next) (locks_from ns most next) ((at ns p).lock ∷ locks_from ns most next))) (not_zero p some)
+          ∙ ap (λ b. cond b (locks_from ns most next) ((at ns p).lock ∷ locks_from ns most next)) stops ∙ ap (λ k. (at ns p).lock ∷ locks_from ns k next) (sym up),
+      λ whole first.
+          ap (λ b. cond b [] (cond (goes_on ns (at ns p).lock next) (groups_from ns whole first most next) (((at ns p).lock, words_from ns (at ns p).lock whole first) ∷ groups_from ns most next most next))) (not_zero p some)
+          ∙ ap (λ b. cond b (groups_from ns whole first most next) (((at ns p).lock, words_from ns (at ns p).lock whole first) ∷ groups_from ns most next most next)) stops
+          ∙ ap (λ k. ((at ns p).lock, words_from ns (at ns p).lock whole first) ∷ groups_from ns k next k next) (sym up),
+    )
+
+-- a node that leads on lies in the block
+pub next_inside : (ns : List Node) (left here next : ℕ) → 0 < here → Ends ns left here → next ≡ (at ns here).next → 0 < next → next < length ns
+next_inside ns left here next some ends is more =
+    let rest : Ends ns (left - 1) next = subst (Ends ns (left - 1)) (sym is) (step_inside ns left here some ends).2 in
+    (step_inside ns (left - 1) next more rest).1
+
+-- the locks behind the last node of a lock
+pub locks_past : (ns : List Node) (most start left here lock next : ℕ) (b : Bool) → 0 < here → Ends ns left here → (at ns here).lock ≡ (at ns start).lock → next ≡ (at ns here).next
+    → lock ≡ (at ns start).lock → b ≡ goes_on ns lock next → b ≡ false → locks_from ns most start ≡ locks_from ns left here
+    → locks_from ns most start ≡ (at ns start).lock ∷ locks_from ns (left - 1) next
+locks_past ns most start left here lock next b some ends same is lock_is goes stops kept =
+    let off : goes_on ns (at ns here).lock (at ns here).next ≡ false =
+    ap (λ k. goes_on ns k (at ns here).next) (same ∙ sym lock_is) ∙ ap (goes_on ns lock) (sym is) ∙ sym goes ∙ stops in
+    kept ∙ (step_last ns left here some ends off).0 ∙ ap (λ k. k ∷ locks_from ns (left - 1) (at ns here).next) same ∙ ap (λ q. (at ns start).lock ∷ locks_from ns (left - 1) q) (sym is)

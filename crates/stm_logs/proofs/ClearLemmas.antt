@@ -1,12 +1,12 @@
 -- The nodes leave the index one after the other.
 use Rattle.std.proofs.Common.{◌≡◌, ◌≢◌, inl, inr, ℕ, ◌+◌, ◌<◌, List, length, set, length-set, refl, sym, ap, ◌∙◌, arith}
-use Rattle.stm_logs.specs.Nodes.{Node, at}
-use Rattle.stm_logs.specs.Held.{IsLog, Cleared}
+use Rattle.stm_logs.specs.Nodes.{Node, Block, at, with_next}
+use Rattle.stm_logs.specs.Held.{IsReady, IsLog, Cleared}
 use Rattle.stm_logs.proofs.NodeLemmas.{same_or, put_here, put_other, field_kept}
 use Rattle.stm_logs.proofs.LogLemmas.{none_log}
 
-pub cleared_place : (old new : List Node) (n e : ℕ) → IsLog old n → Cleared old new n e → e < n → (at new (e + 1)).place < length new
-cleared_place old new n e log c l = omega (arith, c.places (e + 1), c.len, (log.ready.indexed.places (e + 1) (omega arith) (omega arith)).0)
+pub cleared_place : (old new : List Node) (n e : ℕ) → IsReady old n → Cleared old new n e → e < n → (at new (e + 1)).place < length new
+cleared_place old new n e ready c l = omega (arith, c.places (e + 1), c.len, (ready.indexed.places (e + 1) (omega arith) (omega arith)).0)
 
 pub cleared_more : (old new : List Node) (n e q : ℕ) → Cleared old new n e → q ≡ (at new (e + 1)).place → q < length new → Cleared old (set new q (record (at new q) { slot = 0 })) n (e + 1)
 cleared_more old new n e q c is l =
@@ -17,8 +17,8 @@ cleared_more old new n e q c is l =
     record {
       len = len ∙ c.len;
       places = λ i. places i ∙ c.places i;
-      parents = λ i. field_kept (λ x. x.parent) new q y l refl i ∙ c.parents i;
       numbers = λ i. field_kept (λ x. x.number) new q y l refl i ∙ c.numbers i;
+      locks = λ i. field_kept (λ x. x.lock) new q y l refl i ∙ c.locks i;
       left = λ p k t. elim (same_or p q) [
         | inl at_q ↦ absurd (omega (arith, ap (λ j. (at more j).slot) at_q, ap (λ x. x.slot) (put_here new q y l)))
         | inr ne ↦ (
@@ -29,9 +29,10 @@ cleared_more old new n e q c is l =
       ];
     }
 
-pub cleared_log : (old new : List Node) (n : ℕ) → IsLog old n → Cleared old new n n → IsLog (set new 0 (record (at new 0) { first = 0; recent = 0 })) 0
-cleared_log old new n log c =
-    let y : Node = record (at new 0) { first = 0; recent = 0 } in
+pub cleared_log : (old : Block) (new : List Node) → IsLog old → Cleared old.list new old.count old.count
+    → IsLog (record { list = set new 0 (with_next (at new 0) 0); count = 0; recent = 0 })
+cleared_log old new log c =
+    let y : Node = with_next (at new 0) 0 in
     let places = log.places in
     let l : 0 < length new = omega (arith, c.len) in
     let len : length (set new 0 y) ≡ length new = length-set new 0 y in
@@ -43,4 +44,4 @@ cleared_log old new n log c =
       | inl is ↦ s ∙ is
       | inr ne ↦ (let h = c.left q (omega (arith, len)) (omega arith) in absurd (omega (arith, h.0, h.1)))
     ])
-    (ap (λ x. x.parent) root ∙ c.parents 0 ∙ log.ready.tree.root) (ap (λ x. x.number) root ∙ c.numbers 0 ∙ log.ready.tree.top) (ap (λ x. x.first) root) (ap (λ x. x.recent) root)
+    (ap (λ x. x.number) root ∙ c.numbers 0 ∙ log.ready.chained.top.0) (ap (λ x. x.lock) root ∙ c.locks 0 ∙ log.ready.chained.top.1) (ap (λ x. x.next) root)

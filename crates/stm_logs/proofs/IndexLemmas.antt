@@ -1,10 +1,11 @@
 -- The search in the index, and a node that enters it.
-use Rattle.std.proofs.Common.{◌≡◌, ◌≢◌, inl, inr, ℕ, ◌+◌, ◌-◌, ◌<◌, ◌≤◌, Bool, cond, nat_eq, nat_lt, List, length, set, refl, sym, ap, ◌∙◌, arith, length-set, subst}
+use Rattle.std.proofs.Common.{◌≡◌, ◌≢◌, inl, inr, ℕ, suc, ◌+◌, ◌-◌, ◌<◌, ◌≤◌, cond, nat_lt, List, [], ◌∷◌, length, set, refl, sym, ap, ◌∙◌, arith, length-set, subst}
 use Rattle.std.proofs.lemmas.Bool.{cases_lt}
 use Rattle.std.proofs.lemmas.Bool.Decides.{nat_tests}
 use Rattle.stm_logs.specs.Nodes.{Node, at}
-use Rattle.stm_logs.specs.Index.{home, is_lock_node, Along, IsTaken, IsOther, taken, IsIndexed, Answers, SameNode, Entered}
-use Rattle.stm_logs.proofs.NodeLemmas.{same_or, put_here, put_other, field_kept, taken_put, free_place, bit}
+use Rattle.stm_logs.specs.Index.{home, Along, IsTaken, IsOther, HasNone, IsFound, taken, IsIndexed, Answers, SameNode, Entered}
+use Rattle.stm_logs.specs.Order.{SameKeys}
+use Rattle.stm_logs.proofs.NodeLemmas.{same_or, put_here, put_other, field_kept, taken_put, free_place, none_taken, bit}
 
 pub along_map : (P Q : ℕ → Type 0) (len start end : ℕ) → ((q : ℕ) → P q → Q q) → Along P len start end → Along Q len start end
 along_map P Q len start end f a = record {
@@ -50,11 +51,8 @@ pub record Written (ns ns' : List Node) (n q : ℕ) (y : Node) : Type 0 where
   pub here : SameNode y (at ns' (n + 1))
   pub count : taken ns' ≡ taken ns + 1
 
-same_lock : (a b : Node) → SameNode a b → is_lock_node b ≡ is_lock_node a
-same_lock a b s = ap (λ p. nat_eq p 0) s.parent
-
-same_home : (a b : Node) (len len' : ℕ) → SameNode a b → len' ≡ len → home (is_lock_node b) b.number len' ≡ home (is_lock_node a) a.number len
-same_home a b len len' s e = ap (λ c. home c b.number len') (same_lock a b s) ∙ ap (λ k. home (is_lock_node a) k len') s.number ∙ ap (λ j. home (is_lock_node a) a.number j) e
+same_home : (a b : Node) (len len' : ℕ) → SameNode a b → len' ≡ len → home b.number len' ≡ home a.number len
+same_home a b len len' s e = ap (λ k. home k len') s.number ∙ ap (λ j. home a.number j) e
 
 still_taken : (ns ns' : List Node) (n q : ℕ) (y : Node) → Written ns ns' n q y → (j : ℕ) → IsTaken ns j → IsTaken ns' j
 still_taken ns ns' n q y w j t = elim (same_or j q) [
@@ -65,7 +63,7 @@ still_taken ns ns' n q y w j t = elim (same_or j q) [
 pub along_at : (P : ℕ → Type 0) (len len' start start' end end' : ℕ) → len' ≡ len → start' ≡ start → end' ≡ end → Along P len start end → Along P len' start' end'
 along_at P len len' start start' end end' a b c h = subst (λ x. Along P x start' end') (sym a) (subst (λ x. Along P len x end') (sym b) (subst (λ x. Along P len start x) (sym c) h))
 
-pub entered : (ns ns' : List Node) (n q : ℕ) (y : Node) → IsIndexed ns n → n + 1 < length ns → Answers ns n (is_lock_node y) y.number q → (at ns q).slot ≡ 0 → Written ns ns' n q y → Entered ns ns' n y
+pub entered : (ns ns' : List Node) (n q : ℕ) (y : Node) → IsIndexed ns n → n + 1 < length ns → Answers ns n y.number q → (at ns q).slot ≡ 0 → Written ns ns' n q y → Entered ns ns' n y
 entered ns ns' n q y ix room an free w = record {
   indexed = record {
     room = omega (arith, w.len);
@@ -103,7 +101,6 @@ entered ns ns' n q y ix room an free w = record {
   len = w.len;
   others = w.others;
   here = w.here;
-  taken = still_taken ns ns' n q y w;
 }
 
 -- a node with the slot of the place where it is put
@@ -114,7 +111,7 @@ abbrev pub leads : Node → ℕ → Node
 leads y slot = record y { slot = slot }
 
 unplaced : (y b : Node) (q s f : ℕ) → SameNode (placed y q s f) b → SameNode y b
-unplaced y b q s f h = record { value = h.value; number = h.number; parent = h.parent; first = h.first; recent = h.recent; next = h.next }
+unplaced y b q s f h = record { value = h.value; number = h.number; lock = h.lock; next = h.next }
 
 pub written : (ns : List Node) (n q f : ℕ) (y : Node) → n + 1 < length ns → q < length ns → (at ns q).slot ≡ 0
     → Written ns (set (set ns (n + 1) (placed y q (at ns (n + 1)).slot f)) q (leads (at (set ns (n + 1) (placed y q (at ns (n + 1)).slot f)) q) (n + 1))) n q y
@@ -130,9 +127,7 @@ written ns n q f y room l free =
     let at_end : (j : ℕ) → SameNode (at mid j) (at end j) = λ j. record {
       value = field_kept (λ x. x.value) mid q z lm refl j;
       number = field_kept (λ x. x.number) mid q z lm refl j;
-      parent = field_kept (λ x. x.parent) mid q z lm refl j;
-      first = field_kept (λ x. x.first) mid q z lm refl j;
-      recent = field_kept (λ x. x.recent) mid q z lm refl j;
+      lock = field_kept (λ x. x.lock) mid q z lm refl j;
       next = field_kept (λ x. x.next) mid q z lm refl j;
     } in
     let places : (j : ℕ) → (at end j).place ≡ (at mid j).place = field_kept (λ x. x.place) mid q z lm refl in
@@ -183,13 +178,67 @@ stepped_round P len start place next s l is gap a here =
       nearer = grind (arith, nat_tests, is, full);
     }
 
-pub stepped : (ns : List Node) (n : ℕ) (b : Bool) (k start place next : ℕ) → IsIndexed ns n → start < length ns → place < length ns
+pub stepped : (ns : List Node) (n k start place next : ℕ) → IsIndexed ns n → start < length ns → place < length ns
     → (place + 1 < length ns → next ≡ place + 1) → (place + 1 ≡ length ns → next ≡ 0)
-    → Along (IsOther ns b k) (length ns) start place → IsOther ns b k place → Stepped (IsOther ns b k) (length ns) start place next
-stepped ns n b k start place next ix s l on round a here =
+    → Along (IsOther ns k) (length ns) start place → IsOther ns k place → Stepped (IsOther ns k) (length ns) start place next
+stepped ns n k start place next ix s l on round a here =
     let g = free_place ns (omega (arith, ix.count, ix.room)) in
-    let gap : (f : ℕ) × ((f < length ns) × ¬ (IsOther ns b k f)) = (g.0, (g.1.0, λ o. absurd (omega (arith, o.0, g.1.1)))) in
+    let gap : (f : ℕ) × ((f < length ns) × ¬ (IsOther ns k f)) = (g.0, (g.1.0, λ o. absurd (omega (arith, o.0, g.1.1)))) in
     elim (cases_lt (place + 1) (length ns)) [
       | inl below ↦ stepped_on _ _ _ _ _ s below (on below) gap a here
       | inr last ↦ stepped_round _ _ _ _ _ s (omega arith) (round (omega arith)) gap a here
     ]
+
+-- ---- what is kept where no key, place or slot changes
+taken_same : (ns ns' : List Node) → length ns' ≡ length ns → ((q : ℕ) → (at ns' q).slot ≡ (at ns q).slot) → taken ns' ≡ taken ns
+taken_same [] [] l h = refl
+taken_same [] (m ∷ ns') l h = absurd (omega arith)
+taken_same (n ∷ ns) [] l h = absurd (omega arith)
+taken_same (n ∷ ns) (m ∷ ns') l h =
+    let rest = taken_same ns ns' (omega arith) (λ q. h (suc q)) in
+    let here : bit m.slot ≡ bit n.slot = ap bit (h 0) in
+    omega (arith, rest, here)
+
+pub indexed_kept : (ns ns' : List Node) (n : ℕ) → length ns' ≡ length ns → ((e : ℕ) → SameKeys (at ns e) (at ns' e)) → IsIndexed ns n → IsIndexed ns' n
+indexed_kept ns ns' n len same ix = record {
+  room = omega (arith, len, ix.room);
+  limit = omega (arith, len, ix.limit);
+  count = taken_same ns ns' len (λ q. (same q).slot) ∙ ix.count;
+  places = λ e z m.
+      let p = (same e).place in let h = ix.places e z m in
+      (omega (arith, p, len, h.0), ap (λ j. (at ns' j).slot) p ∙ (same _).slot ∙ h.1);
+  slots = λ q l t.
+      let s = (same q).slot in let h = ix.slots q (omega (arith, len)) (omega (arith, s)) in
+      (omega (arith, s, h.0), ap (λ j. (at ns' j).place) s ∙ (same _).place ∙ h.1);
+  reached = λ e z m.
+      along_at (IsTaken ns') _ _ _ _ _ _ len
+      (ap (λ k. home k (length ns')) (same e).number ∙ ap (home (at ns e).number) len)
+      (same e).place
+      (along_map (IsTaken ns) (IsTaken ns') _ _ _ (λ q t. omega (arith, (same q).slot)) (ix.reached e z m));
+}
+
+-- a block without nodes
+pub indexed_none : (ns : List Node) → 0 < length ns → length ns ≤ 2147483648 → ((q : ℕ) → q < length ns → (at ns q).slot ≡ 0) → IsIndexed ns 0
+indexed_none ns some limit free = record {
+  room = some;
+  limit = limit;
+  count = none_taken ns free;
+  places = λ e z m. absurd (omega arith);
+  slots = λ q l t. absurd (omega (arith, free q l));
+  reached = λ e z m. absurd (omega arith);
+}
+
+-- where no node has the number, the index answers with a free place
+pub free_answer : (ns : List Node) (n k q : ℕ) → Answers ns n k q → HasNone ns n k → (at ns q).slot ≡ 0
+free_answer ns n k q an none = elim (same_or (at ns q).slot 0) [
+  | inl is ↦ is
+  | inr ne ↦ (
+      let some : 0 < (at ns q).slot = omega arith in
+      let f = an.found some in
+      absurd (none _ some f.0 f.1))
+]
+
+-- a taken one leads to the word
+pub found_at : (ns : List Node) (n x a q : ℕ) → Answers ns n a q → x ≡ (at ns q).slot → 0 < x → IsFound ns n a x
+found_at ns n x a q an node some =
+    subst (IsFound ns n a) (sym node) (an.found (omega (arith, some, node)))

@@ -5,15 +5,14 @@ pub mod ChunkLemmas
 pub mod NodeLemmas
 pub mod BesideLemmas
 pub mod IndexLemmas
-pub mod TreeLemmas
-pub mod AddLemmas
+pub mod OrderLemmas
 pub mod FingerLemmas
 pub mod TableLemmas
 pub mod LogLemmas
 pub mod RisingLemmas
+pub mod LockLemmas
 pub mod ChainLemmas
 pub mod ClearLemmas
 pub mod StripeLemmas
-pub mod LockLemmas
 pub mod MarkLemmas
 pub mod Crosses

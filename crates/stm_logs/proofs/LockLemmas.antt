@@ -67,7 +67,7 @@ len_keys m = length-map (entries m) (λ (p : ℕ × ℕ). p.0) ∙ sym (len-entr
 -- two maps with the same keys have as many
 pub same_len : (m n : Words) → ((a : ℕ) → (get m a ≡ None → get n a ≡ None) × (get n a ≡ None → get m a ≡ None)) → len m ≡ len n
 same_len m n h =
-    sym (len_keys m) ∙ ap length (rising_same (keys m) (keys n) (rising_keys m) (rising_keys n) (key_there m n (λ a. (h a).1)) (key_there n m (λ a. (h a).0))) ∙ len_keys n
+    sym (len_keys m) ∙ ap length (rising_same (λ x. x) (keys m) (keys n) (rising_keys m) (rising_keys n) (key_there m n (λ a. (h a).1)) (key_there n m (λ a. (h a).0))) ∙ len_keys n
 
 -- there are no more locks than addresses
 pub locks_few : (w : LogValue) → SameAddresses w → length (log_locks w) ≤ len w.words

@@ -1,9 +1,9 @@
 -- The marks of a write log.
-use Rattle.std.proofs.Common.{◌≡◌, inl, inr, ℕ, ◌%◌, ◌<◌, Bool, true, false, List, length, get_or, set, sym, ap, ◌∙◌, get_or-set_same, get_or-set_other}
+use Rattle.std.proofs.Common.{◌≡◌, inl, inr, ℕ, ◌%◌, ◌<◌, Result, Ok, Err, MatchResult, subst, Bool, true, false, List, length, get_or, set, sym, ap, ◌∙◌, get_or-set_same, get_or-set_other}
 use Rattle.std.specs.FinMap.{get}
 use Rattle.stm_logs.specs.declared.write.TheConstants.{MARKS}
 use Rattle.stm_logs.specs.Log.{LogValue}
-use Rattle.stm_logs.specs.Held.{IsMarked, IsReplaced, with_word}
+use Rattle.stm_logs.specs.Held.{IsMarked, with_word}
 use Rattle.stm_logs.proofs.NodeLemmas.{same_or}
 use Rattle.stm_logs.proofs.TableLemmas.{get_other, true_false}
 
@@ -25,9 +25,8 @@ enters_marked marks i a lock v old new at_i l was is b away = ap (λ (w : LogVal
   | inr ne ↦ get_other old.words a v b ne ∙ was b (was_away marks i (b % MARKS) l away)
 ]
 
--- an address that is there has its mark
-pub replaced_marked : (marks : List Bool) (a v : ℕ) (old new : LogValue) → IsReplaced old new a v → IsMarked marks old.words → IsMarked marks new.words
-replaced_marked marks a v old new there was b away = ap (λ (w : LogValue). get w.words b) there.put ∙ elim (same_or b a) [
-  | inl here ↦ absurd (there.has_word (ap (get old.words) (sym here) ∙ was b away))
-  | inr ne ↦ get_other old.words a v b ne ∙ was b away
-]
+-- a put, or one that was refused, leaves the marks right
+pub put_marked : {U E : Type 0} (r : Result U E) (marks : List Bool) (i a lock v : ℕ) (old new : LogValue) → i ≡ a % MARKS → i < length marks → IsMarked marks old.words
+    → MatchResult r (λ _. new ≡ with_word old a lock v) (λ _. new ≡ old) → IsMarked (set marks i true) new.words
+put_marked (Ok u) marks i a lock v old new at_i l was is = enters_marked marks i a lock v old new at_i l was is
+put_marked (Err e) marks i a lock v old new at_i l was is = subst (λ (w : LogValue). IsMarked (set marks i true) w.words) (sym is) (more_marked marks i old l was)

@@ -139,12 +139,12 @@ length_filter_le test (x ∷ xs) =
       | inr f ↦ omega (arith, rest, ap length (filter_no test x xs f))
     ]
 
--- two rising lists of numbers with the same members are the same
-pub rising_same : (xs ys : List ℕ) → Rising (λ x. x) xs → Rising (λ x. x) ys → ((q : ℕ) → In q xs → In q ys) → ((q : ℕ) → In q ys → In q xs) → xs ≡ ys
-rising_same [] [] r s f g = refl
-rising_same [] (y ∷ ys) r s f g = absurd (g y (inl refl))
-rising_same (x ∷ xs) [] r s f g = absurd (f x (inl refl))
-rising_same (x ∷ xs) (y ∷ ys) r s f g =
+-- two rising lists with the same members are the same
+pub rising_same : {X : Type 0} (key : X → ℕ) (xs ys : List X) → Rising key xs → Rising key ys → ((q : X) → In q xs → In q ys) → ((q : X) → In q ys → In q xs) → xs ≡ ys
+rising_same key [] [] r s f g = refl
+rising_same key [] (y ∷ ys) r s f g = absurd (g y (inl refl))
+rising_same key (x ∷ xs) [] r s f g = absurd (f x (inl refl))
+rising_same key (x ∷ xs) (y ∷ ys) r s f g =
     let first : x ≡ y = elim (f x (inl refl)) [
       | inl is ↦ is
       | inr i ↦ elim (g y (inl refl)) [
@@ -152,7 +152,7 @@ rising_same (x ∷ xs) (y ∷ ys) r s f g =
         | inr j ↦ (let a = s.0 x i in let b = r.0 y j in absurd (omega (arith, a, b)))
       ]
     ] in
-    let rest : xs ≡ ys = rising_same xs ys r.1 s.1
-    (λ q i. elim (f q (inr i)) [ inl is ↦ (let a = r.0 q i in absurd (omega (arith, a, is, first))) | inr j ↦ j ])
-    (λ q i. elim (g q (inr i)) [ inl is ↦ (let a = s.0 q i in absurd (omega (arith, a, is, first))) | inr j ↦ j ]) in
+    let rest : xs ≡ ys = rising_same key xs ys r.1 s.1
+    (λ q i. elim (f q (inr i)) [ inl is ↦ (let a = r.0 q i in let same : key q ≡ key x = ap key is ∙ sym (ap key first) in absurd (omega (arith, a, same))) | inr j ↦ j ])
+    (λ q i. elim (g q (inr i)) [ inl is ↦ (let a = s.0 q i in let same : key q ≡ key y = ap key is ∙ ap key first in absurd (omega (arith, a, same))) | inr j ↦ j ]) in
     λ i. first i ∷ rest i

@@ -1,24 +1,28 @@
--- A write log: its tree, and how the tree changes.
-use Rattle.std.specs.Prelude.{◌≡◌, ◌≢◌, ℕ, ◌+◌, ◌%◌, ◌<◌, ◌≤◌, Bool, false, Option, Some, None, List, length, slice_index_or}
+-- A write log: its nodes, and how they change.
+use Rattle.std.specs.Prelude.{◌≡◌, ℕ, ◌+◌, ◌%◌, ◌<◌, ◌≤◌, Bool, false, Option, Some, None, List, length, slice_index_or}
 use Rattle.std.specs.FinMap.{get, insert}
 use Rattle.stm_words.specs.View.{Words}
 use Rattle.stm_logs.specs.declared.write.TheConstants.{MARKS}
 use Rattle.stm_logs.specs.Nodes.{Node, Block, at}
 use Rattle.stm_logs.specs.Log.{LogValue, empty_log}
 use Rattle.stm_logs.specs.Index.{IsIndexed, SameNode, IsTaken}
-use Rattle.stm_logs.specs.Tree.{IsReady, SameSight, block_log}
+use Rattle.stm_logs.specs.Order.{IsChained, block_log}
 
--- nodes 1 to n are a log: each lock has a word
-pub record IsLog (ns : List Node) (n : ℕ) : Type 0 where
-  pub ready : IsReady ns n
-  pub places : 4 ≤ length ns
-  pub used : (l : ℕ) → 0 < l → l ≤ n → (at ns l).parent ≡ 0
-      → (f : ℕ) × ((0 < f) × (f ≤ n) × ((at ns f).parent ≡ l))
+-- nodes 1 to n are indexed and chained
+pub record IsReady (ns : List Node) (n : ℕ) : Type 0 where
+  pub indexed : IsIndexed ns n
+  pub chained : IsChained ns n
 
--- what a log says that has a tree, or none yet
+-- the nodes of a block are a log
+pub record IsLog (b : Block) : Type 0 where
+  pub ready : IsReady b.list b.count
+  pub places : 4 ≤ length b.list
+  pub recent : b.recent ≤ b.count
+
+-- what a log says that has a table, or none yet
 abbrev pub held_value : Option LogValue → LogValue
 held_value None = empty_log
-held_value (Some tree) = tree
+held_value (Some table) = table
 
 -- an address without the mark of its remainder has no value
 abbrev pub IsMarked : List Bool → Words → Type 0
@@ -32,41 +36,16 @@ with_word w address lock value = record {
   locks = insert w.locks address lock;
 }
 
--- the word was there, and new has the value for it
-pub record IsReplaced (old new : LogValue) (address value : ℕ) : Type 0 where
-  pub has_word : get old.words address ≢ None
-  pub has_lock : get old.locks address ≢ None
-  pub put : new ≡ record old { words = insert old.words address value }
-
--- the word was not there, and new has it
-pub record IsEntered (old new : LogValue) (address lock value : ℕ) : Type 0 where
-  pub absent : get old.words address ≡ None
-  pub put : new ≡ with_word old address lock value
-
 -- new is a log that says one word more
 pub record HasMore (address lock value : ℕ) (old new : Block) : Type 0 where
-  pub log : IsLog new.list new.count
+  pub log : IsLog new
   pub same : block_log new ≡ with_word (block_log old) address lock value
 
--- new has room for two nodes more, and says what old says
+-- new has room for a node more, and says what old says
 pub record IsRoomy (old new : Block) : Type 0 where
-  pub log : IsLog new.list new.count
-  pub room : new.count + 2 < length new.list
+  pub log : IsLog new
+  pub room : new.count + 1 < length new.list
   pub same : block_log new ≡ block_log old
-
--- l is the node of the lock, which was there or has entered behind the others
-pub record HasLock (old : List Node) (n : ℕ) (new : List Node) (m lock l : ℕ) : Type 0 where
-  pub ready : IsReady new m
-  pub len : length new ≡ length old
-  pub sights : (e : ℕ) → e ≤ n → SameSight (at old e) (at new e)
-  pub more : n ≤ m
-  pub once : m ≤ n + 1
-  pub entered : n < m → l ≡ m
-  pub some : 0 < l
-  pub inside : l ≤ m
-  pub above : (at new l).parent ≡ 0
-  pub lock_is : (at new l).number ≡ lock
-  pub taken : (q : ℕ) → IsTaken old q → IsTaken new q
 
 -- the first e nodes of old stand in new, and are indexed there
 pub record Copied (old new : List Node) (e : ℕ) : Type 0 where
@@ -77,7 +56,7 @@ pub record Copied (old new : List Node) (e : ℕ) : Type 0 where
 pub record Cleared (old new : List Node) (n e : ℕ) : Type 0 where
   pub len : length new ≡ length old
   pub places : (i : ℕ) → (at new i).place ≡ (at old i).place
-  pub parents : (i : ℕ) → (at new i).parent ≡ (at old i).parent
   pub numbers : (i : ℕ) → (at new i).number ≡ (at old i).number
+  pub locks : (i : ℕ) → (at new i).lock ≡ (at old i).lock
   pub left : (q : ℕ) → q < length new → IsTaken new q
       → (e < (at new q).slot) × ((at new q).slot ≤ n) × ((at new ((at new q).slot)).place ≡ q)

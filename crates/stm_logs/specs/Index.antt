@@ -1,24 +1,15 @@
--- The index of a write log: an open-addressed table of the nodes by kind and number.
-use Rattle.std.specs.Prelude.{◌≡◌, ◌≢◌, ℕ, ◌+◌, ◌*◌, ◌/◌, ◌%◌, ◌<◌, ◌≤◌, Bool, cond, List, [], ◌∷◌, length, nat_eq}
+-- The index of a write log: an open-addressed table of the nodes by number.
+use Rattle.std.specs.Prelude.{◌≡◌, ◌≢◌, ℕ, ◌+◌, ◌*◌, ◌/◌, ◌%◌, ◌<◌, ◌≤◌, cond, List, [], ◌∷◌, length, nat_eq}
 use Rattle.stm_logs.specs.declared.nodes.TheConstants.{MAX_PLACES}
 use Rattle.stm_logs.specs.Nodes.{Node, at}
 
--- a node is a lock where it has no parent, and else a word
-abbrev pub is_lock_node : Node → Bool
-is_lock_node node = nat_eq node.parent 0
+-- where the search for a number begins, in an index of len places
+abbrev pub home : ℕ → ℕ → ℕ
+home number len = (number * 2654435769 % 4294967296) * len / 4294967296
 
--- where the search for a node begins, in an index of len places
-abbrev pub home : Bool → ℕ → ℕ → ℕ
-home is_lock number len =
-    (number * cond is_lock 2246822519 2654435769 % 4294967296) * len / 4294967296
-
--- the node is a lock or a word, as asked, and has the number
-abbrev pub HasKey : Node → Bool → ℕ → Type 0
-HasKey node is_lock number = (node.number ≡ number) × (is_lock_node node ≡ is_lock)
-
--- node e is one of the first n, and has the key
-abbrev pub IsFound : List Node → ℕ → Bool → ℕ → ℕ → Type 0
-IsFound ns n is_lock number e = (e ≤ n) × HasKey (at ns e) is_lock number
+-- node e is one of the first n, and has the number
+abbrev pub IsFound : List Node → ℕ → ℕ → ℕ → Type 0
+IsFound ns n number e = (e ≤ n) × ((at ns e).number ≡ number)
 
 -- P holds at each place from start on and before end, where the places go round
 pub record Along (P : ℕ → Type 0) (len start end : ℕ) : Type 0 where
@@ -30,13 +21,9 @@ pub record Along (P : ℕ → Type 0) (len start end : ℕ) : Type 0 where
 abbrev pub IsTaken : List Node → ℕ → Type 0
 IsTaken ns q = 0 < (at ns q).slot
 
--- the place leads to a node with another key
-abbrev pub IsOther : List Node → Bool → ℕ → ℕ → Type 0
-IsOther ns is_lock number q = IsTaken ns q × ¬ (HasKey (at ns ((at ns q).slot)) is_lock number)
-
--- a place that leads nowhere
-abbrev pub unslotted : Node → Node
-unslotted node = record node { slot = 0 }
+-- the place leads to a node with another number
+abbrev pub IsOther : List Node → ℕ → ℕ → Type 0
+IsOther ns number q = IsTaken ns q × ((at ns ((at ns q).slot)).number ≢ number)
 
 -- how many places lead somewhere
 abbrev pub taken : List Node → ℕ
@@ -51,10 +38,9 @@ LeadsTo ns n q = ((at ns q).slot ≤ n) × ((at ns ((at ns q).slot)).place ≡ q
 abbrev pub HasPlace : List Node → ℕ → Type 0
 HasPlace ns e = ((at ns e).place < length ns) × ((at ns ((at ns e).place)).slot ≡ e)
 
--- a search for the key finds no free place before q
-abbrev pub Reaches : List Node → Bool → ℕ → ℕ → Type 0
-Reaches ns is_lock number q =
-    Along (IsTaken ns) (length ns) (home is_lock number (length ns)) q
+-- a search for the number finds no free place before q
+abbrev pub Reaches : List Node → ℕ → ℕ → Type 0
+Reaches ns number q = Along (IsTaken ns) (length ns) (home number (length ns)) q
 
 -- nodes 1 to n are indexed, and nothing else
 pub record IsIndexed (ns : List Node) (n : ℕ) : Type 0 where
@@ -63,28 +49,24 @@ pub record IsIndexed (ns : List Node) (n : ℕ) : Type 0 where
   pub count : taken ns ≡ n
   pub places : (e : ℕ) → 0 < e → e ≤ n → HasPlace ns e
   pub slots : (q : ℕ) → q < length ns → IsTaken ns q → LeadsTo ns n q
-  pub reached : (e : ℕ) → 0 < e → e ≤ n
-      → Reaches ns (is_lock_node (at ns e)) (at ns e).number (at ns e).place
+  pub reached : (e : ℕ) → 0 < e → e ≤ n → Reaches ns (at ns e).number (at ns e).place
 
--- no node has the key
-abbrev pub HasNone : List Node → ℕ → Bool → ℕ → Type 0
-HasNone ns n is_lock number =
-    (e : ℕ) → 0 < e → e ≤ n → ¬ (HasKey (at ns e) is_lock number)
+-- no node has the number
+abbrev pub HasNone : List Node → ℕ → ℕ → Type 0
+HasNone ns n number = (e : ℕ) → 0 < e → e ≤ n → (at ns e).number ≢ number
 
--- a place of the index answers for a key: it leads to the node with the key, or it is the free one
--- where that node would enter
-pub record Answers (ns : List Node) (n : ℕ) (is_lock : Bool) (number q : ℕ) : Type 0 where
+-- a place of the index answers for a number: it leads to the node with the number, or it is the
+-- free one where that node would enter
+pub record Answers (ns : List Node) (n : ℕ) (number q : ℕ) : Type 0 where
   pub inside : q < length ns
-  pub found : IsTaken ns q → IsFound ns n is_lock number (at ns q).slot
-  pub free : (at ns q).slot ≡ 0 → HasNone ns n is_lock number × Reaches ns is_lock number q
+  pub found : IsTaken ns q → IsFound ns n number (at ns q).slot
+  pub free : (at ns q).slot ≡ 0 → HasNone ns n number × Reaches ns number q
 
--- what the index and the tree see of two nodes is the same
+-- all but the places of two nodes is the same
 pub record SameNode (old new : Node) : Type 0 where
   pub value : new.value ≡ old.value
   pub number : new.number ≡ old.number
-  pub parent : new.parent ≡ old.parent
-  pub first : new.first ≡ old.first
-  pub recent : new.recent ≡ old.recent
+  pub lock : new.lock ≡ old.lock
   pub next : new.next ≡ old.next
 
 -- new has one node more than old, behind the others, and it has the given fields
@@ -93,4 +75,3 @@ pub record Entered (old new : List Node) (n : ℕ) (node : Node) : Type 0 where
   pub len : length new ≡ length old
   pub others : (e : ℕ) → e ≢ n + 1 → SameNode (at old e) (at new e)
   pub here : SameNode node (at new (n + 1))
-  pub taken : (q : ℕ) → IsTaken old q → IsTaken new q

@@ -4,6 +4,6 @@ pub mod Chunks
 pub mod Frees
 pub mod Nodes
 pub mod Index
-pub mod Tree
+pub mod Order
 pub mod Held
 pub mod Chain

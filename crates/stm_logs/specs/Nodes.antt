@@ -1,4 +1,4 @@
--- The nodes of a write log, as a list: the root stands first, then come locks and words in the
+-- The nodes of a write log, as a list: the root stands first, then come the written words in the
 -- order in which they entered. Beside each stands a place of the index.
 use Rattle.std.specs.Prelude.{◌≡◌, ℕ, List, [], ◌∷◌, length, slice_index_or, slice_set}
 use Rattle.stm_logs.specs.declared.nodes.Entry.{Entry}
@@ -9,9 +9,7 @@ use Rattle.stm_logs.specs.declared.nodes.TheConstants.{TOP}
 pub record Node : Type 0 where
   pub value : ℕ
   pub number : ℕ
-  pub parent : ℕ
-  pub first : ℕ
-  pub recent : ℕ
+  pub lock : ℕ
   pub next : ℕ
   pub place : ℕ
   pub slot : ℕ
@@ -22,9 +20,7 @@ abbrev pub blank : Node
 blank = record {
   value = 0;
   number = TOP;
-  parent = 0;
-  first = 0;
-  recent = 0;
+  lock = TOP;
   next = 0;
   place = 0;
   slot = 0;
@@ -36,9 +32,7 @@ abbrev pub entry_of : Node → Entry
 entry_of n = record {
   value = n.value;
   number = n.number;
-  parent = n.parent;
-  first = n.first;
-  recent = n.recent;
+  lock = n.lock;
   next = n.next;
   place = n.place;
 }
@@ -48,9 +42,7 @@ abbrev pub with_entry : Node → Entry → Node
 with_entry n e = record {
   value = e.value;
   number = e.number;
-  parent = e.parent;
-  first = e.first;
-  recent = e.recent;
+  lock = e.lock;
   next = e.next;
   place = e.place;
   slot = n.slot;
@@ -64,6 +56,12 @@ bare e = with_entry blank e
 abbrev pub with_slot : Node → ℕ → Node
 with_slot n slot = record n { slot = slot }
 
+abbrev pub with_next : Node → ℕ → Node
+with_next node next = record node { next = next }
+
+abbrev pub with_finger : Node → ℕ → Node
+with_finger node finger = record node { finger = finger }
+
 -- nodes and places of the index, side by side
 abbrev pub beside : List Entry → List Slot → List Node
 beside [] slots = []
@@ -75,10 +73,12 @@ beside (e ∷ es) (s ∷ slots) =
 abbrev pub at : List Node → ℕ → Node
 at nodes e = slice_index_or nodes e blank
 
--- a block of nodes: what its places hold, and how many nodes there are beside the root
+-- a block of nodes: what its places hold, how many nodes there are beside the root, and which of
+-- them was chained last
 pub record Block : Type 0 where
   pub list : List Node
   pub count : ℕ
+  pub recent : ℕ
 
 -- the block with this node at place e
 abbrev pub with_node : Block → ℕ → Node → Block
@@ -86,4 +86,5 @@ with_node b e node = record b { list = slice_set b.list e node }
 
 -- a block of blank places
 abbrev pub IsBlank : Block → ℕ → Type 0
-IsBlank b len = (length b.list ≡ len) × (b.count ≡ 0) × ((k : ℕ) → at b.list k ≡ blank)
+IsBlank b len =
+    (length b.list ≡ len) × (b.count ≡ 0) × (b.recent ≡ 0) × ((k : ℕ) → at b.list k ≡ blank)

@@ -1,6 +1,8 @@
-//! The iterators of a write log. Each goes along a chain of its tree.
-ghost use Rattle.std.specs.Prelude.{◌≡◌, ℕ};
+//! The iterators of a write log. Each goes along its nodes in their order.
+ghost use Rattle.std.specs.Prelude.{◌≡◌, ℕ, ◌<◌, ◌∷◌, length};
 ghost use Rattle.std.specs.Iterator.{YieldsFirst, YieldsFirstBy, item_count};
+ghost use Rattle.stm_logs.specs.Nodes.{at};
+ghost use Rattle.stm_logs.specs.Chain.{Ends, goes_on, words_from, locks_from, groups_from};
 
 use crate::nodes::Nodes;
 use std::alloc::{Allocator, Global};
@@ -11,8 +13,9 @@ use stm_words::Addr;
 #[derive(Drop)]
 pub struct Words<'a, A: Allocator = Global> {
     pub(crate) nodes: Option<&'a Nodes<A>>,
+    pub(crate) lock: u32,
     pub(crate) at: usize,
-    /// No more words are left than this.
+    /// No more nodes are left than this.
     pub(crate) most: usize,
 }
 
@@ -21,9 +24,9 @@ impl<'a, A: Allocator> Model for Words<'a, A> {
 
     ghost Value = { List (ℕ × ℕ) };
 
-    ghost use Rattle.stm_logs.specs.Chain.{chain_in, EndsIn, pair_of};
+    ghost use Rattle.stm_logs.specs.Chain.{words_in, EndsIn};
 
-    ghost view = { λ w. chain_in pair_of w.nodes w.most w.at };
+    ghost view = { λ w. words_in w.nodes w.lock w.most w.at };
 
     ghost invariant = { λ w. EndsIn w.nodes w.most w.at };
 }
@@ -42,6 +45,9 @@ impl<'a, A: Allocator> Iterator for Words<'a, A> {
             return None;
         }
         let node = nodes.get(self.at);
+        if node.lock != self.lock {
+            return None;
+        }
         self.at = node.next as usize;
         self.most -= 1;
         Some((Addr(node.number), node.value))
@@ -53,7 +59,7 @@ impl<'a, A: Allocator> Iterator for Words<'a, A> {
 pub struct Locks<'a, A: Allocator = Global> {
     pub(crate) nodes: Option<&'a Nodes<A>>,
     pub(crate) at: usize,
-    /// No more locks are left than this.
+    /// No more nodes are left than this.
     pub(crate) most: usize,
 }
 
@@ -62,9 +68,9 @@ impl<'a, A: Allocator> Model for Locks<'a, A> {
 
     ghost Value = { List ℕ };
 
-    ghost use Rattle.stm_logs.specs.Chain.{chain_in, EndsIn, number_of};
+    ghost use Rattle.stm_logs.specs.Chain.{locks_in, EndsIn};
 
-    ghost view = { λ w. chain_in number_of w.nodes w.most w.at };
+    ghost view = { λ w. locks_in w.nodes w.most w.at };
 
     ghost invariant = { λ w. EndsIn w.nodes w.most w.at };
 }
@@ -82,10 +88,9 @@ impl<'a, A: Allocator> Iterator for Locks<'a, A> {
         if self.at == 0 {
             return None;
         }
-        let node = nodes.get(self.at);
-        self.at = node.next as usize;
-        self.most -= 1;
-        Some(node.number)
+        let lock = nodes.get(self.at).lock;
+        (self.at, self.most) = past(nodes, self.at, self.most);
+        Some(lock)
     }
 }
 
@@ -94,7 +99,7 @@ impl<'a, A: Allocator> Iterator for Locks<'a, A> {
 pub struct ByLock<'a, A: Allocator = Global> {
     pub(crate) nodes: Option<&'a Nodes<A>>,
     pub(crate) at: usize,
-    /// No more locks are left than this.
+    /// No more nodes are left than this.
     pub(crate) most: usize,
 }
 
@@ -103,11 +108,11 @@ impl<'a, A: Allocator> Model for ByLock<'a, A> {
 
     ghost Value = { List (ℕ × List (ℕ × ℕ)) };
 
-    ghost use Rattle.stm_logs.specs.Chain.{groups_in, EndBelowIn};
+    ghost use Rattle.stm_logs.specs.Chain.{groups_in, EndsIn};
 
     ghost view = { λ w. groups_in w.nodes w.most w.at };
 
-    ghost invariant = { λ w. EndBelowIn w.nodes w.most w.at };
+    ghost invariant = { λ w. EndsIn w.nodes w.most w.at };
 }
 
 impl<'a, A: Allocator> Iterator for ByLock<'a, A> {
@@ -123,14 +128,52 @@ impl<'a, A: Allocator> Iterator for ByLock<'a, A> {
         if self.at == 0 {
             return None;
         }
-        let node = nodes.get(self.at);
-        self.at = node.next as usize;
-        self.most -= 1;
+        let lock = nodes.get(self.at).lock;
         let words = Words {
             nodes: Some(nodes),
-            at: node.first as usize,
-            most: nodes.count(),
+            lock,
+            at: self.at,
+            most: self.most,
         };
-        Some((node.number, words))
+        (self.at, self.most) = past(nodes, self.at, self.most);
+        Some((lock, words))
     }
+}
+
+/// The first node behind those of a node's lock, and how many nodes are left there at the most.
+#[inline]
+fn past<A: Allocator>(nodes: &Nodes<A>, start: usize, most: usize) -> (usize, usize)
+    requires some { 0 < start }
+    requires ends { Ends nodes.now.list most start }
+    ensures ends { Ends nodes.now.list result.1 result.0 }
+    ensures locks { locks_from nodes.now.list most start
+        ≡ (at nodes.now.list start).lock ∷ locks_from nodes.now.list result.1 result.0 }
+    ensures groups { (whole first : ℕ) → groups_from nodes.now.list whole first most start
+        ≡ (
+          (at nodes.now.list start).lock,
+          words_from nodes.now.list
+              (at nodes.now.list start).lock whole first,
+        )
+        ∷ groups_from nodes.now.list result.1 result.0 result.1 result.0 }
+{
+    let lock = nodes.get(start).lock;
+    let mut at = start;
+    let mut left = most;
+    loop {
+        let next = nodes.get(at).next as usize;
+        left -= 1;
+        if !is_of(nodes, lock, next) {
+            return (next, left);
+        }
+        at = next;
+    }
+}
+
+/// Whether there is a node, and it has the lock.
+#[inline]
+fn is_of<A: Allocator>(nodes: &Nodes<A>, lock: u32, e: usize) -> bool
+    requires { 0 < e → e < length nodes.now.list }
+    ensures { result ≡ goes_on nodes.now.list lock e }
+{
+    e != 0 && nodes.get(e).lock == lock
 }

@@ -1,4 +1,4 @@
-//! The growth of a write log's block.
+//! The growth of a write log's blocks.
 ghost use Rattle.std.specs.Prelude.{◌≡◌, ℕ, ◌+◌, ◌*◌, ◌<◌, ◌≤◌, false, length, IfOk};
 ghost use Rattle.stm_logs.specs.Nodes.{at};
 ghost use Rattle.stm_logs.specs.Held.{IsLog, IsRoomy, Copied};
@@ -7,19 +7,19 @@ use crate::index::{enter, probe};
 use crate::nodes::{MAX_PLACES, Nodes};
 use std::alloc::{AllocError, Allocator};
 
-/// Whether the block is to grow before two nodes more enter, so that half of the index stays free.
+/// Whether the blocks are to grow before a node more enters, so that half of the index stays free.
 #[inline]
 pub(crate) fn is_full<A: Allocator>(nodes: &Nodes<A>) -> bool
-    requires { IsLog nodes.now.list nodes.now.count }
-    ensures { result ≡ false → nodes.now.count + 2 < length nodes.now.list }
+    requires { IsLog nodes.now }
+    ensures { result ≡ false → nodes.now.count + 1 < length nodes.now.list }
 {
-    nodes.len() < 2 * (nodes.count() + 3)
+    nodes.len() < 2 * (nodes.count() + 2)
 }
 
-/// A block of twice the places with the same nodes.
+/// Blocks of twice the places with the same nodes.
 #[cold]
 pub(crate) fn grown<A: Allocator + Copy>(old: &Nodes<A>) -> Result<Nodes<A>, AllocError>
-    requires { IsLog old.now.list old.now.count }
+    requires { IsLog old.now }
     ensures { IfOk result (λ new. IsRoomy old.now new) }
 {
     let places = old.len();
@@ -28,11 +28,12 @@ pub(crate) fn grown<A: Allocator + Copy>(old: &Nodes<A>) -> Result<Nodes<A>, All
     }
     let mut new = Nodes::new(old.alloc(), 2 * places)?;
     copy(old, &mut new);
+    new.set_recent(old.recent());
     Ok(new)
 }
 
 fn copy<A: Allocator>(old: &Nodes<A>, new: &mut Nodes<A>)
-    requires log { IsLog old.now.list old.now.count }
+    requires log { IsLog old.now }
     requires twice { length new.old.list ≡ 2 * length old.now.list }
     requires limit { length new.old.list ≤ MAX_PLACES }
     requires blank { (new.old.count ≡ 0) × ((k : ℕ) → (at new.old.list k).slot ≡ 0) }
@@ -44,7 +45,7 @@ fn copy<A: Allocator>(old: &Nodes<A>, new: &mut Nodes<A>)
     new.put(0, root);
     for e in 0..old.count() {
         let node = *old.get(e + 1);
-        let place = probe(new, node.parent == 0, node.number);
+        let place = probe(new, node.number);
         enter(new, e + 1, place, node);
         new.set_count(e + 1);
     }

@@ -1,37 +1,25 @@
 //! The index of a write log: open addressing with linear probing.
-ghost use Rattle.std.specs.Prelude.{◌≡◌, ◌↔◌, ℕ, ◌+◌, ◌*◌, ◌<◌, ◌≤◌, Bool, true, false, IsTrue, List, length, slice_set};
+ghost use Rattle.std.specs.Prelude.{◌≡◌, ◌≢◌, ℕ, ◌+◌, ◌*◌, ◌<◌, ◌≤◌, List, length, slice_set};
 ghost use Rattle.stm_logs.specs.declared.nodes.TheConstants.{MAX_PLACES};
 ghost use Rattle.stm_logs.specs.Nodes.{Block, at, bare};
-ghost use Rattle.stm_logs.specs.Index.{home, is_lock_node, HasKey, IsFound, IsIndexed, HasNone, Answers, Entered};
+ghost use Rattle.stm_logs.specs.Index.{home, IsFound, IsIndexed, HasNone, Answers, Entered};
 
-use crate::nodes::{Entry, Nodes};
+use crate::nodes::{Entry, NUMBERS, Nodes};
 use std::alloc::Allocator;
 
-const WORD_FACTOR: u64 = 2_654_435_769;
+/// What spreads neighbouring numbers: 2^32 over the golden ratio (Knuth, volume 3, 6.4).
+const FACTOR: u64 = 2_654_435_769;
 
-const LOCK_FACTOR: u64 = 2_246_822_519;
-
-/// The numbers of a node, from 0 on.
-pub(crate) const NUMBERS: u64 = 4_294_967_296;
-
-/// Where the search for a node begins: a multiplicative hash, scaled to the length.
+/// Where the search for a number begins: a multiplicative hash, scaled to the length.
 #[inline]
-pub(crate) fn start(is_lock: bool, number: u32, len: usize) -> usize
+pub(crate) fn start(number: u32, len: usize) -> usize
     requires some { 0 < len }
     requires limit { len ≤ MAX_PLACES }
-    ensures place { result ≡ home is_lock number len }
+    ensures place { result ≡ home number len }
     ensures inside { result < len }
 {
-    let factor = if is_lock { LOCK_FACTOR } else { WORD_FACTOR };
-    let mixed = number as u64 * factor % NUMBERS;
+    let mixed = number as u64 * FACTOR % NUMBERS;
     (mixed * len as u64 / NUMBERS) as usize
-}
-
-#[inline]
-fn has_key(node: &Entry, is_lock: bool, number: u32) -> bool
-    ensures { IsTrue result ↔ HasKey (bare node.now) is_lock number }
-{
-    node.number == number && (node.parent == 0) == is_lock
 }
 
 /// The next place, and behind the last the first.
@@ -44,21 +32,21 @@ fn behind(place: usize, len: usize) -> usize
     if place + 1 == len { 0 } else { place + 1 }
 }
 
-/// The place of the index that leads to the lock or the word with this number, or the free place
-/// where such a node would enter.
+/// The place of the index that leads to the node with this number, or the free place where such a
+/// node would enter.
 #[inline]
-pub(crate) fn probe<A: Allocator>(nodes: &Nodes<A>, is_lock: bool, number: u32) -> usize
+pub(crate) fn probe<A: Allocator>(nodes: &Nodes<A>, number: u32) -> usize
     requires { IsIndexed nodes.now.list nodes.now.count }
-    ensures { Answers nodes.now.list nodes.now.count is_lock number result }
+    ensures { Answers nodes.now.list nodes.now.count number result }
 {
     let len = nodes.len();
-    let mut place = start(is_lock, number, len);
+    let mut place = start(number, len);
     loop {
         let slot = nodes.slot(place);
         if slot == 0 {
             return place;
         }
-        if has_key(nodes.get(slot), is_lock, number) {
+        if nodes.get(slot).number == number {
             return place;
         }
         place = behind(place, len);
@@ -67,27 +55,27 @@ pub(crate) fn probe<A: Allocator>(nodes: &Nodes<A>, is_lock: bool, number: u32) 
 
 /// The node with this number, or 0.
 #[inline]
-pub(crate) fn find<A: Allocator>(nodes: &Nodes<A>, is_lock: bool, number: u32) -> usize
+pub(crate) fn find<A: Allocator>(nodes: &Nodes<A>, number: u32) -> usize
     requires { IsIndexed nodes.now.list nodes.now.count }
-    ensures there { 0 < result → IsFound nodes.now.list nodes.now.count is_lock number result }
-    ensures none { result ≡ 0 → HasNone nodes.now.list nodes.now.count is_lock number }
+    ensures there { 0 < result → IsFound nodes.now.list nodes.now.count number result }
+    ensures none { result ≡ 0 → HasNone nodes.now.list nodes.now.count number }
 {
-    let place = probe(nodes, is_lock, number);
+    let place = probe(nodes, number);
     nodes.slot(place)
 }
 
-/// A node enters behind the others and at the free place of the index that its key led to. It
+/// A node enters behind the others and at the free place of the index that its number led to. It
 /// is not counted yet.
 #[inline]
 pub(crate) fn enter<A: Allocator>(nodes: &mut Nodes<A>, position: usize, place: usize, node: Entry)
     requires indexed { IsIndexed nodes.old.list nodes.old.count }
     requires room { nodes.old.count + 1 < length nodes.old.list }
     requires position { position ≡ nodes.old.count + 1 }
-    requires place { Answers nodes.old.list nodes.old.count
-        (is_lock_node (bare node)) node.number place }
+    requires place { Answers nodes.old.list nodes.old.count node.number place }
     requires free { (at nodes.old.list place).slot ≡ 0 }
     ensures entered { Entered nodes.old.list nodes.new.list nodes.old.count (bare node) }
     ensures count { nodes.new.count ≡ nodes.old.count }
+    ensures recent { nodes.new.recent ≡ nodes.old.recent }
 {
     nodes.put(
         position,

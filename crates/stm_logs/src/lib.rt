@@ -9,11 +9,11 @@ mod chain;
 mod finger;
 mod grow;
 mod index;
-mod link;
 mod nodes;
+mod order;
 mod read;
 mod row;
-mod tree;
+mod table;
 mod write;
 
 pub use chain::{ByLock, Locks, Words};

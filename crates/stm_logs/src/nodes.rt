@@ -5,24 +5,19 @@ use crate::row::{Right, Row, fill, release};
 use std::alloc::{AllocError, Allocator};
 use std::marker::Model;
 
-/// A node of the tree of a write log.
+/// A written word.
 ///
-/// The tree has three levels: the root at position 0, below it a node for each lock, and below each
-/// lock a node for each of its words. Positions are places of the block, and 0 stands for none,
-/// since nothing leads to the root.
+/// Position 0 has the root, behind which the order of the nodes begins and at which it ends; the
+/// words stand behind it as they entered. Nothing else leads to the root, so that 0 stands for none.
 #[derive(Clone, Copy)]
 pub(crate) struct Entry {
-    /// A word's value.
+    /// The value that waits to be stored.
     pub(crate) value: u64,
-    /// A word's address, or a lock's number.
+    /// The address.
     pub(crate) number: u32,
-    /// A word's lock; 0 at a lock.
-    pub(crate) parent: u32,
-    /// The child with the least number.
-    pub(crate) first: u32,
-    /// The last child that was chained.
-    pub(crate) recent: u32,
-    /// The child of the same parent with the next greater number.
+    /// The number of the address's lock.
+    pub(crate) lock: u32,
+    /// The node that comes next in the order.
     pub(crate) next: u32,
     /// The place of the index that leads to this node.
     pub(crate) place: u32,
@@ -38,9 +33,12 @@ pub(crate) struct Slot {
     pub(crate) finger: u32,
 }
 
-/// The number of a place without a node, and of the root: none is greater, so that a search along a
-/// chain ends at the root, to which the last node leads.
+/// The number and the lock of a place without a node, and of the root: none is greater, so that a
+/// walk along the order ends at the root, to which the last node leads.
 pub(crate) const TOP: u32 = 4_294_967_295;
+
+/// The numbers that there are, from 0 on.
+pub(crate) const NUMBERS: u64 = 4_294_967_296;
 
 /// The places of the largest block.
 pub(crate) const MAX_PLACES: usize = 2_147_483_648;
@@ -49,9 +47,7 @@ pub(crate) const MAX_PLACES: usize = 2_147_483_648;
 pub(crate) const BLANK: Entry = Entry {
     value: 0,
     number: TOP,
-    parent: 0,
-    first: 0,
-    recent: 0,
+    lock: TOP,
     next: 0,
     place: 0,
 };
@@ -59,8 +55,8 @@ pub(crate) const BLANK: Entry = Entry {
 /// A place that leads nowhere.
 pub(crate) const FREE: Slot = Slot { node: 0, finger: 0 };
 
-/// A block of nodes and one of as many places of the index, all of them filled, and the number of
-/// nodes beside the root.
+/// A block of nodes and one of as many places of the index, all of them filled; the number of nodes
+/// beside the root, and the one that was chained last, or 0.
 pub(crate) struct Nodes<A: Allocator> {
     alloc: A,
     row: Row<Entry>,
@@ -69,6 +65,7 @@ pub(crate) struct Nodes<A: Allocator> {
     index_right: Right<Slot, A>,
     len: usize,
     count: usize,
+    recent: usize,
 }
 
 impl<A: Allocator> Model for Nodes<A> {
@@ -79,7 +76,11 @@ impl<A: Allocator> Model for Nodes<A> {
 
     ghost use Rattle.stm_logs.specs.Frees.{Frees, IsFull};
 
-    ghost view = { λ s. record { list = beside s.row.items s.index.items; count = s.count } };
+    ghost view = { λ s. record {
+      list = beside s.row.items s.index.items;
+      count = s.count;
+      recent = s.recent;
+    } };
 
     ghost invariant = { λ s. IsFull s.row s.len × Frees s.alloc s.row s.right
         × IsFull s.index s.len × Frees s.alloc s.index s.index_right };
@@ -95,6 +96,7 @@ impl<A: Allocator> Drop for Nodes<A> {
             index_right,
             len: _,
             count: _,
+            recent: _,
         } = self;
         release(&alloc, row, right);
         release(&alloc, index, index_right);
@@ -102,8 +104,7 @@ impl<A: Allocator> Drop for Nodes<A> {
 }
 
 impl<A: Allocator> Nodes<A> {
-    ghost use Rattle.stm_logs.specs.Nodes.{at, entry_of, with_entry, with_slot, with_node, IsBlank};
-    ghost use Rattle.stm_logs.specs.Tree.{with_finger};
+    ghost use Rattle.stm_logs.specs.Nodes.{at, entry_of, with_entry, with_slot, with_finger, with_node, IsBlank};
 
     /// A block of `len` blank places.
     pub(crate) fn new(alloc: A, len: usize) -> Result<Nodes<A>, AllocError>
@@ -128,6 +129,7 @@ impl<A: Allocator> Nodes<A> {
             index_right,
             len,
             count: 0,
+            recent: 0,
         })
     }
 
@@ -160,6 +162,21 @@ impl<A: Allocator> Nodes<A> {
         ensures { self.new ≡ record self.old { count = count } }
     {
         self.count = count;
+    }
+
+    /// The node that was chained last, or 0.
+    #[inline]
+    pub(crate) fn recent(&self) -> usize
+        ensures { result ≡ self.now.recent }
+    {
+        self.recent
+    }
+
+    #[inline]
+    pub(crate) fn set_recent(&mut self, recent: usize)
+        ensures { self.new ≡ record self.old { recent = recent } }
+    {
+        self.recent = recent;
     }
 
     /// The node at a position.

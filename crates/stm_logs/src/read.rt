@@ -146,10 +146,7 @@ impl<A: Allocator + Copy> ReadLog<A> {
             self.used = 0;
             self.end = PLACES;
         }
-        match &mut self.hand {
-            Some(hand) => hand.put(self.used, addr.0),
-            None => unreachable!(),
-        }
+        self.hand.as_mut().unwrap().put(self.used, addr.0);
         self.used += 1;
         Ok(())
     }

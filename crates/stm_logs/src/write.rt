@@ -1,12 +1,12 @@
 //! The write log: the addresses that a transaction has written, with their values and locks.
-ghost use Rattle.std.specs.Prelude.{◌≡◌, ◌≢◌, ◌↔◌, ℕ, ◌%◌, ◌<◌, IsTrue, IsOk, None, Some, length, slice_index, IfOk};
+ghost use Rattle.std.specs.Prelude.{◌≡◌, ◌≢◌, ◌↔◌, ℕ, ◌%◌, ◌<◌, ◌≤◌, IsTrue, IsOk, None, Some, length, slice_index, IfOk};
 ghost use Rattle.std.specs.FinMap.{get, len};
 ghost use Rattle.stm_logs.specs.Refusals.{Becomes};
 ghost use Rattle.stm_logs.specs.Held.{with_word};
 ghost use Rattle.stm_logs.specs.Log.{LogValue, empty_log, log_groups, log_locks, pairs_of, SameAddresses};
 
 use crate::chain::{ByLock, Locks, Words};
-use crate::tree::Tree;
+use crate::table::Table;
 use std::alloc::{AllocError, Allocator, Global};
 use std::marker::Model;
 use stm_words::Addr;
@@ -19,9 +19,8 @@ const MARKS: usize = 128;
 #[derive(Drop)]
 pub struct WriteLog<A: Allocator + Copy = Global> {
     alloc: A,
-    tree: Option<Tree<A>>,
-    len: usize,
-    // Whether an address of this remainder may be there.
+    table: Option<Table<A>>,
+    /// Whether an address of this remainder may be there.
     marks: [bool; MARKS],
 }
 
@@ -36,7 +35,6 @@ fn mark_of(addr: Addr) -> usize
 
 impl<A: Allocator + Copy> Model for WriteLog<A> {
     ghost use Rattle.std.specs.Prelude.{◌≡◌};
-    ghost use Rattle.std.specs.FinMap as map;
     ghost use Rattle.stm_logs.specs.Log.{LogValue, log_code};
 
     ghost Value = { LogValue };
@@ -45,11 +43,9 @@ impl<A: Allocator + Copy> Model for WriteLog<A> {
 
     ghost use Rattle.stm_logs.specs.Held.{held_value, IsMarked};
 
-    ghost view = { λ w. held_value w.tree };
+    ghost view = { λ w. held_value w.table };
 
-    ghost invariant = { λ w.
-        (w.len ≡ map.len (held_value w.tree).words)
-        × IsMarked w.marks (held_value w.tree).words };
+    ghost invariant = { λ w. IsMarked w.marks (held_value w.table).words };
 }
 
 impl<A: Allocator + Copy> WriteLog<A> {
@@ -59,8 +55,7 @@ impl<A: Allocator + Copy> WriteLog<A> {
     {
         WriteLog {
             alloc,
-            tree: None,
-            len: 0,
+            table: None,
             marks: [false; MARKS],
         }
     }
@@ -70,7 +65,10 @@ impl<A: Allocator + Copy> WriteLog<A> {
     pub fn len(&self) -> usize
         ensures { result ≡ len self.now.words }
     {
-        self.len
+        match &self.table {
+            Some(table) => table.len(),
+            None => 0,
+        }
     }
 
     /// Lets the value stand at the address, whose lock has the given number.
@@ -84,25 +82,19 @@ impl<A: Allocator + Copy> WriteLog<A> {
         ensures there { get self.old.words addr.0 ≢ None → IsOk result }
     {
         self.marks[mark_of(addr)] = true;
-        match &mut self.tree {
-            Some(tree) => {
-                if tree.put(addr.0, lock, value)? {
-                    self.len += 1;
-                }
-                Ok(())
-            }
+        match &mut self.table {
+            Some(table) => table.put(addr.0, lock, value),
             None => self.put_first(addr, lock, value),
         }
     }
 
-    /// Puts the first address of a log, which has no tree yet.
+    /// Puts the first address of a log, which has no table yet.
     #[cold]
     fn put_first(&mut self, addr: Addr, lock: u32, value: u64) -> Result<(), AllocError>
         requires { self.old ≡ empty_log }
         ensures { Becomes result self.old self.new (with_word self.old addr.0 lock value) }
     {
-        self.tree = Some(Tree::with_word(self.alloc, addr.0, lock, value)?);
-        self.len = 1;
+        self.table = Some(Table::with_word(self.alloc, addr.0, lock, value)?);
         self.marks[mark_of(addr)] = true;
         Ok(())
     }
@@ -116,8 +108,8 @@ impl<A: Allocator + Copy> WriteLog<A> {
         if !self.marks[mark_of(addr)] {
             return None;
         }
-        match &self.tree {
-            Some(tree) => tree.get(addr.0),
+        match &self.table {
+            Some(table) => table.get(addr.0),
             None => None,
         }
     }
@@ -127,10 +119,21 @@ impl<A: Allocator + Copy> WriteLog<A> {
     pub fn has_lock(&self, lock: u32) -> bool
         ensures { IsTrue result ↔ ((a : ℕ) × (get self.now.locks a ≡ Some lock)) }
     {
-        match &self.tree {
-            Some(tree) => tree.has_lock(lock),
+        match &self.table {
+            Some(table) => table.has_lock(lock),
             None => false,
         }
+    }
+
+    /// Whether an address with this lock was put. Where the given one was, it tells at once, and no
+    /// walk to the lock is needed.
+    #[inline]
+    pub fn holds(&self, addr: Addr, lock: u32) -> bool
+        requires { (l : ℕ) → get self.now.locks addr.0 ≡ Some l → l ≡ lock }
+        ensures { IsTrue result ↔ ((a : ℕ) × (get self.now.locks a ≡ Some lock)) }
+    {
+        self.same_addresses();
+        self.get(addr).is_some() || self.has_lock(lock)
     }
 
     /// How many locks the addresses have.
@@ -138,10 +141,9 @@ impl<A: Allocator + Copy> WriteLog<A> {
     pub fn lock_count(&self) -> usize
         ensures { result ≡ length (log_locks self.now) }
     {
-        match &self.tree {
-            Some(tree) => tree.node_count() - self.len,
-            None => 0,
-        }
+        self.few_locks();
+        let _most = self.len();
+        self.locks().count()
     }
 
     /// The locks of the addresses in ascending order, each once.
@@ -149,8 +151,8 @@ impl<A: Allocator + Copy> WriteLog<A> {
     pub fn locks(&self) -> Locks<'_, A>
         ensures { result ≡ log_locks self.now }
     {
-        match &self.tree {
-            Some(tree) => tree.locks(),
+        match &self.table {
+            Some(table) => table.locks(),
             None => Locks {
                 nodes: None,
                 at: 0,
@@ -177,10 +179,11 @@ impl<A: Allocator + Copy> WriteLog<A> {
     pub fn words_of(&self, lock: u32) -> Words<'_, A>
         ensures { result ≡ pairs_of self.now lock }
     {
-        match &self.tree {
-            Some(tree) => tree.words_of(lock),
+        match &self.table {
+            Some(table) => table.words_of(lock),
             None => Words {
                 nodes: None,
+                lock,
                 at: 0,
                 most: 0,
             },
@@ -193,8 +196,8 @@ impl<A: Allocator + Copy> WriteLog<A> {
     pub fn by_lock(&self) -> ByLock<'_, A>
         ensures { result ≡ log_groups self.now }
     {
-        match &self.tree {
-            Some(tree) => tree.by_lock(),
+        match &self.table {
+            Some(table) => table.by_lock(),
             None => ByLock {
                 nodes: None,
                 at: 0,
@@ -209,19 +212,25 @@ impl<A: Allocator + Copy> WriteLog<A> {
     pub fn clear(&mut self)
         ensures { self.new ≡ empty_log }
     {
-        self.len = 0;
         self.marks = [false; MARKS];
-        if let Some(tree) = &mut self.tree {
-            tree.clear();
+        if let Some(table) = &mut self.table {
+            table.clear();
         }
+    }
+
+    /// There are no more locks than addresses.
+    pub fn few_locks(&self)
+        ensures { length (log_locks self.now) ≤ len self.now.words }
+    {
+        self.same_addresses();
     }
 
     /// The addresses that have a value are those that have a lock.
     pub fn same_addresses(&self)
         ensures { SameAddresses self.now }
     {
-        if let Some(tree) = &self.tree {
-            tree.same_addresses();
+        if let Some(table) = &self.table {
+            table.same_addresses();
         }
     }
 }

@@ -15,7 +15,7 @@ pub lock_one-requires-clause-above : goal.lock_one-requires-clause-above
 lock_one-requires-clause-above g c = next_above c.args.writes.now c.loop-lock.client.value.attempt.held _ _ _ c.loop-lock.invariant.3.held c.in-Some.ensures.steps
 
 pub prove-unreachable-requires : goal.prove-unreachable-requires
-prove-unreachable-requires g c = omega (arith, room c.args.writes.now c.loop-lock.client.value.attempt.held _ _ _ c.loop-lock.invariant.3.held c.in-Some.ensures.steps, c.lock_count-count.ensures, c.loop-lock.invariant.3.count)
+prove-unreachable-requires g c = omega (arith, room c.args.writes.now c.loop-lock.client.value.attempt.held _ _ _ c.loop-lock.invariant.3.held c.in-Some.ensures.steps, c.few_locks.ensures, c.len-most.ensures, c.loop-lock.invariant.3.count)
 
 pub returns-in_err-lock_one-clause-shown : goal.returns-in_err-lock_one-clause-shown
 returns-in_err-lock_one-clause-shown g c =

@@ -1,6 +1,16 @@
+use Rattle.std.proofs.Common.{◌∙◌, arith}
 use Rattle.stm_logs.proofs.FingerLemmas.{fingers_both}
 use Rattle.stm_logs.proofs.finger.point.Goals as goal
 
-pub returns-clause-same : goal.returns-clause-same
-returns-clause-same g c =
-    fingers_both _ _ _ (fingers_both _ _ _ (fingers_both _ _ _ (fingers_both _ _ _ c.point_at.ensures.same c.point_at-2.ensures.same) c.point_at-3.ensures.same) c.point_at-4.ensures.same) c.point_at-5.ensures.same
+pub loop-scale-preserved : goal.loop-scale-preserved
+loop-scale-preserved g c = record {
+  same = fingers_both _ _ _ c.loop-scale.invariant.same c.point_at-in-loop-scale.ensures.same;
+  count = c.point_at-in-loop-scale.ensures.count ∙ c.loop-scale.invariant.count;
+  recent = c.point_at-in-loop-scale.ensures.recent ∙ c.loop-scale.invariant.recent;
+}
+
+pub point_at-requires-in-loop-scale-clause-some : goal.point_at-requires-in-loop-scale-clause-some
+point_at-requires-in-loop-scale-clause-some g c = omega (arith, c.loop-scale.invariant.same.len, c.requires.room)
+
+pub point_at-requires-in-loop-scale-clause-limit : goal.point_at-requires-in-loop-scale-clause-limit
+point_at-requires-in-loop-scale-clause-limit g c = omega (arith, c.loop-scale.invariant.same.len, c.requires.limit)

@@ -1,9 +1,10 @@
 use Rattle.std.proofs.Common.{◌≡◌, ◌<◌, ◌+◌, List, length, set, length-set, sym, ap, ◌∙◌, arith, subst}
 use Rattle.stm_logs.specs.declared.nodes.Entry.{Entry}
 use Rattle.stm_logs.specs.Nodes.{Node, Block, at, bare, entry_of, with_entry}
-use Rattle.stm_logs.specs.Index.{HasNone, Entered, is_lock_node, IsIndexed}
+use Rattle.stm_logs.specs.Index.{HasNone, Entered}
 use Rattle.stm_logs.specs.Held.{Copied}
-use Rattle.stm_logs.proofs.LogLemmas.{copied_start, copied_more, copy_is_new, free_answer}
+use Rattle.stm_logs.proofs.IndexLemmas.{free_answer}
+use Rattle.stm_logs.proofs.LogLemmas.{copied_start, copied_more, copy_is_new}
 use Rattle.stm_logs.proofs.grow.copy.Goals as goal
 
 pub loop-e-init : goal.loop-e-init
@@ -23,12 +24,11 @@ enter-requires-clause-free g c =
     let old : List Node = c.args.old.now.list in
     let new : List Node = c.loop-e.new.list in
     let less : c.loop-e.e < c.args.old.now.count = omega arith in
-    let key_is_new : HasNone new c.loop-e.new.count (is_lock_node (bare c.get-node.result.now)) c.get-node.result.now.number =
-    subst (λ (x : Entry). HasNone new c.loop-e.new.count (is_lock_node (bare x)) x.number) (sym c.get-node.ensures)
-    (subst (λ k. HasNone new k (is_lock_node (at old (c.loop-e.e + 1))) (at old (c.loop-e.e + 1)).number) (sym c.loop-e.invariant.count)
-    (copy_is_new old new c.args.old.now.count c.loop-e.e c.requires.log less c.loop-e.invariant.copied)) in
-    let indexed : IsIndexed new c.loop-e.new.count = subst (λ k. IsIndexed new k) (sym c.loop-e.invariant.count) c.loop-e.invariant.copied.indexed in
-    free_answer _ _ _ _ _ indexed c.probe-place.ensures key_is_new
+    let number_is_new : HasNone new c.loop-e.new.count c.get-node.result.now.number =
+    subst (λ (x : Entry). HasNone new c.loop-e.new.count x.number) (sym c.get-node.ensures)
+    (subst (λ k. HasNone new k (at old (c.loop-e.e + 1)).number) (sym c.loop-e.invariant.count)
+    (copy_is_new old new c.args.old.now.count c.loop-e.e c.requires.log.ready less c.loop-e.invariant.copied)) in
+    free_answer _ _ _ _ c.probe-place.ensures number_is_new
 
 pub loop-e-preserved : goal.loop-e-preserved
 loop-e-preserved g c =

@@ -1,8 +1,6 @@
-use Rattle.std.proofs.Common.{rules, ◌≡◌, ℕ, ◌<◌, List, length, sym, ap, ◌∙◌, arith, get_or, set, subst}
-use Rattle.stm_logs.specs.declared.nodes.Entry.{Entry}
-use Rattle.stm_logs.specs.declared.nodes.Slot.{Slot}
-use Rattle.stm_logs.specs.Nodes.{Node, Block, at, beside, bare, entry_of, with_entry, with_slot, with_node}
-use Rattle.stm_logs.proofs.BesideLemmas.{len_beside, at_beside, entry_set, slot_set}
+use Rattle.std.proofs.Common.{◌≡◌, length, ap, arith}
+use Rattle.stm_logs.specs.Nodes.{Block, beside}
+use Rattle.stm_logs.proofs.BesideLemmas.{len_beside}
 use Rattle.stm_logs.proofs.nodes.Nodes.len.Goals as goal
 
 pub returns : goal.returns

@@ -1,7 +1,6 @@
-use Rattle.std.proofs.Common.{rules, ◌≡◌, ℕ, ◌<◌, true, false, List, length, sym, ap, ◌∙◌, arith, get_or, set, subst}
-use Rattle.stm_logs.specs.declared.nodes.Slot.{Slot}
-use Rattle.stm_logs.specs.Nodes.{Node, Block, at, entry_of, with_entry, with_slot, with_node}
-use Rattle.stm_logs.proofs.BesideLemmas.{place_in, entry_here, slot_here, entry_put, slot_put}
+use Rattle.std.proofs.Common.{◌<◌, length, ap, arith}
+use Rattle.stm_logs.specs.Nodes.{Block}
+use Rattle.stm_logs.proofs.BesideLemmas.{place_in, entry_put}
 use Rattle.stm_logs.proofs.nodes.Nodes.put.Goals as goal
 
 pub put-requires : goal.put-requires
@@ -18,4 +17,4 @@ returns g c =
     let list = ap (λ (b : Block). b.list) c.self.view_is in
     let p = place_in _ _ s.len s.row.items s.index.items _ c.args.i s.row.ok.0 s.index.ok.0 c.self.invariant.0.0 c.self.invariant.2.0 list c.requires in
     let l : c.args.i < length s.row.items = omega (arith, p.1, s.row.ok.0, c.self.invariant.0.0) in
-    entry_put _ _ s.count _ _ _ _ p.0 l c.self.view_is c.put.ensures.items
+    entry_put _ _ s.count s.recent _ _ _ _ p.0 l c.self.view_is c.put.ensures.items

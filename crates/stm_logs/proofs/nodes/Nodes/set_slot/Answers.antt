@@ -1,7 +1,7 @@
-use Rattle.std.proofs.Common.{rules, ◌≡◌, ℕ, ◌<◌, true, false, List, length, sym, ap, ◌∙◌, arith, get_or, set, subst}
+use Rattle.std.proofs.Common.{rules, ◌≡◌, ℕ, ◌<◌, true, false, length, ap, ◌∙◌, arith, get_or}
 use Rattle.stm_logs.specs.declared.nodes.Slot.{Slot}
-use Rattle.stm_logs.specs.Nodes.{Node, Block, at, entry_of, with_entry, with_slot, with_node}
-use Rattle.stm_logs.proofs.BesideLemmas.{place_in, entry_here, slot_here, entry_put, slot_put}
+use Rattle.stm_logs.specs.Nodes.{Block, at, with_node}
+use Rattle.stm_logs.proofs.BesideLemmas.{place_in, slot_here, slot_put}
 use Rattle.stm_logs.proofs.nodes.Nodes.set_slot.Goals as goal
 
 pub get-requires : goal.get-requires
@@ -28,5 +28,5 @@ returns g c =
     let p = place_in _ _ s.len s.row.items s.index.items _ c.args.place s.row.ok.0 s.index.ok.0 c.self.invariant.0.0 c.self.invariant.2.0 list c.requires in
     let l : c.args.place < length s.row.items = omega (arith, p.1, s.row.ok.0, c.self.invariant.0.0) in
     let here = c.get.ensures ∙ slot_here _ _ _ _ _ p.0 l list in
-    slot_put _ _ s.count _ _ _ _ p.0 l c.self.view_is c.put.ensures.items
+    slot_put _ _ s.count s.recent _ _ _ _ p.0 l c.self.view_is c.put.ensures.items
     ∙ ap (λ (f : ℕ). with_node c.args.self.now c.args.place (record (at c.args.self.now.list c.args.place) { slot = c.args.node; finger = f })) (ap (λ (t : Slot). t.finger) here)

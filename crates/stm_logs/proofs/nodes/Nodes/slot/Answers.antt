@@ -1,7 +1,7 @@
-use Rattle.std.proofs.Common.{rules, ◌≡◌, ℕ, ◌<◌, true, false, List, length, sym, ap, ◌∙◌, arith, get_or, set, subst}
+use Rattle.std.proofs.Common.{rules, ◌≡◌, ◌<◌, true, false, length, ap, ◌∙◌, arith, get_or}
 use Rattle.stm_logs.specs.declared.nodes.Slot.{Slot}
-use Rattle.stm_logs.specs.Nodes.{Node, Block, at, entry_of, with_entry, with_slot, with_node}
-use Rattle.stm_logs.proofs.BesideLemmas.{place_in, entry_here, slot_here, entry_put, slot_put}
+use Rattle.stm_logs.specs.Nodes.{Block}
+use Rattle.stm_logs.proofs.BesideLemmas.{place_in, slot_here}
 use Rattle.stm_logs.proofs.nodes.Nodes.slot.Goals as goal
 
 pub get-requires : goal.get-requires

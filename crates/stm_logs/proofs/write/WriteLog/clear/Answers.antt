@@ -1,21 +1,13 @@
-use Rattle.std.proofs.Common.{◌≡◌, Option, ℕ, sym, ap, ◌∙◌}
-use Rattle.std.specs.FinMap.{get, len, get-empty, len-empty}
+use Rattle.std.proofs.Common.{Option, ap, ◌∙◌}
+use Rattle.std.specs.FinMap.{get, get-empty}
 use Rattle.std.specs.Ordering.{nat_cmp}
-use Rattle.stm_logs.specs.Log.{LogValue, empty_log}
+use Rattle.stm_logs.specs.Log.{LogValue}
 use Rattle.stm_logs.specs.Held.{held_value}
 use Rattle.stm_logs.proofs.write.WriteLog.clear.Goals as goal
 use Rattle.stm_logs.proofs.write.WriteLog.clear.Goals.{in-Some, in_default}
 
 pub invariant_of-self : goal.invariant_of-self
-invariant_of-self g c =
-    let none : 0 ≡ len empty_log.words = sym (len-empty nat_cmp ℕ) in
-    elim c.match-self.branch [
-      | in-Some w ↦ rw w.self-inside-is (
-        none ∙ sym (ap (λ (x : LogValue). len x.words) w.clear.ensures),
-        λ a away. ap (λ (x : LogValue). get x.words a) w.clear.ensures ∙ get-empty nat_cmp a,
-      )
-      | in_default w ↦ rw w.self-inside-is (
-        none ∙ sym (ap (λ (o : Option LogValue). len (held_value o).words) w.in_default.is),
-        λ a away. ap (λ (o : Option LogValue). get (held_value o).words a) w.in_default.is ∙ get-empty nat_cmp a,
-      )
-    ]
+invariant_of-self g c = elim c.match-self.branch [
+  | in-Some w ↦ rw w.self-inside-is (λ a away. ap (λ (x : LogValue). get x.words a) w.clear.ensures ∙ get-empty nat_cmp a)
+  | in_default w ↦ rw w.self-inside-is (λ a away. ap (λ (o : Option LogValue). get (held_value o).words a) w.in_default.is ∙ get-empty nat_cmp a)
+]
