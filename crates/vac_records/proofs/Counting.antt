@@ -89,18 +89,19 @@ fewer_units s s1 s2 node num a b p q w w' = record {
 }
 
 -- a word that was read before was written anew
-pub units_made : (s s1 s2 : View) (node num free a b : ℕ) → a ≡ node + 5 → b ≡ node + 4 → Stored s s1 a (free - num) → Shifted s1 s2 b (λ v. v + num) → ItemChangedOf s s2 node free (λ item. taken item num)
+pub units_made : (s s1 s2 : View) (node num free a b : ℕ) → a ≡ node + 4 → b ≡ node + 5 → Shifted s s1 a (λ v. v + num) → Stored s1 s2 b (free - num) → ItemChangedOf s s2 node free (λ item. taken item num)
 units_made s s1 s2 node num free a b p q w w' = record {
   kept = kept_both s s1 s2 w.kept w'.kept;
   changed = λ image i is.
-      let at : mem s image a ≡ free = ap (mem s image) p ∙ is in
-      let less : IsWrite (mem s image) (mem s1 image) a (mem s image a - num) = subst (λ (x : ℕ). IsWrite (mem s image) (mem s1 image) a (x - num)) (sym at) (w.written image) in
-      let t = two_writes (mem s image) (mem s1 image) (mem s2 image) a b (λ v. v - num) (λ v. v + num) less (w'.shifted image i) (omega arith) in
-      let used = rw q at t.second in
-      let free = rw p at t.first in
+      let more = w.shifted image (w'.kept.seen image i) in
+      let at : mem s1 image b ≡ free = more.others b (omega arith) ∙ ap (mem s image) q ∙ is in
+      let less : IsWrite (mem s1 image) (mem s2 image) b (mem s1 image b - num) = subst (λ (x : ℕ). IsWrite (mem s1 image) (mem s2 image) b (x - num)) (sym at) (w'.written image) in
+      let t = two_writes (mem s image) (mem s1 image) (mem s2 image) a b (λ v. v + num) (λ v. v - num) more less (omega arith) in
+      let used = rw p at t.first in
+      let free = rw q at t.second in
       let total = t.others (node + 6) (omega arith) (omega arith) in
       let price = t.others (node + 7) (omega arith) (omega arith) in
-      item_now (mem s image) (mem s2 image) node a b (λ v. v - num) (λ v. v + num) (taken (item_in (mem s image) node) num) t (omega arith) (omega arith) (omega arith) (omega arith)
+      item_now (mem s image) (mem s2 image) node a b (λ v. v + num) (λ v. v - num) (taken (item_in (mem s image) node) num) t (omega arith) (omega arith) (omega arith) (omega arith)
       (λ j. record { used = used j; free = free j; total = total j; price = price j });
 }
 
@@ -146,11 +147,5 @@ pub room_later : (s s1 : View) (a b i j by : ℕ) (f : ℕ → ℕ) → Shifted 
 room_later s s1 a b i j by f w p q ne room = room_kept s s1 a b by f w (λ e. ne (sym q ∙ (e ∙ p))) (room_at s b j by q room)
 
 -- and of a word that was not stored
-pub room_stored : (s s1 : View) (a b i j v by : ℕ) → Stored s s1 a v → a ≡ i → b ≡ j → j ≢ i → RoomAt s j by → RoomAt s1 b by
-room_stored s s1 a b i j v by w p q ne room =
-    let other : b ≢ a = λ e. ne (sym q ∙ (e ∙ p)) in
-    let there = room_at s b j by q room in
-    record { fits = λ image x. omega (arith, (w.written image).others b other, there.fits image (stood w.kept image x)) }
-
 pub enough_later : (s s1 : View) (a b i j by : ℕ) (f : ℕ → ℕ) → Shifted s s1 a f → a ≡ i → b ≡ j → j ≢ i → EnoughAt s j by → EnoughAt s1 b by
 enough_later s s1 a b i j by f w p q ne enough = enough_kept s s1 a b by f w (λ e. ne (sym q ∙ (e ∙ p))) (enough_at s b j by q enough)

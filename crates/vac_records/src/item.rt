@@ -161,8 +161,8 @@ pub fn make_of<M: TxMem>(memory: &mut M, node: Block, num: u32, free: u64) -> Re
     ensures answer { IfOk result (λ _. ItemChangedOf (M.view memory.old) (M.view memory.new) node
         free (λ item. taken item num)) }
 {
-    store(memory, node.word(place::FREE), free - num as u64)?;
     raise(memory, node.word(place::USED), num as u64)?;
+    store(memory, node.word(place::FREE), free - num as u64)?;
     Ok(())
 }
 
