@@ -200,11 +200,10 @@ fn put_some<A: Allocator + Copy>(log: &mut WriteLog<A>, count: u32) -> u32
 fn each_growth_of_the_write_log_is_refused(rt: HostRuntime) -> Result<(), Fail> {
     for (size, most) in [
         (1_000, 0),
-        (4_000, 15),
-        (9_000, 31),
-        (20_000, 63),
-        (40_000, 127),
-        (100_000, 200),
+        (4_000, 31),
+        (9_000, 63),
+        (20_000, 127),
+        (40_000, 200),
     ] {
         let heap = LocalHeap::new(rt.alloc(), size)?;
         {

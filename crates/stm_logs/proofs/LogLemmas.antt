@@ -12,7 +12,8 @@ use Rattle.stm_logs.specs.Index.{HasNone, SameNode, IsIndexed, Answers, Entered}
 use Rattle.stm_logs.specs.Order.{IsChained, IsBefore, OnlyFingers, rank_of, rank_in, log_value, block_log}
 use Rattle.stm_logs.specs.Held.{IsReady, IsLog, held_value, with_word, Copied}
 use Rattle.stm_logs.proofs.NodeLemmas.{same_or, put_here, put_other, field_kept}
-use Rattle.stm_logs.proofs.IndexLemmas.{indexed_kept, indexed_none}
+use Rattle.stm_logs.specs.Index.{home, IsTaken}
+use Rattle.stm_logs.proofs.IndexLemmas.{indexed_kept, indexed_none, along_at, along_map}
 use Rattle.stm_logs.proofs.OrderLemmas.{IsBehind, chain_kept, chain_none, chain_more}
 use Rattle.stm_logs.proofs.TableLemmas.{Apart, get_here, get_other, some_none, get_there, get_none, table_same, table_value, len_table}
 
@@ -248,6 +249,28 @@ fingers_ready ns ns' n f ready = record {
   indexed = indexed_kept ns ns' n f.len f.same ready.indexed;
   chained = chain_kept ns ns' n (λ e _. ((f.same e).number, f.locks e)) (λ e _. f.nexts e) ready.chained;
 }
+
+pub fingers_log : (b b' : Block) → OnlyFingers b.list b'.list → b'.count ≡ b.count → b'.recent ≡ b.recent → IsLog b → IsLog b'
+fingers_log b b' f count recent log =
+    log_of b' b'.list b.count b.recent refl count recent (fingers_ready b.list b'.list b.count f log.ready) (omega (arith, f.len, log.places)) log.recent
+
+pub fingers_none : (b b' : Block) (number : ℕ) → OnlyFingers b.list b'.list → b'.count ≡ b.count → HasNone b.list b.count number → HasNone b'.list b'.count number
+fingers_none b b' number f count none e z m is = none e z (omega (arith, count)) (sym (f.same e).number ∙ is)
+
+pub fingers_answer : (b b' : Block) (number q : ℕ) → OnlyFingers b.list b'.list → b'.count ≡ b.count → Answers b.list b.count number q → Answers b'.list b'.count number q
+fingers_answer b b' number q f count an =
+    let slot : (at b'.list q).slot ≡ (at b.list q).slot = (f.same q).slot in
+    record {
+      inside = omega (arith, an.inside, f.len);
+      found = λ t. (
+          let h = an.found (omega (arith, slot)) in
+          (omega (arith, h.0, slot, count), ap (λ j. (at b'.list j).number) slot ∙ (f.same _).number ∙ h.1));
+      free = λ e. (
+          let h = an.free (sym slot ∙ e) in (
+            fingers_none b b' number f count h.0,
+            along_at (IsTaken b'.list) _ _ _ _ _ _ f.len (ap (home number) f.len) refl (along_map (IsTaken b.list) (IsTaken b'.list) _ _ _ (λ j t. omega (arith, (f.same j).slot)) h.1),
+          ));
+    }
 
 pub fingers_value : (ns ns' : List Node) (n : ℕ) → OnlyFingers ns ns' → log_value ns' n ≡ log_value ns n
 fingers_value ns ns' n f = sights_value ns ns' n (λ e m. record { value = f.values e; number = (f.same e).number; lock = f.locks e })

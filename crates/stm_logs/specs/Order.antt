@@ -34,6 +34,10 @@ pub record IsChained (ns : List Node) (n : ℕ) : Type 0 where
       → (at ns e).number ≡ (at ns f).number → e ≡ f
   pub next : (e : ℕ) → e ≤ n → Least ns n (after ns e) (at ns e).next
 
+-- a node has the lock
+abbrev pub HasLock : List Node → ℕ → ℕ → Type 0
+HasLock ns n lock = (e : ℕ) × ((0 < e) × (e ≤ n) × ((at ns e).lock ≡ lock))
+
 -- e is the root, or a node with a rank below x
 pub record IsBelow (ns : List Node) (n x e : ℕ) : Type 0 where
   pub inside : e ≤ n

@@ -2,21 +2,27 @@
 //! is looked at before it is followed.
 ghost use Rattle.std.specs.Prelude.{◌≡◌, ℕ, ◌+◌, ◌<◌, ◌≤◌, IsTrue, length};
 ghost use Rattle.stm_logs.specs.declared.nodes.TheConstants.{MAX_PLACES};
-ghost use Rattle.stm_logs.specs.Order.{rank_of, IsChained, IsBelow, OnlyFingers};
+ghost use Rattle.stm_logs.specs.Order.{rank_of, HasLock, IsChained, IsBelow, OnlyFingers};
 
 use crate::index::start;
 use crate::nodes::{Entry, NUMBERS, Nodes};
 use crate::order::{node_rank, rank};
 use std::alloc::Allocator;
 
-/// The bits of a narrow finger's range.
+/// The bits of the narrowest range, of those that are wider than one lock.
 const NARROW: u32 = 3;
+
+/// The bits of the ranges that as many fingers as there are places in a block of one would share.
+const SHARED: u32 = 24;
 
 /// How many bits more the range of the next wider finger has.
 const WIDER: u32 = 4;
 
+/// How many bits wider the addresses of one lock lie than the locks.
+const SPREAD: u32 = 6;
+
 /// The fingers of a number or a lock, from near neighbours to a large part of all.
-const SCALES: u32 = 6;
+const SCALES: u32 = 5;
 
 /// The bits of all numbers.
 const ALL: u32 = 32;
@@ -67,7 +73,27 @@ impl Range {
         }
     }
 
-    /// The place of the range's finger.
+    /// The range at one of the scales: the narrowest, which has one lock, or one of a place's share
+    /// of all, or a wider one.
+    fn at(among: Among, scale: u32, len: usize, lock: u32, number: u32) -> Range
+        requires { scale < SCALES }
+        ensures { result.bits ≤ ALL }
+    {
+        let (narrowest, spread) = match among {
+            Among::Locks => (0, 0),
+            Among::WordsOf(_) => (NARROW, SPREAD),
+        };
+        let places = usize::BITS - len.leading_zeros();
+        let bits = if scale == 0 {
+            narrowest
+        } else {
+            SHARED.saturating_sub(places).max(NARROW) + WIDER * (scale - 1)
+        };
+        Range::of(among, (bits + spread).min(ALL), lock, number)
+    }
+
+    /// The place of the range's finger: single locks have a quarter of the places and other ranges
+    /// the others, so that a lock with words is seen at once where there are few locks.
     fn place(self, len: usize) -> usize
         requires some { 0 < len }
         requires limit { len ≤ MAX_PLACES }
@@ -78,8 +104,20 @@ impl Range {
             Among::WordsOf(lock) => (lock as u64 + 1) * APART % NUMBERS,
         };
         let mixed = (self.step % NUMBERS + self.bits as u64 * APART + salt) % NUMBERS;
-        start(mixed as u32, len)
+        let quarter = len / 4;
+        if self.bits == 0 && quarter > 0 {
+            start(mixed as u32, quarter)
+        } else {
+            quarter + start(mixed as u32, len - quarter)
+        }
     }
+}
+
+/// The range of one lock.
+fn range_of(lock: u32) -> Range
+    ensures { result.bits ≡ 0 }
+{
+    Range::of(Among::Locks, 0, lock, 0)
 }
 
 /// The node that a range's finger points to, or 0.
@@ -97,17 +135,14 @@ fn finger_of<A: Allocator>(nodes: &Nodes<A>, range: Range) -> usize
     }
 }
 
-/// What the fingers near a word are of: the addresses of its lock, if the lock has words.
-fn neighbours<A: Allocator>(nodes: &Nodes<A>, lock: u32, number: u32) -> Among
+/// Whether a finger tells that a word has the lock.
+pub(crate) fn shows<A: Allocator>(nodes: &Nodes<A>, lock: u32) -> bool
     requires room { nodes.now.count < length nodes.now.list }
     requires limit { length nodes.now.list ≤ MAX_PLACES }
+    ensures { IsTrue result → HasLock nodes.now.list nodes.now.count lock }
 {
-    let words = Among::WordsOf(lock);
-    if finger_of(nodes, Range::of(words, ALL, lock, number)) == 0 {
-        Among::Locks
-    } else {
-        words
-    }
+    let finger = finger_of(nodes, range_of(lock));
+    finger != 0 && nodes.get(finger).lock == lock
 }
 
 /// A node to walk on from in the place of one that may be far before the rank.
@@ -118,15 +153,69 @@ pub(crate) fn nearer<A: Allocator>(nodes: &Nodes<A>, near: usize, lock: u32, num
     requires near { IsBelow nodes.now.list nodes.now.count (rank_of lock number) near }
     ensures { IsBelow nodes.now.list nodes.now.count (rank_of lock number) result }
 {
-    let among = neighbours(nodes, lock, number);
+    if number > 0 && shows(nodes, lock) {
+        let found = nearer_among(nodes, Among::WordsOf(lock), near, lock, number);
+        if found != near {
+            return found;
+        }
+    }
+    nearer_among(nodes, Among::Locks, near, lock, number)
+}
+
+/// The same by the fingers of ranges of locks, or of a lock's addresses.
+fn nearer_among<A: Allocator>(
+    nodes: &Nodes<A>,
+    among: Among,
+    near: usize,
+    lock: u32,
+    number: u32,
+) -> usize
+    requires chained { IsChained nodes.now.list nodes.now.count }
+    requires room { nodes.now.count < length nodes.now.list }
+    requires limit { length nodes.now.list ≤ MAX_PLACES }
+    requires near { IsBelow nodes.now.list nodes.now.count (rank_of lock number) near }
+    ensures { IsBelow nodes.now.list nodes.now.count (rank_of lock number) result }
+{
     for scale in 0..SCALES {
-        let range = Range::of(among, NARROW + WIDER * scale, lock, number);
-        let finger = finger_of(nodes, range);
-        if finger != 0 && is_between(nodes, near, finger, rank(lock, number)) {
-            return finger;
+        let range = Range::at(among, scale, nodes.len(), lock, number);
+        let found = nearer_in(nodes, range, near, lock, number);
+        if found != near {
+            return found;
         }
     }
     near
+}
+
+/// The same by the finger of a range, or by that of the range before it.
+fn nearer_in<A: Allocator>(
+    nodes: &Nodes<A>,
+    range: Range,
+    near: usize,
+    lock: u32,
+    number: u32,
+) -> usize
+    requires chained { IsChained nodes.now.list nodes.now.count }
+    requires room { nodes.now.count < length nodes.now.list }
+    requires limit { length nodes.now.list ≤ MAX_PLACES }
+    requires bits { range.bits ≤ ALL }
+    requires near { IsBelow nodes.now.list nodes.now.count (rank_of lock number) near }
+    ensures { IsBelow nodes.now.list nodes.now.count (rank_of lock number) result }
+{
+    let rank = rank(lock, number);
+    let finger = finger_of(nodes, range);
+    if finger != 0 && is_between(nodes, near, finger, rank) {
+        return finger;
+    }
+    if range.step == 0 {
+        return near;
+    }
+    let step = range.step - 1;
+    let before = finger_of(nodes, Range { step, ..range });
+    if before != 0 && is_between(nodes, near, before, rank) {
+        before
+    } else {
+        near
+    }
 }
 
 /// Whether a node lies behind another one, and before the rank.
@@ -140,20 +229,40 @@ fn is_between<A: Allocator>(nodes: &Nodes<A>, near: usize, finger: usize, rank: 
     found < rank && (near == 0 || node_rank(nodes.get(near)) < found)
 }
 
-/// Points the finger of a range.
-fn point_at<A: Allocator>(nodes: &mut Nodes<A>, range: Range, e: usize)
-    requires some { 0 < length nodes.old.list }
+/// Points the finger of a range to a node, unless it points to one of a greater rank.
+fn point_at<A: Allocator>(nodes: &mut Nodes<A>, range: Range, e: usize, rank: u64)
+    requires room { nodes.old.count < length nodes.old.list }
+    requires limit { length nodes.old.list ≤ MAX_PLACES }
+    requires fits { e ≤ MAX_PLACES }
+    requires bits { range.bits ≤ ALL }
+    ensures same { OnlyFingers nodes.old.list nodes.new.list }
+    ensures count { nodes.new.count ≡ nodes.old.count }
+    ensures recent { nodes.new.recent ≡ nodes.old.recent }
+{
+    let found = finger_of(nodes, range);
+    if found == 0 || node_rank(nodes.get(found)) < rank {
+        let place = range.place(nodes.len());
+        nodes.set_finger(place, e as u32);
+    }
+}
+
+/// Points the fingers at all scales to a node.
+fn point_among<A: Allocator>(nodes: &mut Nodes<A>, among: Among, lock: u32, number: u32, e: usize)
+    requires room { nodes.old.count < length nodes.old.list }
     requires limit { length nodes.old.list ≤ MAX_PLACES }
     requires fits { e ≤ MAX_PLACES }
     ensures same { OnlyFingers nodes.old.list nodes.new.list }
     ensures count { nodes.new.count ≡ nodes.old.count }
     ensures recent { nodes.new.recent ≡ nodes.old.recent }
 {
-    let place = range.place(nodes.len());
-    nodes.set_finger(place, e as u32);
+    for scale in 0..SCALES {
+        let range = Range::at(among, scale, nodes.len(), lock, number);
+        point_at(nodes, range, e, rank(lock, number));
+    }
 }
 
-/// Points the fingers near a word to its node.
+/// Points the fingers near a word to its node: those of its lock's neighbours and, where it is not
+/// the first of its lock, those of its neighbours there.
 pub(crate) fn point<A: Allocator>(nodes: &mut Nodes<A>, lock: u32, number: u32, e: usize)
     requires room { nodes.old.count < length nodes.old.list }
     requires limit { length nodes.old.list ≤ MAX_PLACES }
@@ -162,10 +271,35 @@ pub(crate) fn point<A: Allocator>(nodes: &mut Nodes<A>, lock: u32, number: u32, 
     ensures count { nodes.new.count ≡ nodes.old.count }
     ensures recent { nodes.new.recent ≡ nodes.old.recent }
 {
-    let among = neighbours(nodes, lock, number);
-    point_at(nodes, Range::of(Among::WordsOf(lock), ALL, lock, number), e);
-    for scale in 0..SCALES {
-        let range = Range::of(among, NARROW + WIDER * scale, lock, number);
-        point_at(nodes, range, e);
+    if shows(nodes, lock) {
+        point_among(nodes, Among::WordsOf(lock), lock, number, e);
+    }
+    point_among(nodes, Among::Locks, lock, number, e);
+}
+
+/// Points the fingers of all words, in the order in which they entered.
+pub(crate) fn point_all<A: Allocator>(nodes: &mut Nodes<A>)
+    requires room { nodes.old.count < length nodes.old.list }
+    requires limit { length nodes.old.list ≤ MAX_PLACES }
+    ensures same { OnlyFingers nodes.old.list nodes.new.list }
+    ensures count { nodes.new.count ≡ nodes.old.count }
+    ensures recent { nodes.new.recent ≡ nodes.old.recent }
+{
+    for e in 0..nodes.count() {
+        let node = *nodes.get(e + 1);
+        point(nodes, node.lock, node.number, e + 1);
+    }
+}
+
+/// The same where it is due.
+pub(crate) fn point_all_if<A: Allocator>(nodes: &mut Nodes<A>, is_due: bool)
+    requires room { nodes.old.count < length nodes.old.list }
+    requires limit { length nodes.old.list ≤ MAX_PLACES }
+    ensures same { OnlyFingers nodes.old.list nodes.new.list }
+    ensures count { nodes.new.count ≡ nodes.old.count }
+    ensures recent { nodes.new.recent ≡ nodes.old.recent }
+{
+    if is_due {
+        point_all(nodes);
     }
 }

@@ -3,9 +3,19 @@ ghost use Rattle.std.specs.Prelude.{◌≡◌, ℕ, ◌+◌, ◌*◌, ◌<◌, �
 ghost use Rattle.stm_logs.specs.Nodes.{at};
 ghost use Rattle.stm_logs.specs.Held.{IsLog, IsRoomy, Copied};
 
+use crate::finger::point_all_if;
 use crate::index::{enter, probe};
 use crate::nodes::{MAX_PLACES, Nodes};
 use std::alloc::{AllocError, Allocator};
+
+/// The nodes of a log that is so short that a walk needs no finger.
+pub(crate) const SHORT: usize = 128;
+
+/// Whether walks go by fingers.
+#[inline]
+pub(crate) fn is_long<A: Allocator>(nodes: &Nodes<A>) -> bool {
+    nodes.count() >= SHORT
+}
 
 /// Whether the blocks are to grow before a node more enters, so that half of the index stays free.
 #[inline]
@@ -29,6 +39,8 @@ pub(crate) fn grown<A: Allocator + Copy>(old: &Nodes<A>) -> Result<Nodes<A>, All
     let mut new = Nodes::new(old.alloc(), 2 * places)?;
     copy(old, &mut new);
     new.set_recent(old.recent());
+    let is_long = is_long(&new);
+    point_all_if(&mut new, is_long);
     Ok(new)
 }
 

@@ -10,16 +10,13 @@ ghost use Rattle.stm_logs.specs.Log.{LogValue, empty_log, log_groups, log_locks,
 ghost use Rattle.stm_logs.specs.Refusals.{OrSame, Becomes};
 
 use crate::chain::{ByLock, Locks, Words};
-use crate::finger::point;
-use crate::grow::{grown, is_full};
+use crate::finger::{point, point_all_if, shows};
+use crate::grow::{SHORT, grown, is_full, is_long};
 use crate::index::{enter, find, probe};
 use crate::nodes::{Entry, Nodes};
 use crate::order::{seek, set_next};
 use std::alloc::{AllocError, Allocator};
 use std::marker::Model;
-
-/// The nodes of a log that is so short that a walk needs no finger.
-const SHORT: usize = 128;
 
 /// The places of the first blocks.
 const PLACES: usize = 64;
@@ -95,6 +92,9 @@ impl<A: Allocator + Copy> Table<A> {
     pub(crate) fn has_lock(&self, lock: u32) -> bool
         ensures { IsTrue result ↔ ((a : ℕ) × (get self.now.locks a ≡ Some lock)) }
     {
+        if is_long(&self.nodes) && shows(&self.nodes, lock) {
+            return true;
+        }
         let first = first_from(&self.nodes, lock);
         first != 0 && self.nodes.get(first).lock == lock
     }
@@ -185,12 +185,6 @@ fn first_from<A: Allocator>(nodes: &Nodes<A>, lock: u32) -> usize
     nodes.get(before).next as usize
 }
 
-/// Whether walks go by fingers.
-#[inline]
-fn is_long<A: Allocator>(nodes: &Nodes<A>) -> bool {
-    nodes.count() >= SHORT
-}
-
 /// Takes the nodes out of the index, and leaves the root alone.
 #[inline]
 fn clear_nodes<A: Allocator>(nodes: &mut Nodes<A>)
@@ -270,6 +264,8 @@ fn put_long<A: Allocator>(nodes: &mut Nodes<A>, place: usize, number: u32, lock:
     requires new { HasNone nodes.old.list nodes.old.count number }
     ensures { HasMore number lock value nodes.old nodes.new }
 {
+    let is_first = nodes.count() == SHORT;
+    point_all_if(nodes, is_first);
     put_word(nodes, place, number, lock, value, true);
     point(nodes, lock, number, nodes.count());
 }

@@ -1,4 +1,3 @@
-use Rattle.std.proofs.Common.{arith}
 use Rattle.vac_records.proofs.Counting.{room_at, units_made}
 use Rattle.vac_records.proofs.item.make_of.Goals as goal
 

@@ -1,9 +1,9 @@
 use Rattle.std.proofs.Common.{◌≡◌}
 use Rattle.stm_logs.specs.Order.{OnlyFingers}
-use Rattle.stm_logs.proofs.finger.point.Given as goal
+use Rattle.stm_logs.proofs.finger.point_all.Given as goal
 
-abbrev pub invariant-loop-scale : goal.invariant-loop-scale
-invariant-loop-scale g l = record {
+abbrev pub invariant-loop-e : goal.invariant-loop-e
+invariant-loop-e g l = record {
   same : OnlyFingers l.fn.nodes.list l.nodes.list;
   count : l.nodes.count ≡ l.fn.nodes.count;
   recent : l.nodes.recent ≡ l.fn.nodes.recent;
