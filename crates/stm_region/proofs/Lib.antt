@@ -1,6 +1,7 @@
 pub mod Places
 pub mod Mirroring
 pub mod Tracing
+pub mod Deciding
 pub mod Moves
 pub mod Ending
 pub mod Laws

@@ -9,9 +9,9 @@ use Rattle.atomic_table.specs.Table.{State, Me, step, keeps, Allows, Splits, Joi
 use Rattle.atomic_table.proofs.Lists.{set_else}
 use Rattle.atomic_table.specs.Seated.{TableId}
 use Rattle.stm_words.specs.Image.{In, Agrees, laid}
-use Rattle.stm_core.specs.Client.{Client, Record, old_version, RecordLaw, shed}
+use Rattle.stm_core.specs.Client.{Client, Record, running, old_version, RecordLaw, shed}
 use Rattle.stm_core.specs.Core.{Core, bounds_of, found, left, written, stepped, divided, gathered, IsFreeHanded}
-use Rattle.stm_core.specs.Event.{Action, begin, probe, check, lock, tick, validate, put, release, give_back, finish, after, giving, fresh, taking, gone}
+use Rattle.stm_core.specs.Event.{Action, begin, probe, check, lock, tick, validate, put, release, give_back, finish, after, decision, giving, fresh, taking, gone}
 use Rattle.stm_core.specs.History.{Serial, SomeFits, all_records}
 use Rattle.stm_core.specs.Invariant.{now, Rule}
 use Rattle.stm_core.proofs.Eras.{in_append, of_is}
@@ -29,6 +29,7 @@ use Rattle.stm_region.specs.Told.{IsLockWord, IsVersion, StandsOn, IsRightAfter,
 use Rattle.stm_region.specs.Traced.{IsTraced}
 use Rattle.stm_region.specs.Rule.{Holds}
 use Rattle.stm_region.proofs.Tracing.{step_traced, step_listed, split_traced, gather_traced}
+use Rattle.stm_region.proofs.Deciding.{Makes, tick_makes, validate_makes, finish_makes}
 use Rattle.stm_region.proofs.Places.{Stays, stays, found_there, left_there, in_table}
 
 not_in : {A : Type 0} (x : A) → In x [] → ⊥
@@ -108,8 +109,8 @@ module _ (fits : List ℕ → Type 0) (lawful : RecordLaw) (law : Keeping fits l
   abbrev o : Opened
   o = opened_with r
 
-  decides_of : (c : Core) → Matches o c → length r.opening ≡ r.size → fits r.first → Rule lawful lk c → (i : ℕ) (v : Client) → get_elem? c.clients i ≡ some v → (e : Action) (n : ℕ) (u : Client) → IsRightAfter lawful r e n u i c → DecidesAt fits lawful r e n u v
-  decides_of c m z f h i v at e n u g =
+  decides_of : (c : Core) → Matches o c → length r.opening ≡ r.size → fits r.first → Rule lawful lk c → (i : ℕ) (v : Client) → get_elem? c.clients i ≡ some v → (e : Action) (n : ℕ) (u : Client) → IsRightAfter lawful r e n u i c → u.attempt.phase ≡ running → Makes (decision (unplaced r.renewal) e n u) u v → DecidesAt fits lawful r e n u v
+  decides_of c m z f h i v at e n u g run k =
       let all = whole_shared lawful lk c h i v at in (
         record {
           core = c;
@@ -126,6 +127,11 @@ module _ (fits : List ℕ → Type 0) (lawful : RecordLaw) (law : Keeping fits l
           word = n;
           was = u;
           after = g;
+          undecided = run;
+          made = k.made;
+          decided_by = k.single;
+          added = k.added;
+          attempt = k.attempt;
           fitting = f;
           abides = all.abides;
           serial = subst (λ image. Serial image (all_records c.clients)) m.first all.serial;
@@ -198,9 +204,14 @@ module _ (fits : List ℕ → Type 0) (lawful : RecordLaw) (law : Keeping fits l
   told_of c d m m' z top f h h' i v (lock k) was at g may = (lock_word c m top h k, λ y. (goes_on lawful lk c h.inv h.lone i v was y.0 y.1).locks k may)
   told_of c d m m' z top f h h' i v (tick from tag writes) was at g may =
       let w = after (unplaced r.renewal) lk (tick from tag writes) c.clock v in
-      (clock c m top h, later d h' i w at, (λ s. decides_of d m' z f h' i w at (tick from tag writes) c.clock v g), λ y. let g = (goes_on lawful lk c h.inv h.lone i v was y.0 y.1).ticks from tag writes may in (g.0, g.1 (unplaced r.renewal)))
-  told_of c d m m' z top f h h' i v (validate k) was at g may = (lock_word c m top h k, λ s. decides_of d m' z f h' i (after (unplaced r.renewal) lk (validate k) (found lk c (validate k)) v) at (validate k) (found lk c (validate k)) v g)
-  told_of c d m m' z top f h h' i v (finish tag) was at g may = decides_of d m' z f h' i (after (unplaced r.renewal) lk (finish tag) c.clock v) at (finish tag) c.clock v g
+      let run : v.attempt.phase ≡ running = (can_act lk lawful (bounds_of c) v.attempt (tick from tag writes) may).0.0 in
+      (clock c m top h, later d h' i w at, (λ s. decides_of d m' z f h' i w at (tick from tag writes) c.clock v g run (tick_makes (unplaced r.renewal) lk c.clock v run from tag writes s)), λ y. let g = (goes_on lawful lk c h.inv h.lone i v was y.0 y.1).ticks from tag writes may in (g.0, g.1 (unplaced r.renewal)))
+  told_of c d m m' z top f h h' i v (validate k) was at g may =
+      let run : v.attempt.phase ≡ running = (can_act lk lawful (bounds_of c) v.attempt (validate k) may).0 in
+      (lock_word c m top h k, λ s. decides_of d m' z f h' i (after (unplaced r.renewal) lk (validate k) (found lk c (validate k)) v) at (validate k) (found lk c (validate k)) v g run (validate_makes (unplaced r.renewal) lk (found lk c (validate k)) v run k s))
+  told_of c d m m' z top f h h' i v (finish tag) was at g may =
+      let run : v.attempt.phase ≡ running = (can_act lk lawful (bounds_of c) v.attempt (finish tag) may).0.0 in
+      decides_of d m' z f h' i (after (unplaced r.renewal) lk (finish tag) c.clock v) at (finish tag) c.clock v g run (finish_makes (unplaced r.renewal) lk c.clock v run tag)
   told_of c d m m' z top f h h' i v _ was at g may = tt
 
   in_clients : (cs : List Client) (i : ℕ) (v w : Client) → get_elem? cs i ≡ some v → get_elem? (set cs i w) i ≡ some w

@@ -4,10 +4,10 @@ use Rattle.atomic_table.specs.Table.{Me, Step}
 use mathlib.Core.Option.{some}
 use lib.ListN.{get_elem?}
 use Rattle.stm_words.specs.Image.{In, Agrees}
-use Rattle.stm_core.specs.Client.{Client, Record, decided, version_of, IsFree, word_before, RecordLaw}
+use Rattle.stm_core.specs.Client.{Client, Record, running, decided, inserted, version_of, IsFree, word_before, RecordLaw}
 use Rattle.stm_core.specs.Core.{Core, found, stepped, acts}
 use Rattle.stm_core.specs.Invariant.{Rule, now}
-use Rattle.stm_core.specs.Event.{Action, begin, probe, fetch, check, lock, tick, validate, put, release, give_back, finish}
+use Rattle.stm_core.specs.Event.{Action, begin, probe, fetch, check, lock, tick, validate, put, release, give_back, finish, decision}
 use Rattle.stm_core.specs.Guards.{Holds, stripe_of}
 use Rattle.stm_core.specs.History.{Serial, Sub, all_records, image_at}
 use Rattle.stm_region.specs.Shown.{RegionShown, opened_with, unplaced, value_after}
@@ -83,8 +83,9 @@ pub record IsOfOneVersion (fits : List ℕ → Type 0) (lawful : RecordLaw) (reg
   pub agrees : Agrees (image_at core.opening v.attempt.rv (all_records (now core).clients))
       v.attempt.reads
 
--- the records of all clients, this one's with its newest among them, each of its own once and in
--- its order, are lawful and serial from the first opening image
+-- a step of this region decided the client's attempt, and right after it the records of all clients,
+-- this one's with its newest among them, each of its own once and in its order, are lawful and
+-- serial from the first opening image
 pub record Decides (fits : List ℕ → Type 0) (lawful : RecordLaw) (region : RegionShown) (v : Client)
     : Type 0 where
   -- the region's core state right after the deciding step
@@ -105,6 +106,13 @@ pub record Decides (fits : List ℕ → Type 0) (lawful : RecordLaw) (region : R
   pub word : ℕ
   pub was : Client
   pub after : IsRightAfter lawful region step word was number core
+  -- the step decided it: while the attempt ran it made one record, this one, which is the attempt's
+  -- and was put among those that the client had
+  pub undecided : was.attempt.phase ≡ running
+  pub made : Record
+  pub decided_by : decision (unplaced region.renewal) step word was ≡ made ∷ []
+  pub added : v.records ≡ inserted made was.records
+  pub attempt : made.attempt ≡ v.attempt.number
   pub fitting : fits region.first
   pub abides : (r : Record) → In r (all_records core.clients) → lawful r.tag r.reads r.writes
   pub serial : Serial region.first (all_records core.clients)
