@@ -3,14 +3,13 @@ use Rattle.std.proofs.Common.{◌≡◌, ℕ, zero, suc, List, [], ◌∷◌, sl
 use mathlib.Core.Option.{some-injective, some-ne-none}
 use Rattle.stm_words.specs.Image.{In, laid}
 use Rattle.stm_words.proofs.Paired.{in_later}
-use Rattle.stm_core.specs.Client.{Client, Record}
+use Rattle.stm_core.specs.Client.{Client, Record, inserted}
 use Rattle.stm_core.specs.History.{Serial, Sub, image_after, all_records}
 use Rattle.stm_core.proofs.Merging.{in_sub}
 use Rattle.stm_core.proofs.Orders.{inserted_in}
 use Rattle.stm_region.specs.Shown.{RegionShown}
-use Rattle.stm_region.specs.Told.{Decides}
 use Rattle.stm_region.specs.Closed.{Ends}
-use Rattle.stm_attempt.specs.Committing.{WasDecided}
+use Rattle.stm_attempt.specs.Committing.{HasCommitted, DecidesWith, WasDecided, commit_record}
 use Rattle.bank.specs.declared.entry.Entry.{Entry}
 use Rattle.bank.specs.declared.entry.Entry.TheVariants.{Transfer, Sum}
 use Rattle.bank.specs.Accounts.{after, Finds, code}
@@ -44,23 +43,36 @@ sum_in total xs (x ∷ rs) last r h (suc j, is) t =
     sum_in total (after h.0 xs) rs last r h.3 (j, is) t ∙ same_sum h.0 xs h.2
 
 -- what was known at the deciding step, in the bank's words
-pub in_order : (region region' : RegionShown) (v v' : Client) → region' ≡ region → IsOpened region →
-    WasDecided (λ (image : List ℕ). IsBank image) (λ (tag : List ℕ) reads writes. IsLawful tag reads writes) region' v → v' ≡ v → WasInOrder region v'
-in_order region region' v v' same h d e =
+pub in_order : (region region' : RegionShown) (r : Record) (v v' : Client) → region' ≡ region → IsOpened region →
+    WasDecided (λ (image : List ℕ). IsBank image) (λ (tag : List ℕ) reads writes. IsLawful tag reads writes) region' r v → v' ≡ v → WasInOrder region v'
+in_order region region' r v v' same h d e =
     subst (λ (x : Client). WasInOrder region x) (sym e)
-    (let k = (subst (λ (r : RegionShown). WasDecided (λ (image : List ℕ). IsBank image) (λ (tag : List ℕ) reads writes. IsLawful tag reads writes) r v) same d) in
+    (let k = (subst (λ (y : RegionShown). WasDecided (λ (image : List ℕ). IsBank image) (λ (tag : List ℕ) reads writes. IsLawful tag reads writes) y r v) same d) in
     let all = all_records k.decides.core.clients in
     let records : k.then.records ≡ v.records = ap (λ (c : Client). c.records) (sym k.same) in
     record {
+      made = r;
+      own = subst (λ (rs : List Record). In r rs) records (subst (λ (x : Record). In x k.then.records) k.made (subst (λ (rs : List Record). In k.decides.made rs) (sym k.decides.added) (inserted_in k.decides.made k.decides.was.records)));
       decided = k;
       last = image_after region.first all;
       history = history region.first all h.first k.decides.serial k.decides.abides;
       among = subst (λ (rs : List Record). Sub rs all) records k.decides.among;
     })
 
-pub read_in_order : (region region' : RegionShown) (v v' : Client) → region' ≡ region → IsOpened region →
-    Decides (λ (image : List ℕ). IsBank image) (λ (tag : List ℕ) reads writes. IsLawful tag reads writes) region' v → v' ≡ v → WasInOrder region v'
-read_in_order region region' v v' same h k e = in_order region region' v v' same h (record { then = v; same = refl; decides = k }) e
+pub read_in_order : (region region' : RegionShown) (r : Record) (v v' : Client) → region' ≡ region → IsOpened region →
+    DecidesWith (λ (image : List ℕ). IsBank image) (λ (tag : List ℕ) reads writes. IsLawful tag reads writes) region' r v → v' ≡ v → WasInOrder region v'
+read_in_order region region' r v v' same h k e = in_order region region' r v v' same h (record { then = v; same = refl; decides = k.0; made = k.1 }) e
+
+-- a commit adds the record of its entry
+tag_of : (region : RegionShown) (tag : List ℕ) (v : Client) (pairs : List (ℕ × ℕ)) (version : ℕ) → (commit_record region tag v pairs version).tag ≡ tag
+tag_of region tag v [] version = refl
+tag_of region tag v (p ∷ ps) version = refl
+
+pub added : (entry : Entry) (region : RegionShown) (pairs : List (ℕ × ℕ)) (version : ℕ) (v w u : Client) (records : List Record) → HasCommitted region (code entry) pairs w u version → w.records ≡ v.records → records ≡ u.records →
+    (r : Record) × (r.tag ≡ code entry) × (records ≡ inserted r v.records)
+added entry region pairs version v w u records done same end =
+    let r = commit_record region (code entry) w pairs version in
+    (r, tag_of region (code entry) w pairs version, end ∙ (done.records ∙ ap (λ (rs : List Record). inserted r rs) same))
 
 -- a sum that was recorded is the opening's
 pub opening_sum : (region : RegionShown) (v v' : Client) (total : ℕ) → WasInOrder region v' → Adds (Sum total) v v' → total ≡ sum region.first

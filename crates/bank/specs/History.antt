@@ -1,5 +1,6 @@
 -- What is known of the records of all tellers.
 use Rattle.std.specs.Prelude.{◌≡◌, ℕ, List, [], ◌∷◌, Result, Ok, Err, sum}
+use Rattle.stm_words.specs.Image.{In}
 use Rattle.stm_core.specs.Client.{Client, Record, inserted}
 use Rattle.stm_core.specs.History.{Sub, all_records}
 use Rattle.stm_region.specs.Shown.{RegionShown}
@@ -37,7 +38,10 @@ Records entry (Err e) v v' = v'.records ≡ v.records
 -- region right after that step, the records of all tellers were a history from the opening, and its
 -- own stood among them, each once and in their order
 pub record WasInOrder (region : RegionShown) (v : Client) : Type 0 where
-  pub decided : WasDecided IsBank IsLawful region v
+  -- the record that the deciding step made is one of the teller's
+  pub made : Record
+  pub own : In made v.records
+  pub decided : WasDecided IsBank IsLawful region made v
   pub last : List ℕ
   pub history : IsHistory region.first (all_records decided.decides.core.clients) last
   pub among : Sub v.records (all_records decided.decides.core.clients)

@@ -4,18 +4,20 @@ use Rattle.std.specs.FinMap.{len, len-entries}
 use Rattle.std.proofs.lemmas.Bool.{ne_eqb}
 use Rattle.core.specs.Result.{IsErrAnd}
 use Rattle.std.specs.Result.{is_ok, is_err}
+use mathlib.Core.Option.{some-injective}
+use lib.ListN.{get_elem?}
 use Rattle.stm_words.specs.Image.{In}
 use Rattle.stm_core.specs.declared.limits.TheConstants.{MOST_TICKS}
-use Rattle.stm_core.specs.Client.{Client, Record, inserted, committed, running, is_committed, decided}
-use Rattle.stm_core.specs.Event.{is_empty, after, finish}
+use Rattle.stm_core.specs.Client.{Client, Record, RecordLaw, inserted, committed, running, is_committed, decided}
+use Rattle.stm_core.specs.Event.{Action, is_empty, after, finish, decision, writer_record, reader_record}
 use Rattle.stm_logs.specs.Log.{LogValue, SameAddresses, log_pairs, log_locks}
 use Rattle.stm_logs.proofs.LockLemmas.{locks_few}
-use Rattle.stm_region.specs.Told.{StandsOn}
+use Rattle.stm_region.specs.Told.{StandsOn, Decides, DecidesAt}
 use Rattle.stm_region.specs.Shown.{RegionShown, unplaced}
 use Rattle.stm_core.specs.Guards.{stripe_of}
 use Rattle.stm_attempt.specs.Begun.{addresses, IsBegun, AreInside}
 use Rattle.stm_attempt.specs.Conflicts.{IsLockConflict, IsValidateConflict, IsTickConflict, IsReadLock, IsCommitConflict}
-use Rattle.stm_attempt.specs.Committing.{settling, ticked_record, commit_record, IsCommitVersion, IsCommitStop, IsCounted, HasCommitted, HasStopped}
+use Rattle.stm_attempt.specs.Committing.{IsSameAttempt, settling, ticked_record, commit_record, IsCommitVersion, IsCommitStop, IsCounted, HasCommitted, HasStopped, DecidesWith, WasDecided}
 use Rattle.stm_attempt.specs.CommitParts.{IsReady, CanValidate, returned, is_at_once, HasFailed, HasTaken, IsClimbing, HasFailedLocking, HasFailedDeciding, HasFailedValidating, HasTicked, HasValidated, IsDecided, HasSettled}
 use Rattle.stm_attempt.proofs.Named.{apart, same_attempt, same_on}
 use Rattle.stm_attempt.specs.declared.conflict.Conflict.{Conflict}
@@ -109,6 +111,36 @@ module _ (region : RegionShown) (tag : List ℕ) (writes : List (ℕ × ℕ)) (v
       later = later;
       steps = let n : length t.attempt.reads ≡ length v.attempt.reads = ap length reads_same in omega (arith, few, validated.steps, n);
     }
+
+-- the record of an attempt that has this tag, these writes and this version
+recorded : (region : RegionShown) (tag : List ℕ) (writes : List (ℕ × ℕ)) (v d : Client) (version : ℕ) → IsSameAttempt v d → d.attempt.tag ≡ tag → d.attempt.writes ≡ writes → d.attempt.wv ≡ version → d.attempt.ticked_at ≡ 0 →
+    writer_record (unplaced region.renewal) d.attempt ≡ ticked_record region tag v writes version
+recorded region tag writes v d version same e f g h = let a = same.reads in let b = same.number in λ i. record { tag = e i; reads = a i; writes = f i; writer = true; version = g i; attempt = b i; renewal = region.renewal; point = h i; client = 0 }
+
+-- the deciding step made it: the tick, or the last validation
+pub made_by_tick : (fits : List ℕ → Type 0) (lawful : RecordLaw) (region : RegionShown) (tag : List ℕ) (writes : List (ℕ × ℕ)) (v t : Client) (version : ℕ) → HasTicked region tag writes v t version → decided t ≡ true → Decides fits lawful region t →
+    DecidesWith fits lawful region (ticked_record region tag v writes version) t
+made_by_tick fits lawful region tag writes v t version ticked is k = (k, k.writer is ∙ recorded region tag writes v t version ticked.same ticked.tagged ticked.writing ticked.versioned ticked.unplaced)
+
+pub made_by_validation : (fits : List ℕ → Type 0) (lawful : RecordLaw) (region : RegionShown) (tag : List ℕ) (writes : List (ℕ × ℕ)) (v t d : Client) (version : ℕ) → HasTicked region tag writes v t version → HasValidated region t d → Decides fits lawful region d →
+    DecidesWith fits lawful region (ticked_record region tag v writes version) d
+made_by_validation fits lawful region tag writes v t d version ticked validated k =
+    (k, k.writer (ap is_committed validated.phase) ∙ recorded region tag writes v d version (same_on v t d ticked.same validated.same) (validated.tagged ∙ ticked.tagged) (validated.writing ∙ ticked.writing) (validated.versioned ∙ ticked.versioned) (validated.unplaced ∙ ticked.unplaced))
+
+-- or the finish
+pub made_by_finish : (fits : List ℕ → Type 0) (lawful : RecordLaw) (region : RegionShown) (tag : List ℕ) (found : ℕ) (v u : Client) → DecidesAt fits lawful region (finish tag) found v u → DecidesWith fits lawful region (reader_record (unplaced region.renewal) tag v.attempt) u
+made_by_finish fits lawful region tag found v u k =
+    let s = unplaced region.renewal in
+    let made : Record = k.0.made in
+    let by : decision s (finish tag) found v ≡ made ∷ [] = subst (λ (x : Client). decision s (finish tag) found x ≡ made ∷ []) k.3
+    (subst (λ (n : ℕ). decision s (finish tag) n k.0.was ≡ made ∷ []) k.2 (subst (λ (e : Action). decision s e k.0.word k.0.was ≡ made ∷ []) k.1 k.0.decided_by)) in
+    (k.0, sym (some-injective (reader_record s tag v.attempt) made (ap (λ (rs : List Record). get_elem? rs 0) by)))
+
+pub finished_by : (fits : List ℕ → Type 0) (lawful : RecordLaw) (region : RegionShown) (tag : List ℕ) (writes : List (ℕ × ℕ)) (found version : ℕ) (v u w : Client) → writes ≡ [] → DecidesAt fits lawful region (finish tag) found v u → w ≡ u → WasDecided fits lawful region (commit_record region tag v writes version) w
+finished_by fits lawful region tag writes found version v u w none k e =
+    let d = made_by_finish fits lawful region tag found v u k in
+    subst (λ (ps : List (ℕ × ℕ)). WasDecided fits lawful region (commit_record region tag v ps version) w) (sym none)
+    (record { then = u; same = ap settling e; decides = d.0; made = d.1 })
 
 -- whether a ticked attempt is decided
 pub decided_so : (region : RegionShown) (tag : List ℕ) (writes : List (ℕ × ℕ)) (v t : Client) (version : ℕ) → HasTicked region tag writes v t version → is_at_once v version ≡ true → decided t ≡ true
@@ -252,14 +284,18 @@ short zero xs = omega arith
 short (suc n) [] = omega arith
 short (suc n) (x ∷ xs) = let l = short n xs in omega (arith, l)
 
+-- the record of a commit, told of the client that has taken its locks
+pub record_on : (region : RegionShown) (tag : List ℕ) (writes : List (ℕ × ℕ)) (v l : Client) (version : ℕ) → settling l ≡ settling v → writes ≢ [] → ticked_record region tag l writes version ≡ commit_record region tag v writes version
+record_on region tag writes v l version locked some =
+    let reads : l.attempt.reads ≡ v.attempt.reads = ap (λ (x : Client). x.attempt.reads) locked in
+    let attempt : l.attempt.number ≡ v.attempt.number = ap (λ (x : Client). x.attempt.number) locked in
+    let same : ticked_record region tag l writes version ≡ ticked_record region tag v writes version = rw (reads, attempt) refl in
+    same ∙ record_of_writer region tag v writes version some
+
 -- the first of the parts left the client as it was but for its locks
 module _ (region : RegionShown) (tag : List ℕ) (writes : List (ℕ × ℕ)) (v l d e : Client) (version : ℕ) (locked : settling l ≡ settling v) (decided : IsDecided region tag writes l d version) (settled : HasSettled d e) (some : writes ≢ []) where
   record_same : ticked_record region tag l writes version ≡ commit_record region tag v writes version
-  record_same =
-      let reads : l.attempt.reads ≡ v.attempt.reads = ap (λ (x : Client). x.attempt.reads) locked in
-      let attempt : l.attempt.number ≡ v.attempt.number = ap (λ (x : Client). x.attempt.number) locked in
-      let same : ticked_record region tag l writes version ≡ ticked_record region tag v writes version = rw (reads, attempt) refl in
-      same ∙ record_of_writer region tag v writes version some
+  record_same = record_on region tag writes v l version locked some
 
   pub has_committed : HasCommitted region tag writes v e version
   has_committed = record {

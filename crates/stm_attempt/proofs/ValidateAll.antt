@@ -73,7 +73,9 @@ module _ (region : RegionShown) (v w : Client) (count : ℕ) (validating : IsVal
           same = same_attempt v w' (ap apart stepped ∙ ap apart validating.same);
           held = ap (λ (x : Client). x.attempt.held) stepped ∙ ap (λ (x : Client). x.attempt.held) validating.same;
           versioned = ap (λ (x : Client). x.attempt.wv) stepped ∙ ap (λ (x : Client). x.attempt.wv) validating.same;
+          tagged = ap (λ (x : Client). x.attempt.tag) stepped ∙ ap (λ (x : Client). x.attempt.tag) validating.same;
           writing = ap (λ (x : Client). x.attempt.writes) stepped ∙ ap (λ (x : Client). x.attempt.writes) validating.same;
+          unplaced = ap (λ (x : Client). x.attempt.ticked_at) stepped ∙ ap (λ (x : Client). x.attempt.ticked_at) validating.same;
           known = ap (λ (x : Client). x.floor) stepped ∙ ap (λ (x : Client). x.floor) validating.same;
           unstored = ap (λ (x : Client). x.attempt.stored) stepped;
           phase = ap (λ (x : Client). x.attempt.phase) stepped;

@@ -4,14 +4,14 @@ use Rattle.std.specs.Borrow.{MutBor}
 use Rattle.std.specs.FinMap.{get, len}
 use Rattle.stm_words.specs.View.{View}
 use Rattle.stm_words.specs.declared.law.Law as Law
-use Rattle.stm_core.specs.Client.{Client}
+use Rattle.stm_core.specs.Client.{Client, Record}
 use Rattle.stm_logs.specs.Log.{LogValue, empty_log, log_pairs}
 use Rattle.stm_region.specs.Shown.{ClientShown}
 use Rattle.stm_core.specs.Guards.{stripe_of}
 use Rattle.stm_attempt.specs.Meaning.{memory_of, Origin, origin_of}
 use Rattle.stm_attempt.specs.Conflicts.{refused, most_steps}
 use Rattle.stm_attempt.specs.Answers.{HasReadRegion, HasWritten}
-use Rattle.stm_attempt.specs.Committing.{HasCommitted, HasStopped}
+use Rattle.stm_attempt.specs.Committing.{HasCommitted, HasStopped, commit_record}
 use Rattle.stm_attempt.specs.declared.attempt.Attempt.{Attempt}
 use Rattle.stm_attempt.specs.declared.logs.Logs.{Logs}
 use Rattle.stm_attempt.specs.declared.conflict.Refusal.{Refusal}
@@ -70,6 +70,11 @@ module _ {L R A : Type 0} {l : Law.Ghosts L} where
   abbrev pub Commits : Attempt L R A l → List ℕ → Client → ℕ → Type 0
   Commits s tag v version =
       HasCommitted s.region.now tag (log_pairs (log_of s)) (client_of s) v version
+
+  -- the record that its commit makes, of this tag and this version
+  abbrev pub record_made : Attempt L R A l → List ℕ → ℕ → Record
+  record_made s tag version =
+      commit_record s.region.now tag (client_of s) (log_pairs (log_of s)) version
 
   -- its commit stopped, and left its client so
   abbrev pub Stops : Attempt L R A l → Client → Stop → Type 0

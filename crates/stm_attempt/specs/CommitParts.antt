@@ -155,7 +155,9 @@ pub record HasValidated (region : RegionShown) (v v' : Client) : Type 0 where
   pub same : IsSameAttempt v v'
   pub held : v'.attempt.held ≡ v.attempt.held
   pub versioned : v'.attempt.wv ≡ v.attempt.wv
+  pub tagged : v'.attempt.tag ≡ v.attempt.tag
   pub writing : v'.attempt.writes ≡ v.attempt.writes
+  pub unplaced : v'.attempt.ticked_at ≡ v.attempt.ticked_at
   pub known : v'.floor ≡ v.floor
   pub unstored : v'.attempt.stored ≡ []
   pub phase : v'.attempt.phase ≡ committed

@@ -80,11 +80,16 @@ pub record HasStopped (region : RegionShown) (log : LogValue) (stop : Stop)
   pub same : IsSameAttempt v v'
   pub records : v'.records ≡ v.records
 
--- at the step that decided the attempt its client was as it is now, but for its last step, what it
--- had stored, the locks it held and its steps, and the records of all clients were lawful and
--- serial, the client's own among them
+-- a step decided the attempt of a client, which has this value right after it, and made this record
+abbrev pub DecidesWith : (List ℕ → Type 0) → RecordLaw → RegionShown → Record → Client → Type 0
+DecidesWith fits lawful region r v = (d : Decides fits lawful region v) × (d.made ≡ r)
+
+-- at the step that decided the attempt, and made this record, its client was as it is now, but for
+-- its last step, what it had stored, the locks it held and its steps, and the records of all clients
+-- were lawful and serial, the client's own among them
 pub record WasDecided (fits : List ℕ → Type 0) (lawful : RecordLaw) (region : RegionShown)
-    (v : Client) : Type 0 where
+    (r : Record) (v : Client) : Type 0 where
   pub then : Client
   pub same : settling v ≡ settling then
   pub decides : Decides fits lawful region then
+  pub made : decides.made ≡ r

@@ -4,11 +4,11 @@ ghost use Rattle.std.specs.Prelude.{◌≡◌, ◌≢◌, ℕ, ◌+◌, ◌*◌,
 ghost use Rattle.std.specs.FinMap.{len};
 ghost use Rattle.stm_core.specs.Core.{IsFreeHanded};
 ghost use Rattle.stm_logs.specs.Log.{SameAddresses, log_pairs, log_locks};
-ghost use Rattle.stm_region.specs.Told.{Decides};
 ghost use Rattle.stm_attempt.specs.Begun.{AreInside, IsPlaced, IsRunning, addresses};
 ghost use Rattle.stm_attempt.specs.Conflicts.{HasMet};
 ghost use Rattle.stm_attempt.specs.Answers.{IsSpent};
-ghost use Rattle.stm_attempt.specs.Committing.{HasCommitted, HasStopped, WasDecided};
+ghost use Rattle.stm_attempt.specs.Committing.{HasCommitted, HasStopped, DecidesWith, WasDecided};
+ghost use Rattle.stm_attempt.specs.Committing.{commit_record, ticked_record};
 ghost use Rattle.stm_attempt.specs.Attempt.{AreEmpty};
 ghost use Rattle.stm_attempt.specs.CommitParts.{IsReady, IsLogged, IsDecided, HasFailedDeciding, CanSettle, HasSettled, commit_bound};
 ghost use Rattle.stm_attempt.specs.declared.conflict.Conflict.{Conflict};
@@ -55,7 +55,9 @@ fn decide<L: Law, R: Allocator, A: Allocator + Copy, T: Tag, G: Gate>(
     ensures ok { IfOk result (λ version. IsDecided region.now (T.numbers tag.now)
         (log_pairs logs.now.writes) client.old.value client.new.value version) }
     ensures version { IfOk result (λ version. version ≤ region.now.last) }
-    ensures decides { IfOk result (λ _. Decides L.fits L.lawful region.now client.new.value) }
+    ensures decides { IfOk result (λ version. DecidesWith L.fits L.lawful region.now
+        (ticked_record region.now (T.numbers tag.now) client.old.value
+        (log_pairs logs.now.writes) version) client.new.value) }
     ensures lone { client.old.value.attempt.lone ≡ true → IfErr result (λ stop. IsSpent stop) }
     ensures next { client.old.value.attempt.lone ≡ true →
         MatchResult result (λ version. version ≡ rv + 1) (λ _. rv ≡ region.now.last) }
@@ -111,7 +113,9 @@ fn commit_writes<L: Law, R: Allocator, A: Allocator + Copy, T: Tag, G: Gate>(
     ensures ok { IfOk result (λ version. HasCommitted region.now (T.numbers tag.now)
         (log_pairs logs.now.writes) client.old.value client.new.value version) }
     ensures version { IfOk result (λ version. version ≤ region.now.last) }
-    ensures decides { IfOk result (λ _. WasDecided L.fits L.lawful region.now client.new.value) }
+    ensures decides { IfOk result (λ version. WasDecided L.fits L.lawful region.now
+        (commit_record region.now (T.numbers tag.now) client.old.value
+        (log_pairs logs.now.writes) version) client.new.value) }
     ensures lone { client.old.value.attempt.lone ≡ true → IfErr result (λ stop. IsSpent stop) }
     ensures next { client.old.value.attempt.lone ≡ true →
         MatchResult result (λ version. version ≡ rv + 1) (λ _. rv ≡ region.now.last) }
@@ -160,7 +164,9 @@ fn end<L: Law, R: Allocator, A: Allocator + Copy, T: Tag, G: Gate>(
     ensures ok { IfOk result (λ version. HasCommitted region.now (T.numbers tag.now)
         (log_pairs logs.old.writes) client.old.value client.new.value version) }
     ensures version { IfOk result (λ version. version ≤ region.now.last) }
-    ensures decides { IfOk result (λ _. WasDecided L.fits L.lawful region.now client.new.value) }
+    ensures decides { IfOk result (λ version. WasDecided L.fits L.lawful region.now
+        (commit_record region.now (T.numbers tag.now) client.old.value
+        (log_pairs logs.old.writes) version) client.new.value) }
     ensures refused { stopped ≡ None → IfErr result (λ stop.
         HasStopped region.now logs.old.writes stop client.old.value client.new.value) }
     ensures lone { client.old.value.attempt.lone ≡ true → IfErr result (λ stop. IsSpent stop) }
@@ -190,7 +196,7 @@ fn end<L: Law, R: Allocator, A: Allocator + Copy, T: Tag, G: Gate>(
 }
 
 impl<'a, L: Law, R: Allocator, A: Allocator + Copy> Attempt<'a, L, R, A> {
-    ghost use Rattle.stm_attempt.specs.Attempt.{runs, client_of, log_of, lock_of, Commits, Stops, step_bound, client_left, value_left, logs_left};
+    ghost use Rattle.stm_attempt.specs.Attempt.{runs, client_of, log_of, lock_of, Commits, Stops, record_made, step_bound, client_left, value_left, logs_left};
 
     /// Commits the attempt. Its record has this tag, and the version answered is its write
     /// version, or the read version where nothing was written. A refused commit leaves no record,
@@ -213,8 +219,9 @@ impl<'a, L: Law, R: Allocator, A: Allocator + Copy> Attempt<'a, L, R, A> {
         ensures ok { IfOk result (λ version.
             Commits self.entry (T.numbers tag.now) (value_left self.exit) version) }
         ensures version { IfOk result (λ version. version ≤ self.entry.region.now.last) }
-        ensures decides { IfOk result (λ _.
-            WasDecided L.fits L.lawful self.entry.region.now (value_left self.exit)) }
+        ensures decides { IfOk result (λ version.
+            WasDecided L.fits L.lawful self.entry.region.now
+            (record_made self.entry (T.numbers tag.now) version) (value_left self.exit)) }
         ensures refused { self.entry.stopped ≡ None →
             IfErr result (λ stop. Stops self.entry (value_left self.exit) stop) }
         ensures logs { IfErr result (λ _. AreEmpty (logs_left self.exit)) }

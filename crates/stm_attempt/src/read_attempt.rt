@@ -4,8 +4,9 @@ ghost use Rattle.stm_core.specs.Core.{IsFreeHanded};
 ghost use Rattle.stm_core.specs.Event.{begin as begins, finish as finishes};
 ghost use Rattle.stm_region.specs.declared.limits.TheConstants.{MOST_GRANTS};
 ghost use Rattle.stm_region.specs.Shown.{acted};
-ghost use Rattle.stm_region.specs.Told.{AreEarlier, Decides};
+ghost use Rattle.stm_region.specs.Told.{AreEarlier};
 ghost use Rattle.stm_attempt.specs.Begun.{IsRunning, IsUnstopped, is_unfinished};
+ghost use Rattle.stm_attempt.specs.Committing.{DecidesWith, commit_record};
 ghost use Rattle.stm_attempt.specs.Conflicts.{HasMet, most_steps};
 ghost use Rattle.stm_attempt.specs.Meaning.{IsStanding};
 
@@ -85,8 +86,9 @@ impl<'a, L: Law, R: Allocator> ReadAttempt<'a, L, R> {
         ensures client { (found : ℕ) × (client_left self.exit ≡ acted self.entry.region.now
             (finishes (T.numbers tag.now)) found self.entry.client.now) }
         ensures free_handed { IsFreeHanded (value_left self.exit) }
-        ensures decides { Decides L.fits L.lawful self.entry.region.now
-            (value_left self.exit) }
+        ensures decides { DecidesWith L.fits L.lawful self.entry.region.now
+            (commit_record self.entry.region.now (T.numbers tag.now)
+            (client_of self.entry) [] result) (value_left self.exit) }
         ensures steps { (value_left self.exit).attempt.steps ≤
             most_steps (length (client_of self.entry).attempt.reads) 0 }
     {

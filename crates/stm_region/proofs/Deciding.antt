@@ -6,34 +6,35 @@ use Rattle.stm_core.proofs.Lists.{clash}
 use Rattle.stm_core.proofs.Steps.{by_case, undecided_at}
 
 -- these records are a single one, of the client's attempt, and it was put among those that the client had
-pub record Makes (rs : List Record) (v w : Client) : Type 0 where
+pub record Makes (s : Stamp) (rs : List Record) (v w : Client) : Type 0 where
   pub made : Record
   pub single : rs ≡ made ∷ []
   pub added : w.records ≡ inserted made v.records
   pub attempt : made.attempt ≡ w.attempt.number
+  pub writer : decided w ≡ true → made ≡ writer_record s w.attempt
 
 module _ (s : Stamp) (lk : ℕ → ℕ) (n : ℕ) (v : Client) (run : v.attempt.phase ≡ running) where
-  pub tick_makes : (from : ℕ) (tag : List ℕ) (writes : List (ℕ × ℕ)) → decided (after s lk (tick from tag writes) n v) ≡ true → Makes (decision s (tick from tag writes) n v) v (after s lk (tick from tag writes) n v)
+  pub tick_makes : (from : ℕ) (tag : List ℕ) (writes : List (ℕ × ℕ)) → decided (after s lk (tick from tag writes) n v) ≡ true → Makes s (decision s (tick from tag writes) n v) v (after s lk (tick from tag writes) n v)
   tick_makes from tag writes =
       let w0 : Client = versioned s (from + 1) tag writes v in
       by_case (λ b. decided (with_ticks (v.attempt.ticks + 1) n (stepping (ticked from n) (cond b (won s (from + 1) tag writes v) v))) ≡ true
-      → Makes (cond b (cond (decides_at_once w0) (writer_record s w0.attempt ∷ []) []) []) v (with_ticks (v.attempt.ticks + 1) n (stepping (ticked from n) (cond b (won s (from + 1) tag writes v) v)))) (eqb n from)
+      → Makes s (cond b (cond (decides_at_once w0) (writer_record s w0.attempt ∷ []) []) []) v (with_ticks (v.attempt.ticks + 1) n (stepping (ticked from n) (cond b (won s (from + 1) tag writes v) v)))) (eqb n from)
       (λ e. by_case (λ b. decided (with_ticks (v.attempt.ticks + 1) n (stepping (ticked from n) (cond b (committed_by s w0) w0))) ≡ true
-      → Makes (cond b (writer_record s w0.attempt ∷ []) []) v (with_ticks (v.attempt.ticks + 1) n (stepping (ticked from n) (cond b (committed_by s w0) w0)))) (decides_at_once w0)
-      (λ z d. record { made = writer_record s w0.attempt; single = refl; added = refl; attempt = refl })
+      → Makes s (cond b (writer_record s w0.attempt ∷ []) []) v (with_ticks (v.attempt.ticks + 1) n (stepping (ticked from n) (cond b (committed_by s w0) w0)))) (decides_at_once w0)
+      (λ z d. record { made = writer_record s w0.attempt; single = refl; added = refl; attempt = refl; writer = λ _. refl })
       (λ z d. clash d (undecided_at v run)))
       (λ e d. clash d (undecided_at v run))
 
-  pub validate_makes : (k : ℕ) → decided (after s lk (validate k) n v) ≡ true → Makes (decision s (validate k) n v) v (after s lk (validate k) n v)
+  pub validate_makes : (k : ℕ) → decided (after s lk (validate k) n v) ≡ true → Makes s (decision s (validate k) n v) v (after s lk (validate k) n v)
   validate_makes k =
       let w0 : Client = counting v in
       by_case (λ b. decided (marking (writes_to v.attempt.held k) (stepping (validated k n) (cond b (passing s v) (failing v)))) ≡ true
-      → Makes (cond b (cond (eqb w0.attempt.passed (length v.attempt.reads)) (writer_record s v.attempt ∷ []) []) []) v (marking (writes_to v.attempt.held k) (stepping (validated k n) (cond b (passing s v) (failing v))))) (passes k n v)
+      → Makes s (cond b (cond (eqb w0.attempt.passed (length v.attempt.reads)) (writer_record s v.attempt ∷ []) []) []) v (marking (writes_to v.attempt.held k) (stepping (validated k n) (cond b (passing s v) (failing v))))) (passes k n v)
       (λ e. by_case (λ b. decided (marking (writes_to v.attempt.held k) (stepping (validated k n) (cond b (committed_by s w0) w0))) ≡ true
-      → Makes (cond b (writer_record s v.attempt ∷ []) []) v (marking (writes_to v.attempt.held k) (stepping (validated k n) (cond b (committed_by s w0) w0)))) (eqb w0.attempt.passed (length v.attempt.reads))
-      (λ z d. record { made = writer_record s v.attempt; single = refl; added = refl; attempt = refl })
+      → Makes s (cond b (writer_record s v.attempt ∷ []) []) v (marking (writes_to v.attempt.held k) (stepping (validated k n) (cond b (committed_by s w0) w0)))) (eqb w0.attempt.passed (length v.attempt.reads))
+      (λ z d. record { made = writer_record s v.attempt; single = refl; added = refl; attempt = refl; writer = λ _. refl })
       (λ z d. clash d (undecided_at v run)))
       (λ e d. clash d refl)
 
-  pub finish_makes : (tag : List ℕ) → Makes (decision s (finish tag) n v) v (after s lk (finish tag) n v)
-  finish_makes tag = record { made = reader_record s tag v.attempt; single = refl; added = refl; attempt = refl }
+  pub finish_makes : (tag : List ℕ) → Makes s (decision s (finish tag) n v) v (after s lk (finish tag) n v)
+  finish_makes tag = record { made = reader_record s tag v.attempt; single = refl; added = refl; attempt = refl; writer = λ d. clash d refl }

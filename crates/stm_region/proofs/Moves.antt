@@ -109,7 +109,7 @@ module _ (fits : List ℕ → Type 0) (lawful : RecordLaw) (law : Keeping fits l
   abbrev o : Opened
   o = opened_with r
 
-  decides_of : (c : Core) → Matches o c → length r.opening ≡ r.size → fits r.first → Rule lawful lk c → (i : ℕ) (v : Client) → get_elem? c.clients i ≡ some v → (e : Action) (n : ℕ) (u : Client) → IsRightAfter lawful r e n u i c → u.attempt.phase ≡ running → Makes (decision (unplaced r.renewal) e n u) u v → DecidesAt fits lawful r e n u v
+  decides_of : (c : Core) → Matches o c → length r.opening ≡ r.size → fits r.first → Rule lawful lk c → (i : ℕ) (v : Client) → get_elem? c.clients i ≡ some v → (e : Action) (n : ℕ) (u : Client) → IsRightAfter lawful r e n u i c → u.attempt.phase ≡ running → Makes (unplaced r.renewal) (decision (unplaced r.renewal) e n u) u v → DecidesAt fits lawful r e n u v
   decides_of c m z f h i v at e n u g run k =
       let all = whole_shared lawful lk c h i v at in (
         record {
@@ -132,6 +132,7 @@ module _ (fits : List ℕ → Type 0) (lawful : RecordLaw) (law : Keeping fits l
           decided_by = k.single;
           added = k.added;
           attempt = k.attempt;
+          writer = k.writer;
           fitting = f;
           abides = all.abides;
           serial = subst (λ image. Serial image (all_records c.clients)) m.first all.serial;

@@ -7,7 +7,7 @@ use Rattle.stm_words.specs.Image.{In, Agrees}
 use Rattle.stm_core.specs.Client.{Client, Record, running, decided, inserted, version_of, IsFree, word_before, RecordLaw}
 use Rattle.stm_core.specs.Core.{Core, found, stepped, acts}
 use Rattle.stm_core.specs.Invariant.{Rule, now}
-use Rattle.stm_core.specs.Event.{Action, begin, probe, fetch, check, lock, tick, validate, put, release, give_back, finish, decision}
+use Rattle.stm_core.specs.Event.{Action, begin, probe, fetch, check, lock, tick, validate, put, release, give_back, finish, decision, writer_record}
 use Rattle.stm_core.specs.Guards.{Holds, stripe_of}
 use Rattle.stm_core.specs.History.{Serial, Sub, all_records, image_at}
 use Rattle.stm_region.specs.Shown.{RegionShown, opened_with, unplaced, value_after}
@@ -113,6 +113,8 @@ pub record Decides (fits : List ℕ → Type 0) (lawful : RecordLaw) (region : R
   pub decided_by : decision (unplaced region.renewal) step word was ≡ made ∷ []
   pub added : v.records ≡ inserted made was.records
   pub attempt : made.attempt ≡ v.attempt.number
+  -- a writer's is the record of the attempt as it is right after the step
+  pub writer : decided v ≡ true → made ≡ writer_record (unplaced region.renewal) v.attempt
   pub fitting : fits region.first
   pub abides : (r : Record) → In r (all_records core.clients) → lawful r.tag r.reads r.writes
   pub serial : Serial region.first (all_records core.clients)

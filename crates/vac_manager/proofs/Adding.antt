@@ -125,6 +125,22 @@ pub record Decided (region : RegionShown) (t : Task) (r : Reply) (place : Place)
   pub unplaced : IsUnplaced v'
   pub reader : place.wrote ≡ false → AddsReader v v'
 
+-- the record of a commit stands behind all that its client had
+pub added_last : (region region' : RegionShown) (t : Task) (r : Reply) (pairs : List (ℕ × ℕ)) (rv version : ℕ) (c c0 : ClientShown) (v1 v2 : Client) → region'.renewal ≡ region.renewal → AreEarlier region.renewal rv c.value.records → IsUnplaced c.value →
+    c0 ≡ acted region begin rv c → still v1 ≡ still c0.value → HasCommitted region' (code t r) pairs v1 v2 version → v2.records ≡ c.value.records ++ (commit_record region' (code t r) v1 pairs version ∷ [])
+added_last region region' t r pairs rv version c c0 v1 v2 renewed earlier unplaced begun same done =
+    let rv0 : c0.value.attempt.rv ≡ rv = ap (λ (x : ClientShown). x.value.attempt.rv) begun in
+    let place0 : c0.value.attempt.began_at ≡ 0 = ap (λ (x : ClientShown). x.value.attempt.began_at) begun in
+    let records0 : c0.value.records ≡ c.value.records = ap (λ (x : ClientShown). x.value.records) begun in
+    let rv1 : v1.attempt.rv ≡ c0.value.attempt.rv = ap (λ (x : Client). x.attempt.rv) same in
+    let place1 : v1.attempt.began_at ≡ 0 = ap (λ (x : Client). x.attempt.began_at) same ∙ place0 in
+    let records1 : v1.records ≡ c0.value.records = ap (λ (x : Client). x.records) same in
+    let known : (x : Record) → In x c.value.records → IsEarlier region'.renewal v1.attempt.rv x = λ x i.
+    subst (λ (n : ℕ). IsEarlier n v1.attempt.rv x) (sym renewed) (subst (λ (n : ℕ). IsEarlier region.renewal n x) (sym (rv1 ∙ rv0)) (earlier x i)) in
+    let added = commit_record region' (code t r) v1 pairs version in
+    done.records ∙ (ap (λ (rs : List Record). inserted added rs) (records1 ∙ records0)
+    ∙ inserted_last added c.value.records (λ x i. stands_last region' (code t r) v1 pairs version place1 done.versioned x (known x i) (unplaced.each x i)))
+
 pub committed : (region region' : RegionShown) (t : Task) (r : Reply) (pairs : List (ℕ × ℕ)) (rv version : ℕ) (c c0 : ClientShown) (v1 v2 v' : Client) → region'.renewal ≡ region.renewal → AreEarlier region.renewal rv c.value.records → IsUnplaced c.value →
     c0 ≡ acted region begin rv c → still v1 ≡ still c0.value → c.value.floor ≤ rv → HasCommitted region' (code t r) pairs v1 v2 version → v' ≡ v2 → Decided region t r (place_at region.renewal version (wrote_in pairs)) c.value v'
 committed region region' t r pairs rv version c c0 v1 v2 v' renewed earlier unplaced begun same low done end =
@@ -132,22 +148,16 @@ committed region region' t r pairs rv version c c0 v1 v2 v' renewed earlier unpl
     let grants0 : c0.value.grants ≡ c.value.grants = ap (λ (x : ClientShown). x.value.grants) begun in
     let rv0 : c0.value.attempt.rv ≡ rv = ap (λ (x : ClientShown). x.value.attempt.rv) begun in
     let place0 : c0.value.attempt.began_at ≡ 0 = ap (λ (x : ClientShown). x.value.attempt.began_at) begun in
-    let records0 : c0.value.records ≡ c.value.records = ap (λ (x : ClientShown). x.value.records) begun in
     let attempt1 : v1.attempt.number ≡ c0.value.attempt.number = ap (λ (x : Client). x.attempt.number) same in
     let grants1 : v1.grants ≡ c0.value.grants = ap (λ (x : Client). x.grants) same in
     let rv1 : v1.attempt.rv ≡ c0.value.attempt.rv = ap (λ (x : Client). x.attempt.rv) same in
     let place1 : v1.attempt.began_at ≡ 0 = ap (λ (x : Client). x.attempt.began_at) same ∙ place0 in
-    let records1 : v1.records ≡ c0.value.records = ap (λ (x : Client). x.records) same in
     let attempt2 : v2.attempt.number ≡ v1.attempt.number = done.same.number in
     let grants2 : v2.grants ≡ v1.grants = done.same.grants in
     let early : c.value.floor ≤ v1.attempt.rv = omega (arith, low, rv0, rv1) in
     let later = version_later v1 pairs version c.value.floor done.versioned early in
-    let known : (x : Record) → In x c.value.records → IsEarlier region'.renewal v1.attempt.rv x = λ x i.
-    subst (λ (n : ℕ). IsEarlier n v1.attempt.rv x) (sym renewed) (subst (λ (n : ℕ). IsEarlier region.renewal n x) (sym (rv1 ∙ rv0)) (earlier x i)) in
     let added = commit_record region' (code t r) v1 pairs version in
-    let records : v2.records ≡ c.value.records ++ (added ∷ []) =
-    done.records ∙ (ap (λ (rs : List Record). inserted added rs) (records1 ∙ records0)
-    ∙ inserted_last added c.value.records (λ x i. stands_last region' (code t r) v1 pairs version place1 done.versioned x (known x i) (unplaced.each x i))) in
+    let records : v2.records ≡ c.value.records ++ (added ∷ []) = added_last region region' t r pairs rv version c c0 v1 v2 renewed earlier unplaced begun same done in
     let small = record_small region' (code t r) v1 pairs version done.versioned in
     let adds : Adds region.renewal (code t r) c.value v2 = record {
       added = added;
@@ -182,19 +192,28 @@ committed region region' t r pairs rv version c c0 v1 v2 v' renewed earlier unpl
     record { added = added; reader = q.0; wrote = q.1; records = records } in
     subst (λ (x : Client). Decided region t r place c.value x) (sym end) (record { tried = tried; placed = placed; unplaced = every; reader = reader })
 
--- the same of a task that only read
-pub finished : (region region' : RegionShown) (t : Task) (r : Reply) (rv n : ℕ) (c c0 : ClientShown) (c1 c2 : ClientShown) (v' : Client) → region'.renewal ≡ region.renewal → AreEarlier region.renewal rv c.value.records → IsUnplaced c.value →
-    c0 ≡ acted region begin rv c → still c1.value ≡ still c0.value → c.value.floor ≤ rv → c2 ≡ acted region' (finish (code t r)) n c1 → c2.value.attempt.held ≡ [] → v' ≡ c2.value → Decided region t r (place_at region.renewal c1.value.attempt.rv false) c.value v'
-finished region region' t r rv n c c0 c1 c2 v' renewed earlier unplaced begun same low ended free end =
+-- a finish is a commit that wrote nothing
+finish_commits : (region region' : RegionShown) (t : Task) (r : Reply) (rv n : ℕ) (c c0 c1 c2 : ClientShown) → c0 ≡ acted region begin rv c → still c1.value ≡ still c0.value → c2 ≡ acted region' (finish (code t r)) n c1 → c2.value.attempt.held ≡ [] → HasCommitted region' (code t r) [] c1.value c2.value c1.value.attempt.rv
+finish_commits region region' t r rv n c c0 c1 c2 begun same ended free =
     let floor1 : c1.value.floor ≡ c1.value.attempt.rv = ap (λ (x : Client). x.floor) same ∙ (ap (λ (x : ClientShown). x.value.floor) begun ∙ (sym (ap (λ (x : ClientShown). x.value.attempt.rv) begun) ∙ sym (ap (λ (x : Client). x.attempt.rv) same))) in
-    let done : HasCommitted region' (code t r) [] c1.value c2.value c1.value.attempt.rv = record {
+    record {
       records = ap (λ (x : ClientShown). x.value.records) ended;
       versioned = refl;
       known = ap (λ (x : ClientShown). x.value.floor) ended ∙ floor1;
       free = free;
       same = same_attempt c1.value c2.value (ap (λ (x : ClientShown). apart x.value) ended);
-    } in
-    committed region region' t r [] rv c1.value.attempt.rv c c0 c1.value c2.value v' renewed earlier unplaced begun same low done end
+    }
+
+pub finished_last : (region region' : RegionShown) (t : Task) (r : Reply) (rv n : ℕ) (c c0 c1 c2 : ClientShown) → region'.renewal ≡ region.renewal → AreEarlier region.renewal rv c.value.records → IsUnplaced c.value →
+    c0 ≡ acted region begin rv c → still c1.value ≡ still c0.value → c2 ≡ acted region' (finish (code t r)) n c1 → c2.value.attempt.held ≡ [] → c2.value.records ≡ c.value.records ++ (commit_record region' (code t r) c1.value [] c1.value.attempt.rv ∷ [])
+finished_last region region' t r rv n c c0 c1 c2 renewed earlier unplaced begun same ended free =
+    added_last region region' t r [] rv c1.value.attempt.rv c c0 c1.value c2.value renewed earlier unplaced begun same (finish_commits region region' t r rv n c c0 c1 c2 begun same ended free)
+
+-- the same of a task that only read
+pub finished : (region region' : RegionShown) (t : Task) (r : Reply) (rv n : ℕ) (c c0 : ClientShown) (c1 c2 : ClientShown) (v' : Client) → region'.renewal ≡ region.renewal → AreEarlier region.renewal rv c.value.records → IsUnplaced c.value →
+    c0 ≡ acted region begin rv c → still c1.value ≡ still c0.value → c.value.floor ≤ rv → c2 ≡ acted region' (finish (code t r)) n c1 → c2.value.attempt.held ≡ [] → v' ≡ c2.value → Decided region t r (place_at region.renewal c1.value.attempt.rv false) c.value v'
+finished region region' t r rv n c c0 c1 c2 v' renewed earlier unplaced begun same low ended free end =
+    committed region region' t r [] rv c1.value.attempt.rv c c0 c1.value c2.value v' renewed earlier unplaced begun same low (finish_commits region region' t r rv n c c0 c1 c2 begun same ended free) end
 
 -- what an attempt that made no record keeps
 pub unplaced_still : (v v' : Client) → IsUnplaced v → v'.records ≡ v.records → IsUnplaced v'

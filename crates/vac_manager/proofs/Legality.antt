@@ -1,12 +1,11 @@
 -- A serial list of lawful records is legal.
-use Rattle.std.proofs.Common.{◌≡◌, ◌∙◌, ℕ, List, [], ◌∷◌, false, length, refl, sym, ap, subst, zero}
+use Rattle.std.proofs.Common.{◌≡◌, ℕ, List, [], ◌∷◌, ◌++◌, false, length, refl, sym, ap, subst, zero}
 use Rattle.stm_words.specs.Image.{In, laid}
 use Rattle.stm_words.proofs.Paired.{in_later}
 use Rattle.stm_core.specs.Client.{Client, Record}
 use Rattle.stm_core.specs.History.{Serial, Sub, image_after, all_records}
 use Rattle.stm_region.specs.Shown.{RegionShown}
-use Rattle.stm_region.specs.Told.{Decides}
-use Rattle.stm_attempt.specs.Committing.{WasDecided}
+use Rattle.stm_attempt.specs.Committing.{DecidesWith, WasDecided}
 use Rattle.vac_model.specs.State.{State, empty_state}
 use Rattle.vac_model.specs.Run.{run}
 use Rattle.vac_records.proofs.Single.{one_state}
@@ -38,14 +37,17 @@ legal image s (r ∷ rs) h serial lawful =
     (rest.0, ((after, step, rest.1.0), rest.1.1))
 
 -- what was known at the deciding step, in the manager's words
-pub was_legal : (region : RegionShown) (v : Client) → Shows region.first (empty_state (capacity_of region)) → v.spent ≡ false →
-    WasDecided (λ (image : List ℕ). IsFitting image) (λ (tag : List ℕ) reads writes. IsLawful tag reads writes) region v → WasLegal region v
-was_legal region v h out d =
+pub was_legal : (region : RegionShown) (r : Record) (earlier : List Record) (v : Client) → Shows region.first (empty_state (capacity_of region)) → v.spent ≡ false → v.records ≡ earlier ++ (r ∷ []) →
+    WasDecided (λ (image : List ℕ). IsFitting image) (λ (tag : List ℕ) reads writes. IsLawful tag reads writes) region r v → WasLegal region v
+was_legal region r earlier v h out newest d =
     let k = d.decides in
     let all = all_records k.core.clients in
     let l = legal region.first (empty_state (capacity_of region)) all h k.serial k.abides in
     let records : d.then.records ≡ v.records = ap (λ (c : Client). c.records) (sym d.same) in
     record {
+      made = r;
+      earlier = earlier;
+      newest = newest;
       decided = d;
       out = out;
       last = l.0;
@@ -54,13 +56,13 @@ was_legal region v h out d =
     }
 
 -- the region of an attempt is the one that it began in
-pub committed_legal : (region region' : RegionShown) (v v' : Client) → region' ≡ region → IsOpened region → v.spent ≡ false →
-    WasDecided (λ (image : List ℕ). IsFitting image) (λ (tag : List ℕ) reads writes. IsLawful tag reads writes) region' v → v' ≡ v → WasLegal region v'
-committed_legal region region' v v' same h out d e =
+pub committed_legal : (region region' : RegionShown) (r : Record) (earlier : List Record) (v v' : Client) → region' ≡ region → IsOpened region → v.spent ≡ false → v.records ≡ earlier ++ (r ∷ []) →
+    WasDecided (λ (image : List ℕ). IsFitting image) (λ (tag : List ℕ) reads writes. IsLawful tag reads writes) region' r v → v' ≡ v → WasLegal region v'
+committed_legal region region' r earlier v v' same h out newest d e =
     subst (λ (x : Client). WasLegal region x) (sym e)
-    (was_legal region v h.shown out (subst (λ (r : RegionShown). WasDecided (λ (image : List ℕ). IsFitting image) (λ (tag : List ℕ) reads writes. IsLawful tag reads writes) r v) same d))
+    (was_legal region r earlier v h.shown out newest (subst (λ (y : RegionShown). WasDecided (λ (image : List ℕ). IsFitting image) (λ (tag : List ℕ) reads writes. IsLawful tag reads writes) y r v) same d))
 
 -- the same of a task that only read
-pub finished_legal : (region region' : RegionShown) (v v' : Client) → region' ≡ region → IsOpened region → v.spent ≡ false →
-    Decides (λ (image : List ℕ). IsFitting image) (λ (tag : List ℕ) reads writes. IsLawful tag reads writes) region' v → v' ≡ v → WasLegal region v'
-finished_legal region region' v v' same h out k e = committed_legal region region' v v' same h out (record { then = v; same = refl; decides = k }) e
+pub finished_legal : (region region' : RegionShown) (r : Record) (earlier : List Record) (v v' : Client) → region' ≡ region → IsOpened region → v.spent ≡ false → v.records ≡ earlier ++ (r ∷ []) →
+    DecidesWith (λ (image : List ℕ). IsFitting image) (λ (tag : List ℕ) reads writes. IsLawful tag reads writes) region' r v → v' ≡ v → WasLegal region v'
+finished_legal region region' r earlier v v' same h out newest k e = committed_legal region region' r earlier v v' same h out newest (record { then = v; same = refl; decides = k.0; made = k.1 }) e

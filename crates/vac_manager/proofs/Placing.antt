@@ -1,5 +1,5 @@
 -- Places of records, and what attempts took.
-use Rattle.std.proofs.Common.{◌≡◌, ◌+◌, List, [], ◌∷◌, length, Result, Ok, Err, IfErr, refl, sym, ap, subst, ◌∙◌, arith}
+use Rattle.std.proofs.Common.{◌≡◌, ◌+◌, List, [], ◌∷◌, length, Result, Ok, Err, Some, IfErr, refl, sym, ap, subst, ◌∙◌, arith}
 use Rattle.stm_core.specs.Client.{Client}
 use Rattle.stm_region.specs.Shown.{RegionShown}
 use Rattle.stm_attempt.specs.declared.conflict.Conflict.{Conflict}
@@ -10,7 +10,7 @@ use Rattle.vac_model.specs.declared.replies.Reply.{Reply}
 use Rattle.vac_model.specs.declared.tasks.Task.{Task}
 use Rattle.vac_manager.specs.declared.placed.Effort.{Effort}
 use Rattle.vac_manager.specs.Called.{Tried, IsStop, WasShown}
-use Rattle.vac_manager.specs.Placed.{conflicted, conflicts_of, effort_of, ended, left_by, HasShown, HaveShown, Tallies}
+use Rattle.vac_manager.specs.Placed.{conflicted, conflicts_of, effort_of, ended, left_by, newest, StopsWith, HasShown, HaveShown, Tallies}
 
 -- all attempts so far met conflicts
 pub record Met (region : RegionShown) (v v' : Client) (e : Effort) : Type 0 where
@@ -73,12 +73,18 @@ met_more region v w w' e c h next records grants shown =
       all = let k = one_conflict c e in let a = h.all in omega (arith, k, a, one);
     }
 
+-- and that one is the newest
+met_newest : (region : RegionShown) (v w w' : Client) (e : Effort) (c : Conflict) (h : Met region v w e) (next : w'.attempt.number ≡ w.attempt.number + 1) (records : w'.records ≡ v.records) (grants : w'.grants ≡ v.grants) (shown : WasShown region c w') → newest (met_more region v w w' e c h next records grants shown).conflicts ≡ Some c
+unfolding met_more
+met_newest region v w w' e c h next records grants shown = refl
+
 -- how the last attempt ended, where it met no conflict
-pub tallied_one : (region : RegionShown) (v w w' : Client) (e : Effort) (end : Result Reply Stop) → Met region v w e → w'.attempt.number ≡ w.attempt.number + 1 → ((x : Effort) → left_by end x ≡ record x { attempts = x.attempts + 1 }) → ended end e ≡ record e { attempts = e.attempts + 1 } → Tallies region v w' end (ended end e)
-tallied_one region v w w' e end h next left is =
+pub tallied_one : (region : RegionShown) (v w w' : Client) (e : Effort) (end : Result Reply Stop) (h : Met region v w e) → w'.attempt.number ≡ w.attempt.number + 1 → ((x : Effort) → left_by end x ≡ record x { attempts = x.attempts + 1 }) → ended end e ≡ record e { attempts = e.attempts + 1 } → IfErr end (λ s. StopsWith s h.conflicts) → Tallies region v w' end (ended end e)
+tallied_one region v w w' e end h next left is closes =
     record {
       conflicts = h.conflicts;
       shown = h.shown;
+      closes = closes;
       effort = is ∙ (ap (λ (x : Effort). record x { attempts = x.attempts + 1 }) h.effort ∙ sym (left (effort_of h.conflicts)));
       begun = let b = h.begun in let k : (ended end e).attempts ≡ e.attempts + 1 = ap (λ (x : Effort). x.attempts) is in omega (arith, b, next, k);
     }
@@ -86,13 +92,13 @@ tallied_one region v w w' e end h next left is =
 -- how the last attempt ended
 pub tallied : (region : RegionShown) (v w w' : Client) (e : Effort) (end : Result Reply Stop) → Met region v w e → w'.attempt.number ≡ w.attempt.number + 1 →
     ((c : Conflict) → end ≡ Err (stop.Conflict c) → (w'.records ≡ v.records) × (w'.grants ≡ v.grants) × WasShown region c w') → Tallies region v w' end (ended end e)
-tallied region v w w' e (Ok reply) h next shown = tallied_one region v w w' e (Ok reply) h next (λ x. refl) refl
-tallied region v w w' e (Err stop.Memory) h next shown = tallied_one region v w w' e (Err stop.Memory) h next (λ x. refl) refl
+tallied region v w w' e (Ok reply) h next shown = tallied_one region v w w' e (Ok reply) h next (λ x. refl) refl tt
+tallied region v w w' e (Err stop.Memory) h next shown = tallied_one region v w w' e (Err stop.Memory) h next (λ x. refl) refl tt
 tallied region v w w' e (Err (stop.Conflict c)) h next shown =
     let s = shown c refl in
     let m = met_more region v w w' e c h next s.0 s.1 s.2 in
-    record { conflicts = m.conflicts; shown = m.shown; effort = m.effort; begun = m.begun }
-tallied region v w w' e (Err (stop.Spent version)) h next shown = tallied_one region v w w' e (Err (stop.Spent version)) h next (λ x. refl) refl
+    record { conflicts = m.conflicts; shown = m.shown; closes = met_newest region v w w' e c h next s.0 s.1 s.2; effort = m.effort; begun = m.begun }
+tallied region v w w' e (Err (stop.Spent version)) h next shown = tallied_one region v w w' e (Err (stop.Spent version)) h next (λ x. refl) refl tt
 
 -- an attempt that met a conflict, after others that did
 pub met_next : (region : RegionShown) (t : Task) (v w w' : Client) (e e' : Effort) (end : Result Reply Stop) (c : Conflict) → end ≡ Err (stop.Conflict c) → Met region v w e → w.records ≡ v.records → w.grants ≡ v.grants → Tried region t w w' end →

@@ -1,5 +1,5 @@
 -- Histories of tasks: when a list of records is what running tasks one after the other gives.
-use Rattle.std.specs.Prelude.{◌≡◌, ℕ, ◌-◌, ◌/◌, List, [], ◌∷◌, IsTrue, true, false}
+use Rattle.std.specs.Prelude.{◌≡◌, ℕ, ◌-◌, ◌/◌, List, [], ◌∷◌, ◌++◌, IsTrue, true, false}
 use Rattle.stm_words.specs.Image.{In}
 use Rattle.stm_core.specs.Client.{Client, Record}
 use Rattle.stm_core.specs.History.{Sub, Serial, image_after, all_records}
@@ -63,7 +63,11 @@ IsHistory region records last = IsLegal (empty_state (capacity_of region)) recor
 -- right after that step, the records of all clients were a history, and its own stood among them,
 -- each once and in their order
 pub record WasLegal (region : RegionShown) (v : Client) : Type 0 where
-  pub decided : WasDecided IsFitting IsLawful region v
+  -- the record that the deciding step made is the client's last one
+  pub made : Record
+  pub earlier : List Record
+  pub newest : v.records ≡ earlier ++ (made ∷ [])
+  pub decided : WasDecided IsFitting IsLawful region made v
   pub out : v.spent ≡ false
   pub last : State
   pub legal : IsHistory region (all_records decided.decides.core.clients) last

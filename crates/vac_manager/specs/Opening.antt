@@ -1,5 +1,5 @@
 -- How a manager begins and ends.
-use Rattle.std.specs.Prelude.{◌≡◌, ℕ, ◌+◌, ◌*◌, Bool, ◌&&◌, nat_le, nat_lt, List}
+use Rattle.std.specs.Prelude.{◌≡◌, ℕ, Bool, ◌&&◌, nat_le, nat_lt, List}
 use Rattle.stm_core.specs.Client.{Client, of_renewal}
 use Rattle.stm_core.specs.Event.{opener}
 use Rattle.stm_region.specs.Shown.{RegionShown}

@@ -1,5 +1,5 @@
 -- Where the record of a call stands, and what the call took.
-use Rattle.std.specs.Prelude.{◌≡◌, ℕ, ◌+◌, List, [], ◌∷◌, length, Option, Some, None, Result, Ok, Err}
+use Rattle.std.specs.Prelude.{◌≡◌, ℕ, ◌+◌, List, [], ◌∷◌, length, Option, Some, None, Result, Ok, Err, IfErr}
 use Rattle.stm_core.specs.Client.{Client, Record}
 use Rattle.stm_region.specs.Shown.{RegionShown}
 use Rattle.stm_attempt.specs.declared.conflict.Conflict.{Conflict}
@@ -106,12 +106,24 @@ left_by (Err stop.Memory) e = one_more e
 left_by (Err (stop.Conflict conflict)) e = e
 left_by (Err (stop.Spent version)) e = one_more e
 
+-- the newest of these conflicts, the first one
+abbrev pub newest : List Conflict → Option Conflict
+newest [] = None
+newest (conflict ∷ earlier) = Some conflict
+
+-- an attempt that stopped for a conflict met the newest of these
+abbrev pub StopsWith : Stop → List Conflict → Type 0
+StopsWith stop.Memory conflicts = Unit {0}
+StopsWith (stop.Conflict conflict) conflicts = newest conflicts ≡ Some conflict
+StopsWith (stop.Spent version) conflicts = Unit {0}
+
 -- attempts, the last of which ended so: each is counted, and all but the last one, and that one too
 -- where it met a conflict, are counted by the conflict that they ended with
 pub record Tallies {R : Type 0} (region : RegionShown) (v v' : Client) (result : Result R Stop)
     (e : Effort) : Type 0 where
   pub conflicts : List Conflict
   pub shown : HaveShown region v conflicts
+  pub closes : IfErr result (λ stop. StopsWith stop conflicts)
   pub effort : e ≡ left_by result (effort_of conflicts)
   pub begun : v.attempt.number + e.attempts ≡ v'.attempt.number
 
@@ -123,11 +135,19 @@ closed_by (Err fault.Memory) e = one_more e
 closed_by (Err (fault.Busy conflict)) e = e
 closed_by (Err (fault.Spent version)) e = one_more e
 
+-- a call that answers Busy answers the newest of these conflicts
+abbrev pub ClosesWith : Fault → List Conflict → Type 0
+ClosesWith fault.Arguments conflicts = Unit {0}
+ClosesWith fault.Memory conflicts = Unit {0}
+ClosesWith (fault.Busy conflict) conflicts = newest conflicts ≡ Some conflict
+ClosesWith (fault.Spent version) conflicts = Unit {0}
+
 -- this is what a call took: each attempt that was begun is counted; all but the last one, and that
 -- one too where the call answers Busy, are counted by the conflict that they ended with
 pub record Took {R : Type 0} (region : RegionShown) (v v' : Client) (result : Result R Fault)
     (e : Effort) : Type 0 where
   pub conflicts : List Conflict
   pub shown : HaveShown region v conflicts
+  pub closes : IfErr result (λ fault. ClosesWith fault conflicts)
   pub effort : e ≡ closed_by result (effort_of conflicts)
   pub begun : v.attempt.number + e.attempts ≡ v'.attempt.number

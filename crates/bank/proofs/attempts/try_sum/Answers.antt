@@ -18,10 +18,10 @@ finish-requires-clause-lawful c =
 
 pub returns-clause-order : goal.returns-clause-order
 returns-clause-order c =
-    read_in_order _ _ _ _ (ap (λ (o : Origin). o.region) c.in-Ok.ensures.origin ∙ c.begin-attempt.ensures.region) c.requires.opened c.finish.ensures.decides (search rules)
+    read_in_order _ _ _ _ _ (ap (λ (o : Origin). o.region) c.in-Ok.ensures.origin ∙ c.begin-attempt.ensures.region) c.requires.opened c.finish.ensures.decides (search rules)
 
 pub returns-clause-total : goal.returns-clause-total
 returns-clause-total c =
     opening_sum c.args.region.now c.args.client.now.value _ _
-    (read_in_order _ _ _ _ (ap (λ (o : Origin). o.region) c.in-Ok.ensures.origin ∙ c.begin-attempt.ensures.region) c.requires.opened c.finish.ensures.decides refl)
+    (read_in_order _ _ _ _ _ (ap (λ (o : Origin). o.region) c.in-Ok.ensures.origin ∙ c.begin-attempt.ensures.region) c.requires.opened c.finish.ensures.decides refl)
     (search rules)

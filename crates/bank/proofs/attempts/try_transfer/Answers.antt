@@ -1,8 +1,9 @@
 use Rattle.std.proofs.Common.{rules, ap, ◌∙◌}
+use Rattle.stm_region.specs.Shown.{ClientShown}
 use Rattle.stm_attempt.specs.Meaning.{Origin}
 use Rattle.bank.specs.declared.entry.Entry.TheVariants.{Transfer}
 use Rattle.bank.proofs.Lawful.{has_bank, lawful}
-use Rattle.bank.proofs.Histories.{in_order}
+use Rattle.bank.proofs.Histories.{added, in_order}
 use Rattle.bank.proofs.attempts.try_transfer.Goals as goal
 
 pub transfer-answer-requires-clause-bank : goal.transfer-answer-requires-clause-bank
@@ -15,4 +16,9 @@ commit-requires-clause-lawful c = λ _.
 
 pub returns-in-Ok-commit-clause-order : goal.returns-in-Ok-commit-clause-order
 returns-in-Ok-commit-clause-order c =
-    in_order _ _ _ _ (ap (λ (o : Origin). o.region) c.transfer-answer.ensures.origin ∙ c.begin-attempt.ensures.region) c.requires.opened c.in-Ok-commit.ensures.decides (search rules)
+    in_order _ _ _ _ _ (ap (λ (o : Origin). o.region) c.transfer-answer.ensures.origin ∙ c.begin-attempt.ensures.region) c.requires.opened c.in-Ok-commit.ensures.decides (search rules)
+
+pub returns-in-Ok-commit-clause-records : goal.returns-in-Ok-commit-clause-records
+returns-in-Ok-commit-clause-records c =
+    added (Transfer c.args.from c.args.to c.args.amount c.in-Ok.moved) _ _ _ c.args.client.now.value _ _ _ c.in-Ok-commit.ensures.ok
+    (ap (λ (o : Origin). o.client.value.records) c.transfer-answer.ensures.origin ∙ ap (λ (x : ClientShown). x.value.records) c.begin-attempt.ensures.value) (search rules)

@@ -6,11 +6,10 @@ use Rattle.stm_logs.specs.Log.{log_pairs, log_locks}
 use Rattle.stm_logs.proofs.LockLemmas.{locks_few}
 use Rattle.stm_region.specs.Shown.{ClientShown}
 use Rattle.stm_attempt.specs.Begun.{addresses}
-use Rattle.stm_attempt.specs.Committing.{HasCommitted, HasStopped, WasDecided}
+use Rattle.stm_attempt.specs.Committing.{HasCommitted, HasStopped, DecidesWith, WasDecided, commit_record, ticked_record}
 use Rattle.stm_attempt.specs.Answers.{IsSpent}
-use Rattle.stm_region.specs.Told.{Decides}
 use Rattle.stm_attempt.specs.CommitParts.{IsDecided, CanSettle, CanGiveBack, HasSettled, HasFailedDeciding, returned}
-use Rattle.stm_attempt.proofs.Parts.{still_ready, some_pairs, map_ok, map_err, ok_of, err_of, has_committed, steps_committed, stopped_locking, stopped_deciding, err_not_ok, none_answered, none_refused}
+use Rattle.stm_attempt.proofs.Parts.{still_ready, some_pairs, map_ok, map_err, ok_of, err_of, record_on, has_committed, steps_committed, stopped_locking, stopped_deciding, err_not_ok, none_answered, none_refused}
 use Rattle.stm_attempt.proofs.commit.commit_writes.Goals as goal
 use Rattle.stm_attempt.proofs.commit.commit_writes.Goals.{in-Ok, in-Err}
 
@@ -87,15 +86,20 @@ returns-then-is_ok-clause-version g c =
 pub returns-then-is_ok-clause-decides : goal.returns-then-is_ok-clause-decides
 returns-then-is_ok-clause-decides g c =
     let region = c.args.region.now in
+    let tag = g.T.Tag.numbers c.args.tag.now in
+    let pairs = log_pairs c.args.logs.now.writes in
+    let v = c.args.client.now.value in
+    let l = c.lock_all.new.client.value in
     let e = c.settle.new.client.value in
+    let some = some_pairs c.args.logs.now.writes c.requires.logged.written in
     elim c.match-lock_all.branch [
       | in-Ok w ↦
           (let d = w.decide-answer.new.client.value in
           let settled : HasSettled d e = subst (λ (s : ClientShown). HasSettled s.value e) w.client-is c.settle.ensures.settled in
-          subst (λ r. IfOk r (λ _. WasDecided g.L.Law.fits g.L.Law.lawful region e)) (sym w.answer-is)
-          (map_ok w.decide-answer.result (λ _. Decides g.L.Law.fits g.L.Law.lawful region d) (λ _. WasDecided g.L.Law.fits g.L.Law.lawful region e)
-          (λ _ decides. record { then = d; same = settled.same; decides = decides }) w.decide-answer.ensures.decides))
-      | in-Err w ↦ subst (λ r. IfOk r (λ _. WasDecided g.L.Law.fits g.L.Law.lawful region e)) (sym w.answer-is) tt
+          subst (λ r. IfOk r (λ version. WasDecided g.L.Law.fits g.L.Law.lawful region (commit_record region tag v pairs version) e)) (sym w.answer-is)
+          (map_ok w.decide-answer.result (λ version. DecidesWith g.L.Law.fits g.L.Law.lawful region (ticked_record region tag l pairs version) d) (λ version. WasDecided g.L.Law.fits g.L.Law.lawful region (commit_record region tag v pairs version) e)
+          (λ version k. record { then = d; same = settled.same; decides = k.0; made = k.1 ∙ record_on region tag pairs v l version w.in-Ok.ensures.all.same some }) w.decide-answer.ensures.decides))
+      | in-Err w ↦ subst (λ r. IfOk r (λ version. WasDecided g.L.Law.fits g.L.Law.lawful region (commit_record region tag v pairs version) e)) (sym w.answer-is) tt
     ]
 
 pub returns-then-is_ok-clause-next : goal.returns-then-is_ok-clause-next

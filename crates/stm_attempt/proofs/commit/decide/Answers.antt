@@ -1,10 +1,10 @@
 use Rattle.std.proofs.Common.{◌≡◌, sym, ap, subst, ◌∙◌, ◌+◌, ◌<◌, inl, inr, arith}
 use Rattle.stm_attempt.specs.CommitParts.{IsDecided, HasFailedDeciding}
 use Rattle.stm_attempt.specs.Answers.{IsSpent}
-use Rattle.stm_region.specs.Told.{Decides}
+use Rattle.stm_attempt.specs.Committing.{DecidesWith, ticked_record}
 use Rattle.stm_region.specs.Shown.{ClientShown}
 use Rattle.stm_logs.specs.Log.{log_pairs}
-use Rattle.stm_attempt.proofs.Parts.{may_validate, once_is, decided_at_once, decided_after_validation, decided_so, not_decided, handed_on, handed_on_of, nothing_answered, failed_ticking, failed_validating}
+use Rattle.stm_attempt.proofs.Parts.{may_validate, once_is, decided_at_once, decided_after_validation, decided_so, made_by_tick, made_by_validation, not_decided, handed_on, handed_on_of, nothing_answered, failed_ticking, failed_validating}
 use Rattle.stm_attempt.proofs.Writing.{log_may_write}
 use Rattle.stm_attempt.proofs.commit.decide.Goals as goal
 use Rattle.stm_attempt.proofs.commit.decide.Goals.{then-not-decides_at_once+in_default, else-not-decides_at_once}
@@ -88,8 +88,16 @@ returns-clause-next g c = λ lone. c.in_ok-version.ensures.next lone
 pub returns-clause-decides : goal.returns-clause-decides
 returns-clause-decides g c =
     let once = once_is c.args.client.now.value c.args.logs.now.reads _ _ c.in_ok-version.version c.len.ensures c.requires.logged.reads c.requires.ready.begun_at in
+    let region = c.args.region.now in
+    let tag = g.T.Tag.numbers c.args.tag.now in
+    let pairs = log_pairs c.args.logs.now.writes in
+    let v = c.args.client.now.value in
+    let t = c.tick.new.client.value in
+    let version = c.in_ok-version.version in
     elim c.if-not-decides_at_once.branch [
-      | then-not-decides_at_once+in_default w ↦ subst (λ (s : ClientShown). Decides g.L.Law.fits g.L.Law.lawful c.args.region.now s.value) (sym w.client-is) w.in_default.ensures.decides
-      | else-not-decides_at_once w ↦ subst (λ (s : ClientShown). Decides g.L.Law.fits g.L.Law.lawful c.args.region.now s.value) (sym w.client-is)
-          (c.in_ok-version.ensures.decides (decided_so c.args.region.now (g.T.Tag.numbers c.args.tag.now) (log_pairs c.args.logs.now.writes) c.args.client.now.value c.tick.new.client.value c.in_ok-version.version c.in_ok-version.ensures.won (sym once ∙ sym c.decides_at_once.ensures ∙ w.if-not-decides_at_once.false)))
+      | then-not-decides_at_once+in_default w ↦ subst (λ (s : ClientShown). DecidesWith g.L.Law.fits g.L.Law.lawful region (ticked_record region tag v pairs version) s.value) (sym w.client-is)
+          (made_by_validation g.L.Law.fits g.L.Law.lawful region tag pairs v t w.validate_reads.new.client.value version c.in_ok-version.ensures.won w.in_default.ensures.ok w.in_default.ensures.decides)
+      | else-not-decides_at_once w ↦ subst (λ (s : ClientShown). DecidesWith g.L.Law.fits g.L.Law.lawful region (ticked_record region tag v pairs version) s.value) (sym w.client-is)
+          (let is = decided_so region tag pairs v t version c.in_ok-version.ensures.won (sym once ∙ sym c.decides_at_once.ensures ∙ w.if-not-decides_at_once.false) in
+          made_by_tick g.L.Law.fits g.L.Law.lawful region tag pairs v t version c.in_ok-version.ensures.won is (c.in_ok-version.ensures.decides is))
     ]

@@ -4,8 +4,8 @@ use Rattle.stm_core.specs.Event.{finish}
 use Rattle.stm_core.proofs.Conditions.{may_act_so}
 use Rattle.stm_region.specs.Shown.{ClientShown, bounds}
 use Rattle.stm_core.specs.Guards.{stripe_of}
-use Rattle.stm_attempt.specs.Committing.{HasCommitted}
-use Rattle.stm_attempt.proofs.Parts.{no_pairs, has_finished, not_answered, not_refused}
+use Rattle.stm_attempt.specs.Committing.{HasCommitted, WasDecided, commit_record}
+use Rattle.stm_attempt.proofs.Parts.{no_pairs, finished_by, has_finished, not_answered, not_refused}
 use Rattle.stm_attempt.proofs.commit.end.Goals as goal
 use Rattle.stm_attempt.proofs.commit.end.Goals.{in-Some, in-None+then-len-eq0, in-None+else-len-eq0}
 
@@ -67,3 +67,17 @@ returns-else-is_err-clause-lone g c = λ _. not_refused c.match-stopped.answer _
 
 pub returns-else-is_err-clause-logs : goal.returns-else-is_err-clause-logs
 returns-else-is_err-clause-logs g c = not_refused c.match-stopped.answer _ (sym c.if-is_err.ensures.value)
+
+pub returns-else-is_err-clause-decides : goal.returns-else-is_err-clause-decides
+returns-else-is_err-clause-decides g c =
+    let region = c.args.region.now in
+    let tag = g.T.Tag.numbers c.args.tag.now in
+    let pairs = log_pairs c.args.logs.now.writes in
+    let v = c.args.client.now.value in
+    elim c.match-stopped.branch [
+      | in-Some w ↦ subst (λ r. IfOk r (λ version. WasDecided g.L.Law.fits g.L.Law.lawful region (commit_record region tag v pairs version) c.match-stopped.client.value)) (sym w.answer-is) tt
+      | in-None+then-len-eq0 w ↦ subst (λ r. IfOk r (λ version. WasDecided g.L.Law.fits g.L.Law.lawful region (commit_record region tag v pairs version) c.match-stopped.client.value)) (sym w.answer-is)
+          (finished_by g.L.Law.fits g.L.Law.lawful region tag pairs w.finish.ensures.after.0 c.args.rv v w.finish.new.client.value c.match-stopped.client.value (no_pairs c.args.logs.now.writes (sym w.len.ensures ∙ w.if-len-eq0.true)) w.finish.ensures.after.2 (ap (λ (s : ClientShown). s.value) w.client-is))
+      | in-None+else-len-eq0 w ↦ subst (λ r. IfOk r (λ version. WasDecided g.L.Law.fits g.L.Law.lawful region (commit_record region tag v pairs version) c.match-stopped.client.value)) (sym w.answer-is)
+          (subst (λ (s : ClientShown). IfOk w.commit_writes.result (λ version. WasDecided g.L.Law.fits g.L.Law.lawful region (commit_record region tag v pairs version) s.value)) (sym w.client-is) w.commit_writes.ensures.decides)
+    ]

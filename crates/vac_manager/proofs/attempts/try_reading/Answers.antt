@@ -2,7 +2,7 @@ use Rattle.std.proofs.Common.{rules, refl, ap, ◌∙◌}
 use Rattle.stm_region.specs.Shown.{RegionShown, ClientShown}
 use Rattle.stm_attempt.specs.Meaning.{Origin}
 use Rattle.stm_attempt.specs.Begun.{is_unfinished}
-use Rattle.vac_manager.proofs.Adding.{finished, placed_as, unplaced_begun}
+use Rattle.vac_manager.proofs.Adding.{finished, finished_last, placed_as, unplaced_begun}
 use Rattle.vac_manager.proofs.Lawful.{holds_begun, lawful_read}
 use Rattle.vac_manager.proofs.Legality.{finished_legal}
 use Rattle.vac_manager.proofs.Trying.{shown_by_read, tried_as, near_begun, near_finished}
@@ -19,7 +19,10 @@ finish-version-requires-clause-lawful g c =
 
 pub returns-clause-legal : goal.returns-clause-legal
 returns-clause-legal g c =
-    finished_legal _ _ _ _ (ap (λ (o : Origin). o.region) c.in-Ok.ensures.origin ∙ c.begin-attempt.ensures.region) c.requires.opened (search rules) c.finish-version.ensures.decides (search rules)
+    finished_legal _ _ _ _ _ _ (ap (λ (o : Origin). o.region) c.in-Ok.ensures.origin ∙ c.begin-attempt.ensures.region) c.requires.opened (search rules)
+    (finished_last c.args.region.now c.read_task-answer.new.memory.region.now c.args.task.now c.in-Ok.reply _ _ c.args.client.now _ c.read_task-answer.new.memory.client.now _ (ap (λ (o : Origin). o.region.renewal) c.in-Ok.ensures.origin ∙ ap (λ (r : RegionShown). r.renewal) c.begin-attempt.ensures.region) c.begin-attempt.ensures.earlier c.requires.unplaced c.begin-attempt.ensures.value
+    (ap (λ (o : Origin). o.client.value) c.in-Ok.ensures.origin) c.finish-version.ensures.client.1 c.finish-version.ensures.free_handed.1)
+    c.finish-version.ensures.decides (search rules)
 
 pub returns-clause-tried : goal.returns-clause-tried
 returns-clause-tried g c =

@@ -1,7 +1,7 @@
 use Rattle.std.proofs.Common.{rules, ap, ◌∙◌}
 use Rattle.stm_region.specs.Shown.{RegionShown}
 use Rattle.stm_attempt.specs.Meaning.{Origin}
-use Rattle.vac_manager.proofs.Adding.{committed, placed_as, spared, wrote_is, unplaced_begun, unplaced_stopped}
+use Rattle.vac_manager.proofs.Adding.{added_last, committed, placed_as, spared, wrote_is, unplaced_begun, unplaced_stopped}
 use Rattle.vac_manager.proofs.Lawful.{holds_begun, lawful, wrote_nothing}
 use Rattle.vac_manager.proofs.Legality.{committed_legal}
 use Rattle.vac_manager.proofs.Trying.{shown_by_read, commit_stop, near_begun, near_committed, near_stopped}
@@ -23,7 +23,10 @@ commit-requires-clause-lawful g c = λ _.
 
 pub returns-in-Ok-commit-clause-legal : goal.returns-in-Ok-commit-clause-legal
 returns-in-Ok-commit-clause-legal g c =
-    committed_legal _ _ _ _ (ap (λ (o : Origin). o.region) c.run_task-answer.ensures.origin ∙ c.begin-attempt.ensures.region) c.requires.opened c.commit.ensures.free_handed.0 c.in-Ok-commit.ensures.decides (search rules)
+    committed_legal _ _ _ _ _ _ (ap (λ (o : Origin). o.region) c.run_task-answer.ensures.origin ∙ c.begin-attempt.ensures.region) c.requires.opened c.commit.ensures.free_handed.0
+    (added_last c.args.region.now c.run_task-answer.new.memory.region.now c.args.task.now c.in-Ok.reply _ _ _ c.args.client.now _ c.run_task-answer.new.memory.client.now.value _ (ap (λ (o : Origin). o.region.renewal) c.run_task-answer.ensures.origin ∙ ap (λ (r : RegionShown). r.renewal) c.begin-attempt.ensures.region) c.begin-attempt.ensures.earlier c.requires.unplaced c.begin-attempt.ensures.value
+    (ap (λ (o : Origin). o.client.value) c.run_task-answer.ensures.origin) c.in-Ok-commit.ensures.ok)
+    c.in-Ok-commit.ensures.decides (search rules)
 
 pub returns-in-Err-clause-stopped : goal.returns-in-Err-clause-stopped
 returns-in-Err-clause-stopped g c =
