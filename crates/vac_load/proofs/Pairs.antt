@@ -3,7 +3,7 @@ use Rattle.std.proofs.Common.{◌≡◌, ◌∙◌, ◌++◌, ◌<◌, ℕ, zero
 use Rattle.std.specs.Vec.Iter.{into_iter_items, into_iter_len}
 use Rattle.vac_manager.specs.Session.{SessionShown}
 use Rattle.vac_draws.specs.declared.settings.Settings.{Settings}
-use Rattle.vac_load.specs.declared.tally.Tally.{Tally}
+use Rattle.vac_load.specs.Attempted.{CountsShown}
 use Rattle.vac_load.specs.declared.workers.WorkOf.{WorkOf}
 use Rattle.vac_load.specs.declared.seats.Seat.{Seat}
 use Rattle.vac_load.specs.Lists.{Paired, none, both}
@@ -79,7 +79,7 @@ pub all_but_first : {A : Type 0} (P : A → Type 0) (xs ys : List A) (x : A) →
 all_but_first P xs ys x e h = let g : All P (x ∷ ys) = subst (λ (l : List _). All P l) e h in λ k d less. g (suc k) d (omega (arith, less))
 
 -- promises of work that were kept
-pub worked_through : {D G K W H R : Type 0} (leads : D → ℕ → D → Type 0) (notes : K → Kept) (s : Settings) (session : W → SessionShown) (seat : W → Seat D G K) (promise : H → WorkOf D G K) (after : R → SessionShown) (last : R → Seat D G K) (tally : R → Tally) (ws : List W) (hs : List H) (rs : List R) →
+pub worked_through : {D G K W H R : Type 0} (leads : D → ℕ → D → Type 0) (notes : K → Kept) (s : Settings) (session : W → SessionShown) (seat : W → Seat D G K) (promise : H → WorkOf D G K) (after : R → SessionShown) (last : R → Seat D G K) (tally : R → CountsShown) (ws : List W) (hs : List H) (rs : List R) →
     Paired (λ w h. IsPromise s (session w) (seat w) (promise h)) ws hs →
     Paired (λ h r. HasWorked leads (promise h).settings (promise h).session.value (after r) (shown notes (promise h).seat.value) (shown notes (last r)) (tally r)) hs rs →
     Paired (λ w r. HasWorked leads s (session w) (after r) (shown notes (seat w)) (shown notes (last r)) (tally r)) ws rs

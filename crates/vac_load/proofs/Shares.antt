@@ -11,6 +11,7 @@ use Rattle.vac_manager.specs.Called.{CallerShown, Splits}
 use Rattle.vac_manager.specs.Session.{SessionShown}
 use Rattle.vac_draws.specs.declared.settings.Settings.{Settings}
 use Rattle.vac_load.specs.declared.tally.Tally.{Tally}
+use Rattle.vac_load.specs.Attempted.{CountsShown}
 use Rattle.vac_load.specs.Looping.{total}
 use Rattle.vac_draws.specs.Draws.{Drawn, times}
 use Rattle.vac_draws.specs.Tasks.{task_of}
@@ -69,8 +70,8 @@ pub record Did {D : Type 0} (leads : D → ℕ → D → Type 0) (s : Settings) 
   pub later : (r : Record) → In r added → IsLater renewal floor r
   pub has : HasKeptShare leads s s.tasks state (record { records = added; tally = t; left = left })
 
-pub did : {D : Type 0} (leads : D → ℕ → D → Type 0) (s : Settings) (manager : RegionShown) (floor : ℕ) (before : List Record) (state seat left : SeatShown D) (y y' : SessionShown) (t : Tally) →
-    IsWorker manager before floor state y seat → HasWorked leads s y y' seat left t → Did leads s manager.renewal floor before state left y'.client t
+pub did : {D : Type 0} (leads : D → ℕ → D → Type 0) (s : Settings) (manager : RegionShown) (floor : ℕ) (before : List Record) (state seat left : SeatShown D) (y y' : SessionShown) (t : CountsShown) →
+    IsWorker manager before floor state y seat → HasWorked leads s y y' seat left t → Did leads s manager.renewal floor before state left y'.client t.tally
 did leads s manager floor before state seat left y y' t h w =
     let l = w.looped in
     let a = l.answered in
@@ -126,7 +127,11 @@ no_sum : {X : Type 0} (f : X → ℕ) (xs : List X) → length xs ≡ 0 → sum_
 no_sum f [] e = refl
 no_sum f (x ∷ xs) e = absurd (omega (arith, e))
 
-module _ {D P W R : Type 0} (leads : D → ℕ → D → Type 0) (s : Settings) (opener : SessionShown) (shown_of : P → SeatShown D) (session_of : W → SessionShown) (seat_of : W → SeatShown D) (after_of : R → SessionShown) (last_of : R → SeatShown D) (tally_of : R → Tally) where
+module _ {D P W R : Type 0} (leads : D → ℕ → D → Type 0) (s : Settings) (opener : SessionShown) (shown_of : P → SeatShown D) (session_of : W → SessionShown) (seat_of : W → SeatShown D) (after_of : R → SessionShown) (last_of : R → SeatShown D) (counts_of : R → CountsShown) where
+  -- how the tasks ended
+  abbrev tally_of : R → Tally
+  tally_of r = (counts_of r).tally
+
   -- the shares of the clients that began without records
   record Shared (floor : ℕ) (ps : List P) (rs : List R) : Type 0 where
     shares : List (Share (SeatShown D))
@@ -138,11 +143,11 @@ module _ {D P W R : Type 0} (leads : D → ℕ → D → Type 0) (s : Settings) 
 
   shared : (floor : ℕ) (ps : List P) (ws : List W) (rs : List R) →
       Paired (λ p w. IsWorker opener.manager [] floor (shown_of p) (session_of w) (seat_of w)) ps ws →
-      Paired (λ w r. HasWorked leads s (session_of w) (after_of r) (seat_of w) (last_of r) (tally_of r)) ws rs →
+      Paired (λ w r. HasWorked leads s (session_of w) (after_of r) (seat_of w) (last_of r) (counts_of r)) ws rs →
       Shared floor ps rs
   shared floor [] [] [] none none = record { shares = []; each = none; left_are = none; later = tt; merges = λ l. refl; tallies = refl }
   shared floor (p ∷ ps) (w ∷ ws) (r ∷ rs) (both h hs) (both k ks) =
-      let d = did leads s opener.manager floor [] (shown_of p) (seat_of w) (last_of r) (session_of w) (after_of r) (tally_of r) h k in
+      let d = did leads s opener.manager floor [] (shown_of p) (seat_of w) (last_of r) (session_of w) (after_of r) (counts_of r) h k in
       let more = shared floor ps ws rs hs ks in
       record {
         shares = record { records = d.added; tally = tally_of r; left = last_of r } ∷ more.shares;
@@ -160,15 +165,15 @@ module _ {D P W R : Type 0} (leads : D → ℕ → D → Type 0) (s : Settings) 
   pub ran_all : (pairs left : List P) (first : W) (others : List W) (first' : R) (others' : List R) (after : Client) (t : Tally) →
       AreKnown opener.manager.renewal opener.client.value.floor opener.client.value.records →
       IsCrew shown_of opener pairs session_of seat_of first others →
-      HasWorked leads s (session_of first) (after_of first') (seat_of first) (last_of first') (tally_of first') →
-      Paired (λ w r. HasWorked leads s (session_of w) (after_of r) (seat_of w) (last_of r) (tally_of r)) others others' →
+      HasWorked leads s (session_of first) (after_of first') (seat_of first) (last_of first') (counts_of first') →
+      Paired (λ w r. HasWorked leads s (session_of w) (after_of r) (seat_of w) (last_of r) (counts_of r)) others others' →
       Gathered (λ r. (after_of r).client.value.records) tally_of first' others' after.records t →
       Paired (λ r p. shown_of p ≡ last_of r) (first' ∷ others') left →
       (session_of first).client.value.grants + length others ≡ MOST_GRANTS →
       RanAll leads s shown_of s.tasks opener.client.value.records pairs after.records left t
   ran_all pairs left first others first' others' after t known h k ks g lefts grants =
       let floor = opener.client.value.floor in
-      let d = did leads s opener.manager floor opener.client.value.records (shown_of h.pair) (seat_of first) (last_of first') (session_of first) (after_of first') (tally_of first') h.opening k in
+      let d = did leads s opener.manager floor opener.client.value.records (shown_of h.pair) (seat_of first) (last_of first') (session_of first) (after_of first') (counts_of first') h.opening k in
       let more = shared floor h.rest others others' h.others_are ks in
       let inside = within opener.manager.renewal floor d.added more.shares d.sorted more.later in
       let mine : Share (SeatShown D) = record { records = d.added; tally = tally_of first'; left = last_of first' } in
@@ -196,13 +201,13 @@ module _ {D P W R : Type 0} (leads : D → ℕ → D → Type 0) (s : Settings) 
   pub ran_in : (pairs : List P) (first : W) (others : List W) (first' : R) (others' : List R) (after : Client) (t : Tally) →
       AreKnown opener.manager.renewal opener.client.value.floor opener.client.value.records →
       IsCrew shown_of opener pairs session_of seat_of first others →
-      HasWorked leads s (session_of first) (after_of first') (seat_of first) (last_of first') (tally_of first') →
-      Paired (λ w r. HasWorked leads s (session_of w) (after_of r) (seat_of w) (last_of r) (tally_of r)) others others' →
+      HasWorked leads s (session_of first) (after_of first') (seat_of first) (last_of first') (counts_of first') →
+      Paired (λ w r. HasWorked leads s (session_of w) (after_of r) (seat_of w) (last_of r) (counts_of r)) others others' →
       Gathered (λ r. (after_of r).client.value.records) tally_of first' others' after.records t →
       IsInRenewal opener.manager.renewal opener.client.value.records → IsInRenewal opener.manager.renewal after.records
   ran_in pairs first others first' others' after t known h k ks g in_it =
       let floor = opener.client.value.floor in
-      let d = did leads s opener.manager floor opener.client.value.records (shown_of h.pair) (seat_of first) (last_of first') (session_of first) (after_of first') (tally_of first') h.opening k in
+      let d = did leads s opener.manager floor opener.client.value.records (shown_of h.pair) (seat_of first) (last_of first') (session_of first) (after_of first') (counts_of first') h.opening k in
       let more = shared floor h.rest others others' h.others_are ks in
       let rest = all_merged (λ (x : Share (SeatShown D)). x.records) d.added more.shares in
       more_in opener.manager.renewal opener.client.value.records rest after.records in_it
@@ -212,15 +217,19 @@ module _ {D P W R : Type 0} (leads : D → ℕ → D → Type 0) (s : Settings) 
       ∙ merged_front opener.manager.renewal floor opener.client.value.records d.added more.shares known more.later)))
       (of_this opener.manager.renewal floor d.added more.shares d.later more.later)
 
-module _ {D W R : Type 0} (leads : D → ℕ → D → Type 0) (s : Settings) (session_of : W → SessionShown) (seat_of : W → SeatShown D) (after_of : R → SessionShown) (last_of : R → SeatShown D) (tally_of : R → Tally) where
+module _ {D W R : Type 0} (leads : D → ℕ → D → Type 0) (s : Settings) (session_of : W → SessionShown) (seat_of : W → SeatShown D) (after_of : R → SessionShown) (last_of : R → SeatShown D) (counts_of : R → CountsShown) where
   pub worked_with : (manager : RegionShown) (ws : List W) (rs : List R) → All (λ w. (session_of w).manager ≡ manager) ws →
-      Paired (λ w r. HasWorked leads s (session_of w) (after_of r) (seat_of w) (last_of r) (tally_of r)) ws rs → All (λ r. (after_of r).manager ≡ manager) rs
+      Paired (λ w r. HasWorked leads s (session_of w) (after_of r) (seat_of w) (last_of r) (counts_of r)) ws rs → All (λ r. (after_of r).manager ≡ manager) rs
   worked_with manager ws rs h p = paired_both _ (λ w. (session_of w).manager ≡ manager) (λ r. (after_of r).manager ≡ manager) (λ w r e k. ap (λ (y : SessionShown). y.manager) k.session ∙ e) ws rs h p
 
   pub worked_grants : (ws : List W) (rs : List R) → All (λ w. (session_of w).client.value.grants ≡ 0) ws →
-      Paired (λ w r. HasWorked leads s (session_of w) (after_of r) (seat_of w) (last_of r) (tally_of r)) ws rs → All (λ r. (after_of r).client.value.grants ≡ 0) rs
+      Paired (λ w r. HasWorked leads s (session_of w) (after_of r) (seat_of w) (last_of r) (counts_of r)) ws rs → All (λ r. (after_of r).client.value.grants ≡ 0) rs
   worked_grants ws rs h p = paired_both _ (λ w. (session_of w).client.value.grants ≡ 0) (λ r. (after_of r).client.value.grants ≡ 0) (λ w r e k. k.looped.answered.grants ∙ e) ws rs h p
 
   pub worked_tasks : (n : ℕ) (ws : List W) (rs : List R) → s.tasks ≤ n →
-      Paired (λ w r. HasWorked leads s (session_of w) (after_of r) (seat_of w) (last_of r) (tally_of r)) ws rs → All (λ r. total (tally_of r) ≤ n) rs
-  worked_tasks n ws rs few p = paired_each _ (λ r. total (tally_of r) ≤ n) (λ w r k. (let q = k.looped.all in omega (arith, q, few))) ws rs p
+      Paired (λ w r. HasWorked leads s (session_of w) (after_of r) (seat_of w) (last_of r) (counts_of r)) ws rs → All (λ r. total (counts_of r).tally ≤ n) rs
+  worked_tasks n ws rs few p = paired_each _ (λ r. total (counts_of r).tally ≤ n) (λ w r k. (let q = k.looped.all in omega (arith, q, few))) ws rs p
+
+  pub worked_tries : (n : ℕ) (ws : List W) (rs : List R) → s.tries ≡ n →
+      Paired (λ w r. HasWorked leads s (session_of w) (after_of r) (seat_of w) (last_of r) (counts_of r)) ws rs → All (λ r. (counts_of r).tries ≡ n) rs
+  worked_tries n ws rs same p = paired_each _ (λ r. (counts_of r).tries ≡ n) (λ w r k. k.tries ∙ same) ws rs p

@@ -1,9 +1,9 @@
 -- What the calls of a load took, and what that has to do with how they ended.
 use Rattle.std.specs.Prelude.{◌≤◌, ℕ, ◌+◌, ◌*◌}
-use Rattle.vac_model.specs.declared.limits.TheConstants.{MOST_TRIES}
 use Rattle.vac_manager.specs.declared.placed.Effort.{Effort}
 use Rattle.vac_load.specs.declared.efforts.Efforts.{Efforts}
 use Rattle.vac_load.specs.declared.tally.Tally.{Tally}
+use Rattle.vac_load.specs.Looping.{total}
 
 -- no attempt
 abbrev pub no_effort : Efforts
@@ -42,11 +42,17 @@ both_efforts d e = record {
   lost_tick = d.lost_tick + e.lost_tick;
 }
 
--- the calls of tasks that ended so took this: one attempt each for an answer and for a spent clock,
--- at most one for want of memory, which may come before the call, and beside these only attempts
--- that ended in a conflict, at least one for each busy task; no call took more than the most tries
-pub record IsEffort (t : Tally) (e : Efforts) : Type 0 where
+-- how tasks ended, each of which was asked for with so many tries
+pub record CountsShown : Type 0 where
+  pub tally : Tally
+  pub tries : ℕ
+
+-- the calls of tasks that ended so, by so many tries each, took this: one attempt each for an answer
+-- and for a spent clock, at most one for want of memory, which may come before the call, and beside
+-- these only attempts that ended in a conflict, as many as its tries for each busy task; no call
+-- took more than its tries
+pub record IsEffort (tries : ℕ) (t : Tally) (e : Efforts) : Type 0 where
   pub least : conflicts_in e + t.answered + t.spent ≤ e.attempts
   pub most : e.attempts ≤ conflicts_in e + t.answered + t.memory + t.spent
-  pub busy : t.busy ≤ conflicts_in e
-  pub few : e.attempts ≤ (t.answered + t.busy + t.memory + t.spent) * MOST_TRIES
+  pub busy : t.busy * tries ≤ conflicts_in e
+  pub few : e.attempts ≤ total t * tries

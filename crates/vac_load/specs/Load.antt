@@ -13,6 +13,7 @@ use Rattle.vac_manager.specs.declared.fault.Fault.{Fault}
 use Rattle.vac_manager.specs.declared.fault.Fault.TheVariants as fault
 use Rattle.vac_draws.specs.declared.settings.Settings.{Settings}
 use Rattle.vac_load.specs.declared.tally.Tally.{Tally}
+use Rattle.vac_load.specs.Attempted.{CountsShown}
 use Rattle.vac_load.specs.declared.workers.WorkOf.{WorkOf}
 use Rattle.vac_load.specs.declared.seats.Seat.{Seat}
 use Rattle.vac_load.specs.Looping.{Looped, AreOf, total}
@@ -30,13 +31,15 @@ use Rattle.vac_draws.specs.Draws.{Drawn, times}
 use Rattle.vac_draws.specs.Tasks.{task_of, opening}
 use Rattle.vac_load.specs.Sums.{plus, added_up}
 
--- a worker ran its tasks of a round: its session went on, its client's value has what its loop made
--- of it in its manager's renewal, and its keeper kept its answered calls
+-- a worker ran its tasks of a round, by the settings' tries each: its session went on, its client's
+-- value has what its loop made of it in its manager's renewal, and its keeper kept its answered
+-- calls
 pub record HasWorked {D : Type 0} (leads : D → ℕ → D → Type 0) (s : Settings)
-    (y y' : SessionShown) (state last : SeatShown D) (t : Tally) : Type 0 where
+    (y y' : SessionShown) (state last : SeatShown D) (t : CountsShown) : Type 0 where
   pub session : GoesOn y y'
   pub looped : Looped leads s y.manager.renewal s.tasks y.client.value y'.client.value
-      state.draws last.draws t
+      state.draws last.draws t.tally
+  pub tries : t.tries ≡ s.tries
   pub kept : HasKeptAdded y.client.value y'.client.value state.kept last.kept
 
 -- the promise is of the tasks by these settings, in this session, and from this seat

@@ -1,6 +1,7 @@
 //! How tasks ended, with what their calls took.
 
-ghost use Rattle.std.specs.Prelude.{◌≡◌, ◌≢◌, ◌<◌, ◌^◌, ◌+◌, IfErr};
+ghost use Rattle.std.specs.Prelude.{◌≡◌, ◌≢◌, ◌<◌, ◌≤◌, ◌^◌, ◌+◌, IfErr};
+ghost use Rattle.vac_model.specs.declared.limits.TheConstants.{MOST_TRIES};
 ghost use Rattle.vac_load.specs.Attempted.{IsEffort, no_effort, with_call};
 ghost use Rattle.vac_load.specs.Looping.{nothing, counted, total};
 ghost use Rattle.vac_load.specs.Sums.{plus};
@@ -10,42 +11,48 @@ use crate::tally::Tally;
 use std::marker::Model;
 use vac_manager::{Effort, Fault};
 
-/// How tasks ended, with what their calls took. Contracts see the tally.
+/// How tasks ended, each of which was asked for with so many tries, and what their calls took.
+/// Contracts see the tally and the tries.
 #[derive(Drop)]
 pub(crate) struct Counts {
     tally: Tally,
     efforts: Efforts,
+    tries: u32,
 }
 
 impl Model for Counts {
-    ghost use Rattle.vac_load.specs.declared.tally.Tally.{Tally};
-    ghost use Rattle.vac_load.specs.Attempted.{IsEffort};
+    ghost use Rattle.std.specs.Prelude.{◌≤◌};
+    ghost use Rattle.vac_model.specs.declared.limits.TheConstants.{MOST_TRIES};
+    ghost use Rattle.vac_load.specs.Attempted.{CountsShown, IsEffort};
 
-    ghost Value = { Tally };
+    ghost Value = { CountsShown };
 
-    ghost view = { λ c. c.tally };
+    ghost view = { λ c. record { tally = c.tally; tries = c.tries } };
 
-    ghost invariant = { λ c. IsEffort c.tally c.efforts };
+    ghost invariant = { λ c. IsEffort c.tries c.tally c.efforts × (c.tries ≤ MOST_TRIES) };
 }
 
 impl Counts {
-    /// Those of no task.
-    pub(crate) fn new() -> Counts
-        ensures { result ≡ nothing }
+    /// Those of no task, with so many tries for each.
+    pub(crate) fn new(tries: u32) -> Counts
+        requires few { tries ≤ MOST_TRIES }
+        ensures { result ≡ record { tally = nothing; tries = tries } }
     {
         Counts {
             tally: Tally::new(),
             efforts: Efforts::new(),
+            tries,
         }
     }
 
     /// Counts a task by how it ended, and what its call took. None is asked for whose numbers are
     /// out of their ranges.
     pub(crate) fn count(&mut self, end: &Result<(), Fault>, effort: Effort)
-        requires few { total self.old < 2 ^ 32 }
+        requires few { total self.old.tally < 2 ^ 32 }
         requires in_range { IfErr end.now (λ fault. fault ≢ Fault.Arguments) }
-        requires took { IsEffort (counted end.now nothing) (with_call effort no_effort) }
-        ensures { self.new ≡ counted end.now self.old }
+        requires took { IsEffort self.old.tries (counted end.now nothing)
+            (with_call effort no_effort) }
+        ensures { self.new ≡ record self.old { tally = counted end.now self.old.tally } }
     {
         self.tally.count(end);
         self.efforts.add(effort);
@@ -53,19 +60,21 @@ impl Counts {
 
     /// Both added up.
     pub(crate) fn plus(self, other: Counts) -> Counts
-        requires fits { total self + total other < 2 ^ 43 }
-        ensures { result ≡ plus self other }
+        requires fits { total self.tally + total other.tally < 2 ^ 43 }
+        requires same { other.tries ≡ self.tries }
+        ensures { result ≡ record self { tally = plus self.tally other.tally } }
     {
         Counts {
             tally: self.tally.plus(other.tally),
             efforts: self.efforts.plus(other.efforts),
+            tries: self.tries,
         }
     }
 
     /// How the tasks ended, and what their calls took.
     pub(crate) fn apart(self) -> (Tally, Efforts)
-        ensures tally { result.0 ≡ self }
-        ensures efforts { IsEffort result.0 result.1 }
+        ensures tally { result.0 ≡ self.tally }
+        ensures efforts { IsEffort self.tries result.0 result.1 }
     {
         (self.tally, self.efforts)
     }

@@ -45,12 +45,15 @@ fn gather_all<D: Drop, G: Drop, K: Keep + Drop>(
     requires few { vec_len crew.others < MOST_CLIENTS }
     requires room { vec_len crew.others < vec_capacity seats }
     requires empty { seats.items ≡ [] }
-    requires tasks { total crew.first.tally ≤ MOST_TASKS }
-    requires others_tasks { All (λ w. total w.tally ≤ MOST_TASKS) crew.others.items }
+    requires tasks { total crew.first.tally.tally ≤ MOST_TASKS }
+    requires others_tasks { All (λ w. total w.tally.tally ≤ MOST_TASKS) crew.others.items }
+    requires tries { All (λ w. w.tally.tries ≡ crew.first.tally.tries) crew.others.items }
     ensures own { result.client.table ≡ crew.entry.first.worker.session.manager.table }
     ensures grants { HasAllGrants result.client.value }
-    ensures gathered { Gathered (λ w. w.worker.session.client.value.records) (λ w. w.tally)
-        crew.entry.first crew.entry.others.items result.client.value.records result.tally }
+    ensures gathered { Gathered (λ w. w.worker.session.client.value.records) (λ w. w.tally.tally)
+        crew.entry.first crew.entry.others.items result.client.value.records
+        result.tally.tally }
+    ensures tries { result.tally.tries ≡ crew.entry.first.tally.tries }
     ensures seats { Paired (λ w seat. shown K.notes seat ≡ shown K.notes w.worker.seat)
         (crew.entry.first ∷ crew.entry.others.items) result.seats.items }
 {
@@ -141,7 +144,8 @@ pub(crate) fn run_clients<
     ensures alone { IfOk result (λ r. HasAllGrants r.client.value) }
     ensures ran { IfOk result (λ r. RanAll D.leads settings.now (shown K.notes)
         settings.now.tasks session.entry.client.value.records seats.items
-        r.client.value.records r.seats.items r.tally) }
+        r.client.value.records r.seats.items r.tally.tally) }
+    ensures tries { IfOk result (λ r. r.tally.tries ≡ settings.now.tries) }
     ensures era { IfOk result (λ r.
         IsInRenewal session.entry.manager.renewal r.client.value.records) }
     ensures number { IfOk result (λ r. vec_len r.seats ≡ settings.now.clients) }

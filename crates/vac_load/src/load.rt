@@ -92,7 +92,7 @@ fn run_in_range<
         opening.old seats.items r.0.tally r.0.report (K.notes keep.old) (K.notes keep.new)
         (kept_at K.notes seats.items) (kept_at K.notes r.2.items)) }
     ensures number { IfOk result (λ r. vec_len r.2 ≡ vec_len seats) }
-    ensures efforts { IfOk result (λ r. IsEffort r.0.tally r.1) }
+    ensures efforts { IfOk result (λ r. IsEffort settings.now.tries r.0.tally r.1) }
     ensures stopped { IfErr result (λ fault.
         IsStopOfLoad D.leads settings.now opening.old opening.new fault) }
 {
@@ -198,7 +198,7 @@ pub fn run_load_counted<R: Threads + Wait + AllocGlobal, G: Gate + Copy + Send +
     ensures arguments { IsErrOf result LoadFault.Arguments
         ↔ (is_settings settings.now ≡ false) }
     ensures loaded { IfOk result (λ r. LoadedBySeed settings.now r.0.tally r.0.report) }
-    ensures efforts { IfOk result (λ r. IsEffort r.0.tally r.1) }
+    ensures efforts { IfOk result (λ r. IsEffort settings.now.tries r.0.tally r.1) }
     ensures refused { IfErr result (λ fault.
         IsLoadFault gives settings.now (stream_of settings.now.seed 0) fault) }
 {
@@ -235,7 +235,7 @@ pub fn run_load_kept<
     ensures loaded { IfOk result (λ r. LoadedBySeed settings.now r.0.tally r.0.report) }
     ensures kept { IfOk result (λ r.
         KeptBySeed K.notes settings.now r.0.tally r.0.report keepers r.2) }
-    ensures efforts { IfOk result (λ r. IsEffort r.0.tally r.1) }
+    ensures efforts { IfOk result (λ r. IsEffort settings.now.tries r.0.tally r.1) }
     ensures refused { IfErr result (λ fault.
         IsLoadFault gives settings.now (stream_of settings.now.seed 0) fault) }
 {

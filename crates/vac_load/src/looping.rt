@@ -48,7 +48,7 @@ fn ask_for<G: Gate, K: Keep>(
     ensures in_range { IfErr result.0 (λ fault. fault ≢ Fault.Arguments) }
     ensures one { RanOne session.old.manager.renewal task tries result.0
         session.old.client.value session.new.client.value }
-    ensures took { IsEffort (counted result.0 nothing) (with_call result.1 no_effort) }
+    ensures took { IsEffort tries (counted result.0 nothing) (with_call result.1 no_effort) }
     ensures kept { HasKeptAdded session.old.client.value session.new.client.value
         (K.notes keep.old) (K.notes keep.new) }
 {
@@ -84,11 +84,12 @@ pub(crate) fn count_loop<D: Draws, G: Gate, K: Keep>(
     requires settings { is_settings settings.now ≡ true }
     ensures session { GoesOn session.old session.new }
     ensures looped { Looped D.leads settings.now session.old.manager.renewal settings.now.tasks
-        session.old.client.value session.new.client.value draws.old draws.new result }
+        session.old.client.value session.new.client.value draws.old draws.new result.tally }
+    ensures tries { result.tries ≡ settings.now.tries }
     ensures kept { HasKeptAdded session.old.client.value session.new.client.value
         (K.notes keep.old) (K.notes keep.new) }
 {
-    let mut tally = Counts::new();
+    let mut tally = Counts::new(settings.tries);
     'tasks: for _ in 0..settings.tasks {
         let task = draw_task(alloc, draws, settings);
         let (end, effort) = ask_for(session, task, settings.tries, gate, keep);

@@ -73,7 +73,9 @@ fn go_on<R: Threads + Wait, D: Draws + Send + Drop, G: Gate + Send + Drop, K: Ke
     requires renewals { progress.manager.renewal < MOST_ROUNDS }
     requires settings { is_settings settings.now ≡ true }
     requires number { vec_len progress.round.seats ≡ settings.now.clients }
-    requires few { total progress.round.tally ≤ MOST_CLIENTS * (MOST_ROUNDS * MOST_TASKS) }
+    requires few { total progress.round.tally.tally
+        ≤ MOST_CLIENTS * (MOST_ROUNDS * MOST_TASKS) }
+    requires tries { progress.round.tally.tries ≡ settings.now.tries }
     requires era { IsInRenewal progress.manager.renewal progress.round.client.value.records }
     ensures own { IfOk result (λ r. r.round.client.table ≡ r.manager.table) }
     ensures alone { IfOk result (λ r. HasAllGrants r.round.client.value) }
@@ -81,8 +83,9 @@ fn go_on<R: Threads + Wait, D: Draws + Send + Drop, G: Gate + Send + Drop, K: Ke
     ensures number { IfOk result (λ r. vec_len r.round.seats ≡ settings.now.clients) }
     ensures size { IfOk result (λ r. r.manager.size ≡ progress.manager.size) }
     ensures ran { IfOk result (λ r. RanMore D.leads settings.now (shown K.notes)
-        progress.round.client.value.records progress.round.seats.items progress.round.tally
-        r.round.client.value.records r.round.seats.items r.round.tally) }
+        progress.round.client.value.records progress.round.seats.items progress.round.tally.tally
+        r.round.client.value.records r.round.seats.items r.round.tally.tally) }
+    ensures tries { IfOk result (λ r. r.round.tally.tries ≡ settings.now.tries) }
     ensures era { IfOk result (λ r. IsInRenewal r.manager.renewal r.round.client.value.records) }
     ensures refused { IfErr result (λ fault.
         (fault ≡ LoadFault.Memory) ⊎ (fault ≡ LoadFault.Spawn)) }
@@ -137,7 +140,8 @@ pub(crate) fn run_rounds<
     ensures size { IfOk result (λ r. r.manager.size ≡ manager.size) }
     ensures ran { IfOk result (λ r. RanAll D.leads settings.now (shown K.notes)
         (settings.now.rounds * settings.now.tasks) client.value.records seats.items
-        r.round.client.value.records r.round.seats.items r.round.tally) }
+        r.round.client.value.records r.round.seats.items r.round.tally.tally) }
+    ensures tries { IfOk result (λ r. r.round.tally.tries ≡ settings.now.tries) }
     ensures era { IfOk result (λ r. IsInRenewal r.manager.renewal r.round.client.value.records) }
     ensures number { IfOk result (λ r. vec_len r.round.seats ≡ settings.now.clients) }
     ensures refused { IfErr result (λ fault.

@@ -2,6 +2,7 @@ use Rattle.std.proofs.Common.{rules, ◌≡◌, ◌∙◌, sym, ◌≤◌, ◌<�
 use Rattle.std.specs.Vec.Iter.{into_iter_items, into_iter_len}
 use Rattle.stm_region.specs.Shown.{RegionShown}
 use Rattle.vac_load.specs.declared.tally.Tally.{Tally}
+use Rattle.vac_load.specs.Attempted.{CountsShown}
 use Rattle.vac_load.specs.Looping.{total}
 use Rattle.vac_load.specs.Sums.{plus}
 use Rattle.vac_load.specs.Lists.{Paired}
@@ -31,11 +32,13 @@ loop-worked-init g c =
       grants = ap (λ (k : ℕ). c.args.crew.first.worker.session.client.value.grants + k) made.1 ∙ c.requires.grants;
       others_grants = all_same (λ w. w.worker.session.client.value.grants ≡ 0) c.args.crew.others.items (into_iter_items c.into_iter-worked-iterator.result) made.0 c.requires.others_grants;
       others = all_same (λ w. w.worker.session.manager ≡ c.args.crew.first.worker.session.manager) c.args.crew.others.items (into_iter_items c.into_iter-worked-iterator.result) made.0 c.requires.one;
-      tasks = all_same (λ w. total w.tally ≤ 1000000) c.args.crew.others.items (into_iter_items c.into_iter-worked-iterator.result) made.0 c.requires.others_tasks;
-      gathered = gathered_one (λ w. w.worker.session.client.value.records) (λ w. w.tally) c.args.crew.first;
+      tasks = all_same (λ w. total w.tally.tally ≤ 1000000) c.args.crew.others.items (into_iter_items c.into_iter-worked-iterator.result) made.0 c.requires.others_tasks;
+      tries = refl;
+      others_tries = all_same (λ w. w.tally.tries ≡ c.args.crew.first.tally.tries) c.args.crew.others.items (into_iter_items c.into_iter-worked-iterator.result) made.0 c.requires.tries;
+      gathered = gathered_one (λ w. w.worker.session.client.value.records) (λ w. w.tally.tally) c.args.crew.first;
       handed = paired_step (λ w seat. shown g.K.Keep.notes seat ≡ shown g.K.Keep.notes w.worker.seat) [] c.args.seats.items c.push_reserved.new.self.items c.args.crew.first c.args.crew.first.worker.seat pushed.items (paired_none (λ w seat. shown g.K.Keep.notes seat ≡ shown g.K.Keep.notes w.worker.seat) c.args.seats.items c.requires.empty) refl;
       room = room_left c.args.crew.others.len (into_iter_len c.into_iter-worked-iterator.result) c.args.seats.len c.push_reserved.new.self.len c.args.seats.cap c.push_reserved.new.self.cap made.1 pushed.len pushed.capacity (search rules) c.requires.room;
-      bound = few_left c.args.crew.others.len (into_iter_len c.into_iter-worked-iterator.result) (total c.args.crew.first.tally) made.1 c.requires.few c.requires.tasks;
+      bound = few_left c.args.crew.others.len (into_iter_len c.into_iter-worked-iterator.result) (total c.args.crew.first.tally.tally) made.1 c.requires.few c.requires.tasks;
     }
 
 pub gather-requires : goal.gather-requires
@@ -45,8 +48,9 @@ gather-requires g c =
 
 pub plus-tally-requires : goal.plus-tally-requires
 plus-tally-requires g c =
-    let m = all_first (λ w. total w.tally ≤ 1000000) (into_iter_items c.loop-worked.worked-iterator) (into_iter_items c.next.new.self) c.in-Some.worked c.in-Some.ensures.steps.0 c.loop-worked.invariant.tasks in
-    record { fits = few_both (total c.loop-worked.tally) (total c.in-Some.worked.tally) (into_iter_len c.loop-worked.worked-iterator) m c.loop-worked.invariant.bound }
+    let m = all_first (λ w. total w.tally.tally ≤ 1000000) (into_iter_items c.loop-worked.worked-iterator) (into_iter_items c.next.new.self) c.in-Some.worked c.in-Some.ensures.steps.0 c.loop-worked.invariant.tasks in
+    let n = all_first (λ w. w.tally.tries ≡ c.args.crew.first.tally.tries) (into_iter_items c.loop-worked.worked-iterator) (into_iter_items c.next.new.self) c.in-Some.worked c.in-Some.ensures.steps.0 c.loop-worked.invariant.others_tries in
+    record { fits = few_both (total c.loop-worked.tally.tally) (total c.in-Some.worked.tally.tally) (into_iter_len c.loop-worked.worked-iterator) m c.loop-worked.invariant.bound; same = n ∙ sym c.loop-worked.invariant.tries }
 
 pub loop-worked-preserved : goal.loop-worked-preserved
 loop-worked-preserved g c =
@@ -55,7 +59,7 @@ loop-worked-preserved g c =
     let less = c.in-Some.ensures.steps.1 in
     let pushed = c.push_reserved-in-loop-worked.ensures in
     let taken = took_in c.loop-worked.session c.in-Some.worked.worker.session c.gather.new.self c.gather.ensures.session in
-    let m = all_first (λ w. total w.tally ≤ 1000000) (into_iter_items c.loop-worked.worked-iterator) (into_iter_items c.next.new.self) c.in-Some.worked split i.tasks in
+    let m = all_first (λ w. total w.tally.tally ≤ 1000000) (into_iter_items c.loop-worked.worked-iterator) (into_iter_items c.next.new.self) c.in-Some.worked split i.tasks in
     let none = all_first (λ w. w.worker.session.client.value.grants ≡ 0) (into_iter_items c.loop-worked.worked-iterator) (into_iter_items c.next.new.self) c.in-Some.worked split i.others_grants in
     record {
       all = one_on c.args.crew.others.items c.loop-worked.yielded (into_iter_items c.loop-worked.worked-iterator) (into_iter_items c.next.new.self) c.in-Some.worked i.all split;
@@ -63,17 +67,19 @@ loop-worked-preserved g c =
       grants = held_back c.loop-worked.session.client.value.grants c.in-Some.worked.worker.session.client.value.grants c.gather.new.self.client.value.grants (into_iter_len c.loop-worked.worked-iterator) (into_iter_len c.next.new.self) less none taken.grants i.grants;
       others_grants = all_but_first (λ w. w.worker.session.client.value.grants ≡ 0) (into_iter_items c.loop-worked.worked-iterator) (into_iter_items c.next.new.self) c.in-Some.worked split i.others_grants;
       others = all_but_first (λ w. w.worker.session.manager ≡ c.args.crew.first.worker.session.manager) (into_iter_items c.loop-worked.worked-iterator) (into_iter_items c.next.new.self) c.in-Some.worked split i.others;
-      tasks = all_but_first (λ w. total w.tally ≤ 1000000) (into_iter_items c.loop-worked.worked-iterator) (into_iter_items c.next.new.self) c.in-Some.worked split i.tasks;
-      gathered = gathered_more (λ w. w.worker.session.client.value.records) (λ w. w.tally) c.args.crew.first c.loop-worked.yielded c.in-Some.worked c.loop-worked.session.client.value c.gather.new.self.client.value c.loop-worked.tally c.plus-tally.result
-          i.gathered taken.records c.plus-tally.ensures;
+      tasks = all_but_first (λ w. total w.tally.tally ≤ 1000000) (into_iter_items c.loop-worked.worked-iterator) (into_iter_items c.next.new.self) c.in-Some.worked split i.tasks;
+      tries = ap (λ (x : CountsShown). x.tries) c.plus-tally.ensures ∙ i.tries;
+      others_tries = all_but_first (λ w. w.tally.tries ≡ c.args.crew.first.tally.tries) (into_iter_items c.loop-worked.worked-iterator) (into_iter_items c.next.new.self) c.in-Some.worked split i.others_tries;
+      gathered = gathered_more (λ w. w.worker.session.client.value.records) (λ w. w.tally.tally) c.args.crew.first c.loop-worked.yielded c.in-Some.worked c.loop-worked.session.client.value c.gather.new.self.client.value c.loop-worked.tally.tally c.plus-tally.result.tally
+          i.gathered taken.records (ap (λ (x : CountsShown). x.tally) c.plus-tally.ensures);
       handed = paired_step (λ w seat. shown g.K.Keep.notes seat ≡ shown g.K.Keep.notes w.worker.seat) (c.args.crew.first ∷ c.loop-worked.yielded) c.loop-worked.seats.items c.push_reserved-in-loop-worked.new.self.items c.in-Some.worked c.in-Some.worked.worker.seat pushed.items i.handed refl;
       room = room_taken c.loop-worked.seats.len c.push_reserved-in-loop-worked.new.self.len (into_iter_len c.loop-worked.worked-iterator) (into_iter_len c.next.new.self) c.loop-worked.seats.cap c.push_reserved-in-loop-worked.new.self.cap less pushed.len pushed.capacity i.room;
-      bound = few_more c.loop-worked.tally c.in-Some.worked.tally c.plus-tally.result (into_iter_len c.loop-worked.worked-iterator) (into_iter_len c.next.new.self) c.plus-tally.ensures less m i.bound;
+      bound = few_more c.loop-worked.tally.tally c.in-Some.worked.tally.tally c.plus-tally.result.tally (into_iter_len c.loop-worked.worked-iterator) (into_iter_len c.next.new.self) (ap (λ (x : CountsShown). x.tally) c.plus-tally.ensures) less m i.bound;
     }
 
 pub returns-clause-gathered : goal.returns-clause-gathered
 returns-clause-gathered g c =
-    rw c.into_client.ensures.client (subst (λ (l : List _). Gathered (λ w. w.worker.session.client.value.records) (λ w. w.tally) c.args.crew.first l c.loop-worked.session.client.value.records c.loop-worked.tally)
+    rw c.into_client.ensures.client (subst (λ (l : List _). Gathered (λ w. w.worker.session.client.value.records) (λ w. w.tally.tally) c.args.crew.first l c.loop-worked.session.client.value.records c.loop-worked.tally.tally)
     (all_met c.args.crew.others.items c.loop-worked.yielded (into_iter_items c.loop-worked.worked-iterator) c.loop-worked.invariant.all (nothing_left c.loop-worked.worked-iterator c.in-None.ensures.steps.0)) c.loop-worked.invariant.gathered)
 
 pub returns-clause-seats : goal.returns-clause-seats

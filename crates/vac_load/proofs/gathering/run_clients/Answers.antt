@@ -4,7 +4,7 @@ use Rattle.vac_manager.specs.Session.{SessionShown}
 use Rattle.vac_load.specs.Keeping.{shown}
 use Rattle.vac_load.proofs.Joining.{few}
 use Rattle.vac_load.proofs.Pairs.{paired_length}
-use Rattle.vac_load.proofs.Shares.{ran_all, ran_in, paired_each, worked_with, worked_grants, worked_tasks}
+use Rattle.vac_load.proofs.Shares.{ran_all, ran_in, paired_each, worked_with, worked_grants, worked_tasks, worked_tries}
 use Rattle.vac_load.proofs.gathering.run_clients.Goals as goal
 
 pub gather_all-requires : goal.gather_all-requires
@@ -26,7 +26,11 @@ gather_all-requires g c =
       empty = c.in-Ok.ensures.items;
       tasks = omega (arith, all, n);
       others_tasks = worked_tasks g.D.Draws.leads c.args.settings.now (λ w. w.session) (λ w. shown g.K.Keep.notes w.seat) (λ r. r.worker.session) (λ r. shown g.K.Keep.notes r.worker.seat) (λ r. r.tally) _ _ _ n c.in_ok-crew-2.ensures.others;
+      tries = worked_tries g.D.Draws.leads c.args.settings.now (λ w. w.session) (λ w. shown g.K.Keep.notes w.seat) (λ r. r.worker.session) (λ r. shown g.K.Keep.notes r.worker.seat) (λ r. r.tally) _ _ _ (sym c.in_ok-crew-2.ensures.first.tries) c.in_ok-crew-2.ensures.others;
     }
+
+pub returns-clause-tries : goal.returns-clause-tries
+returns-clause-tries g c = c.gather_all.ensures.tries ∙ c.in_ok-crew-2.ensures.first.tries
 
 pub returns-clause-ran : goal.returns-clause-ran
 returns-clause-ran g c = ran_all g.D.Draws.leads c.args.settings.now c.args.session (shown g.K.Keep.notes) (λ w. w.session) (λ w. shown g.K.Keep.notes w.seat) (λ r. r.worker.session) (λ r. shown g.K.Keep.notes r.worker.seat) (λ r. r.tally) _ _ _ _ _ _ c.gather_all.result.client.value _

@@ -1,10 +1,11 @@
-use Rattle.std.proofs.Common.{rules, inl, refl, ◌≡◌, ◌+◌, ◌*◌, length, min, ap, subst}
+use Rattle.std.proofs.Common.{rules, inl, refl, ℕ, ◌≡◌, ◌+◌, ◌*◌, length, min, ap, subst}
 use Rattle.vac_manager.specs.Called.{CallerShown}
 use Rattle.vac_load.specs.Keeping.{HasKeptAdded, shown}
 use Rattle.vac_draws.specs.Tasks.{opening}
 use Rattle.vac_manager.specs.Session.{SessionShown}
 use Rattle.vac_load.specs.Load.{IsStopOfLoad, RanAll}
 use Rattle.vac_load.specs.Opening.{Ran, Stopped}
+use Rattle.vac_load.specs.Attempted.{IsEffort}
 use Rattle.vac_load.proofs.Opened.{handed_on}
 use Rattle.vac_load.proofs.Loads.{loaded_kept, opened_known, was_opened, was_stopped, stop_behind}
 use Rattle.vac_load.proofs.Eras.{opened_in}
@@ -27,11 +28,11 @@ returns-clause-kept g c =
     let n : length c.args.seats.items ≡ c.args.settings.now.clients = search rules in
     let ran = subst (λ (y : SessionShown). Ran g.D.Draws.leads y.manager.renewal (opening c.args.settings.now) y.client.value c.open_kept.new.session.client.value c.args.opening.now c.open_kept.new.draws) c.of-session.ensures c.in_default-open_kept.ensures.ran in
     let keeps = subst (λ (y : SessionShown). HasKeptAdded y.client.value c.open_kept.new.session.client.value (g.K.Keep.notes c.args.keep.now) (g.K.Keep.notes c.open_kept.new.keep)) c.of-session.ensures c.in_default-open_kept.ensures.kept in
-    let all = subst (λ (x : CallerShown). RanAll g.D.Draws.leads c.args.settings.now (shown g.K.Keep.notes) (c.args.settings.now.rounds * c.args.settings.now.tasks) x.value.records c.args.seats.items c.in_ok-progress.progress.round.client.value.records c.in_ok-progress.progress.round.seats.items c.in_ok-progress.progress.round.tally)
+    let all = subst (λ (x : CallerShown). RanAll g.D.Draws.leads c.args.settings.now (shown g.K.Keep.notes) (c.args.settings.now.rounds * c.args.settings.now.tasks) x.value.records c.args.seats.items c.in_ok-progress.progress.round.client.value.records c.in_ok-progress.progress.round.seats.items c.in_ok-progress.progress.round.tally.tally)
     c.into_client-client.ensures.client c.in_ok-progress.ensures.ran in
     rw c.apart.ensures.tally (loaded_kept g.D.Draws.leads c.args.settings.now (shown g.K.Keep.notes) c.args.opening.now c.open_kept.new.draws c.args.seats.items c.in_ok-progress.progress.round.seats.items (min (16 + 8 * c.args.settings.now.blocks) 1048576)
     c.in-Ok.manager c.in_ok-progress.progress.manager c.in-Ok.client c.open_kept.new.session.client.value c.in_ok-progress.progress.round.client.value (g.K.Keep.notes c.args.keep.now) (g.K.Keep.notes c.open_kept.new.keep)
-    c.in_ok-progress.progress.round.tally c.in-Ok-close.words.items c.in-Ok-close.field-0-1 c.report_of-report.result n
+    c.in_ok-progress.progress.round.tally.tally c.in-Ok-close.words.items c.in-Ok-close.field-0-1 c.report_of-report.result n
     (search rules) ran keeps all c.in_ok-progress.ensures.era (search rules) (search rules) c.report_of-report.ensures)
 
 pub returns-in_default-clause-stopped : goal.returns-in_default-clause-stopped
@@ -61,3 +62,6 @@ returns-in-Err-close-clause-stopped g c =
     stop_behind leads s c.args.opening.now c.open_kept.new.draws c.in-Err-close.fault
     (was_opened leads s c.args.opening.now c.open_kept.new.draws _ c.in-Ok.manager c.in-Ok.client c.open_kept.new.session.client.value c.in-Ok.ensures.ok ran)
     (inl c.in-Err-close.ensures.refused)
+
+pub returns-clause-efforts : goal.returns-clause-efforts
+returns-clause-efforts g c = subst (λ (n : ℕ). IsEffort n c.apart.result.0 c.apart.result.1) c.in_ok-progress.ensures.tries c.apart.ensures.efforts

@@ -9,6 +9,7 @@ pub tasks-init : goal.tasks-init
 tasks-init g c = record {
   session = refl;
   looped = rw c.new-tally.ensures (looped_none g.D.Draws.leads c.args.settings.now c.args.session.now.manager.renewal c.args.session.now.client.value c.args.draws.now);
+  tries = search rules;
   kept = kept_none _ _ _ _ refl refl;
 }
 
@@ -16,8 +17,9 @@ pub tasks-preserved : goal.tasks-preserved
 tasks-preserved g c = record {
   session = search rules;
   looped = rw c.count.ensures (looped_more g.D.Draws.leads c.args.settings.now c.args.session.now.manager.renewal c.tasks.counter c.args.session.now.client.value c.tasks.session.client.value c.ask_for-end.new.session.client.value
-      c.args.draws.now c.tasks.draws c.draw_task-task.new.draws c.tasks.tally c.draw_task-task.result c.ask_for-end.result.0
+      c.args.draws.now c.tasks.draws c.draw_task-task.new.draws c.tasks.tally.tally c.draw_task-task.result c.ask_for-end.result.0
       c.tasks.invariant.looped c.draw_task-task.ensures.drawn
       (of_manager (λ m. RanOne m.renewal c.draw_task-task.result c.args.settings.now.tries c.ask_for-end.result.0 c.tasks.session.client.value c.ask_for-end.new.session.client.value) c.args.session.now c.tasks.session c.tasks.invariant.session c.ask_for-end.ensures.one));
+  tries = search rules;
   kept = kept_both _ _ _ _ _ _ c.tasks.invariant.kept c.ask_for-end.ensures.kept;
 }
