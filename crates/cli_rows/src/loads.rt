@@ -5,6 +5,7 @@ use std::test::Fail;
 use stm_attempt::NoGate;
 use vac_load::{FixedDraws, LoadFault, LoadReport, MOST_ROUNDS, Settings, run_load, run_load_with};
 use vac_manager::Fault;
+use vac_model::Report;
 
 #[test]
 fn trips_of_one_client(rt: HostRuntime) -> Result<(), Fail> {
@@ -16,6 +17,26 @@ fn trips_of_one_client(rt: HostRuntime) -> Result<(), Fail> {
     };
     assert_eq!(rt; loaded, Ok(wants));
     Ok(())
+}
+
+#[test]
+fn three_tasks_of_a_seed(rt: HostRuntime) {
+    let report = Report {
+        cars: 2,
+        flights: 2,
+        rooms: 2,
+        customers: 1,
+        bookings: 1,
+        used: 1,
+        free: 1599,
+        total: 1600,
+        billed: 90,
+    };
+    let wants = LoadReport {
+        tally: all_answered(3),
+        report,
+    };
+    assert_eq!(rt; run_load(&rt, &SETTINGS), Ok(wants));
 }
 
 #[test]
@@ -36,12 +57,15 @@ fn one_client_asks_a_thousand_times(rt: HostRuntime) {
 
 #[test]
 fn an_opening_finds_its_clock_spent(rt: HostRuntime) -> Result<(), Fail> {
-    for (last, stops) in [(5, true), (7, true), (8, false)] {
+    for (last, spent) in [(5, Some(5)), (7, Some(7)), (8, None)] {
         let settings = Settings { last, ..SETTINGS };
         let clients = vec![in rt.alloc(); (FixedDraws(0), NoGate)]?;
         let loaded = run_load_with(&rt, &settings, FixedDraws(0), clients);
-        let spent = matches!(loaded, Err(LoadFault::Opening(Fault::Spent { .. })));
-        assert_eq!(rt; spent, stops, "{last}");
+        let found = match loaded {
+            Err(LoadFault::Opening(Fault::Spent { version })) => Some(version.get()),
+            _ => None,
+        };
+        assert_eq!(rt; found, spent, "{last}");
     }
     Ok(())
 }

@@ -68,6 +68,10 @@ fn a_clock_too_short_for_the_opening(rt: HostRuntime) -> Result<(), Fail> {
     let (manager, client) = Manager::new(rt.alloc(), settings.blocks, settings.last)?;
     let mut session = Session::of(&manager, client);
     let opened = open(&mut session, &mut FixedDraws(0), &settings);
-    assert!(rt; matches!(opened, Err(Fault::Spent { .. })));
+    let spent = match opened {
+        Err(Fault::Spent { version }) => Some(version.get()),
+        _ => None,
+    };
+    assert_eq!(rt; spent, Some(5));
     Ok(())
 }

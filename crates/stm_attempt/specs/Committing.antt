@@ -85,8 +85,8 @@ abbrev pub DecidesWith : (List ℕ → Type 0) → RecordLaw → RegionShown →
 DecidesWith fits lawful region r v = (d : Decides fits lawful region v) × (d.made ≡ r)
 
 -- at the step that decided the attempt, and made this record, its client was as it is now, but for
--- its last step, what it had stored, the locks it held and its steps, and the records of all clients
--- were lawful and serial, the client's own among them
+-- its last step, what it had stored, the locks it held and its steps, and the records of all
+-- clients were lawful and serial, the client's own among them
 pub record WasDecided (fits : List ℕ → Type 0) (lawful : RecordLaw) (region : RegionShown)
     (r : Record) (v : Client) : Type 0 where
   pub then : Client

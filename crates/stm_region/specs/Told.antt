@@ -83,9 +83,9 @@ pub record IsOfOneVersion (fits : List ℕ → Type 0) (lawful : RecordLaw) (reg
   pub agrees : Agrees (image_at core.opening v.attempt.rv (all_records (now core).clients))
       v.attempt.reads
 
--- a step of this region decided the client's attempt, and right after it the records of all clients,
--- this one's with its newest among them, each of its own once and in its order, are lawful and
--- serial from the first opening image
+-- a step of this region decided the client's attempt, and right after it the records of all
+-- clients, this one's with its newest among them, each of its own once and in its order, are lawful
+-- and serial from the first opening image
 pub record Decides (fits : List ℕ → Type 0) (lawful : RecordLaw) (region : RegionShown) (v : Client)
     : Type 0 where
   -- the region's core state right after the deciding step

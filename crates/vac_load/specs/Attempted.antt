@@ -47,10 +47,10 @@ pub record CountsShown : Type 0 where
   pub tally : Tally
   pub tries : ℕ
 
--- the calls of tasks that ended so, by so many tries each, took this: one attempt each for an answer
--- and for a spent clock, at most one for want of memory, which may come before the call, and beside
--- these only attempts that ended in a conflict, as many as its tries for each busy task; no call
--- took more than its tries
+-- the calls of tasks that ended so, by so many tries each, took this: one attempt each for an
+-- answer and for a spent clock, at most one for want of memory, which may come before the call, and
+-- beside these only attempts that ended in a conflict, at least as many as its tries for each busy
+-- task; together no more than so many tries for each task
 pub record IsEffort (tries : ℕ) (t : Tally) (e : Efforts) : Type 0 where
   pub least : conflicts_in e + t.answered + t.spent ≤ e.attempts
   pub most : e.attempts ≤ conflicts_in e + t.answered + t.memory + t.spent
