@@ -2,14 +2,9 @@
 ghost use Rattle.std.specs.Prelude.{◌≡◌, ◌<◌, IfOk};
 ghost use Rattle.stm_core.specs.Core.{IsFreeHanded};
 
-use std::test::Fail;
 use stm_attempt::{Attempt, Logs, NoGate, Refusal, Stop};
 use stm_region::{Client, Region};
 use stm_words::{Addr, FreeLaw, TxMem, TxRead, Version};
-
-pub(crate) fn version(number: u64) -> Result<Version, Fail> {
-    Ok(Version::new(number).ok_or("it is no version")?)
-}
 
 /// One attempt that writes a word. Its client then knows the version that it answers, and no later
 /// one.

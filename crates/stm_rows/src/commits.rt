@@ -2,7 +2,9 @@
 ghost use Rattle.std.specs.Prelude.{◌≡◌, ◌<◌};
 ghost use Rattle.stm_core.specs.Core.{IsFreeHanded};
 
-use crate::attempts::{read_one, version, write_one};
+use crate::attempts::{read_one, write_one};
+use crate::same::{close, same, split, version};
+use std::process::Abort;
 use std::test::Fail;
 use stm_attempt::{Attempt, Conflict, Logs, NoGate, ReadAttempt, Refusal, Stop};
 use stm_region::{Client, Region};
@@ -17,6 +19,15 @@ fn sum_of<M: TxRead>(memory: &mut M, first: Addr, second: Addr) -> Result<u64, M
     Ok(memory.read(first)?.wrapping_add(memory.read(second)?))
 }
 
+/// The word of a lock has version 1, and the read version is 0.
+fn newer(rt: &impl Abort, lock: u32) -> Conflict {
+    Conflict::Newer {
+        lock,
+        version: version(rt, 1),
+        rv: version(rt, 0),
+    }
+}
+
 #[test]
 fn own_writes_are_read_and_dropped(rt: HostRuntime) -> Result<(), Fail> {
     let alloc = rt.alloc();
@@ -29,17 +40,15 @@ fn own_writes_are_read_and_dropped(rt: HostRuntime) -> Result<(), Fail> {
         let after = attempt.read(Addr(9));
         attempt.drop_it();
         let dropped = read_one(&region, &mut client, &mut logs, Addr(9));
-        let Ok((words, last)) = region.close(alloc, client) else {
-            panic!(rt; "it stayed open")
-        };
+        let (words, last) = close(&rt, alloc, region, client);
         (before, written, after, dropped, words, last)
     };
-    assert_eq!(rt; before?, 0);
-    written?;
-    assert_eq!(rt; after?, 5);
-    assert_eq!(rt; dropped?, 0);
-    assert_eq!(rt; words.as_slice(), [0u64; 32].as_slice());
-    assert_eq!(rt; last.get(), 0);
+    same(&rt, &before, &Ok(0));
+    same(&rt, &written, &Ok(()));
+    same(&rt, &after, &Ok(5));
+    same(&rt, &dropped, &Ok(0));
+    same(&rt, &words.as_slice(), &[0u64; 32].as_slice());
+    same(&rt, &last.get(), &0);
     Ok(())
 }
 
@@ -58,9 +67,9 @@ fn a_reader_finishes_at_its_read_version(rt: HostRuntime) -> Result<(), Fail> {
         }
         (committed, value, reader.finish(&7u64))
     };
-    assert_eq!(rt; committed?, version(1)?);
-    assert_eq!(rt; value, Ok(5));
-    assert_eq!(rt; finished, version(1)?);
+    same(&rt, &committed, &Ok(version(&rt, 1)));
+    same(&rt, &value, &Ok(5));
+    same(&rt, &finished, &version(&rt, 1));
     Ok(())
 }
 
@@ -76,8 +85,8 @@ fn a_reader_of_zeros_finishes_at_version_0(rt: HostRuntime) -> Result<(), Fail> 
         }
         (value, reader.finish(&7u64))
     };
-    assert_eq!(rt; value, Ok(0));
-    assert_eq!(rt; finished, version(0)?);
+    same(&rt, &value, &Ok(0));
+    same(&rt, &finished, &version(&rt, 0));
     Ok(())
 }
 
@@ -86,7 +95,7 @@ fn a_reader_meets_a_newer_version_and_repeats(rt: HostRuntime) -> Result<(), Fai
     let alloc = rt.alloc();
     let (between, stops, met, ended, value, committed, words, last) = {
         let (region, mut a) = Region::<FreeLaw>::new(alloc, &[0; 32], 100, 32)?;
-        let mut b = region.split(&mut a)?;
+        let mut b = split(&rt, &region, &mut a);
         let mut logs_a = Logs::new(alloc);
         let mut logs_b = Logs::new(alloc);
         let mut reading = Attempt::begin(&region, &mut a, &mut logs_a);
@@ -102,26 +111,19 @@ fn a_reader_meets_a_newer_version_and_repeats(rt: HostRuntime) -> Result<(), Fai
         let value = reading.read(Addr(9));
         let committed = reading.commit(&3u64, &mut NoGate);
         region.gather(&mut a, b);
-        let Ok((words, last)) = region.close(alloc, a) else {
-            panic!(rt; "it stayed open")
-        };
+        let (words, last) = close(&rt, alloc, region, a);
         (between, stops, met, ended, value, committed, words, last)
     };
-    assert_eq!(rt; between?, version(1)?);
-    let newer = Conflict::Newer {
-        lock: 9,
-        version: version(1)?,
-        rv: version(0)?,
-    };
-    assert_eq!(rt; stops, [Some(Refusal::Stopped); 3]);
-    assert_eq!(rt; met, Some(newer));
-    assert_eq!(rt; ended, Err(Stop::Conflict(newer)));
-    assert_eq!(rt; value?, 5);
-    assert_eq!(rt; committed?, version(1)?);
+    same(&rt, &between, &Ok(version(&rt, 1)));
+    same(&rt, &stops, &[Some(Refusal::Stopped); 3]);
+    same(&rt, &met, &Some(newer(&rt, 9)));
+    same(&rt, &ended, &Err(Stop::Conflict(newer(&rt, 9))));
+    same(&rt, &value, &Ok(5));
+    same(&rt, &committed, &Ok(version(&rt, 1)));
     let mut expected = [0u64; 32];
     expected[9] = 5;
-    assert_eq!(rt; words.as_slice(), expected.as_slice());
-    assert_eq!(rt; last, version(1)?);
+    same(&rt, &words.as_slice(), &expected.as_slice());
+    same(&rt, &last, &version(&rt, 1));
     Ok(())
 }
 
@@ -141,15 +143,15 @@ fn a_spent_clock_refuses_what_writes(rt: HostRuntime) -> Result<(), Fail> {
         let committed = attempt.commit(&3u64, &mut NoGate);
         (first, before, written, refused, read, committed)
     };
-    assert_eq!(rt; first?, version(1)?);
-    assert_eq!(rt; before?, 5);
-    written?;
+    same(&rt, &first, &Ok(version(&rt, 1)));
+    same(&rt, &before, &Ok(5));
+    same(&rt, &written, &Ok(()));
     let spent = Stop::Spent {
-        version: version(1)?,
+        version: version(&rt, 1),
     };
-    assert_eq!(rt; refused, Err(spent));
-    assert_eq!(rt; read?, 5);
-    assert_eq!(rt; committed?, version(1)?);
+    same(&rt, &refused, &Err(spent));
+    same(&rt, &read, &Ok(5));
+    same(&rt, &committed, &Ok(version(&rt, 1)));
     Ok(())
 }
 
@@ -158,7 +160,7 @@ fn two_words_of_one_stripe(rt: HostRuntime) -> Result<(), Fail> {
     let alloc = rt.alloc();
     let (stops, first, refused, met, read, second) = {
         let (region, mut a) = Region::<FreeLaw>::new(alloc, &[0; 32], 100, 4)?;
-        let mut b = region.split(&mut a)?;
+        let mut b = split(&rt, &region, &mut a);
         let mut logs_a = Logs::new(alloc);
         let mut logs_b = Logs::new(alloc);
         let mut reading = Attempt::begin(&region, &mut b, &mut logs_b);
@@ -177,17 +179,12 @@ fn two_words_of_one_stripe(rt: HostRuntime) -> Result<(), Fail> {
         let stops = [one.err(), two.err(), three.err(), four.err()];
         (stops, first, refused, met, read, second)
     };
-    assert_eq!(rt; stops, [None; 4]);
-    assert_eq!(rt; first?, version(1)?);
-    let newer = Conflict::Newer {
-        lock: 1,
-        version: version(1)?,
-        rv: version(0)?,
-    };
-    assert_eq!(rt; refused, Err(Refusal::Stopped));
-    assert_eq!(rt; met, Some(newer));
-    assert_eq!(rt; read?, 1);
-    assert_eq!(rt; second?, version(2)?);
+    same(&rt, &stops, &[None; 4]);
+    same(&rt, &first, &Ok(version(&rt, 1)));
+    same(&rt, &refused, &Err(Refusal::Stopped));
+    same(&rt, &met, &Some(newer(&rt, 1)));
+    same(&rt, &read, &Ok(1));
+    same(&rt, &second, &Ok(version(&rt, 2)));
     Ok(())
 }
 
@@ -226,25 +223,23 @@ fn thirty_two_words_share_four_stripes(rt: HostRuntime) -> Result<(), Fail> {
     image[31] = 7;
     let (first, second, third, words, last) = {
         let (region, mut a) = Region::<FreeLaw>::new(alloc, &image, 100, 4)?;
-        let mut b = region.split(&mut a)?;
+        let mut b = split(&rt, &region, &mut a);
         let mut logs = Logs::new(alloc);
         let first = add_to_all(&region, &mut a, &mut logs, 1);
         let second = add_to_all(&region, &mut b, &mut logs, 10);
         let third = write_one(&region, &mut a, &mut logs, Addr(4), 5);
         region.gather(&mut a, b);
-        let Ok((words, last)) = region.close(alloc, a) else {
-            panic!(rt; "it stayed open")
-        };
+        let (words, last) = close(&rt, alloc, region, a);
         (first, second, third, words, last)
     };
-    assert_eq!(rt; first?, version(1)?);
-    assert_eq!(rt; second?, version(2)?);
-    assert_eq!(rt; third?, version(3)?);
+    same(&rt, &first, &Ok(version(&rt, 1)));
+    same(&rt, &second, &Ok(version(&rt, 2)));
+    same(&rt, &third, &Ok(version(&rt, 3)));
     let mut expected = [11u64; 32];
     expected[4] = 5;
     expected[31] = 18;
-    assert_eq!(rt; words.as_slice(), expected.as_slice());
-    assert_eq!(rt; last, version(3)?);
+    same(&rt, &words.as_slice(), &expected.as_slice());
+    same(&rt, &last, &version(&rt, 3));
     Ok(())
 }
 
@@ -262,18 +257,16 @@ fn three_hundred_writes_in_one_commit(rt: HostRuntime) -> Result<(), Fail> {
             }
         }
         let committed = attempt.commit(&1u64, &mut NoGate);
-        let Ok((words, last)) = region.close(alloc, client) else {
-            panic!(rt; "it stayed open")
-        };
+        let (words, last) = close(&rt, alloc, region, client);
         (refused, committed, words, last)
     };
-    assert_eq!(rt; refused, 0);
-    assert_eq!(rt; committed?, version(1)?);
+    same(&rt, &refused, &0);
+    same(&rt, &committed, &Ok(version(&rt, 1)));
     for (i, word) in words.iter().enumerate() {
         let expected = if i < 300 { 300 - i } else { 0 };
-        assert_eq!(rt; *word, expected as u64);
+        same(&rt, word, &(expected as u64));
     }
-    assert_eq!(rt; last, version(1)?);
+    same(&rt, &last, &version(&rt, 1));
     Ok(())
 }
 
@@ -292,8 +285,8 @@ fn both_kinds_of_attempt_read_alike(rt: HostRuntime) -> Result<(), Fail> {
         reader.drop_it();
         (written, logged, unlogged)
     };
-    written?;
-    assert_eq!(rt; logged?, 12);
-    assert_eq!(rt; unlogged, Ok(12));
+    same(&rt, &written, &Ok(version(&rt, 1)));
+    same(&rt, &logged, &Ok(12));
+    same(&rt, &unlogged, &Ok(12));
     Ok(())
 }

@@ -2,7 +2,8 @@
 ghost use Rattle.std.specs.Prelude.{◌≡◌, ◌<◌};
 ghost use Rattle.stm_core.specs.Core.{IsFreeHanded};
 
-use crate::attempts::{read_one, version, write_one};
+use crate::attempts::{read_one, write_one};
+use crate::same::{same, split, version};
 use std::test::Fail;
 use stm_attempt::{Attempt, Conflict, Logs, NoGate, Stop};
 use stm_region::{Client, Region};
@@ -42,7 +43,7 @@ fn a_validation_meets_a_newer_version(rt: HostRuntime) -> Result<(), Fail> {
     let alloc = rt.alloc();
     let (free, own, nine, ten, after) = {
         let (region, mut a) = Region::<FreeLaw>::new(alloc, &[0; 32], 100, 32)?;
-        let mut b = region.split(&mut a)?;
+        let mut b = split(&rt, &region, &mut a);
         let mut logs_a = Logs::new(alloc);
         let mut logs_b = Logs::new(alloc);
         (
@@ -55,19 +56,19 @@ fn a_validation_meets_a_newer_version(rt: HostRuntime) -> Result<(), Fail> {
     };
     let newer = Conflict::Newer {
         lock: 9,
-        version: version(1)?,
-        rv: version(0)?,
+        version: version(&rt, 1),
+        rv: version(&rt, 0),
     };
-    assert_eq!(rt; free?, Err(Stop::Conflict(newer)));
+    same(&rt, &free, &Ok(Err(Stop::Conflict(newer))));
     let newer = Conflict::Newer {
         lock: 9,
-        version: version(3)?,
-        rv: version(2)?,
+        version: version(&rt, 3),
+        rv: version(&rt, 2),
     };
-    assert_eq!(rt; own?, Err(Stop::Conflict(newer)));
-    assert_eq!(rt; nine?, 1);
-    assert_eq!(rt; ten?, 0);
-    assert_eq!(rt; after?, version(5)?);
+    same(&rt, &own, &Ok(Err(Stop::Conflict(newer))));
+    same(&rt, &nine, &Ok(1));
+    same(&rt, &ten, &Ok(0));
+    same(&rt, &after, &Ok(version(&rt, 5)));
     Ok(())
 }
 
@@ -78,7 +79,7 @@ fn a_lost_tick_finds_the_clock_spent(rt: HostRuntime) -> Result<(), Fail> {
     let alloc = rt.alloc();
     let (committed, ten, nine) = {
         let (region, mut a) = Region::<FreeLaw>::new(alloc, &[0; 32], 1, 32)?;
-        let mut b = region.split(&mut a)?;
+        let mut b = split(&rt, &region, &mut a);
         let mut logs_a = Logs::new(alloc);
         let mut logs_b = Logs::new(alloc);
         (
@@ -88,10 +89,10 @@ fn a_lost_tick_finds_the_clock_spent(rt: HostRuntime) -> Result<(), Fail> {
         )
     };
     let spent = Stop::Spent {
-        version: version(1)?,
+        version: version(&rt, 1),
     };
-    assert_eq!(rt; committed?, Err(spent));
-    assert_eq!(rt; ten?, 0);
-    assert_eq!(rt; nine?, 1);
+    same(&rt, &committed, &Ok(Err(spent)));
+    same(&rt, &ten, &Ok(0));
+    same(&rt, &nine, &Ok(1));
     Ok(())
 }

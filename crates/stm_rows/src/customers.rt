@@ -5,6 +5,7 @@ ghost use Rattle.stm_rows.specs.Laws.{Holds};
 ghost use Rattle.stm_rows.specs.Records.{IsSized, HasOneBooking, flight_key};
 
 use crate::records::SizeLaw;
+use crate::same::same;
 use crate::words::has_words;
 use std::test::Fail;
 use stm_attempt::{Attempt, Logs};
@@ -121,17 +122,18 @@ fn a_customer_of_plain_memory_and_of_a_region(rt: HostRuntime) -> Result<(), Fai
         let mut logs = Logs::new(alloc);
         change_customer_in_an_attempt(&region, &mut client, &mut logs, &words)
     };
-    assert_eq!(rt; answers, Some((expected, true)));
+    same(&rt, &answers, &Some((expected, true)));
     let by_hand = Answers {
         first: 150,
         booking: Booking { units: 5, sum: 310 },
         numbers: [5, 310],
         gone: (Some(BOOKING), 310, Some((BOOKING, 5))),
     };
-    assert_eq!(rt; expected, by_hand);
-    assert_eq!(rt;
-        words.get(24..40),
-        Some([5, 9, 9, 9, 0, 0, 0, 0, 1, 7, 310, 0, 5, 0, 0, 0].as_slice())
+    same(&rt, &expected, &by_hand);
+    same(
+        &rt,
+        &words.get(24..40),
+        &Some([5, 9, 9, 9, 0, 0, 0, 0, 1, 7, 310, 0, 5, 0, 0, 0].as_slice()),
     );
     Ok(())
 }

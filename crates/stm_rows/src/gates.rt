@@ -2,8 +2,10 @@
 ghost use Rattle.std.specs.Prelude.{◌≡◌, ◌<◌, true};
 ghost use Rattle.stm_core.specs.Core.{IsFreeHanded};
 
-use crate::attempts::{read_one, version, write_one};
+use crate::attempts::{read_one, write_one};
+use crate::same::{holds, same, split, version};
 use std::alloc::Global;
+use std::process::Abort;
 use std::test::Fail;
 use stm_attempt::{Attempt, Conflict, Gate, Logs, NoGate, Point, Refusal, Stop};
 use stm_region::{Client, Region, RegionFault};
@@ -52,7 +54,7 @@ fn gates_are_told_each_point(rt: HostRuntime) -> Result<(), Fail> {
     let mut validating = Told::new();
     let answers = {
         let (region, mut a) = Region::<FreeLaw>::new(alloc, &[0; 32], 100, 4)?;
-        let mut b = region.split(&mut a)?;
+        let mut b = split(&rt, &region, &mut a);
         let mut logs_a = Logs::new(alloc);
         let mut logs_b = Logs::new(alloc);
         let mut attempt = Attempt::begin(&region, &mut a, &mut logs_a);
@@ -66,19 +68,25 @@ fn gates_are_told_each_point(rt: HostRuntime) -> Result<(), Fail> {
         let rewritten = attempt.write(Addr(9), 3);
         let between = write_one(&region, &mut b, &mut logs_b, Addr(10), 2);
         let third = attempt.commit(&3u64, &mut validating);
-        assert!(rt; written.is_ok() && rewritten.is_ok() && read == Ok(1));
+        holds(&rt, written.is_ok() && rewritten.is_ok() && read == Ok(1));
         [first, second, between, third]
     };
     let versions = [
-        Ok(version(1)?),
-        Ok(version(1)?),
-        Ok(version(2)?),
-        Ok(version(3)?),
+        Ok(version(&rt, 1)),
+        Ok(version(&rt, 1)),
+        Ok(version(&rt, 2)),
+        Ok(version(&rt, 3)),
     ];
-    assert_eq!(rt; answers, versions);
-    assert!(rt; &writing.points[..5] == ALL_POINTS.as_slice() && writing.points[5].is_none());
-    assert!(rt; reading.points == [Some(Point::ReadsDone), None, None, None, None, None]);
-    assert!(rt; validating.points == writing.points);
+    same(&rt, &answers, &versions);
+    holds(
+        &rt,
+        &writing.points[..5] == ALL_POINTS.as_slice() && writing.points[5].is_none(),
+    );
+    holds(
+        &rt,
+        reading.points == [Some(Point::ReadsDone), None, None, None, None, None],
+    );
+    holds(&rt, validating.points == writing.points);
     Ok(())
 }
 
@@ -139,12 +147,12 @@ fn commit_after_a_stopped_read<G: Gate>(
 }
 
 /// The word that was read is newer than the read version.
-fn newer() -> Result<Stop, Fail> {
-    Ok(Stop::Conflict(Conflict::Newer {
+fn newer(rt: &impl Abort) -> Stop {
+    Stop::Conflict(Conflict::Newer {
         lock: 9,
-        version: version(1)?,
-        rv: version(0)?,
-    }))
+        version: version(rt, 1),
+        rv: version(rt, 0),
+    })
 }
 
 #[test]
@@ -153,7 +161,7 @@ fn no_decision_is_told_after_a_refused_validation(rt: HostRuntime) -> Result<(),
     let mut told = Told::new();
     let (answers, ten) = {
         let (region, mut a) = Region::<FreeLaw>::new(alloc, &[0; 32], 100, 32)?;
-        let mut b = region.split(&mut a)?;
+        let mut b = split(&rt, &region, &mut a);
         let mut logs_a = Logs::new(alloc);
         let mut logs_b = Logs::new(alloc);
         (
@@ -168,8 +176,8 @@ fn no_decision_is_told_after_a_refused_validation(rt: HostRuntime) -> Result<(),
             read_one(&region, &mut a, &mut logs_a, Addr(10)),
         )
     };
-    assert_eq!(rt; answers, [Ok(version(1)?), Err(newer()?)]);
-    assert_eq!(rt; ten, Ok(0));
+    same(&rt, &answers, &[Ok(version(&rt, 1)), Err(newer(&rt))]);
+    same(&rt, &ten, &Ok(0));
     let points = [
         Some(Point::ReadsDone),
         Some(Point::Locked),
@@ -178,7 +186,7 @@ fn no_decision_is_told_after_a_refused_validation(rt: HostRuntime) -> Result<(),
         None,
         None,
     ];
-    assert!(rt; told.points == points);
+    holds(&rt, told.points == points);
     Ok(())
 }
 
@@ -188,7 +196,7 @@ fn nothing_is_told_where_a_read_was_stopped(rt: HostRuntime) -> Result<(), Fail>
     let mut told = Told::new();
     let (answers, ten) = {
         let (region, mut a) = Region::<FreeLaw>::new(alloc, &[0; 32], 100, 32)?;
-        let mut b = region.split(&mut a)?;
+        let mut b = split(&rt, &region, &mut a);
         let mut logs_a = Logs::new(alloc);
         let mut logs_b = Logs::new(alloc);
         (
@@ -203,9 +211,9 @@ fn nothing_is_told_where_a_read_was_stopped(rt: HostRuntime) -> Result<(), Fail>
             read_one(&region, &mut a, &mut logs_a, Addr(10)),
         )
     };
-    assert_eq!(rt; answers, [Ok(version(1)?), Err(newer()?)]);
-    assert_eq!(rt; ten, Ok(0));
-    assert!(rt; told.points == [None; 6]);
+    same(&rt, &answers, &[Ok(version(&rt, 1)), Err(newer(&rt))]);
+    same(&rt, &ten, &Ok(0));
+    holds(&rt, told.points == [None; 6]);
     Ok(())
 }
 
@@ -216,15 +224,15 @@ fn no_tick_is_told_where_the_clock_is_spent(rt: HostRuntime) -> Result<(), Fail>
     let mut told = Told::new();
     let answers = {
         let (region, mut a) = Region::<FreeLaw>::new(alloc, &[0; 32], 1, 32)?;
-        let mut b = region.split(&mut a)?;
+        let mut b = split(&rt, &region, &mut a);
         let mut logs_a = Logs::new(alloc);
         let mut logs_b = Logs::new(alloc);
         commit_after_a_newer_write(&region, &mut a, &mut b, &mut logs_a, &mut logs_b, &mut told)
     };
     let spent = Stop::Spent {
-        version: version(1)?,
+        version: version(&rt, 1),
     };
-    assert_eq!(rt; answers, [Ok(version(1)?), Err(spent)]);
+    same(&rt, &answers, &[Ok(version(&rt, 1)), Err(spent)]);
     let points = [
         Some(Point::ReadsDone),
         Some(Point::Locked),
@@ -233,7 +241,7 @@ fn no_tick_is_told_where_the_clock_is_spent(rt: HostRuntime) -> Result<(), Fail>
         None,
         None,
     ];
-    assert!(rt; told.points == points);
+    holds(&rt, told.points == points);
     Ok(())
 }
 
@@ -341,10 +349,12 @@ fn locks_are_held_from_locked_to_written(rt: HostRuntime) -> Result<(), Fail> {
     let ticked = read_in_new_region(rt.alloc(), Point::Ticked)?;
     let decided = read_in_new_region(rt.alloc(), Point::Decided)?;
     let written = read_in_new_region(rt.alloc(), Point::Written)?;
-    let committed = Ok(version(1)?);
-    let expected = (Some((Err(Refusal::Stopped), Some(held))), committed);
-    assert_eq!(rt; before, (Some((Ok(0), None)), committed));
-    assert_eq!(rt; [locked, ticked, decided, written], [expected; 4]);
+    let expected = (
+        Some((Err(Refusal::Stopped), Some(held))),
+        Ok(version(&rt, 1)),
+    );
+    same(&rt, &before, &(Some((Ok(0), None)), Ok(version(&rt, 1))));
+    same(&rt, &[locked, ticked, decided, written], &[expected; 4]);
     Ok(())
 }
 
@@ -421,9 +431,9 @@ fn the_clock_is_ticked_between_locked_and_ticked(rt: HostRuntime) -> Result<(), 
     let locked = commit_in_new_region(rt.alloc(), Point::Locked)?;
     let ticked = commit_in_new_region(rt.alloc(), Point::Ticked)?;
     let written = commit_in_new_region(rt.alloc(), Point::Written)?;
-    let one = Ok(version(1)?);
-    let two = Ok(version(2)?);
-    assert_eq!(rt; locked, (Some(one), two));
-    assert_eq!(rt; [ticked, written], [(Some(two), one); 2]);
+    let one = (Some(Ok(version(&rt, 1))), Ok(version(&rt, 2)));
+    let two = (Some(Ok(version(&rt, 2))), Ok(version(&rt, 1)));
+    same(&rt, &locked, &one);
+    same(&rt, &[ticked, written], &[two; 2]);
     Ok(())
 }

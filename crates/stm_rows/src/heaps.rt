@@ -5,7 +5,7 @@ ghost use Rattle.stm_attempt.specs.Leading.{Carries};
 ghost use Rattle.tx_alloc.specs.Pool.{HasPool};
 ghost use Rattle.stm_rows.specs.Laws.{Holds, IsHeapOfTen};
 
-use crate::attempts::version;
+use crate::same::{close, holds, same, split, version};
 use crate::words::{has_words, place_of};
 use std::alloc::Global;
 use std::test::Fail;
@@ -106,24 +106,22 @@ fn two_clients_take_from_different_lists(rt: HostRuntime) -> Result<(), Fail> {
     let alloc = rt.alloc();
     let (taken, words, last) = {
         let (region, mut a) = heap_region(alloc)?;
-        let mut b = region.split(&mut a)?;
+        let mut b = split(&rt, &region, &mut a);
         let mut logs_a = Logs::new(alloc);
         let mut logs_b = Logs::new(alloc);
         let taken = take_beside_another(&region, &mut a, &mut b, &mut logs_a, &mut logs_b);
         region.gather(&mut a, b);
-        let Ok((words, last)) = region.close(alloc, a) else {
-            panic!(rt; "it stayed open")
-        };
+        let (words, last) = close(&rt, alloc, region, a);
         (taken, words, last)
     };
-    let mine = (Block(Addr(16)), version(2)?);
-    let theirs = (Block(Addr(24)), version(1)?);
-    assert_eq!(rt; taken, [Some(mine), Some(theirs)]);
-    assert_eq!(rt; last, version(2)?);
+    let mine = (Block(Addr(16)), version(&rt, 2));
+    let theirs = (Block(Addr(24)), version(&rt, 1));
+    same(&rt, &taken, &[Some(mine), Some(theirs)]);
+    same(&rt, &last, &version(&rt, 2));
     let fresh = fresh_words(alloc, 10)?;
     let heads = [80u64, 88, 32, 40, 48, 56, 64, 72];
     let same = words.get(8..16) == Some(heads.as_slice());
-    assert!(rt; same && words.get(16..) == fresh.get(16..));
+    holds(&rt, same && words.get(16..) == fresh.get(16..));
     Ok(())
 }
 
@@ -189,7 +187,11 @@ fn blocks_of_plain_memory_and_of_a_region(rt: HostRuntime) -> Result<(), Fail> {
         let mut logs = Logs::new(alloc);
         move_two_in_an_attempt(&region, &mut client, &mut logs, &words)
     };
-    assert_eq!(rt; taken, Some((expected, true)));
-    assert_eq!(rt; expected, [Some(Addr(24)), Some(Addr(40)), Some(Addr(40))]);
+    same(&rt, &taken, &Some((expected, true)));
+    same(
+        &rt,
+        &expected,
+        &[Some(Addr(24)), Some(Addr(40)), Some(Addr(40))],
+    );
     Ok(())
 }

@@ -3,6 +3,7 @@ ghost use Rattle.std.specs.Prelude.{◌≡◌, IfOk, replicate};
 ghost use Rattle.stm_core.specs.Core.{IsFreeHanded};
 ghost use Rattle.stm_rows.specs.Laws.{Holds, HasNulls};
 
+use crate::same::same;
 use crate::words::has_words;
 use std::alloc::{AllocError, Global};
 use std::test::Fail;
@@ -94,6 +95,6 @@ fn structures_under_a_law_that_fixes_no_length(rt: HostRuntime) -> Result<(), Fa
         let mut logs = Logs::new(alloc);
         hang_in_an_attempt(&region, &mut client, &mut logs, &words)
     };
-    assert_eq!(rt; hung, Some((None, true)));
+    same(&rt, &hung, &Some((None, true)));
     Ok(())
 }

@@ -2,6 +2,7 @@
 //! keep, and the structures in words over plain memory and over a region alike.
 #![tactic(auto)]
 
+#[cfg(test)]
 mod attempts;
 #[cfg(test)]
 mod commits;
@@ -25,6 +26,8 @@ mod meetings;
 mod memory;
 #[cfg(test)]
 mod records;
+#[cfg(test)]
+mod same;
 #[cfg(test)]
 mod tables;
 #[cfg(test)]

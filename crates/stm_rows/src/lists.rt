@@ -3,6 +3,7 @@ ghost use Rattle.std.specs.Prelude.{◌≡◌, ◌+◌, ◌*◌, ◌<◌, IfOk};
 ghost use Rattle.stm_core.specs.Core.{IsFreeHanded};
 ghost use Rattle.stock_rows.specs.Stock.{HasStock};
 
+use crate::same::same;
 use crate::words::{has_words, place_of};
 use std::alloc::Global;
 use std::test::Fail;
@@ -102,9 +103,13 @@ fn a_list_of_plain_memory_and_of_a_region(rt: HostRuntime) -> Result<(), Fail> {
         let mut logs = Logs::new(alloc);
         change_in_an_attempt(&region, &mut client, &mut logs, &words)
     };
-    assert_eq!(rt; answers, Some((expected, true)));
+    same(&rt, &answers, &Some((expected, true)));
     let flight = Some(Addr(16 + 8 * 47));
     let room = Some(Addr(16 + 8 * 119));
-    assert_eq!(rt; expected, ([None, None, room, flight], [flight, room]));
+    same(
+        &rt,
+        &expected,
+        &([None, None, room, flight], [flight, room]),
+    );
     Ok(())
 }

@@ -3,7 +3,8 @@ ghost use Rattle.std.specs.Prelude.{◌≡◌, ◌<◌};
 ghost use Rattle.stm_core.specs.Core.{IsFreeHanded};
 ghost use Rattle.stm_logs.specs.Log.{IsStriped};
 
-use crate::attempts::{version, write_one};
+use crate::attempts::write_one;
+use crate::same::{close, holds, same, split, version};
 use linked_list_allocator::LocalHeap;
 use std::alloc::Allocator;
 use std::test::Fail;
@@ -36,9 +37,9 @@ fn a_cleared_read_log_keeps_its_chunks(rt: HostRuntime) -> Result<(), Fail> {
         let again = fill(&mut log);
         (kept, before, after, again)
     };
-    assert!(rt; kept);
-    assert_eq!(rt; [before, after, again], [1_024; 3]);
-    assert_eq!(rt; heap.used(), 0);
+    holds(&rt, kept);
+    same(&rt, &[before, after, again], &[1_024; 3]);
+    same(&rt, &heap.used(), &0);
     Ok(())
 }
 
@@ -87,9 +88,9 @@ fn a_cleared_write_log_keeps_its_memory(rt: HostRuntime) -> Result<(), Fail> {
         let after = fill(&mut rest);
         (first, before, second, after)
     };
-    assert_eq!(rt; [first, second], [15; 2]);
-    assert_eq!(rt; before, after);
-    assert_eq!(rt; heap.used(), 0);
+    same(&rt, &[first, second], &[15; 2]);
+    same(&rt, &before, &after);
+    same(&rt, &heap.used(), &0);
     Ok(())
 }
 
@@ -133,8 +134,8 @@ fn logs_keep_their_memory_from_attempt_to_attempt(rt: HostRuntime) -> Result<(),
         let after = fill(&mut rest);
         (first, before, second, after)
     };
-    assert_eq!(rt; [first, second], [500; 2]);
-    assert_eq!(rt; before, after);
+    same(&rt, &[first, second], &[500; 2]);
+    same(&rt, &before, &after);
     Ok(())
 }
 
@@ -189,24 +190,22 @@ fn an_attempt_begins_with_its_logs_emptied(rt: HostRuntime) -> Result<(), Fail> 
     let alloc = rt.alloc();
     let ((read, committed), answers, words, last) = {
         let (region, mut a) = Region::<FreeLaw>::new(alloc, &[0; 32], 100, 32)?;
-        let mut b = region.split(&mut a)?;
+        let mut b = split(&rt, &region, &mut a);
         let mut logs_a = Logs::new(alloc);
         let mut logs_b = Logs::new(alloc);
         let read = read_in_used_logs(&region, &mut a, &mut logs_a);
         let answers = write_in_used_logs(&region, &mut a, &mut b, &mut logs_a, &mut logs_b);
         region.gather(&mut a, b);
-        let Ok((words, last)) = region.close(alloc, a) else {
-            panic!(rt; "it stayed open")
-        };
+        let (words, last) = close(&rt, alloc, region, a);
         (read, answers, words, last)
     };
-    assert_eq!(rt; read, Ok(0));
-    assert_eq!(rt; committed, Ok(version(0)?));
-    assert_eq!(rt; answers, [Ok(version(1)?), Ok(version(2)?)]);
+    same(&rt, &read, &Ok(0));
+    same(&rt, &committed, &Ok(version(&rt, 0)));
+    same(&rt, &answers, &[Ok(version(&rt, 1)), Ok(version(&rt, 2))]);
     let mut expected = [0u64; 32];
     expected[3] = 1;
     expected[5] = 8;
-    assert_eq!(rt; words.as_slice(), expected.as_slice());
-    assert_eq!(rt; last, version(2)?);
+    same(&rt, &words.as_slice(), &expected.as_slice());
+    same(&rt, &last, &version(&rt, 2));
     Ok(())
 }

@@ -1,7 +1,8 @@
 //! What another client's commit meets at the point where the locks are held.
 
-use crate::attempts::{read_one, version, write_one};
+use crate::attempts::{read_one, write_one};
 use crate::gates::{CommitsAt, Running, write_under};
+use crate::same::{same, split, version};
 use std::test::Fail;
 use stm_attempt::{Attempt, Conflict, Logs, Point, Stop};
 use stm_region::Region;
@@ -15,7 +16,7 @@ fn a_commit_at_locked_decides_by_its_tick(rt: HostRuntime) -> Result<(), Fail> {
     let mut answer = None;
     let (read, written, committed) = {
         let (region, mut a) = Region::<FreeLaw>::new(alloc, &[0; 32], 100, 32)?;
-        let mut b = region.split(&mut a)?;
+        let mut b = split(&rt, &region, &mut a);
         let mut logs_a = Logs::new(alloc);
         let mut logs_b = Logs::new(alloc);
         let mut other = Attempt::begin(&region, &mut b, &mut logs_b);
@@ -37,10 +38,10 @@ fn a_commit_at_locked_decides_by_its_tick(rt: HostRuntime) -> Result<(), Fail> {
         }
         (read, written, committed)
     };
-    assert_eq!(rt; read?, 0);
-    written?;
-    assert_eq!(rt; committed?, version(2)?);
-    assert_eq!(rt; answer, Some(Ok(version(1)?)));
+    same(&rt, &read, &Ok(0));
+    same(&rt, &written, &Ok(()));
+    same(&rt, &committed, &Ok(version(&rt, 2)));
+    same(&rt, &answer, &Some(Ok(version(&rt, 1))));
     Ok(())
 }
 
@@ -52,7 +53,7 @@ fn a_commit_at_locked_meets_a_held_lock(rt: HostRuntime) -> Result<(), Fail> {
     let mut answer = None;
     let (read, written, before, committed, nine, ten) = {
         let (region, mut a) = Region::<FreeLaw>::new(alloc, &[0; 32], 100, 32)?;
-        let mut b = region.split(&mut a)?;
+        let mut b = split(&rt, &region, &mut a);
         let mut logs_a = Logs::new(alloc);
         let mut logs_b = Logs::new(alloc);
         let mut other = Attempt::begin(&region, &mut b, &mut logs_b);
@@ -77,14 +78,14 @@ fn a_commit_at_locked_meets_a_held_lock(rt: HostRuntime) -> Result<(), Fail> {
         let ten = read_one(&region, &mut a, &mut logs_a, Addr(10));
         (read, written, before, committed, nine, ten)
     };
-    assert_eq!(rt; read?, 0);
-    written?;
-    assert_eq!(rt; before?, version(1)?);
-    assert_eq!(rt; committed?, version(3)?);
+    same(&rt, &read, &Ok(0));
+    same(&rt, &written, &Ok(()));
+    same(&rt, &before, &Ok(version(&rt, 1)));
+    same(&rt, &committed, &Ok(version(&rt, 3)));
     let held = Conflict::Held { lock: 9, word: 1 };
-    assert_eq!(rt; answer, Some(Err(Stop::Conflict(held))));
-    assert_eq!(rt; nine?, 1);
-    assert_eq!(rt; ten?, 0);
+    same(&rt, &answer, &Some(Err(Stop::Conflict(held))));
+    same(&rt, &nine, &Ok(1));
+    same(&rt, &ten, &Ok(0));
     Ok(())
 }
 
@@ -96,7 +97,7 @@ fn a_commit_at_locked_finds_a_lock_taken(rt: HostRuntime) -> Result<(), Fail> {
     let mut answer = None;
     let (eighth, ninth, committed, eight, nine) = {
         let (region, mut a) = Region::<FreeLaw>::new(alloc, &[0; 32], 100, 32)?;
-        let mut b = region.split(&mut a)?;
+        let mut b = split(&rt, &region, &mut a);
         let mut logs_a = Logs::new(alloc);
         let mut logs_b = Logs::new(alloc);
         let mut other = Attempt::begin(&region, &mut b, &mut logs_b);
@@ -120,12 +121,12 @@ fn a_commit_at_locked_finds_a_lock_taken(rt: HostRuntime) -> Result<(), Fail> {
         let nine = read_one(&region, &mut a, &mut logs_a, Addr(9));
         (eighth, ninth, committed, eight, nine)
     };
-    eighth?;
-    ninth?;
-    assert_eq!(rt; committed?, version(1)?);
+    same(&rt, &eighth, &Ok(()));
+    same(&rt, &ninth, &Ok(()));
+    same(&rt, &committed, &Ok(version(&rt, 1)));
     let held = Conflict::Held { lock: 9, word: 1 };
-    assert_eq!(rt; answer, Some(Err(Stop::Conflict(held))));
-    assert_eq!(rt; eight?, 0);
-    assert_eq!(rt; nine?, 1);
+    same(&rt, &answer, &Some(Err(Stop::Conflict(held))));
+    same(&rt, &eight, &Ok(0));
+    same(&rt, &nine, &Ok(1));
     Ok(())
 }

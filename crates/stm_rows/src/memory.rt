@@ -1,6 +1,6 @@
 //! What a log that cannot grow leaves.
 
-use crate::attempts::version;
+use crate::same::{close, same, version};
 use linked_list_allocator::LocalHeap;
 use std::test::Fail;
 use stm_attempt::{Attempt, Logs, NoGate, Refusal};
@@ -27,16 +27,14 @@ fn a_refused_write_leaves_the_attempt(rt: HostRuntime) -> Result<(), Fail> {
         let own = attempt.write(Addr(0), 2);
         let read = attempt.read(Addr(0));
         let committed = attempt.commit(&1u64, &mut NoGate);
-        let Ok((words, _)) = region.close(rt.alloc(), client) else {
-            panic!(rt; "it stayed open")
-        };
+        let (words, _) = close(&rt, rt.alloc(), region, client);
         (written, refused, again, own, read, committed, words)
     };
-    assert_eq!(rt; refused, Some(Refusal::Memory));
-    assert_eq!(rt; again, Err(Refusal::Memory));
-    own?;
-    assert_eq!(rt; read?, 2);
-    assert_eq!(rt; committed?, version(1)?);
+    same(&rt, &refused, &Some(Refusal::Memory));
+    same(&rt, &again, &Err(Refusal::Memory));
+    same(&rt, &own, &Ok(()));
+    same(&rt, &read, &Ok(2));
+    same(&rt, &committed, &Ok(version(&rt, 1)));
     assert!(rt; 0 < written && written < 512);
     for (i, word) in words.iter().enumerate() {
         let expected = match i {
@@ -44,7 +42,7 @@ fn a_refused_write_leaves_the_attempt(rt: HostRuntime) -> Result<(), Fail> {
             i if i < written as usize => 1,
             _ => 0,
         };
-        assert_eq!(rt; *word, expected);
+        same(&rt, word, &expected);
     }
     Ok(())
 }
@@ -69,9 +67,9 @@ fn a_refused_read_leaves_the_attempt(rt: HostRuntime) -> Result<(), Fail> {
         let committed = attempt.commit(&1u64, &mut NoGate);
         (read, refused, again, committed)
     };
-    assert_eq!(rt; refused, Some(Refusal::Memory));
-    assert_eq!(rt; read, 1_024);
-    assert_eq!(rt; again, Err(Refusal::Memory));
-    assert_eq!(rt; committed?, version(0)?);
+    same(&rt, &refused, &Some(Refusal::Memory));
+    same(&rt, &read, &1_024);
+    same(&rt, &again, &Err(Refusal::Memory));
+    same(&rt, &committed, &Ok(version(&rt, 0)));
     Ok(())
 }

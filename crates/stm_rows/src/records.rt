@@ -4,6 +4,7 @@ ghost use Rattle.stm_core.specs.Core.{IsFreeHanded};
 ghost use Rattle.vac_records.specs.Items.{IsNode};
 ghost use Rattle.stm_rows.specs.Records.{HasItem};
 
+use crate::same::same;
 use crate::words::has_words;
 use std::test::Fail;
 use stm_attempt::{Attempt, Logs};
@@ -119,17 +120,18 @@ fn an_item_of_plain_memory_and_of_a_region(rt: HostRuntime) -> Result<(), Fail> 
         let mut logs = Logs::new(alloc);
         change_item_in_an_attempt(&region, &mut client, &mut logs, &words)
     };
-    assert_eq!(rt; item, Some((expected, true)));
+    same(&rt, &item, &Some((expected, true)));
     let by_hand = Item {
         used: 6,
         free: 96,
         total: 102,
         price: 80,
     };
-    assert_eq!(rt; expected, (by_hand, [6, 96, 102, 80]));
-    assert_eq!(rt;
-        words.get(16..24),
-        Some([7, 9, 9, 9, 6, 96, 102, 80].as_slice())
+    same(&rt, &expected, &(by_hand, [6, 96, 102, 80]));
+    same(
+        &rt,
+        &words.get(16..24),
+        &Some([7, 9, 9, 9, 6, 96, 102, 80].as_slice()),
     );
     Ok(())
 }

@@ -3,6 +3,7 @@ ghost use Rattle.std.specs.Prelude.{◌≡◌, IfOk};
 ghost use Rattle.stm_core.specs.Core.{IsFreeHanded};
 ghost use Rattle.stm_rows.specs.Laws.{HoldsTable, IsTableless};
 
+use crate::same::same;
 use crate::words::has_words;
 use std::alloc::Global;
 use std::test::Fail;
@@ -182,7 +183,7 @@ fn a_table_of_plain_memory_and_of_a_region(rt: HostRuntime) -> Result<(), Fail> 
         let mut logs = Logs::new(alloc);
         change_in_an_attempt(&region, &mut client, &mut logs, &words)
     };
-    assert_eq!(rt; answers, Some((expected, true)));
+    same(&rt, &answers, &Some((expected, true)));
     // Block b has 7 * (b + 2) modulo 50.
     let by_hand = Answers {
         count: 10,
@@ -190,6 +191,6 @@ fn a_table_of_plain_memory_and_of_a_region(rt: HostRuntime) -> Result<(), Fail> 
         removed: [Some(Block(Addr(24))), None],
         rest: [6, 13, 14, 20, 27, 28, 35, 42, 49, 0],
     };
-    assert_eq!(rt; expected, by_hand);
+    same(&rt, &expected, &by_hand);
     Ok(())
 }

@@ -3,6 +3,7 @@ ghost use Rattle.std.specs.Prelude.{◌≡◌, ◌<◌, ◌≤◌};
 ghost use Rattle.stm_core.specs.Core.{IsFreeHanded};
 ghost use Rattle.stm_rows.specs.Clients.{IsClientOf, GivesBack};
 
+use crate::same::{close, holds, same, split};
 use std::alloc::{AllocError, Global};
 use std::process::Abort;
 use std::test::Fail;
@@ -138,14 +139,14 @@ fn replay(rt: &impl Abort, moves: &[Move]) -> [u64; 64] {
     let mut words = [1_000u64; 64];
     let mut last = 0;
     for done in moves {
-        assert!(rt; done.version > last);
+        holds(rt, done.version > last);
         last = done.version;
         let from = done.from as usize % 64;
         words[from] = words[from].wrapping_sub(done.amount);
-        assert_eq!(rt; done.left, words[from]);
+        same(rt, &done.left, &words[from]);
         let to = done.to as usize % 64;
         words[to] = words[to].wrapping_add(done.amount);
-        assert_eq!(rt; done.there, words[to]);
+        same(rt, &done.there, &words[to]);
     }
     words
 }
@@ -154,9 +155,9 @@ fn replay(rt: &impl Abort, moves: &[Move]) -> [u64; 64] {
 fn four_clients_move_amounts(rt: HostRuntime) -> Result<(), Fail> {
     let alloc = rt.alloc();
     let (region, mut a) = Region::<FreeLaw>::new(alloc, &[1_000; 64], 1 << 40, 16)?;
-    let b = region.split(&mut a)?;
-    let c = region.split(&mut a)?;
-    let d = region.split(&mut a)?;
+    let b = split(&rt, &region, &mut a);
+    let c = split(&rt, &region, &mut a);
+    let d = split(&rt, &region, &mut a);
     let shared = &region;
     let host = &rt;
     let ((first, second), (third, fourth)) = thread::join(
@@ -180,14 +181,12 @@ fn four_clients_move_amounts(rt: HostRuntime) -> Result<(), Fail> {
     let (fourth, more) = fourth?;
     region.gather(&mut client, fourth);
     moves.extend_from_slice(more.as_slice())?;
-    assert_eq!(rt; moves.len(), 4 * COMMITS);
+    same(&rt, &moves.len(), &(4 * COMMITS));
     moves.sort()?;
     let expected = replay(&rt, moves.as_slice());
-    let Ok((words, _)) = region.close(alloc, client) else {
-        panic!(rt; "it stayed open")
-    };
-    assert_eq!(rt; words.as_slice(), expected.as_slice());
+    let (words, _) = close(&rt, alloc, region, client);
+    same(&rt, &words.as_slice(), &expected.as_slice());
     let sum = words.iter().fold(0u64, |sum, word| sum.wrapping_add(*word));
-    assert_eq!(rt; sum, 64_000);
+    same(&rt, &sum, &64_000);
     Ok(())
 }
