@@ -2,6 +2,7 @@
 ghost use Rattle.std.specs.Prelude.{◌≡◌, ◌*◌};
 
 use crate::draws::{BLOCKS, draw_task};
+use crate::same::{holds, same};
 use crate::scripts::LAST;
 use rand_pcg::Pcg32;
 use std::alloc::Global;
@@ -170,7 +171,7 @@ fn reports_amid_random_tasks(rt: HostRuntime) {
     let Ok((words, _)) = manager.close(client) else {
         panic!(rt; "it stayed open")
     };
-    assert!(rt; reports.sound > 0);
-    assert_eq!(rt; reports.others, 0);
-    assert!(rt; audit_words(alloc, words.as_slice()).is_ok());
+    holds(&rt, reports.sound > 0);
+    same(&rt, &reports.others, &0);
+    holds(&rt, audit_words(alloc, words.as_slice()).is_ok());
 }

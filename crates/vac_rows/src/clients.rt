@@ -2,6 +2,7 @@
 ghost use Rattle.std.specs.Prelude.{◌≡◌, ◌*◌, All};
 
 use crate::calls::expect;
+use crate::same::{holds, same};
 use crate::scripts::{
     LAST, Line, add, add_command, audit, cancel, delete, delete_command, drop_customer,
     new_customer, number, pick, report, reserve, trip, update,
@@ -21,7 +22,7 @@ fn enter(rt: &impl Abort, alloc: Global, manager: &Manager, client: Client, id: 
     ensures { result.table ≡ manager.now.table }
 {
     let mut session = Session::of(manager, client);
-    expect(rt, alloc, &mut session, 1, &[(new_customer(id), Ok(Done))]);
+    expect(rt, alloc, &mut session, 1, &[(new_customer!(id), Ok(Done))]);
     session.into_client()
 }
 
@@ -56,23 +57,24 @@ fn sixty_four_clients(rt: HostRuntime) {
     let alloc = rt.alloc();
     let (manager, mut client) = Manager::new(alloc, 64, LAST).expect(&rt, "it opens");
     let others = crowd(&rt, alloc, &manager, &mut client);
-    assert_eq!(rt;
-        manager.split(&mut client).err(),
-        Some(RegionFault::Clients)
+    same(
+        &rt,
+        &manager.split(&mut client).err(),
+        &Some(RegionFault::Clients),
     );
     let mut session = Session::of(&manager, client);
     let script = [
-        (new_customer(1), Ok(Done)),
-        (new_customer(65), Ok(No(Full))),
+        (new_customer!(1), Ok(Done)),
+        (new_customer!(65), Ok(No(Full))),
     ];
     expect(&rt, alloc, &mut session, 1, &script);
     let mut client = session.into_client();
     gather_all(&manager, &mut client, others);
     let mut session = Session::of(&manager, client);
     let counts = report([0, 0, 0, 64], 0, 0, 0);
-    expect(&rt, alloc, &mut session, 1, &[(audit(), Ok(counts))]);
+    expect(&rt, alloc, &mut session, 1, &[(audit!(), Ok(counts))]);
     let client = session.into_client();
-    assert!(rt; manager.close(client).is_ok());
+    holds(&rt, manager.close(client).is_ok());
 }
 
 /// Closes a manager while a client is out, and again once that client was taken in. Answers the
@@ -83,7 +85,7 @@ fn close_late(rt: &impl Abort, manager: Manager, client: Client, other: Client) 
     let Err((manager, mut client, fault)) = manager.close(client) else {
         panic!(rt; "it closed while a client was out")
     };
-    assert_eq!(rt; fault, RegionFault::StillOut { out: 1 });
+    same(rt, &fault, &RegionFault::StillOut { out: 1 });
     manager.gather(&mut client, other);
     let Ok((words, version)) = manager.close(client) else {
         panic!(rt; "it stayed open")
@@ -99,19 +101,19 @@ fn one_block_and_two_clients(rt: HostRuntime) {
     let mut a = Session::of(&manager, client);
     let mut b = a.split().expect(&rt, "there are grants");
     let script = [
-        (new_customer(3), Ok(Done)),
-        (new_customer(4), Ok(No(Full))),
-        (drop_customer(3), Ok(Done)),
+        (new_customer!(3), Ok(Done)),
+        (new_customer!(4), Ok(No(Full))),
+        (drop_customer!(3), Ok(Done)),
     ];
     expect(&rt, alloc, &mut b, 1, &script);
-    expect(&rt, alloc, &mut a, 1, &[(new_customer(4), Ok(Done))]);
+    expect(&rt, alloc, &mut a, 1, &[(new_customer!(4), Ok(Done))]);
     let first = a.into_client();
     let second = b.into_client();
     let (words, version) = close_late(&rt, manager, first, second);
-    assert_eq!(rt; words.len(), 24);
-    assert_eq!(rt; words.get(4), Some(&16));
-    assert_eq!(rt; words.get(16), Some(&4));
-    assert_eq!(rt; version, 3);
+    same(&rt, &words.len(), &24);
+    same(&rt, &words.get(4), &Some(&16));
+    same(&rt, &words.get(16), &Some(&4));
+    same(&rt, &version, &3);
 }
 
 /// Words of a manager that its one client closes.
@@ -134,22 +136,22 @@ fn each_client_has_a_list_of_its_own(rt: HostRuntime) {
     let mut a = Session::of(&manager, client);
     let mut b = a.split().expect(&rt, "there are grants");
     let script = [
-        (add(Car, 5, 1, Some(10)), Ok(Done)),
-        (new_customer(6), Ok(Done)),
-        (reserve(6, Car, 5, 1), Ok(Done)),
-        (cancel(6, Car, 5), Ok(Done)),
-        (new_customer(8), Ok(Done)),
-        (drop_customer(8), Ok(Done)),
-        (delete(Car, 5, 1), Ok(Done)),
-        (drop_customer(6), Ok(Done)),
+        (add!(Car, 5, 1, Some(10)), Ok(Done)),
+        (new_customer!(6), Ok(Done)),
+        (reserve!(6, Car, 5, 1), Ok(Done)),
+        (cancel!(6, Car, 5), Ok(Done)),
+        (new_customer!(8), Ok(Done)),
+        (drop_customer!(8), Ok(Done)),
+        (delete!(Car, 5, 1), Ok(Done)),
+        (drop_customer!(6), Ok(Done)),
     ];
     expect(&rt, alloc, &mut b, 1, &script);
-    expect(&rt, alloc, &mut a, 1, &[(new_customer(7), Ok(Done))]);
+    expect(&rt, alloc, &mut a, 1, &[(new_customer!(7), Ok(Done))]);
     a.gather(b);
     let client = a.into_client();
     let words = closed_words(&rt, manager, client);
     let found = [1, 4, 8, 9, 88, 24, 32, 10].map(|place| words.get(place).copied());
-    assert_eq!(rt; found, [0, 16, 80, 88, 24, 32, 0, 96].map(Some));
+    same(&rt, &found, &[0, 16, 80, 88, 24, 32, 0, 96].map(Some));
 }
 
 /// The same of tasks of several commands: an update, a trip and a leave of the second client.
@@ -160,22 +162,22 @@ fn tasks_keep_to_the_list_of_their_client(rt: HostRuntime) {
     let mut a = Session::of(&manager, client);
     let mut b = a.split().expect(&rt, "there are grants");
     let changes = [
-        add_command(Car, 5, 1, Some(10)),
-        add_command(Room, 5, 1, Some(20)),
-        delete_command(Room, 5, 1),
+        add_command!(Car, 5, 1, Some(10)),
+        add_command!(Room, 5, 1, Some(20)),
+        delete_command!(Room, 5, 1),
     ];
-    let picks = [pick(5, 10, None), None, None];
+    let picks = [pick!(5, 10, None), None, None];
     let script = [
         (Line::Update(&changes), Ok(update(None, None, None))),
-        (Line::Trip(6, &[(Car, 5)]), Ok(trip(Joined::Added, picks))),
-        (Line::Leave(6), Ok(number(10))),
+        (Line::Trip(6, &[(Car, 5)]), Ok(trip!(Joined::Added, picks))),
+        (Line::Leave(6), Ok(number!(10))),
     ];
     expect(&rt, alloc, &mut b, 1, &script);
     a.gather(b);
     let client = a.into_client();
     let words = closed_words(&rt, manager, client);
     let found = [1, 9, 88, 32, 8, 10].map(|place| words.get(place).copied());
-    assert_eq!(rt; found, [24, 88, 32, 0, 16, 96].map(Some));
+    same(&rt, &found, &[24, 88, 32, 0, 16, 96].map(Some));
 }
 
 /// A client that is taken in gives a grant back, to the one that takes it in.
@@ -189,12 +191,12 @@ fn grants_go_with_clients(rt: HostRuntime) {
     let d = b
         .split()
         .expect(&rt, "there is the grant of the client taken in");
-    assert_eq!(rt; b.split().err(), Some(RegionFault::Clients));
+    same(&rt, &b.split().err(), &Some(RegionFault::Clients));
     let first = a.into_client();
     let _second = b.into_client();
     let _fourth = d.into_client();
     let Err((_, _, fault)) = manager.close(first) else {
         panic!(rt; "it closed while clients were out")
     };
-    assert_eq!(rt; fault, RegionFault::StillOut { out: 2 });
+    same(&rt, &fault, &RegionFault::StillOut { out: 2 });
 }

@@ -1,6 +1,7 @@
 //! The lines that tasks are printed as.
 ghost use Rattle.std.specs.Prelude.{◌≤◌};
 
+use crate::same::{holds, same};
 use crate::scripts::add_command;
 use std::alloc::Global;
 use std::process::Abort;
@@ -59,15 +60,15 @@ fn tasks_are_printed_plainly(rt: HostRuntime) {
 fn flights_added(rt: &impl Abort, alloc: Global, changes: usize, id: u32, num: u32) -> usize
     requires { changes ≤ 32 }
 {
-    let added = [add_command(Kind::Flight, id, num, Some(num)); 32];
+    let added = [add_command!(Kind::Flight, id, num, Some(num)); 32];
     let task = Task::update(alloc, &added[..changes]).expect(rt, "there is memory");
     let line = line_of(rt, alloc, &task);
     let read = read_line(alloc, line.as_slice());
     if line.len() > LINE_BYTES {
-        assert!(rt; matches!(read, Err(LineFault::LongLine)));
+        holds(rt, matches!(read, Err(LineFault::LongLine)));
     } else {
         let again = line_of(rt, alloc, &read.expect(rt, "the line is a task"));
-        assert!(rt; again == line);
+        holds(rt, again == line);
     }
     line.len()
 }
@@ -75,8 +76,20 @@ fn flights_added(rt: &impl Abort, alloc: Global, changes: usize, id: u32, num: u
 #[test]
 fn lines_of_long_updates(rt: HostRuntime) {
     let alloc = rt.alloc();
-    assert_eq!(rt; flights_added(&rt, alloc, 25, u32::MAX, 1_000_000), 1_004);
-    assert_eq!(rt; flights_added(&rt, alloc, 26, u32::MAX, 1_000_000), 1_044);
-    assert_eq!(rt; flights_added(&rt, alloc, 32, u32::MAX, 1_000_000), 1_284);
-    assert_eq!(rt; flights_added(&rt, alloc, 32, 99_999, 99_999), 996);
+    same(
+        &rt,
+        &flights_added(&rt, alloc, 25, u32::MAX, 1_000_000),
+        &1_004,
+    );
+    same(
+        &rt,
+        &flights_added(&rt, alloc, 26, u32::MAX, 1_000_000),
+        &1_044,
+    );
+    same(
+        &rt,
+        &flights_added(&rt, alloc, 32, u32::MAX, 1_000_000),
+        &1_284,
+    );
+    same(&rt, &flights_added(&rt, alloc, 32, 99_999, 99_999), &996);
 }

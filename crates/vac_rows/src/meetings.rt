@@ -3,6 +3,7 @@
 ghost use Rattle.std.specs.Prelude.{◌≡◌};
 
 use crate::outcome::Outcome;
+use crate::same::same;
 use crate::scripts::{LAST, add_command};
 use std::process::Abort;
 use stm_attempt::{Gate, Point};
@@ -64,7 +65,7 @@ struct Met {
 
 /// So many cars and two customers.
 fn fill(session: &mut Session<'_>, cars: u32) {
-    let car = Task::One(add_command(Car, 7, cars, Some(50)));
+    let car = Task::One(add_command!(Car, 7, cars, Some(50)));
     let _ = session.call(&car, 1);
     let _ = session.call(&enter(3), 1);
     let _ = session.call(&enter(4), 1);
@@ -120,14 +121,14 @@ fn lost_it(mine: Outcome) -> Met {
 fn the_last_car_by_two_tries(rt: HostRuntime) {
     let (manager, client) = Manager::new(rt.alloc(), 8, LAST).expect(&rt, "it opens");
     let met = last_car(&rt, &manager, client, 2);
-    assert_eq!(rt; met, lost_it(Outcome::Replied(No(SoldOut))));
+    same(&rt, &met, &lost_it(Outcome::Replied(No(SoldOut))));
 }
 
 #[test]
 fn the_last_car_by_one_try(rt: HostRuntime) {
     let (manager, client) = Manager::new(rt.alloc(), 8, LAST).expect(&rt, "it opens");
     let met = last_car(&rt, &manager, client, 1);
-    assert_eq!(rt; met, lost_it(Outcome::Newer { version: 4, rv: 3 }));
+    same(&rt, &met, &lost_it(Outcome::Newer { version: 4, rv: 3 }));
 }
 
 #[test]
@@ -135,14 +136,14 @@ fn the_last_car_with_one_lock_word(rt: HostRuntime) {
     let opened = Manager::with_stripes(rt.alloc(), 8, LAST, 1);
     let (manager, client) = opened.expect(&rt, "it opens");
     let met = last_car(&rt, &manager, client, 2);
-    assert_eq!(rt; met, lost_it(Outcome::Replied(No(SoldOut))));
+    same(&rt, &met, &lost_it(Outcome::Replied(No(SoldOut))));
 }
 
 #[test]
 fn the_last_car_takes_the_last_version(rt: HostRuntime) {
     let (manager, client) = Manager::new(rt.alloc(), 8, 4).expect(&rt, "it opens");
     let met = last_car(&rt, &manager, client, 2);
-    assert_eq!(rt; met, lost_it(Outcome::Spent(4)));
+    same(&rt, &met, &lost_it(Outcome::Spent(4)));
 }
 
 /// Two clients reserve one of two cars each, and the one that was busy calls again.

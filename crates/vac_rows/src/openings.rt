@@ -14,13 +14,13 @@ fn calls_out_of_range(rt: HostRuntime) {
     let alloc = rt.alloc();
     let (manager, client) = Manager::new(alloc, 8, LAST).expect(&rt, "the numbers are in range");
     let mut session = Session::of(&manager, client);
-    let asked = [(free(Car, 7), REFUSED)];
+    let asked = [(free!(Car, 7), REFUSED)];
     expect(&rt, alloc, &mut session, 0, &asked);
     expect(&rt, alloc, &mut session, 1_048_577, &asked);
     let script = [
         (Line::Trip(3, &[]), REFUSED),
-        (delete(Flight, 1, 1), REFUSED),
-        (new_customer(0), REFUSED),
+        (delete!(Flight, 1, 1), REFUSED),
+        (new_customer!(0), REFUSED),
     ];
     expect(&rt, alloc, &mut session, 1, &script);
     expect(
@@ -28,7 +28,7 @@ fn calls_out_of_range(rt: HostRuntime) {
         alloc,
         &mut session,
         1_048_576,
-        &[(free(Car, 7), Ok(Number(None)))],
+        &[(free!(Car, 7), Ok(Number(None)))],
     );
 }
 

@@ -1,6 +1,7 @@
 //! Random tasks over plain memory, beside the plain manager.
 
 use crate::draws::{BLOCKS, TASKS, draw_task};
+use crate::same::same;
 use rand_core::Rng;
 use rand_pcg::Pcg32;
 use std::alloc::Global;
@@ -49,9 +50,9 @@ fn compare(rt: &impl Abort, alloc: Global, seed: u64) {
         );
     }
     let wanted = plain.report();
-    assert_eq!(rt; heap.report(), wanted);
+    same(rt, &heap.report(), &wanted);
     let words = heap.words();
-    assert_eq!(rt; audit_words(alloc, words.as_slice()), Ok(wanted));
+    same(rt, &audit_words(alloc, words.as_slice()), &Ok(wanted));
 }
 
 #[test]

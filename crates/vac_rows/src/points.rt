@@ -2,6 +2,7 @@
 ghost use Rattle.std.specs.Prelude.{◌≡◌};
 
 use crate::calls::Answer;
+use crate::same::{holds, same};
 use crate::scripts::{
     LAST, Line, add, add_command, audit, bill, cancel, delete, delete_command, drop_customer, free,
     new_customer, price, reserve, task_of,
@@ -98,14 +99,14 @@ fn questions_tell_that_their_reads_are_done(rt: HostRuntime) {
     let alloc = rt.alloc();
     let (manager, client) = Manager::new(alloc, 8, LAST).expect(&rt, "it opens");
     let script: [(Line<'_>, &[Point]); 8] = [
-        (add(Car, 7, 2, Some(50)), &WRITTEN),
-        (new_customer(3), &WRITTEN),
-        (free(Car, 7), &READ),
-        (price(Car, 7), &READ),
-        (bill(3), &READ),
-        (audit(), &READ),
-        (free(Room, 7), &READ),
-        (bill(4), &READ),
+        (add!(Car, 7, 2, Some(50)), &WRITTEN),
+        (new_customer!(3), &WRITTEN),
+        (free!(Car, 7), &READ),
+        (price!(Car, 7), &READ),
+        (bill!(3), &READ),
+        (audit!(), &READ),
+        (free!(Room, 7), &READ),
+        (bill!(4), &READ),
     ];
     expect_points(&rt, alloc, &mut Session::of(&manager, client), &script);
 }
@@ -114,17 +115,20 @@ fn questions_tell_that_their_reads_are_done(rt: HostRuntime) {
 fn other_calls_tell_each_point_where_they_write(rt: HostRuntime) {
     let alloc = rt.alloc();
     let (manager, client) = Manager::new(alloc, 8, LAST).expect(&rt, "it opens");
-    let changes = [add_command(Room, 9, 1, Some(5)), delete_command(Car, 1, 1)];
-    let refused = [delete_command(Car, 1, 1)];
+    let changes = [
+        add_command!(Room, 9, 1, Some(5)),
+        delete_command!(Car, 1, 1),
+    ];
+    let refused = [delete_command!(Car, 1, 1)];
     let script: [(Line<'_>, &[Point]); 12] = [
-        (add(Car, 7, 2, Some(50)), &WRITTEN),
-        (add(Car, 7, 0, None), &READ),
-        (new_customer(3), &WRITTEN),
-        (new_customer(3), &READ),
-        (reserve(3, Car, 7, 1), &WRITTEN),
-        (reserve(3, Car, 7, 2), &READ),
-        (cancel(3, Car, 7), &WRITTEN),
-        (delete(Car, 7, 1), &WRITTEN),
+        (add!(Car, 7, 2, Some(50)), &WRITTEN),
+        (add!(Car, 7, 0, None), &READ),
+        (new_customer!(3), &WRITTEN),
+        (new_customer!(3), &READ),
+        (reserve!(3, Car, 7, 1), &WRITTEN),
+        (reserve!(3, Car, 7, 2), &READ),
+        (cancel!(3, Car, 7), &WRITTEN),
+        (delete!(Car, 7, 1), &WRITTEN),
         (Line::Trip(4, &[(Car, 7)]), &WRITTEN),
         (Line::Leave(5), &READ),
         (Line::Update(&changes), &WRITTEN),
@@ -139,12 +143,12 @@ fn a_call_that_is_not_made_tells_nothing(rt: HostRuntime) {
     let (manager, client) = Manager::new(alloc, 8, LAST).expect(&rt, "it opens");
     let mut session = Session::of(&manager, client);
     for (tries, line) in [
-        (0, free(Car, 7)),
-        (0, new_customer(3)),
-        (1, drop_customer(0)),
+        (0, free!(Car, 7)),
+        (0, new_customer!(3)),
+        (1, drop_customer!(0)),
     ] {
         let (answer, told) = call_with_points(&rt, alloc, &mut session, tries, &line);
-        assert!(rt; answer.is_err());
-        assert_eq!(rt; told, Points::none());
+        holds(&rt, answer.is_err());
+        same(&rt, &told, &Points::none());
     }
 }

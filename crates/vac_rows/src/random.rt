@@ -2,6 +2,7 @@
 ghost use Rattle.std.specs.Prelude.{◌≡◌};
 
 use crate::draws::{BLOCKS, TASKS, draw_task};
+use crate::same::{holds, same};
 use crate::scripts::LAST;
 use rand_core::Rng;
 use rand_pcg::Pcg32;
@@ -31,7 +32,7 @@ impl Plain {
     {
         let task = draw_task(alloc, &mut self.draws).expect(rt, "there is memory");
         let wanted = self.manager.run(&task).expect(rt, "the task is in range");
-        assert_eq!(rt; session.call(&task, 1), Ok(wanted));
+        same(rt, &session.call(&task, 1), &Ok(wanted));
     }
 }
 
@@ -94,5 +95,5 @@ fn random_tasks_of_three_clients_in_turns(rt: HostRuntime) {
     b.gather(c);
     a.gather(b);
     let client = a.into_client();
-    assert!(rt; manager.close(client).is_ok());
+    holds(&rt, manager.close(client).is_ok());
 }

@@ -1,5 +1,6 @@
 //! What cannot be asked for.
 
+use crate::same::holds;
 use crate::scripts::{add_command, delete_command, reserve_command};
 use std::alloc::Global;
 use vac_model::Kind::{Car, Flight};
@@ -7,16 +8,16 @@ use vac_model::{Command, Sequential, Task};
 
 #[test]
 fn arguments(rt: HostRuntime) {
-    assert!(rt; Sequential::new(rt.alloc(), 0).is_err());
-    assert!(rt; Sequential::new(rt.alloc(), 262_145).is_err());
+    holds(&rt, Sequential::new(rt.alloc(), 0).is_err());
+    holds(&rt, Sequential::new(rt.alloc(), 262_145).is_err());
     let mut manager = Sequential::new(rt.alloc(), 262_144).expect(&rt, "the blocks are in range");
     for command in [
-        delete_command(Flight, 2, 1),
+        delete_command!(Flight, 2, 1),
         Command::Free { kind: Car, id: 0 },
-        add_command(Car, 1, 1_000_001, Some(1)),
-        add_command(Car, 1, 1, Some(1_000_001)),
-        reserve_command(3, Car, 7, 0),
-        reserve_command(3, Car, 7, 101),
+        add_command!(Car, 1, 1_000_001, Some(1)),
+        add_command!(Car, 1, 1, Some(1_000_001)),
+        reserve_command!(3, Car, 7, 0),
+        reserve_command!(3, Car, 7, 101),
     ] {
         assert!(rt; manager.run(&Task::One(command)).is_err(), "at {command:?}");
     }
@@ -25,6 +26,6 @@ fn arguments(rt: HostRuntime) {
     let change = Command::Free { kind: Car, id: 1 };
     let other = Task::update(rt.alloc(), &[change]).expect(&rt, "there is memory");
     for task in [none, many, other] {
-        assert!(rt; manager.run(&task).is_err());
+        holds(&rt, manager.run(&task).is_err());
     }
 }

@@ -7,6 +7,7 @@ ghost use Rattle.std.specs.Prelude.{◌≡◌, ◌*◌, IfOk};
 
 use crate::calls::Answer;
 use crate::points::Points;
+use crate::same::{holds, same};
 use crate::scripts::{
     LAST, Line, add, add_command, audit, cancel, free, new_customer, number, pick, report, reserve,
     task_of, trip,
@@ -37,7 +38,7 @@ fn open(rt: &(impl Abort + Print), alloc: Global) -> (Manager, Client)
     match Manager::new(alloc, BLOCKS, LAST) {
         Ok(opened) => opened,
         Err(fault) => {
-            assert_eq!(rt; fault, Fault::Memory);
+            same(rt, &fault, &Fault::Memory);
             note(rt, "new");
             Manager::new(alloc, BLOCKS, LAST).expect(rt, "it opens")
         }
@@ -63,8 +64,8 @@ fn answer(rt: &(impl Abort + Print), session: &mut Session<'_>, task: &Task) -> 
         return answer;
     }
     note(rt, "call");
-    assert_eq!(rt; told, Points::none());
-    assert_eq!(rt; session.call(&AUDIT, 1), before);
+    same(rt, &told, &Points::none());
+    same(rt, &session.call(&AUDIT, 1), &before);
     session.call(task, 1)
 }
 
@@ -87,7 +88,7 @@ fn thirty_two_rooms(first: u32) -> [Command; 32] {
     let mut changes = [Command::Audit; 32];
     for (at, change) in changes.iter_mut().enumerate() {
         let price = 1 + at as u32;
-        *change = add_command(Room, first.wrapping_add(price), 1, Some(price));
+        *change = add_command!(Room, first.wrapping_add(price), 1, Some(price));
     }
     changes
 }
@@ -115,8 +116,8 @@ fn ask_for_rooms(rt: &(impl Abort + Print), alloc: Global, session: &mut Session
     for (at, ask) in asks.iter_mut().enumerate() {
         *ask = (Room, 1 + at as u32);
     }
-    let picks = [None, None, pick(32, 32, None)];
-    let script = [(Line::Trip(3, &asks), trip(Joined::Refused(Exists), picks))];
+    let picks = [None, None, pick!(32, 32, None)];
+    let script = [(Line::Trip(3, &asks), trip!(Joined::Refused(Exists), picks))];
     expect(rt, alloc, session, &script);
 }
 
@@ -125,17 +126,17 @@ fn fill(rt: &(impl Abort + Print), alloc: Global, session: &mut Session<'_>)
     ensures { session.new.manager ≡ session.old.manager }
 {
     let script = [
-        (add(Car, 1, 5, Some(10)), Done),
-        (new_customer(3), Done),
-        (reserve(3, Car, 1, 2), Done),
-        (free(Car, 1), number(3)),
+        (add!(Car, 1, 5, Some(10)), Done),
+        (new_customer!(3), Done),
+        (reserve!(3, Car, 1, 2), Done),
+        (free!(Car, 1), number!(3)),
     ];
     expect(rt, alloc, session, &script);
     enter_rooms(rt, alloc, session, 0);
     enter_rooms(rt, alloc, session, 32);
     enter_rooms(rt, alloc, session, 64);
     ask_for_rooms(rt, alloc, session);
-    expect(rt, alloc, session, &[(audit(), counts())]);
+    expect(rt, alloc, session, &[(audit!(), counts())]);
 }
 
 /// The report of what was entered.
@@ -148,11 +149,11 @@ fn come_and_go(rt: &(impl Abort + Print), alloc: Global, session: &mut Session<'
     ensures { session.new.manager ≡ session.old.manager }
 {
     let script = [
-        (new_customer(4), Done),
-        (reserve(4, Room, 96, 1), Done),
-        (cancel(4, Room, 96), Done),
-        (Line::Leave(4), number(0)),
-        (audit(), counts()),
+        (new_customer!(4), Done),
+        (reserve!(4, Room, 96, 1), Done),
+        (cancel!(4, Room, 96), Done),
+        (Line::Leave(4), number!(0)),
+        (audit!(), counts()),
     ];
     expect(rt, alloc, session, &script);
 }
@@ -173,7 +174,7 @@ fn unchanged(rt: &impl Abort, manager: &Manager, client: Client) -> Client
     ensures { result.table ≡ manager.now.table }
 {
     let mut session = Session::of(manager, client);
-    assert_eq!(rt; session.call(&AUDIT, 1), Ok(counts()));
+    same(rt, &session.call(&AUDIT, 1), &Ok(counts()));
     session.into_client()
 }
 
@@ -194,7 +195,7 @@ fn renew(
             Err(words)
         }
         Err(RenewFault::Kept(manager, client, fault)) => {
-            assert_eq!(rt; fault, RegionFault::Memory);
+            same(rt, &fault, &RegionFault::Memory);
             note(rt, "renew, kept");
             let client = unchanged(rt, &manager, client);
             let Ok(renewed) = manager.renew(client, LAST) else {
@@ -212,7 +213,7 @@ fn close(rt: &(impl Abort + Print), manager: Manager, client: Client) -> Vec<u64
     match manager.close(client) {
         Ok((words, _)) => words,
         Err((manager, client, fault)) => {
-            assert_eq!(rt; fault, RegionFault::Memory);
+            same(rt, &fault, &RegionFault::Memory);
             note(rt, "close");
             let client = unchanged(rt, &manager, client);
             let Ok((words, _)) = manager.close(client) else {
@@ -250,5 +251,8 @@ fn refused_calls_are_made_again(rt: HostRuntime) {
         }
     };
     let found = audited(&rt, alloc, words.as_slice());
-    assert!(rt; found.is_ok_and(|found| Reply::Report(found) == counts()));
+    holds(
+        &rt,
+        found.is_ok_and(|found| Reply::Report(found) == counts()),
+    );
 }

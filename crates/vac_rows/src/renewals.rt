@@ -3,6 +3,7 @@ ghost use Rattle.std.specs.Prelude.{◌≡◌, ◌*◌};
 
 use crate::calls::expect;
 use crate::outcome::Outcome;
+use crate::same::same;
 use crate::scripts::{add, cancel, free, new_customer, number, report, reserve, reserve_command};
 use std::alloc::Global;
 use std::process::Abort;
@@ -17,8 +18,8 @@ use vac_model::{Reply, Task};
 fn expect_spent(rt: &impl Abort, session: &mut Session<'_>)
     ensures { session.new.manager ≡ session.old.manager }
 {
-    let task = Task::One(reserve_command(3, Car, 1, 1));
-    assert_eq!(rt; Outcome::of(session.call(&task, 1)), Outcome::Spent(2));
+    let task = Task::One(reserve_command!(3, Car, 1, 1));
+    same(rt, &Outcome::of(session.call(&task, 1)), &Outcome::Spent(2));
 }
 
 /// Two calls take both versions of the clock.
@@ -28,8 +29,8 @@ fn spend(rt: &impl Abort, alloc: Global, manager: &Manager, client: Client) -> C
 {
     let mut session = Session::of(manager, client);
     let script = [
-        (add(Car, 1, 1, Some(10)), Ok(Done)),
-        (new_customer(3), Ok(Done)),
+        (add!(Car, 1, 1, Some(10)), Ok(Done)),
+        (new_customer!(3), Ok(Done)),
     ];
     expect(rt, alloc, &mut session, 1, &script);
     expect_spent(rt, &mut session);
@@ -43,9 +44,9 @@ fn go_on(rt: &impl Abort, alloc: Global, manager: &Manager, client: Client) -> C
 {
     let mut session = Session::of(manager, client);
     let script = [
-        (reserve(3, Car, 1, 1), Ok(Done)),
-        (free(Car, 1), Ok(number(0))),
-        (cancel(3, Car, 1), Ok(Done)),
+        (reserve!(3, Car, 1, 1), Ok(Done)),
+        (free!(Car, 1), Ok(number!(0))),
+        (cancel!(3, Car, 1), Ok(Done)),
     ];
     expect(rt, alloc, &mut session, 1, &script);
     expect_spent(rt, &mut session);
@@ -74,10 +75,10 @@ fn a_spent_clock_is_renewed(rt: HostRuntime) {
     let (manager, client) = Manager::new(alloc, 8, 2).expect(&rt, "it opens");
     let client = spend(&rt, alloc, &manager, client);
     let (manager, mut client, fault) = refused(&rt, manager, client, 0);
-    assert_eq!(rt; fault, RegionFault::Last);
+    same(&rt, &fault, &RegionFault::Last);
     let other = manager.split(&mut client).expect(&rt, "there are grants");
     let (manager, mut client, fault) = refused(&rt, manager, client, 2);
-    assert_eq!(rt; fault, RegionFault::StillOut { out: 1 });
+    same(&rt, &fault, &RegionFault::StillOut { out: 1 });
     manager.gather(&mut client, other);
     let Ok((manager, client)) = manager.renew(client, 2) else {
         panic!(rt; "it was not renewed")
@@ -86,9 +87,9 @@ fn a_spent_clock_is_renewed(rt: HostRuntime) {
     let Ok((words, version)) = manager.close(client) else {
         panic!(rt; "it stayed open")
     };
-    assert_eq!(rt; version.get(), 2);
+    same(&rt, &version.get(), &2);
     let Ok(found) = audit_words(alloc, words.as_slice()) else {
         panic!(rt; "the words have a flaw")
     };
-    assert_eq!(rt; Reply::Report(found), report([1, 0, 0, 1], 0, 1, 0));
+    same(&rt, &Reply::Report(found), &report([1, 0, 0, 1], 0, 1, 0));
 }

@@ -17,22 +17,22 @@ use vac_model::Why::{
 #[test]
 fn four_blocks(rt: HostRuntime) {
     let script = [
-        (reserve(3, Car, 7, 1), No(NoCustomer)),
-        (cancel(3, Car, 7), No(NoCustomer)),
-        (add(Car, 1, 1, Some(10)), Done),
-        (new_customer(3), Done),
-        (new_customer(4), Done),
-        (reserve(3, Car, 1, 1), Done),
-        (reserve(4, Car, 1, 1), No(SoldOut)),
-        (new_customer(3), No(Exists)),
+        (reserve!(3, Car, 7, 1), No(NoCustomer)),
+        (cancel!(3, Car, 7), No(NoCustomer)),
+        (add!(Car, 1, 1, Some(10)), Done),
+        (new_customer!(3), Done),
+        (new_customer!(4), Done),
+        (reserve!(3, Car, 1, 1), Done),
+        (reserve!(4, Car, 1, 1), No(SoldOut)),
+        (new_customer!(3), No(Exists)),
         (
             Line::Trip(4, &[(Car, 1)]),
-            trip(
+            trip!(
                 Joined::Refused(Exists),
-                [pick(1, 10, Some(SoldOut)), None, None],
+                [pick!(1, 10, Some(SoldOut)), None, None],
             ),
         ),
-        (audit(), report([1, 0, 0, 2], 1, 0, 10)),
+        (audit!(), report([1, 0, 0, 2], 1, 0, 10)),
     ];
     play(&rt, rt.alloc(), 4, &script);
 }
@@ -40,17 +40,17 @@ fn four_blocks(rt: HostRuntime) {
 /// Sold out before the limit of a booking, which comes once there are units.
 #[test]
 fn the_limit_of_a_booking(rt: HostRuntime) {
-    let hundred = reserve_command(3, Car, 7, 100);
+    let hundred = reserve_command!(3, Car, 7, 100);
     let script = [
-        (add(Car, 7, 10000, Some(1)), Done),
-        (new_customer(3), Done),
+        (add!(Car, 7, 10000, Some(1)), Done),
+        (new_customer!(3), Done),
         (Line::Times(100, hundred), Done),
-        (reserve(3, Car, 7, 1), No(SoldOut)),
-        (add(Car, 7, 10000, None), Done),
-        (reserve(3, Car, 7, 1), No(UnitLimit)),
-        (bill(3), number(10000)),
-        (free(Car, 7), number(10000)),
-        (audit(), report([1, 0, 0, 1], 10000, 10000, 10000)),
+        (reserve!(3, Car, 7, 1), No(SoldOut)),
+        (add!(Car, 7, 10000, None), Done),
+        (reserve!(3, Car, 7, 1), No(UnitLimit)),
+        (bill!(3), number!(10000)),
+        (free!(Car, 7), number!(10000)),
+        (audit!(), report([1, 0, 0, 1], 10000, 10000, 10000)),
     ];
     play(&rt, rt.alloc(), 3, &script);
 }
@@ -59,20 +59,20 @@ fn the_limit_of_a_booking(rt: HostRuntime) {
 #[test]
 fn bookings_of_several_units(rt: HostRuntime) {
     let script = [
-        (add(Car, 7, 10, Some(50)), Done),
-        (new_customer(3), Done),
-        (reserve(3, Car, 7, 2), Done),
-        (add(Car, 7, 0, Some(80)), Done),
-        (reserve(3, Car, 7, 3), Done),
-        (bill(3), number(340)),
-        (free(Car, 7), number(5)),
-        (audit(), report([1, 0, 0, 1], 5, 5, 340)),
-        (reserve(3, Car, 7, 6), No(SoldOut)),
-        (cancel(3, Car, 7), Done),
-        (free(Car, 7), number(10)),
-        (bill(3), number(0)),
-        (cancel(3, Car, 7), No(NotBooked)),
-        (price(Car, 7), number(80)),
+        (add!(Car, 7, 10, Some(50)), Done),
+        (new_customer!(3), Done),
+        (reserve!(3, Car, 7, 2), Done),
+        (add!(Car, 7, 0, Some(80)), Done),
+        (reserve!(3, Car, 7, 3), Done),
+        (bill!(3), number!(340)),
+        (free!(Car, 7), number!(5)),
+        (audit!(), report([1, 0, 0, 1], 5, 5, 340)),
+        (reserve!(3, Car, 7, 6), No(SoldOut)),
+        (cancel!(3, Car, 7), Done),
+        (free!(Car, 7), number!(10)),
+        (bill!(3), number!(0)),
+        (cancel!(3, Car, 7), No(NotBooked)),
+        (price!(Car, 7), number!(80)),
     ];
     play(&rt, rt.alloc(), 3, &script);
 }
@@ -81,24 +81,24 @@ fn bookings_of_several_units(rt: HostRuntime) {
 #[test]
 fn a_dropped_customer(rt: HostRuntime) {
     let script = [
-        (add(Car, 1, 2, Some(10)), Done),
-        (add(Flight, 2, 3, Some(20)), Done),
-        (add(Room, 9, 4, Some(30)), Done),
-        (new_customer(3), Done),
-        (reserve(3, Car, 1, 1), Done),
-        (reserve(3, Flight, 2, 2), Done),
-        (reserve(3, Room, 9, 3), Done),
-        (audit(), report([1, 1, 1, 1], 6, 3, 140)),
-        (drop_flight(2), No(InUse)),
-        (drop_customer(3), Done),
-        (drop_customer(3), No(NoCustomer)),
-        (free(Car, 1), number(2)),
-        (free(Flight, 2), number(3)),
-        (free(Room, 9), number(4)),
-        (audit(), report([1, 1, 1, 0], 0, 9, 0)),
-        (drop_flight(2), Done),
-        (drop_flight(2), No(NoItem)),
-        (free(Flight, 2), Number(None)),
+        (add!(Car, 1, 2, Some(10)), Done),
+        (add!(Flight, 2, 3, Some(20)), Done),
+        (add!(Room, 9, 4, Some(30)), Done),
+        (new_customer!(3), Done),
+        (reserve!(3, Car, 1, 1), Done),
+        (reserve!(3, Flight, 2, 2), Done),
+        (reserve!(3, Room, 9, 3), Done),
+        (audit!(), report([1, 1, 1, 1], 6, 3, 140)),
+        (drop_flight!(2), No(InUse)),
+        (drop_customer!(3), Done),
+        (drop_customer!(3), No(NoCustomer)),
+        (free!(Car, 1), number!(2)),
+        (free!(Flight, 2), number!(3)),
+        (free!(Room, 9), number!(4)),
+        (audit!(), report([1, 1, 1, 0], 0, 9, 0)),
+        (drop_flight!(2), Done),
+        (drop_flight!(2), No(NoItem)),
+        (free!(Flight, 2), Number(None)),
     ];
     play(&rt, rt.alloc(), 7, &script);
 }
@@ -107,22 +107,22 @@ fn a_dropped_customer(rt: HostRuntime) {
 #[test]
 fn deletions(rt: HostRuntime) {
     let script = [
-        (add(Car, 7, 3, Some(50)), Done),
-        (new_customer(3), Done),
-        (reserve(3, Car, 7, 1), Done),
-        (delete(Car, 7, 3), No(NotFree)),
-        (delete(Car, 7, 0), Done),
-        (delete(Car, 7, 1), Done),
-        (price(Car, 7), number(50)),
-        (free(Car, 7), number(1)),
-        (reserve(3, Car, 7, 1), Done),
-        (bill(3), number(100)),
-        (cancel(3, Car, 7), Done),
-        (delete(Car, 7, 2), Done),
-        (free(Car, 7), Number(None)),
-        (delete(Car, 7, 0), No(NoItem)),
-        (cancel(3, Car, 7), No(NoItem)),
-        (reserve(3, Car, 7, 1), No(NoItem)),
+        (add!(Car, 7, 3, Some(50)), Done),
+        (new_customer!(3), Done),
+        (reserve!(3, Car, 7, 1), Done),
+        (delete!(Car, 7, 3), No(NotFree)),
+        (delete!(Car, 7, 0), Done),
+        (delete!(Car, 7, 1), Done),
+        (price!(Car, 7), number!(50)),
+        (free!(Car, 7), number!(1)),
+        (reserve!(3, Car, 7, 1), Done),
+        (bill!(3), number!(100)),
+        (cancel!(3, Car, 7), Done),
+        (delete!(Car, 7, 2), Done),
+        (free!(Car, 7), Number(None)),
+        (delete!(Car, 7, 0), No(NoItem)),
+        (cancel!(3, Car, 7), No(NoItem)),
+        (reserve!(3, Car, 7, 1), No(NoItem)),
     ];
     play(&rt, rt.alloc(), 3, &script);
 }
@@ -130,19 +130,19 @@ fn deletions(rt: HostRuntime) {
 #[test]
 fn items_made_and_asked_for(rt: HostRuntime) {
     let script = [
-        (free(Car, 9), Number(None)),
-        (price(Room, 9), Number(None)),
-        (bill(3), Number(None)),
-        (add(Car, 9, 0, Some(50)), No(NeedsCountAndPrice)),
-        (add(Car, 9, 5, None), No(NeedsCountAndPrice)),
-        (add(Car, 9, 1, Some(0)), Done),
-        (add(Room, 7, 100, Some(50)), Done),
-        (free(Room, 7), number(100)),
-        (price(Room, 7), number(50)),
-        (add(Room, 7, 0, None), Done),
-        (price(Room, 7), number(50)),
-        (free(Car, 7), Number(None)),
-        (price(Car, 9), number(0)),
+        (free!(Car, 9), Number(None)),
+        (price!(Room, 9), Number(None)),
+        (bill!(3), Number(None)),
+        (add!(Car, 9, 0, Some(50)), No(NeedsCountAndPrice)),
+        (add!(Car, 9, 5, None), No(NeedsCountAndPrice)),
+        (add!(Car, 9, 1, Some(0)), Done),
+        (add!(Room, 7, 100, Some(50)), Done),
+        (free!(Room, 7), number!(100)),
+        (price!(Room, 7), number!(50)),
+        (add!(Room, 7, 0, None), Done),
+        (price!(Room, 7), number!(50)),
+        (free!(Car, 7), Number(None)),
+        (price!(Car, 9), number!(0)),
     ];
     play(&rt, rt.alloc(), 1024, &script);
 }
@@ -151,25 +151,25 @@ fn items_made_and_asked_for(rt: HostRuntime) {
 #[test]
 fn capacities(rt: HostRuntime) {
     let three = [
-        (add(Car, 1, 5, Some(10)), Done),
-        (new_customer(3), Done),
-        (reserve(3, Car, 1, 1), Done),
-        (reserve(3, Car, 1, 1), Done),
-        (new_customer(4), No(Full)),
-        (add(Car, 2, 1, Some(1)), No(Full)),
-        (add(Car, 2, 0, Some(1)), No(NeedsCountAndPrice)),
-        (cancel(3, Car, 1), Done),
-        (new_customer(4), Done),
-        (reserve(3, Car, 1, 1), No(Full)),
-        (add(Car, 1, 1, None), Done),
-        (free(Car, 1), number(6)),
+        (add!(Car, 1, 5, Some(10)), Done),
+        (new_customer!(3), Done),
+        (reserve!(3, Car, 1, 1), Done),
+        (reserve!(3, Car, 1, 1), Done),
+        (new_customer!(4), No(Full)),
+        (add!(Car, 2, 1, Some(1)), No(Full)),
+        (add!(Car, 2, 0, Some(1)), No(NeedsCountAndPrice)),
+        (cancel!(3, Car, 1), Done),
+        (new_customer!(4), Done),
+        (reserve!(3, Car, 1, 1), No(Full)),
+        (add!(Car, 1, 1, None), Done),
+        (free!(Car, 1), number!(6)),
     ];
     play(&rt, rt.alloc(), 3, &three);
     let one = [
-        (new_customer(3), Done),
-        (new_customer(4), No(Full)),
-        (drop_customer(3), Done),
-        (new_customer(4), Done),
+        (new_customer!(3), Done),
+        (new_customer!(4), No(Full)),
+        (drop_customer!(3), Done),
+        (new_customer!(4), Done),
     ];
     play(&rt, rt.alloc(), 1, &one);
 }
@@ -177,14 +177,14 @@ fn capacities(rt: HostRuntime) {
 /// A refused addition changes neither count nor price.
 #[test]
 fn the_limit_of_a_total(rt: HostRuntime) {
-    let million = add_command(Car, 7, 1_000_000, Some(50));
+    let million = add_command!(Car, 7, 1_000_000, Some(50));
     let script = [
         (Line::Times(999, million), Done),
-        (add(Car, 7, 999_999, None), Done),
-        (add(Car, 7, 2, Some(9)), No(TotalLimit)),
-        (price(Car, 7), number(50)),
-        (add(Car, 7, 1, None), Done),
-        (free(Car, 7), number(1_000_000_000)),
+        (add!(Car, 7, 999_999, None), Done),
+        (add!(Car, 7, 2, Some(9)), No(TotalLimit)),
+        (price!(Car, 7), number!(50)),
+        (add!(Car, 7, 1, None), Done),
+        (free!(Car, 7), number!(1_000_000_000)),
     ];
     play(&rt, rt.alloc(), 1, &script);
 }

@@ -4,9 +4,7 @@ ghost use Rattle.std.specs.Prelude.{◌≡◌};
 use std::alloc::{AllocError, Global};
 use std::process::Abort;
 use vac_manager::Manager;
-use vac_model::{
-    Command, Joined, Kind, Pick, Reply, Report, Sequential, Task, TripReply, UpdateReply, Why,
-};
+use vac_model::{Command, Kind, Reply, Report, Sequential, Task, UpdateReply, Why};
 
 /// One line of a script.
 #[derive(Clone, Copy)]
@@ -56,75 +54,153 @@ pub(crate) fn play(rt: &impl Abort, alloc: Global, blocks: u32, script: &[(Line<
     }
 }
 
-pub(crate) fn add_command(kind: Kind, id: u32, num: u32, price: Option<u32>) -> Command {
-    Command::Add {
-        kind,
-        id,
-        num,
-        price,
-    }
+// Commands, lines and replies are written by macros: of a script that is made of calls, a test
+// would have the facts of each call at hand.
+
+macro_rules! add_command {
+    ($kind:expr, $id:expr, $num:expr, $price:expr $(,)?) => {
+        vac_model::Command::Add {
+            kind: $kind,
+            id: $id,
+            num: $num,
+            price: $price,
+        }
+    };
 }
 
-pub(crate) fn delete_command(kind: Kind, id: u32, num: u32) -> Command {
-    Command::Delete { kind, id, num }
+macro_rules! delete_command {
+    ($kind:expr, $id:expr, $num:expr $(,)?) => {
+        vac_model::Command::Delete {
+            kind: $kind,
+            id: $id,
+            num: $num,
+        }
+    };
 }
 
-pub(crate) fn reserve_command(customer: u32, kind: Kind, id: u32, num: u32) -> Command {
-    Command::Reserve {
-        customer,
-        kind,
-        id,
-        num,
-    }
+macro_rules! reserve_command {
+    ($customer:expr, $kind:expr, $id:expr, $num:expr $(,)?) => {
+        vac_model::Command::Reserve {
+            customer: $customer,
+            kind: $kind,
+            id: $id,
+            num: $num,
+        }
+    };
 }
 
-pub(crate) fn add<'a>(kind: Kind, id: u32, num: u32, price: Option<u32>) -> Line<'a> {
-    Line::One(add_command(kind, id, num, price))
+macro_rules! add {
+    ($kind:expr, $id:expr, $num:expr, $price:expr $(,)?) => {
+        crate::scripts::Line::One(crate::scripts::add_command!($kind, $id, $num, $price))
+    };
 }
 
-pub(crate) fn delete<'a>(kind: Kind, id: u32, num: u32) -> Line<'a> {
-    Line::One(delete_command(kind, id, num))
+macro_rules! delete {
+    ($kind:expr, $id:expr, $num:expr $(,)?) => {
+        crate::scripts::Line::One(crate::scripts::delete_command!($kind, $id, $num))
+    };
 }
 
-pub(crate) fn drop_flight<'a>(id: u32) -> Line<'a> {
-    Line::One(Command::DropFlight { id })
+macro_rules! reserve {
+    ($customer:expr, $kind:expr, $id:expr, $num:expr $(,)?) => {
+        crate::scripts::Line::One(crate::scripts::reserve_command!($customer, $kind, $id, $num))
+    };
 }
 
-pub(crate) fn new_customer<'a>(id: u32) -> Line<'a> {
-    Line::One(Command::NewCustomer { id })
+macro_rules! drop_flight {
+    ($id:expr $(,)?) => {
+        crate::scripts::Line::One(vac_model::Command::DropFlight { id: $id })
+    };
 }
 
-pub(crate) fn drop_customer<'a>(id: u32) -> Line<'a> {
-    Line::One(Command::DropCustomer { id })
+macro_rules! new_customer {
+    ($id:expr $(,)?) => {
+        crate::scripts::Line::One(vac_model::Command::NewCustomer { id: $id })
+    };
 }
 
-pub(crate) fn free<'a>(kind: Kind, id: u32) -> Line<'a> {
-    Line::One(Command::Free { kind, id })
+macro_rules! drop_customer {
+    ($id:expr $(,)?) => {
+        crate::scripts::Line::One(vac_model::Command::DropCustomer { id: $id })
+    };
 }
 
-pub(crate) fn price<'a>(kind: Kind, id: u32) -> Line<'a> {
-    Line::One(Command::Price { kind, id })
+macro_rules! free {
+    ($kind:expr, $id:expr $(,)?) => {
+        crate::scripts::Line::One(vac_model::Command::Free { kind: $kind, id: $id })
+    };
 }
 
-pub(crate) fn bill<'a>(id: u32) -> Line<'a> {
-    Line::One(Command::Bill { id })
+macro_rules! price {
+    ($kind:expr, $id:expr $(,)?) => {
+        crate::scripts::Line::One(vac_model::Command::Price { kind: $kind, id: $id })
+    };
 }
 
-pub(crate) fn reserve<'a>(customer: u32, kind: Kind, id: u32, num: u32) -> Line<'a> {
-    Line::One(reserve_command(customer, kind, id, num))
+macro_rules! bill {
+    ($id:expr $(,)?) => {
+        crate::scripts::Line::One(vac_model::Command::Bill { id: $id })
+    };
 }
 
-pub(crate) fn cancel<'a>(customer: u32, kind: Kind, id: u32) -> Line<'a> {
-    Line::One(Command::Cancel { customer, kind, id })
+macro_rules! cancel {
+    ($customer:expr, $kind:expr, $id:expr $(,)?) => {
+        crate::scripts::Line::One(vac_model::Command::Cancel {
+            customer: $customer,
+            kind: $kind,
+            id: $id,
+        })
+    };
 }
 
-pub(crate) fn number(n: u64) -> Reply {
-    Reply::Number(Some(n))
+macro_rules! audit {
+    () => {
+        crate::scripts::Line::One(vac_model::Command::Audit)
+    };
 }
 
-pub(crate) fn audit<'a>() -> Line<'a> {
-    Line::One(Command::Audit)
+macro_rules! number {
+    ($number:expr $(,)?) => {
+        vac_model::Reply::Number(Some($number))
+    };
 }
+
+macro_rules! pick {
+    ($id:expr, $price:expr, $refused:expr $(,)?) => {
+        Some(vac_model::Pick {
+            id: $id,
+            price: $price,
+            refused: $refused,
+        })
+    };
+}
+
+macro_rules! trip {
+    ($joined:expr, $picks:expr $(,)?) => {
+        vac_model::Reply::Trip(vac_model::TripReply {
+            joined: $joined,
+            picks: $picks,
+        })
+    };
+}
+
+pub(crate) use add;
+pub(crate) use add_command;
+pub(crate) use audit;
+pub(crate) use bill;
+pub(crate) use cancel;
+pub(crate) use delete;
+pub(crate) use delete_command;
+pub(crate) use drop_customer;
+pub(crate) use drop_flight;
+pub(crate) use free;
+pub(crate) use new_customer;
+pub(crate) use number;
+pub(crate) use pick;
+pub(crate) use price;
+pub(crate) use reserve;
+pub(crate) use reserve_command;
+pub(crate) use trip;
 
 /// A report: the entries of the four tables; the units booked; free and total units; the bills.
 pub(crate) fn report(entries: [u64; 4], booked: u64, free: u64, billed: u64) -> Reply {
@@ -140,14 +216,6 @@ pub(crate) fn report(entries: [u64; 4], booked: u64, free: u64, billed: u64) -> 
         total: booked.wrapping_add(free),
         billed,
     })
-}
-
-pub(crate) fn pick(id: u32, price: u64, refused: Option<Why>) -> Option<Pick> {
-    Some(Pick { id, price, refused })
-}
-
-pub(crate) fn trip(joined: Joined, picks: [Option<Pick>; 3]) -> Reply {
-    Reply::Trip(TripReply { joined, picks })
 }
 
 /// The reply to an update of three changes.

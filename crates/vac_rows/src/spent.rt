@@ -3,6 +3,7 @@
 use crate::calls::expect;
 use crate::outcome::Outcome;
 use crate::points::{Points, call_with_points};
+use crate::same::same;
 use crate::scripts::{add, free, new_customer, number, reserve, reserve_command};
 use std::alloc::Global;
 use std::process::Abort;
@@ -16,15 +17,15 @@ use vac_model::Why::NoCustomer;
 /// Two calls take the two versions that there are; what only reads is answered all the same.
 fn spend(rt: &impl Abort, alloc: Global, session: &mut Session<'_>) {
     let script = [
-        (add(Car, 1, 1, Some(10)), Ok(Done)),
-        (new_customer(3), Ok(Done)),
+        (add!(Car, 1, 1, Some(10)), Ok(Done)),
+        (new_customer!(3), Ok(Done)),
     ];
     expect(rt, alloc, session, 1, &script);
-    let task = Task::One(reserve_command(3, Car, 1, 1));
-    assert_eq!(rt; Outcome::of(session.call(&task, 1)), Outcome::Spent(2));
+    let task = Task::One(reserve_command!(3, Car, 1, 1));
+    same(rt, &Outcome::of(session.call(&task, 1)), &Outcome::Spent(2));
     let script = [
-        (free(Car, 1), Ok(number(1))),
-        (reserve(4, Car, 1, 1), Ok(No(NoCustomer))),
+        (free!(Car, 1), Ok(number!(1))),
+        (reserve!(4, Car, 1, 1), Ok(No(NoCustomer))),
     ];
     expect(rt, alloc, session, 1, &script);
 }
@@ -38,10 +39,10 @@ fn a_spent_clock_ends_a_call_of_one_of_two_clients(rt: HostRuntime) {
     let mut session = Session::of(&manager, client);
     let mut other = session.split().expect(&rt, "there are grants");
     spend(&rt, alloc, &mut other);
-    let line = reserve(3, Car, 1, 1);
+    let line = reserve!(3, Car, 1, 1);
     let (answer, told) = call_with_points(&rt, alloc, &mut session, 3, &line);
-    assert_eq!(rt; Outcome::of(answer), Outcome::Spent(2));
-    assert_eq!(rt; told, Points::of(&[Point::ReadsDone, Point::Locked]));
+    same(&rt, &Outcome::of(answer), &Outcome::Spent(2));
+    same(&rt, &told, &Points::of(&[Point::ReadsDone, Point::Locked]));
 }
 
 #[test]

@@ -13,35 +13,35 @@ use vac_model::{Command, Joined};
 /// nothing; a second trip adds a unit to the booking.
 #[test]
 fn trips_and_leaves(rt: HostRuntime) {
-    let first = [pick(1, 50, None), None, None];
+    let first = [pick!(1, 50, None), None, None];
     let script = [
-        (add(Car, 1, 5, Some(50)), Done),
-        (add(Car, 2, 5, Some(50)), Done),
-        (add(Car, 3, 5, Some(40)), Done),
+        (add!(Car, 1, 5, Some(50)), Done),
+        (add!(Car, 2, 5, Some(50)), Done),
+        (add!(Car, 3, 5, Some(40)), Done),
         (
             Line::Trip(3, &[(Car, 3), (Car, 1), (Car, 2), (Room, 9)]),
-            trip(Joined::Added, first),
+            trip!(Joined::Added, first),
         ),
         (
             Line::Trip(3, &[(Room, 9)]),
-            trip(Joined::NotAsked, [None, None, None]),
+            trip!(Joined::NotAsked, [None, None, None]),
         ),
         (
             Line::Trip(3, &[(Car, 1)]),
-            trip(Joined::Refused(Exists), first),
+            trip!(Joined::Refused(Exists), first),
         ),
-        (free(Car, 1), number(3)),
-        (Line::Leave(3), number(100)),
+        (free!(Car, 1), number!(3)),
+        (Line::Leave(3), number!(100)),
         (Line::Leave(3), Number(None)),
-        (free(Car, 1), number(5)),
-        (add(Flight, 4, 1, Some(0)), Done),
+        (free!(Car, 1), number!(5)),
+        (add!(Flight, 4, 1, Some(0)), Done),
         (
             Line::Trip(5, &[(Flight, 4)]),
-            trip(Joined::Added, [None, pick(4, 0, None), None]),
+            trip!(Joined::Added, [None, pick!(4, 0, None), None]),
         ),
-        (audit(), report([3, 1, 0, 1], 1, 15, 0)),
-        (Line::Leave(5), number(0)),
-        (audit(), report([3, 1, 0, 0], 0, 16, 0)),
+        (audit!(), report([3, 1, 0, 1], 1, 15, 0)),
+        (Line::Leave(5), number!(0)),
+        (audit!(), report([3, 1, 0, 0], 0, 16, 0)),
     ];
     play(&rt, rt.alloc(), 1024, &script);
 }
@@ -52,21 +52,21 @@ fn trips_and_leaves(rt: HostRuntime) {
 fn the_order_of_a_trip(rt: HostRuntime) {
     for (blocks, flight, booked, free, billed) in [(5, Some(Full), 1, 2, 10), (6, None, 2, 1, 30)] {
         let script = [
-            (add(Car, 1, 1, Some(10)), Done),
-            (add(Flight, 2, 1, Some(20)), Done),
-            (add(Room, 9, 1, Some(30)), Done),
+            (add!(Car, 1, 1, Some(10)), Done),
+            (add!(Flight, 2, 1, Some(20)), Done),
+            (add!(Room, 9, 1, Some(30)), Done),
             (
                 Line::Trip(3, &[(Room, 9), (Flight, 2), (Car, 1)]),
-                trip(
+                trip!(
                     Joined::Added,
                     [
-                        pick(1, 10, None),
-                        pick(2, 20, flight),
-                        pick(9, 30, Some(Full)),
+                        pick!(1, 10, None),
+                        pick!(2, 20, flight),
+                        pick!(9, 30, Some(Full)),
                     ],
                 ),
             ),
-            (audit(), report([1, 1, 1, 1], booked, free, billed)),
+            (audit!(), report([1, 1, 1, 1], booked, free, billed)),
         ];
         play(&rt, rt.alloc(), blocks, &script);
     }
@@ -80,10 +80,10 @@ fn trips_without_room(rt: HostRuntime) {
         (2, Joined::Added, Full),
     ] {
         let script = [
-            (add(Car, 1, 1, Some(10)), Done),
+            (add!(Car, 1, 1, Some(10)), Done),
             (
                 Line::Trip(3, &[(Car, 1), (Car, 1)]),
-                trip(joined, [pick(1, 10, Some(why)), None, None]),
+                trip!(joined, [pick!(1, 10, Some(why)), None, None]),
             ),
         ];
         play(&rt, rt.alloc(), blocks, &script);
@@ -94,17 +94,17 @@ fn trips_without_room(rt: HostRuntime) {
 #[test]
 fn updates(rt: HostRuntime) {
     let changes = [
-        add_command(Room, 9, 2, Some(70)),
-        delete_command(Car, 3, 6),
+        add_command!(Room, 9, 2, Some(70)),
+        delete_command!(Car, 3, 6),
         Command::DropFlight { id: 1 },
     ];
     let script = [
-        (add(Car, 3, 5, Some(40)), Done),
+        (add!(Car, 3, 5, Some(40)), Done),
         (
             Line::Update(&changes),
             update(None, Some(NotFree), Some(NoItem)),
         ),
-        (audit(), report([1, 0, 1, 0], 0, 7, 0)),
+        (audit!(), report([1, 0, 1, 0], 0, 7, 0)),
     ];
     play(&rt, rt.alloc(), 1024, &script);
 }
@@ -113,19 +113,19 @@ fn updates(rt: HostRuntime) {
 fn an_update_of_flights(rt: HostRuntime) {
     let changes = [
         Command::DropFlight { id: 2 },
-        add_command(Flight, 2, 1, None),
+        add_command!(Flight, 2, 1, None),
         Command::DropFlight { id: 5 },
     ];
     let script = [
-        (add(Flight, 2, 5, Some(100)), Done),
-        (new_customer(3), Done),
-        (reserve(3, Flight, 2, 1), Done),
+        (add!(Flight, 2, 5, Some(100)), Done),
+        (new_customer!(3), Done),
+        (reserve!(3, Flight, 2, 1), Done),
         (
             Line::Update(&changes),
             update(Some(InUse), None, Some(NoItem)),
         ),
-        (free(Flight, 2), number(5)),
-        (audit(), report([0, 1, 0, 1], 1, 5, 100)),
+        (free!(Flight, 2), number!(5)),
+        (audit!(), report([0, 1, 0, 1], 1, 5, 100)),
     ];
     play(&rt, rt.alloc(), 3, &script);
 }

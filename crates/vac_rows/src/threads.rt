@@ -1,6 +1,7 @@
 //! Clients in threads.
 ghost use Rattle.std.specs.Prelude.{◌≡◌};
 
+use crate::same::{holds, same};
 use crate::scripts::LAST;
 use std::process::Abort;
 use std::thread;
@@ -151,8 +152,8 @@ fn four_clients_add_units(rt: HostRuntime) {
     let (client, added) = four_clients(&rt, &manager, client);
     let mut session = Session::of(&manager, client);
     let units = units(&mut session);
-    assert!(rt; added > 0);
-    assert_eq!(rt; units, added);
+    holds(&rt, added > 0);
+    same(&rt, &units, &added);
     let client = session.into_client();
-    assert!(rt; manager.close(client).is_ok());
+    holds(&rt, manager.close(client).is_ok());
 }
