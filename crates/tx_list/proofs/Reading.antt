@@ -8,7 +8,8 @@ use Rattle.tx_alloc.specs.Rows.{Rows, times}
 use Rattle.tx_alloc.specs.Steps.{mem, stood}
 use Rattle.tx_list.specs.Bookings.{Linked, first_block, block_behind}
 use Rattle.tx_list.specs.Lists.{HasList, HasBooking, First, Next}
-use Rattle.tx_list.specs.Search.{Leads, Followed}
+use Rattle.tx_alloc.specs.Pointer.{Leads}
+use Rattle.tx_list.specs.Search.{Followed}
 use Rattle.tx_list.proofs.Frame.{list_block}
 use Rattle.tx_list.proofs.Open.{open_list}
 

@@ -1,10 +1,9 @@
 -- What the steps of a search say.
-use Rattle.std.specs.Prelude.{◌≡◌, ◌≢◌, ℕ, ◌+◌, ◌<◌, ◌≤◌, ◌^◌, List, length, Option, None}
+use Rattle.std.specs.Prelude.{◌≡◌, ℕ, ◌+◌, ◌<◌, List, length, Option, None}
 use Rattle.std.specs.declared.cmp.Ordering.{Ordering}
 use Rattle.std.specs.Ordering.{nat_cmp, ordering_then}
-use Rattle.stm_words.specs.View.{View, Sees, Stands, Kept}
+use Rattle.stm_words.specs.View.{View, Sees, Kept}
 use Rattle.tx_alloc.specs.Pointer.{pointer, IsWithin}
-use Rattle.tx_alloc.specs.Pool.{IsBlock}
 use Rattle.tx_alloc.specs.Rows.{Rows, block_at}
 use Rattle.tx_alloc.specs.Steps.{mem}
 use Rattle.tx_list.specs.Bookings.{IsKey, code_of, link_of}
@@ -23,13 +22,6 @@ pub record Compared (s s' : View) (b : ℕ) (key : Key) (order : Ordering) : Typ
   pub writes : s'.writes ≡ s.writes
   pub is : (image : List ℕ) → Sees s' image →
       order ≡ key_cmp (mem s image (b + KIND)) (mem s image (b + ID)) key.kind key.id
-
--- the word at the link is the pointer to a block, or to none
-pub record Leads (s : View) (link : ℕ) : Type 0 where
-  pub small : s.size ≤ 2 ^ 32
-  pub room : link < s.size
-  pub under : (image : List ℕ) → Stands s image → mem s image link ≢ 0 →
-      IsBlock (length image) (mem s image link)
 
 -- only reads were made, and the word at the link leads to the answer
 pub record Followed (s s' : View) (link : ℕ) (found : Option ℕ) : Type 0 where

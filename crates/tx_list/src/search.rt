@@ -3,7 +3,8 @@
 ghost use Rattle.std.specs.Prelude.{◌≡◌, IfOk, IfErr};
 ghost use Rattle.tx_list.specs.Bookings.{IsKey, code_of};
 ghost use Rattle.tx_list.specs.Lists.{HasList, HasBooking, Found, First, Next};
-ghost use Rattle.tx_list.specs.Search.{Leads, Followed, Sought};
+ghost use Rattle.tx_alloc.specs.Pointer.{Leads};
+ghost use Rattle.tx_list.specs.Search.{Followed, Sought};
 
 use crate::key::{Key, compare_key};
 use crate::place::NEXT;

@@ -9,7 +9,8 @@ use Rattle.tx_tree.specs.Tree.{Tree, node, join, rows}
 use Rattle.tx_tree.specs.Way.{Way, top, step, plug, depth}
 use Rattle.tx_tree.specs.Balance.{Short}
 use Rattle.tx_tree.specs.Hangs.{off, link_of, Zip, Touches, Turning}
-use Rattle.tx_tree.specs.Steps.{IsPath, Leads, Reached, Coloured}
+use Rattle.tx_alloc.specs.Pointer.{Leads}
+use Rattle.tx_tree.specs.Steps.{IsPath, Reached, Coloured}
 use Rattle.tx_tree.specs.Mending.{Rising, Raising, Rotated, HasWay, Ends, ShortAt, HasShort, Mended}
 use Rattle.tx_tree.specs.Lifting.{LiftAt, SomeLift, HasLift, ShortHere, Lifted, ShortUp, Stepped}
 use Rattle.tx_tree.proofs.Shapes.{plug_rows}

@@ -7,7 +7,8 @@ use Rattle.tx_tree.specs.Tree.{Tree, leaf, node, rows, blacks}
 use Rattle.tx_tree.specs.Way.{plug, front, behind}
 use Rattle.tx_tree.specs.Hangs.{without}
 use Rattle.tx_tree.specs.Table.{IsInside, Table, HasTable, Removed}
-use Rattle.tx_tree.specs.Steps.{Leads, Reached, Sought}
+use Rattle.tx_alloc.specs.Pointer.{Leads}
+use Rattle.tx_tree.specs.Steps.{Reached, Sought}
 use Rattle.tx_tree.specs.Mending.{Ends}
 use Rattle.tx_tree.specs.Removal.{LastAt, HasLast, Unlinked}
 use Rattle.tx_tree.specs.Next.{BothAt, HasBoth, GoneEnds, NextUnlinked}

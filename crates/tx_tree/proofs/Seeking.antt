@@ -12,7 +12,8 @@ use Rattle.tx_tree.specs.Tree.{Tree, leaf, node, rows, IsEven, IsApart, is_red, 
 use Rattle.tx_tree.specs.Way.{Way, top, step, plug, depth, front, behind}
 use Rattle.tx_tree.specs.Hangs.{has, off, link_of, Zip}
 use Rattle.tx_tree.specs.Table.{Table, HasTable}
-use Rattle.tx_tree.specs.Steps.{Leads, Reached, IsPath, Place, Seeking}
+use Rattle.tx_alloc.specs.Pointer.{Leads}
+use Rattle.tx_tree.specs.Steps.{Reached, IsPath, Place, Seeking}
 use Rattle.tx_tree.proofs.Shapes.{rows_plug, depth_plug, height_log}
 use Rattle.tx_alloc.proofs.Order.{below_higher, Split, split, below_both, times_both}
 use Rattle.tx_tree.proofs.Zipped.{down, link_is, way_block}

@@ -10,7 +10,8 @@ use Rattle.tx_tree.specs.Tree.{Tree, node, rows, IsEven, IsApart, is_red}
 use Rattle.tx_tree.specs.Way.{Way, top, step, plug, depth, front, behind}
 use Rattle.tx_tree.specs.Hangs.{off, link_of, Zip}
 use Rattle.tx_tree.specs.Table.{Table, HasTable, IsInside, Found, FoundAt, row_above, NextFound}
-use Rattle.tx_tree.specs.Steps.{Leads, Reached}
+use Rattle.tx_alloc.specs.Pointer.{Leads}
+use Rattle.tx_tree.specs.Steps.{Reached}
 use Rattle.tx_tree.proofs.Shapes.{rows_plug, depth_plug}
 use Rattle.tx_alloc.proofs.Order.{below_higher, below_both, at_between, none_between}
 use Rattle.tx_tree.proofs.Zipped.{down, link_is, way_block}

@@ -3,6 +3,7 @@ use Rattle.std.specs.Prelude.{◌≡◌, ◌≢◌, ◌⊎◌, ℕ, ◌+◌, ◌
 use Rattle.stm_words.specs.View.{IsWrite}
 use Rattle.tx_alloc.specs.Pool.{IsBlock}
 use Rattle.tx_alloc.specs.Rows.{times}
+use Rattle.tx_alloc.specs.declared.place.TheConstants.{FIRST_BLOCK}
 use Rattle.tx_tree.specs.Tree.{Tree, leaf, node}
 use Rattle.tx_tree.specs.Way.{Way, top, step}
 
@@ -52,7 +53,7 @@ pub record Zip (m : ℕ → ℕ) (n root : ℕ) (total : ℕ → ℕ) (w : Way) 
   pub tree : Hangs m n (m (link_of root w)) t
   pub count : (x : ℕ) → way_has x w + has x t ≡ total x
   pub once : (x : ℕ) → total x ≤ 1
-  pub low : root < 16
+  pub low : root < FIRST_BLOCK
 
 -- nothing was written but the root and words 1 to 3 of these blocks
 pub record Touches (m m' : ℕ → ℕ) (root : ℕ) (total : ℕ → ℕ) : Type 0 where

@@ -3,6 +3,7 @@ use Rattle.std.specs.Prelude.{◌≡◌, ℕ, ◌+◌, ◌-◌, ◌≤◌, ◌^�
 use Rattle.stm_words.specs.View.{View, Sees, Stands, Kept}
 use Rattle.tx_alloc.specs.Steps.{mem}
 use Rattle.tx_alloc.specs.Rows.{Rows}
+use Rattle.tx_alloc.specs.declared.place.TheConstants.{FIRST_BLOCK}
 use Rattle.tx_tree.specs.Tree.{Tree, rows, is_red}
 use Rattle.tx_tree.specs.Way.{Way, step, plug}
 use Rattle.tx_tree.specs.Balance.{Short}
@@ -35,7 +36,7 @@ pub record SomeLift (m : ℕ → ℕ) (n link p q side : ℕ) : Type 0 where
 -- this is so under each image of the memory's size, which is 16 to 2^32 words
 pub record HasLift (s : View) (link p q side : ℕ) : Type 0 where
   pub small : s.size ≤ 2 ^ 32
-  pub room : 16 ≤ s.size
+  pub room : FIRST_BLOCK ≤ s.size
   pub under : (image : List ℕ) → Stands s image →
       SomeLift (mem s image) (length image) link p q side
 

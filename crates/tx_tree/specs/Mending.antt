@@ -3,6 +3,8 @@ use Rattle.std.specs.Prelude.{◌≡◌, ◌≢◌, ℕ, ◌+◌, ◌-◌, ◌%�
 use Rattle.stm_words.specs.View.{View, Sees, Stands, Kept, IsWrite}
 use Rattle.tx_alloc.specs.Steps.{mem}
 use Rattle.tx_alloc.specs.Rows.{Rows}
+use Rattle.tx_alloc.specs.declared.place.TheConstants.{FIRST_BLOCK, BLOCK_WORDS}
+use Rattle.tx_tree.specs.declared.path.TheConstants.{LEVELS}
 use Rattle.tx_tree.specs.Tree.{Tree, node, rows, IsEven, IsApart, is_red}
 use Rattle.tx_tree.specs.Way.{Way, top, plug, depth}
 use Rattle.tx_tree.specs.Balance.{Raised, Short}
@@ -42,9 +44,9 @@ pub record WayAt (m : ℕ → ℕ) (n : ℕ) (xs : List ℕ) (d : ℕ) : Type 0 
 -- this is so under each image of the memory's size
 pub record HasWay (s : View) (xs : List ℕ) (d : ℕ) : Type 0 where
   pub small : s.size ≤ 2 ^ 32
-  pub room : 16 ≤ s.size
-  pub size : length xs ≡ 40
-  pub deep : d < 40
+  pub room : FIRST_BLOCK ≤ s.size
+  pub size : length xs ≡ LEVELS
+  pub deep : d < LEVELS
   pub under : (image : List ℕ) → Stands s image → WayAt (mem s image) (length image) xs d
 
 -- the whole tree is as it should be, and has these rows; nothing but linking words was written
@@ -79,9 +81,9 @@ pub record SomeRaised (m : ℕ → ℕ) (n : ℕ) (xs : List ℕ) (d b : ℕ) : 
 -- this is so under each image of the memory's size
 pub record HasRaised (s : View) (xs : List ℕ) (d b : ℕ) : Type 0 where
   pub small : s.size ≤ 2 ^ 32
-  pub room : 16 ≤ s.size
-  pub size : length xs ≡ 40
-  pub deep : d < 40
+  pub room : FIRST_BLOCK ≤ s.size
+  pub size : length xs ≡ LEVELS
+  pub deep : d < LEVELS
   pub under : (image : List ℕ) → Stands s image → SomeRaised (mem s image) (length image) xs d b
 
 -- under each image the tree with that red node became as it should be, with the same rows
@@ -95,8 +97,9 @@ pub record Settled (s s' : View) (xs : List ℕ) (d b : ℕ) : Type 0 where
 
 -- the node above is red, and the one beside that is not
 pub record IsToTurn (m : ℕ → ℕ) (l u : ℕ) : Type 0 where
-  pub parent : m (l - l % 8 + 3) ≡ 1
-  pub uncle : m (u - u % 8 + (3 - u % 8)) ≢ 0 → m (m (u - u % 8 + (3 - u % 8)) + 3) ≢ 1
+  pub parent : m (l - l % BLOCK_WORDS + 3) ≡ 1
+  pub uncle : m (u - u % BLOCK_WORDS + (3 - u % BLOCK_WORDS)) ≢ 0 →
+      m (m (u - u % BLOCK_WORDS + (3 - u % BLOCK_WORDS)) + 3) ≢ 1
 
 -- this is so under each image, with the last two links of the path
 pub record NeedsTurn (s : View) (xs : List ℕ) (d : ℕ) : Type 0 where
@@ -123,9 +126,9 @@ pub record SomeShort (m : ℕ → ℕ) (n : ℕ) (xs : List ℕ) (d : ℕ) : Typ
 -- this is so under each image of the memory's size
 pub record HasShort (s : View) (xs : List ℕ) (d : ℕ) : Type 0 where
   pub small : s.size ≤ 2 ^ 32
-  pub room : 16 ≤ s.size
-  pub size : length xs ≡ 40
-  pub deep : d < 40
+  pub room : FIRST_BLOCK ≤ s.size
+  pub size : length xs ≡ LEVELS
+  pub deep : d < LEVELS
   pub under : (image : List ℕ) → Stands s image → SomeShort (mem s image) (length image) xs d
 
 -- under each image the tree with that lack became as it should be, with the same rows

@@ -3,6 +3,8 @@ use Rattle.std.specs.Prelude.{◌≡◌, ◌≢◌, ℕ, ◌+◌, ◌<◌, ◌�
 use Rattle.stm_words.specs.View.{View, Sees, Stands, Kept, IsWrite}
 use Rattle.tx_alloc.specs.Steps.{mem}
 use Rattle.tx_alloc.specs.Rows.{Rows}
+use Rattle.tx_alloc.specs.declared.place.TheConstants.{FIRST_BLOCK}
+use Rattle.tx_tree.specs.declared.path.TheConstants.{LEVELS, MOST_HEIGHT}
 use Rattle.tx_tree.specs.Tree.{Tree, node, rows, IsEven, IsApart, is_red, height}
 use Rattle.tx_tree.specs.Way.{Way, top, plug, depth, front, behind}
 use Rattle.tx_tree.specs.Balance.{Sound}
@@ -39,7 +41,7 @@ pub record BothAt (m : ℕ → ℕ) (n root : ℕ) (total : ℕ → ℕ) (xs : L
   pub deep : d ≡ depth w
   pub sound : Sound w (node c l (k, b) t) h
   pub some : m (b + 2) ≢ 0
-  pub tall : height (plug w (node c l (k, b) t)) ≤ 36
+  pub tall : height (plug w (node c l (k, b) t)) ≤ MOST_HEIGHT
 
 -- in some tree the path ends at the node b, which has a right side
 pub record SomeBoth (m : ℕ → ℕ) (n : ℕ) (xs : List ℕ) (d b : ℕ) : Type 0 where
@@ -56,9 +58,9 @@ pub record SomeBoth (m : ℕ → ℕ) (n : ℕ) (xs : List ℕ) (d b : ℕ) : Ty
 -- this is so under each image of the memory's size
 pub record HasBoth (s : View) (xs : List ℕ) (d b : ℕ) : Type 0 where
   pub small : s.size ≤ 2 ^ 32
-  pub room : 16 ≤ s.size
-  pub size : length xs ≡ 40
-  pub deep : d < 40
+  pub room : FIRST_BLOCK ≤ s.size
+  pub size : length xs ≡ LEVELS
+  pub deep : d < LEVELS
   pub under : (image : List ℕ) → Stands s image → SomeBoth (mem s image) (length image) xs d b
 
 -- the whole tree is as it should be, without the block b

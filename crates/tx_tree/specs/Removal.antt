@@ -2,6 +2,8 @@
 use Rattle.std.specs.Prelude.{◌≡◌, ℕ, ◌+◌, ◌<◌, ◌≤◌, ◌^◌, List, length, slice_index, Bool, false, not}
 use Rattle.stm_words.specs.View.{View, Sees, Stands, Kept}
 use Rattle.tx_alloc.specs.Steps.{mem}
+use Rattle.tx_alloc.specs.declared.place.TheConstants.{FIRST_BLOCK}
+use Rattle.tx_tree.specs.declared.path.TheConstants.{LEVELS}
 use Rattle.tx_tree.specs.Tree.{Tree, leaf, join, rows, EvenAt, IsApart}
 use Rattle.tx_tree.specs.Way.{Way, plug, depth, IsEvenWay, IsApartWay}
 use Rattle.tx_tree.specs.Balance.{Sound}
@@ -34,9 +36,9 @@ pub record SomeLoose (m : ℕ → ℕ) (n : ℕ) (xs : List ℕ) (d p : ℕ) : T
 -- this is so under each image of the memory's size
 pub record HasLoose (s : View) (xs : List ℕ) (d p : ℕ) : Type 0 where
   pub small : s.size ≤ 2 ^ 32
-  pub room : 16 ≤ s.size
-  pub size : length xs ≡ 40
-  pub deep : d < 40
+  pub room : FIRST_BLOCK ≤ s.size
+  pub size : length xs ≡ LEVELS
+  pub deep : d < LEVELS
   pub under : (image : List ℕ) → Stands s image → SomeLoose (mem s image) (length image) xs d p
 
 -- under each image the tree with that lack became as it should be, with the same rows
@@ -71,9 +73,9 @@ pub record SomeLast (m : ℕ → ℕ) (n : ℕ) (xs : List ℕ) (d b p : ℕ) : 
 -- this is so under each image of the memory's size
 pub record HasLast (s : View) (xs : List ℕ) (d b p : ℕ) : Type 0 where
   pub small : s.size ≤ 2 ^ 32
-  pub room : 16 ≤ s.size
-  pub size : length xs ≡ 40
-  pub deep : d < 40
+  pub room : FIRST_BLOCK ≤ s.size
+  pub size : length xs ≡ LEVELS
+  pub deep : d < LEVELS
   pub under : (image : List ℕ) → Stands s image → SomeLast (mem s image) (length image) xs d b p
 
 -- under each image b left its tree, which is as it should be and has all other rows

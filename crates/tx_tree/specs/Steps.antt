@@ -1,25 +1,19 @@
 -- What the steps of a call say.
-use Rattle.std.specs.Prelude.{◌≡◌, ◌≢◌, ℕ, ◌+◌, ◌<◌, ◌≤◌, ◌^◌, List, length, slice_index, Bool, true, false}
-use Rattle.stm_words.specs.View.{View, Sees, Stands, Kept, Loaded}
-use Rattle.tx_alloc.specs.Pool.{IsBlock}
+use Rattle.std.specs.Prelude.{◌≡◌, ◌≢◌, ℕ, ◌+◌, ◌<◌, ◌≤◌, List, length, slice_index, Bool, true, false}
+use Rattle.stm_words.specs.View.{View, Sees, Kept, Loaded}
 use Rattle.tx_alloc.specs.Steps.{mem}
 use Rattle.tx_alloc.specs.Rows.{Rows, times, AllBelow, IsFrom}
+use Rattle.tx_alloc.specs.declared.place.TheConstants.{FIRST_BLOCK, BLOCK_WORDS}
+use Rattle.tx_tree.specs.declared.path.TheConstants.{LEVELS}
 use Rattle.tx_tree.specs.Tree.{Tree, rows, IsEven, IsApart, is_red}
 use Rattle.tx_tree.specs.Way.{Way, top, step, plug, depth, front, behind}
 use Rattle.tx_tree.specs.Hangs.{off, Zip}
 use Rattle.tx_tree.specs.Table.{Table}
 
--- the word at the link leads to a block, or to none
-pub record Leads (s : View) (link : ℕ) : Type 0 where
-  pub small : s.size ≤ 2 ^ 32
-  pub room : link < s.size
-  pub under : (image : List ℕ) → Stands s image → mem s image link ≢ 0 →
-      IsBlock (length image) (mem s image link)
-
 -- the link leads to p
 pub record Reached (s s' : View) (link p : ℕ) : Type 0 where
   pub loaded : Loaded s s' link p
-  pub room : p ≢ 0 → (16 ≤ p) × (p + 8 ≤ s'.size)
+  pub room : p ≢ 0 → (FIRST_BLOCK ≤ p) × (p + BLOCK_WORDS ≤ s'.size)
 
 -- the node p is red, or it is none, or black
 pub record Coloured (s s' : View) (p : ℕ) (red : Bool) : Type 0 where
@@ -53,8 +47,8 @@ pub record Place (m : ℕ → ℕ) (n root key : ℕ) (xs : List ℕ) (d : ℕ) 
 pub record Seeking (s s' : View) (root key : ℕ) (xs : List ℕ) (d : ℕ) : Type 0 where
   pub kept : Kept s s'
   pub writes : s'.writes ≡ s.writes
-  pub deep : d < 40
-  pub size : length xs ≡ 40
+  pub deep : d < LEVELS
+  pub size : length xs ≡ LEVELS
   pub place : (image : List ℕ) (rs : Rows) → Sees s' image →
       Table (mem s image) (length image) root rs →
       Place (mem s image) (length image) root key xs d rs
@@ -62,6 +56,6 @@ pub record Seeking (s s' : View) (root key : ℕ) (xs : List ℕ) (d : ℕ) : Ty
 -- the search came to its end: there is no tree, or its root has the key
 pub record Sought (s s' : View) (root key : ℕ) (xs : List ℕ) (d p : ℕ) : Type 0 where
   pub seeking : Seeking s s' root key xs d
-  pub there : p ≢ 0 → (16 ≤ p) × (p + 8 ≤ s'.size)
+  pub there : p ≢ 0 → (FIRST_BLOCK ≤ p) × (p + BLOCK_WORDS ≤ s'.size)
   pub is : (image : List ℕ) → Sees s' image → mem s image (slice_index xs d) ≡ p
   pub key_is : p ≢ 0 → (image : List ℕ) → Sees s' image → mem s image p ≡ key

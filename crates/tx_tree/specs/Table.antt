@@ -40,8 +40,8 @@ pub record SomeTable (m : ℕ → ℕ) (n root : ℕ) : Type 0 where
 -- fit 32 bits.
 pub record HasTable (s : View) (root : ℕ) : Type 0 where
   pub small : s.size ≤ 2 ^ 32
-  pub room : 16 ≤ s.size
-  pub low : root < 16
+  pub room : FIRST_BLOCK ≤ s.size
+  pub low : root < FIRST_BLOCK
   pub under : (image : List ℕ) → Stands s image → SomeTable (mem s image) (length image) root
 
 -- the words of a block at b are words of a memory of n words, and of no head or root

@@ -5,7 +5,10 @@ ghost use Rattle.std.specs.Prelude.{◌≡◌, ◌-◌, ◌%◌, ◌<◌, length
 use std::marker::Model;
 use tx_alloc::place::BLOCK_WORDS;
 
-/// How many links a path has. A tree of 262,144 nodes has at most 36 nodes on a way down.
+/// The most nodes on a way down: a table has at most 262,144 of them.
+pub const MOST_HEIGHT: usize = 36;
+
+/// How many links a path has: one to each node of a way down, and some to spare.
 pub const LEVELS: usize = 40;
 
 /// The way down from the root word. A link is the address of a word that leads to a node: the root
