@@ -1,9 +1,10 @@
--- Whether a command or a task can be asked for.
-use Rattle.std.specs.Prelude.{Bool, true, false, ◌&&◌, length}
+-- Whether a command, a task or a system of so many blocks can be asked for.
+use Rattle.std.specs.Prelude.{ℕ, Bool, true, false, ◌&&◌, length, nat_le}
 use Rattle.std.specs.List.{list_all}
 use Rattle.vac_model.specs.Amounts.{is_id, is_amount, is_optional_amount, is_unit_count, has_deletable_units, is_list_length}
 use Rattle.vac_model.specs.declared.commands.Command.{Command}
 use Rattle.vac_model.specs.declared.commands.Command.TheVariants as command
+use Rattle.vac_model.specs.declared.limits.TheConstants.{MOST_BLOCKS}
 use Rattle.vac_model.specs.declared.tasks.Task.{Task}
 use Rattle.vac_model.specs.declared.tasks.Task.TheVariants as task
 
@@ -43,3 +44,7 @@ is_task (task.Trip customer asks) =
 is_task (task.Leave customer) = is_id customer
 is_task (task.Update changes) =
     is_list_length (length changes) && list_all (λ c. is_change c && is_command c) changes
+
+-- a system has 1 to 262,144 blocks
+abbrev pub is_block_count : ℕ → Bool
+is_block_count n = nat_le 1 n && nat_le n MOST_BLOCKS

@@ -4,6 +4,9 @@
 /// The most blocks that a manager has, which is the most entries of a state.
 pub const MOST_BLOCKS: u32 = 262_144;
 
+/// The greatest id of an item or of a customer.
+pub const MOST_ID: u32 = u32::MAX;
+
 /// The most of a count or of a price in a command.
 pub const MOST_AMOUNT: u32 = 1_000_000;
 
