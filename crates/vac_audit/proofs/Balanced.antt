@@ -6,7 +6,6 @@ use Rattle.std.specs.declared.cmp.Ordering.TheVariants.{Less, Equal, Greater}
 use Rattle.std.specs.Ordering.{nat_cmp, is_eq}
 use Rattle.std.specs.FinMap.{from_entries, entries, get, get-entries, find}
 use Rattle.vac_model.specs.declared.items.Kind.{Kind}
-use Rattle.vac_model.specs.declared.items.Kind.TheVariants.{Car, Flight, Room}
 use Rattle.vac_model.specs.declared.items.Item.{Item}
 use Rattle.vac_model.specs.declared.items.Booking.{Booking}
 use Rattle.vac_model.specs.State.{Bookings, Place, kind_number, place_cmp, table_of, item_of, bookings_of, units_of, units_held}
@@ -17,7 +16,8 @@ use Rattle.vac_model.proofs.Balance.{some_same}
 use Rattle.vac_model.proofs.Places.{place_cmp-IsAntisymmetric}
 use Rattle.tx_alloc.specs.Rows.{Rows, IsFrom, block_at}
 use Rattle.tx_list.specs.Bookings.{Linked, IsList}
-use Rattle.vac_records.specs.Bookings.{kind_of, place_in, booking_in}
+use Rattle.vac_model.specs.Coded.{kind_of_number, kind_back}
+use Rattle.vac_records.specs.Bookings.{place_in, booking_in}
 use Rattle.vac_records.specs.Items.{item_in}
 use Rattle.vac_records.specs.Heap.{Parts, over}
 use Rattle.vac_records.specs.Represents.{items_in, bookings_in}
@@ -87,11 +87,6 @@ booking_row m P place x (r ∷ rs) e h = go (is_eq (place_cmp place (place_in m 
     go true t e rest = record { row = r; place_is = sym (place_cmp-IsAntisymmetric place (place_in m r.1) (is_equal _ t)); is = some_same _ _ e; fact = h.0 }
     go false t e rest = rest e
 
-pub kind_back : (kind : Kind) → kind_of (kind_number kind) ≡ kind
-kind_back Car = refl
-kind_back Flight = refl
-kind_back Room = refl
-
 -- what is known of a row of items
 pub record ItemRow (m : ℕ → ℕ) (p : Parts) (k : ℕ) (r : ℕ × ℕ) : Type 0 where
   pub low : 1 ≤ r.0
@@ -122,9 +117,9 @@ module _ (m : ℕ → ℕ) (blocks : ℕ) (p : Parts) (h : IsSound m (16 + 8 * b
   customers_are : entries (state_of m blocks p).customers ≡ customers_of m p.lists (p.tables 3)
   customers_are = customer_entries m p.lists 1 (p.tables 3) (h.tables 3 (omega arith)).rises
 
-  held_at : (k id : ℕ) → k < 3 → id < 2 ^ 32 → units_held (state_of m blocks p) (kind_of k, id) ≡ over (units_in m (k * 2 ^ 32 + id)) (p.tables 3) p.lists
+  held_at : (k id : ℕ) → k < 3 → id < 2 ^ 32 → units_held (state_of m blocks p) (kind_of_number k, id) ≡ over (units_in m (k * 2 ^ 32 + id)) (p.tables 3) p.lists
   held_at k id l high =
-      ap (λ (z : List (ℕ × Bookings)). sum_by (λ bs. units_of bs (kind_of k, id)) (map (λ e. e.1) z)) customers_are
+      ap (λ (z : List (ℕ × Bookings)). sum_by (λ bs. units_of bs (kind_of_number k, id)) (map (λ e. e.1) z)) customers_are
       ∙ units_held_over m (16 + 8 * blocks) p.lists k id (p.tables 3) l high (lists m blocks p h)
 
   held_by : (kind : Kind) (id : ℕ) → id < 2 ^ 32 → units_held (state_of m blocks p) (kind, id) ≡ over (units_in m (kind_number kind * 2 ^ 32 + id)) (p.tables 3) p.lists
@@ -157,10 +152,10 @@ module _ (m : ℕ → ℕ) (blocks : ℕ) (p : Parts) (h : IsSound m (16 + 8 * b
       customer_row m p.lists (CustomerKnown m (16 + 8 * blocks) p) id bookings (p.tables 3) found customer_rows
 
   -- the item of a booking's row is there
-  item_there : (a : ℕ) → InRange m a → block_at (p.tables (m a)) (m (a + 1)) ≢ 0 → IsSome (item_of (state_of m blocks p) (kind_of (m a)) (m (a + 1)))
+  item_there : (a : ℕ) → InRange m a → block_at (p.tables (m a)) (m (a + 1)) ≢ 0 → IsSome (item_of (state_of m blocks p) (kind_of_number (m a)) (m (a + 1)))
   item_there a r some =
-      let at : block_at (p.tables (kind_number (kind_of (m a)))) (m (a + 1)) ≡ block_at (p.tables (m a)) (m (a + 1)) = ap (λ (k : ℕ). block_at (p.tables k) (m (a + 1))) (number_of (m a) r.kind) in
-      let found = item_found m (16 + 8 * blocks) [] (state_of m blocks p) (represented m blocks p h) (kind_of (m a)) (m (a + 1)) (block_at (p.tables (m a)) (m (a + 1))) (record { at = at; some = some }) in
+      let at : block_at (p.tables (kind_number (kind_of_number (m a)))) (m (a + 1)) ≡ block_at (p.tables (m a)) (m (a + 1)) = ap (λ (k : ℕ). block_at (p.tables k) (m (a + 1))) (number_of (m a) r.kind) in
+      let found = item_found m (16 + 8 * blocks) [] (state_of m blocks p) (represented m blocks p h) (kind_of_number (m a)) (m (a + 1)) (block_at (p.tables (m a)) (m (a + 1))) (record { at = at; some = some }) in
       subst IsSome (sym found) (ap is_some {x = Some (item_in m (block_at (p.tables (m a)) (m (a + 1))))} refl)
 
   booking_balanced : (customer : ℕ) (bookings : Bookings) (kind : Kind) (id : ℕ) (b : Booking) → bookings_of (state_of m blocks p) customer ≡ Some bookings → get bookings (kind, id) ≡ Some b
@@ -176,7 +171,7 @@ module _ (m : ℕ → ℕ) (blocks : ℕ) (p : Parts) (h : IsSound m (16 + 8 * b
     where
       of_row : (kind : Kind) (id : ℕ) (b : Booking) → BookingRow m (λ r. InRange m r.1 × IsBookingRow m p.tables r) (kind, id) b → IsBooking (state_of m blocks p) kind id b
       of_row kind id b w =
-          subst (λ (q : Place). IsBooking (state_of m blocks p) q.0 q.1 b) w.place_is (subst (λ (x : Booking). IsBooking (state_of m blocks p) (kind_of (m w.row.1)) (m (w.row.1 + 1)) x) w.is (record {
+          subst (λ (q : Place). IsBooking (state_of m blocks p) q.0 q.1 b) w.place_is (subst (λ (x : Booking). IsBooking (state_of m blocks p) (kind_of_number (m w.row.1)) (m (w.row.1 + 1)) x) w.is (record {
             item = item_there w.row.1 w.fact.0 w.fact.1.item;
             some_units = w.fact.1.some;
             few_units = w.fact.1.few;

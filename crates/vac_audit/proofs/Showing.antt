@@ -20,7 +20,8 @@ use Rattle.tx_alloc.specs.Rows.{Rows}
 use Rattle.tx_list.specs.Bookings.{Linked, IsList, IsBooked}
 use Rattle.vac_records.specs.Heap.{over}
 use Rattle.tx_alloc.specs.Rows.{IsFrom}
-use Rattle.vac_records.specs.Bookings.{kind_of, booking_in}
+use Rattle.vac_model.specs.Coded.{kind_of_number}
+use Rattle.vac_records.specs.Bookings.{booking_in}
 use Rattle.vac_records.specs.Items.{item_in}
 use Rattle.vac_records.specs.Represents.{items_in, bookings_in, customers_in, opened}
 use Rattle.vac_audit.specs.Walk.{report_of}
@@ -51,7 +52,7 @@ customers_sorted m lists lo [] h = tt
 customers_sorted m lists lo (r ∷ rs) h = (customers_after m lists r.0 (r.0 + 1) rs (omega arith) h.1, customers_sorted m lists (r.0 + 1) rs h.1)
 
 -- kinds by their numbers
-pub number_of : (k : ℕ) → k < 3 → kind_number (kind_of k) ≡ k
+pub number_of : (k : ℕ) → k < 3 → kind_number (kind_of_number k) ≡ k
 number_of zero l = refl
 number_of (suc zero) l = refl
 number_of (suc (suc zero)) l = refl
@@ -66,11 +67,11 @@ then_equal a b e f = ap (λ (z : Ordering). ordering_then z b) e ∙ f
 same : (a b : ℕ) → a ≡ b → nat_cmp a b ≡ Equal
 same a b l = grind (arith, nat_tests)
 
-place_less : (k i k' i' : ℕ) → k < 3 → k' < 3 → i < 2 ^ 32 → i' < 2 ^ 32 → k * 2 ^ 32 + i < k' * 2 ^ 32 + i' → place_cmp (kind_of k, i) (kind_of k', i') ≡ Less
+place_less : (k i k' i' : ℕ) → k < 3 → k' < 3 → i < 2 ^ 32 → i' < 2 ^ 32 → k * 2 ^ 32 + i < k' * 2 ^ 32 + i' → place_cmp (kind_of_number k, i) (kind_of_number k', i') ≡ Less
 place_less k i k' i' a b c d l =
     elim (cases_lt k k') [
-      | inl below ↦ then_less (nat_cmp (kind_number (kind_of k)) (kind_number (kind_of k'))) (nat_cmp i i') (less (kind_number (kind_of k)) (kind_number (kind_of k')) (omega (arith, number_of k a, number_of k' b)))
-      | inr from ↦ then_equal (nat_cmp (kind_number (kind_of k)) (kind_number (kind_of k'))) (nat_cmp i i') (same (kind_number (kind_of k)) (kind_number (kind_of k')) (omega (arith, number_of k a, number_of k' b))) (less i i' (omega arith))
+      | inl below ↦ then_less (nat_cmp (kind_number (kind_of_number k)) (kind_number (kind_of_number k'))) (nat_cmp i i') (less (kind_number (kind_of_number k)) (kind_number (kind_of_number k')) (omega (arith, number_of k a, number_of k' b)))
+      | inr from ↦ then_equal (nat_cmp (kind_number (kind_of_number k)) (kind_number (kind_of_number k'))) (nat_cmp i i') (same (kind_number (kind_of_number k)) (kind_number (kind_of_number k')) (omega (arith, number_of k a, number_of k' b))) (less i i' (omega arith))
     ]
 
 -- a booking's kind
@@ -80,7 +81,7 @@ kind_low m n p lo r h = omega (arith, h.kind, kind_word m r.1)
 pub code_is : (m : ℕ → ℕ) (n p lo : ℕ) (r : ℕ × ℕ) → IsBooked m n p lo r → m r.1 * 2 ^ 32 + m (r.1 + 1) ≡ r.0
 code_is m n p lo r h = omega (arith, h.key, kind_word m r.1)
 
-bookings_after : (m : ℕ → ℕ) (n p k i lo : ℕ) (rs : Rows) → k < 3 → i < 2 ^ 32 → k * 2 ^ 32 + i < lo → Linked m n p lo rs → AllByRecursion (λ y. place_cmp (kind_of k, i) y ≡ Less) (keys_of (bookings_in m rs))
+bookings_after : (m : ℕ → ℕ) (n p k i lo : ℕ) (rs : Rows) → k < 3 → i < 2 ^ 32 → k * 2 ^ 32 + i < lo → Linked m n p lo rs → AllByRecursion (λ y. place_cmp (kind_of_number k, i) y ≡ Less) (keys_of (bookings_in m rs))
 bookings_after m n p k i lo [] a c l h = tt
 bookings_after m n p k i lo (r ∷ rs) a c l h =
     (place_less k i (m r.1) (m (r.1 + 1)) a (kind_low m n p lo r h.0) c h.0.id (omega (arith, h.0.low, l, code_is m n p lo r h.0)), bookings_after m n (m (r.1 + 3)) k i (r.0 + 1) rs a c (omega (arith, h.0.low)) h.1)

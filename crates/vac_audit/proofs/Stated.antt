@@ -16,7 +16,8 @@ use Rattle.tx_alloc.specs.Rows.{Rows, IsFrom, block_at}
 use Rattle.tx_list.specs.Bookings.{Linked, IsList}
 use Rattle.tx_tree.specs.Table.{IsTable}
 use Rattle.tx_tree.proofs.TableFrame.{table_rises}
-use Rattle.vac_records.specs.Bookings.{kind_of, place_in, place_key, booking_in}
+use Rattle.vac_model.specs.Coded.{kind_of_number}
+use Rattle.vac_records.specs.Bookings.{place_in, place_key, booking_in}
 use Rattle.vac_records.specs.Items.{item_in}
 use Rattle.vac_records.specs.Heap.{Parts, over}
 use Rattle.vac_records.specs.Represents.{Represents, IsState, bookings_in, customers_in, opened}
@@ -71,14 +72,14 @@ rest_of [] = []
 rest_of (x ∷ xs) = xs
 
 -- what a customer has of an item, in the map and in the rows
-units_of_list : (m : ℕ → ℕ) (n p k i : ℕ) (b : Bookings) (rs : Rows) → k < 3 → i < 2 ^ 32 → Linked m n p 0 rs → entries b ≡ bookings_in m rs → units_of b (kind_of k, i) ≡ units_in m (k * 2 ^ 32 + i) rs
+units_of_list : (m : ℕ → ℕ) (n p k i : ℕ) (b : Bookings) (rs : Rows) → k < 3 → i < 2 ^ 32 → Linked m n p 0 rs → entries b ≡ bookings_in m rs → units_of b (kind_of_number k, i) ≡ units_in m (k * 2 ^ 32 + i) rs
 units_of_list m n p k i b rs a c h e =
-    ap (λ (z : Option Booking). option_map_or (λ (x : Booking). x.units) z 0) (get-entries b (kind_of k, i) ∙ ap (find place_cmp (kind_of k, i)) e)
+    ap (λ (z : Option Booking). option_map_or (λ (x : Booking). x.units) z 0) (get-entries b (kind_of_number k, i) ∙ ap (find place_cmp (kind_of_number k, i)) e)
     ∙ units_find m n p 0 k i rs a c h
 
 -- what all customers have of it
 held_rows : (m : ℕ → ℕ) (n : ℕ) (lists : ℕ → Rows) (k i : ℕ) → k < 3 → i < 2 ^ 32 → (cs : List (ℕ × Bookings)) (rows : Rows) → Each (λ r. IsList m n (m (r.1 + 4)) (lists r.1)) rows → opened cs ≡ customers_in m lists rows
-    → sum_by (λ bs. units_of bs (kind_of k, i)) (map (λ (c : ℕ × Bookings). c.1) cs) ≡ over (units_in m (k * 2 ^ 32 + i)) rows lists
+    → sum_by (λ bs. units_of bs (kind_of_number k, i)) (map (λ (c : ℕ × Bookings). c.1) cs) ≡ over (units_in m (k * 2 ^ 32 + i)) rows lists
 unfolding first_or rest_of
 held_rows m n lists k i a b [] [] h e = refl
 held_rows m n lists k i a b [] (r ∷ rs) h e = absurd (let z : ◌≡◌ {A = List (ℕ × List (Place × Booking))} [] ((r.0, bookings_in m (lists r.1)) ∷ customers_in m lists rs) = e in cc)
@@ -89,7 +90,7 @@ held_rows m n lists k i a b (c ∷ cs) (r ∷ rs) h e =
     let rest : opened cs ≡ customers_in m lists rs = ap (λ (es : List (ℕ × List (Place × Booking))). rest_of es) e in
     omega (
       arith,
-      sum_by-cons (λ (bs : Bookings). units_of bs (kind_of k, i)) c.1 (map (λ (x : ℕ × Bookings). x.1) cs),
+      sum_by-cons (λ (bs : Bookings). units_of bs (kind_of_number k, i)) c.1 (map (λ (x : ℕ × Bookings). x.1) cs),
       units_of_list m n (m (r.1 + 4)) k i c.1 (lists r.1) a b h.0.linked first,
       held_rows m n lists k i a b cs rs h.1 rest,
     )
@@ -118,10 +119,10 @@ module _ (m : ℕ → ℕ) (blocks : ℕ) (s : State) (h : IsState m (16 + 8 * b
   row_some i l k a r = table_some m words (m (1 + i)) (p.tables i) (table i l) k a r
 
   -- a row of a table of items is a balanced item
-  item_at : (i : ℕ) → i < 3 → (k a : ℕ) → HasRow k a (p.tables i) → IsItem s (kind_of i) k (item_in m a)
+  item_at : (i : ℕ) → i < 3 → (k a : ℕ) → HasRow k a (p.tables i) → IsItem s (kind_of_number i) k (item_in m a)
   item_at i l k a r =
-      let at : block_at (p.tables (kind_number (kind_of i))) k ≡ a = ap (λ (j : ℕ). block_at (p.tables j) k) (number_of i l) ∙ row_found i (omega arith) k a r in
-      h.small.balanced.items (kind_of i) k (item_in m a) (item_found m words [] s rep (kind_of i) k a (record { at = at; some = row_some i (omega arith) k a r }))
+      let at : block_at (p.tables (kind_number (kind_of_number i))) k ≡ a = ap (λ (j : ℕ). block_at (p.tables j) k) (number_of i l) ∙ row_found i (omega arith) k a r in
+      h.small.balanced.items (kind_of_number i) k (item_in m a) (item_found m words [] s rep (kind_of_number i) k a (record { at = at; some = row_some i (omega arith) k a r }))
 
   bookings_at : (k c : ℕ) → HasRow k c (p.tables 3) → HasBookings m (p.lists c) s k
   bookings_at k c r = customer_found m words [] s rep k c (row_found 3 (omega arith) k c r) (row_some 3 (omega arith) k c r)
@@ -139,10 +140,10 @@ module _ (m : ℕ → ℕ) (blocks : ℕ) (s : State) (h : IsState m (16 + 8 * b
   list_at k c r = rep.heap.lists c (row_times k c (p.tables 3) r)
 
   -- the item of a balanced booking
-  item_some : (a : ℕ) → m a < 3 → IsSome (item_of s (kind_of (m a)) (m (a + 1))) → block_at (p.tables (m a)) (m (a + 1)) ≢ 0
+  item_some : (a : ℕ) → m a < 3 → IsSome (item_of s (kind_of_number (m a)) (m (a + 1))) → block_at (p.tables (m a)) (m (a + 1)) ≢ 0
   item_some a l some e =
-      none_there (item_of s (kind_of (m a)) (m (a + 1))) some
-      (item_missing m words [] s rep (kind_of (m a)) (m (a + 1)) (ap (λ (j : ℕ). block_at (p.tables j) (m (a + 1))) (number_of (m a) l) ∙ e))
+      none_there (item_of s (kind_of_number (m a)) (m (a + 1))) some
+      (item_missing m words [] s rep (kind_of_number (m a)) (m (a + 1)) (ap (λ (j : ℕ). block_at (p.tables j) (m (a + 1))) (number_of (m a) l) ∙ e))
 
   booking_at : (k c : ℕ) → HasRow k c (p.tables 3) → (code b : ℕ) → HasRow code b (p.lists c) → IsBookingRow m p.tables (code, b)
   booking_at k c r code b j =
@@ -154,7 +155,7 @@ module _ (m : ℕ → ℕ) (blocks : ℕ) (s : State) (h : IsState m (16 + 8 * b
       let some : b ≢ 0 = λ e. absurd (omega (arith, e, listed.block.1.1)) in
       let found = booking_found m words [] s rep k c owner.bookings (place_in m b) b
       (record { at = row_found 3 (omega arith) k c r; some = row_some 3 (omega arith) k c r; there = owner.there }) (record { small = listed.id; at = at; some = some }) in
-      let good = h.small.balanced.bookings k owner.bookings (kind_of (m b)) (m (b + 1)) (booking_in m b) owner.there found in
+      let good = h.small.balanced.bookings k owner.bookings (kind_of_number (m b)) (m (b + 1)) (booking_in m b) owner.there found in
       let item = item_some b listed.kind good.item in
       let row = row_at (m (b + 1)) (block_at (p.tables (m b)) (m (b + 1))) (p.tables (m b)) refl item in
       record {
@@ -181,7 +182,7 @@ module _ (m : ℕ → ℕ) (blocks : ℕ) (s : State) (h : IsState m (16 + 8 * b
   all_lists : Each (λ r. IsList m words (m (r.1 + 4)) (p.lists r.1)) (p.tables 3)
   all_lists = each_rows _ (p.tables 3) list_at
 
-  held_at : (i k : ℕ) → i < 3 → k < 2 ^ 32 → units_held s (kind_of i, k) ≡ over (units_in m (i * 2 ^ 32 + k)) (p.tables 3) p.lists
+  held_at : (i k : ℕ) → i < 3 → k < 2 ^ 32 → units_held s (kind_of_number i, k) ≡ over (units_in m (i * 2 ^ 32 + k)) (p.tables 3) p.lists
   held_at i k l high = held_rows m words p.lists i k l high (entries s.customers) (p.tables 3) all_lists rep.customers
 
   pub sound : IsSound m words p

@@ -2,6 +2,7 @@
 use Rattle.std.specs.Prelude.{◌≡◌, ℕ, ◌+◌, ◌*◌, ◌<◌, ◌≤◌, ◌^◌, ◌≢◌, Bool, false, not, cond, List, [], ◌∷◌, length, nat_eq, slice_index, slice_index_or, Result, Ok, Err, MatchResult, MatchOption, Option, suc, sum_by, ⊤}
 use Rattle.tx_alloc.specs.Pool.{held, heap_words, block_place, IsBlock}
 use Rattle.tx_alloc.specs.declared.place.TheConstants.{MOST_BLOCKS}
+use Rattle.tx_list.specs.Bookings.{key_code}
 use Rattle.vac_model.specs.declared.limits.TheConstants.{MOST_AMOUNT, MOST_UNITS}
 use Rattle.vac_audit.specs.Noted.{InOrder, keys_in, blocks_in, booked_in, codes_in}
 use Rattle.vac_audit.specs.Walk.{then, wants, is_in_order, is_booking, walk_bookings, units_in, follow, walk_free, walk_lists, check_reached}
@@ -88,9 +89,9 @@ ReachedRan marks result = (seen : List ℕ) → Marks marks seen → MatchResult
 -- the keys of the items of these tables, as one number each
 pub record IsIndex (codes : List ℕ) (tables : ℕ → Rows) : Type 0 where
   pub there : (kind id : ℕ) → kind < 3 → id < 2 ^ 32 → block_at (tables kind) id ≢ 0 →
-      (i : ℕ) × ((i < length codes) × (slice_index codes i ≡ kind * 2 ^ 32 + id))
+      (i : ℕ) × ((i < length codes) × (slice_index codes i ≡ key_code kind id))
   pub back : (kind id i : ℕ) → kind < 3 → id < 2 ^ 32 → i < length codes →
-      slice_index codes i ≡ kind * 2 ^ 32 + id → block_at (tables kind) id ≢ 0
+      slice_index codes i ≡ key_code kind id → block_at (tables kind) id ≢ 0
 
 -- what the definition looks at in a booking
 abbrev pub look_at_booking : (ℕ → ℕ) → (ℕ → Rows) → ℕ → ℕ → Result (Unit {0}) Flaw

@@ -1,7 +1,8 @@
 //! Lists of bookings.
 
-ghost use Rattle.std.specs.Prelude.{◌≡◌, ◌+◌, ◌<◌, ◌≤◌, ◌≢◌, ℕ, IfOk, OnOk};
+ghost use Rattle.std.specs.Prelude.{◌≡◌, ◌+◌, ◌*◌, ◌<◌, ◌≤◌, ◌≢◌, ℕ, IfOk, OnOk};
 ghost use Rattle.std.specs.Prelude.{MatchOption, length, nat_le, slice_index};
+ghost use Rattle.tx_alloc.specs.declared.place.TheConstants.{BLOCK_WORDS};
 ghost use Rattle.tx_list.specs.Bookings.{IsKey, code_of, place_code};
 ghost use Rattle.vac_audit.specs.Marks.{IsMarked, BookingLooked, Counting, BookingsRan};
 ghost use Rattle.vac_audit.specs.Marks.{unmarked};
@@ -53,14 +54,14 @@ fn look_at_booking(
     booking: usize,
     last: Option<Key>,
 ) -> Result<usize, Flaw>
-    requires inside { booking + 8 ≤ length words.now }
+    requires inside { booking + BLOCK_WORDS ≤ length words.now }
     requires few { length words.now ≤ MOST_HEAP_WORDS }
     requires order { InOrder items.now }
     requires last { HasShortId last }
     ensures item { IfOk result (λ i. (i < length items.now)
         × (slice_index (codes_in items.now) i ≡ place_code (slice_index words.now) booking)) }
-    ensures units { OnOk result (slice_index words.now (booking + 4) ≤ MOST_UNITS) }
-    ensures sum { OnOk result (slice_index words.now (booking + 2) ≤ 10000000000) }
+    ensures units { OnOk result (slice_index words.now (booking + UNITS) ≤ MOST_UNITS) }
+    ensures sum { OnOk result (slice_index words.now (booking + SUM) ≤ MOST_UNITS * MOST_AMOUNT) }
     ensures looked { BookingLooked words.now (codes_in items.now) booking (after last) result }
 {
     let key = Key {

@@ -1,6 +1,7 @@
 //! Free lists, and blocks that were not reached.
 
-ghost use Rattle.std.specs.Prelude.{◌≡◌, ◌<◌, length};
+ghost use Rattle.std.specs.Prelude.{◌≡◌, ◌+◌, ◌<◌, length};
+ghost use Rattle.tx_alloc.specs.declared.place.TheConstants.{MOST_BLOCKS};
 ghost use Rattle.vac_audit.specs.Marks.{IsMarked, FreeListRan, ListsRan, ReachedRan};
 
 use crate::Flaw;
@@ -15,7 +16,7 @@ const FIRST_HEAD: usize = tx_alloc::place::FIRST_HEAD as usize;
 /// Walks one list of free blocks.
 fn walk_free(words: &[u64], reached: &mut Vec<bool>, head: usize) -> Result<(), Flaw>
     requires marked { IsMarked words.now reached.old.items }
-    requires inside { head < 16 }
+    requires inside { head < FIRST_BLOCK }
     ensures size { length reached.new.items ≡ length reached.old.items }
     ensures ran { FreeListRan words.now reached.old.items reached.new.items head result }
 {
@@ -43,7 +44,7 @@ pub fn walk_lists(words: &[u64], reached: &mut Vec<bool>) -> Result<(), Flaw>
 
 /// Looks for a block that was not reached.
 pub fn check_reached(reached: &Vec<bool>) -> Result<(), Flaw>
-    requires few { length reached.now.items < 262145 }
+    requires few { length reached.now.items < MOST_BLOCKS + 1 }
     ensures ran { ReachedRan reached.now.items result }
 {
     for (block, is_reached) in reached.iter().enumerate() {

@@ -1,6 +1,7 @@
 //! Tables: red-black trees by key.
 
 ghost use Rattle.std.specs.Prelude.{◌≡◌, ◌+◌, ◌<◌, ◌≤◌, [], ◌∷◌, ◌++◌, IfErr, IfOk, OnOk, length, slice_index};
+ghost use Rattle.tx_alloc.specs.declared.place.TheConstants.{FIRST_BLOCK, BLOCK_WORDS, MOST_BLOCKS};
 ghost use Rattle.vac_audit.specs.declared.tree.Fault.TheVariants.{Memory, Found};
 ghost use Rattle.vac_audit.specs.declared.tree.Turn.TheVariants.{Down};
 ghost use Rattle.vac_audit.specs.Marks.{IsMarked, unmarked};
@@ -14,7 +15,7 @@ use crate::notes::{NotedItem, Notes};
 use crate::pointers::follow;
 use std::alloc::{AllocError, AllocFailed, Global};
 use vac_model::Kind;
-use vac_model::limits::{MOST_AMOUNT, MOST_TOTAL};
+use vac_model::limits::{MOST_AMOUNT, MOST_ID, MOST_TOTAL};
 use vac_records::{key_of, place};
 
 const LEFT: usize = tx_tree::place::LEFT as usize;
@@ -35,7 +36,7 @@ const PRICE: usize = place::PRICE as usize;
 const BOOKINGS: usize = place::BOOKINGS as usize;
 
 /// The greatest id, which is the greatest key of a table.
-pub const LAST_ID: u64 = u32::MAX as u64;
+pub const LAST_ID: u64 = MOST_ID as u64;
 
 /// Why a walk ended.
 #[derive(Clone, Copy, Debug, PartialEq, Eq)]
@@ -105,7 +106,7 @@ pub enum Turn {
 
 /// Looks at the counts of an item.
 fn look_at_item(words: &[u64], node: usize) -> Result<(), Flaw>
-    requires inside { node + 8 ≤ length words.now }
+    requires inside { node + BLOCK_WORDS ≤ length words.now }
     requires few { length words.now ≤ MOST_HEAP_WORDS }
     ensures looked { ItemLooked words.now node result }
 {
@@ -132,8 +133,8 @@ fn look_at_node(
     node: usize,
 ) -> Result<(), Fault>
     requires marked { IsMarked words.now reached.old.items }
-    requires inside { node + 8 ≤ length words.now }
-    requires key { slice_index words.now node < 4294967296 }
+    requires inside { node + BLOCK_WORDS ≤ length words.now }
+    requires key { slice_index words.now node < LAST_ID + 1 }
     requires ready { Ready table notes.old (unmarked reached.old.items) }
     requires room { HasRoom table notes.old 1 }
     ensures size { length reached.new.items ≡ length reached.old.items }
@@ -162,9 +163,9 @@ fn look_at_node(
 
 /// The colour of a node between two trees.
 fn look_at_colour(words: &[u64], node: usize, left: Side, right: Side) -> Result<Side, Flaw>
-    requires inside { node + 8 ≤ length words.now }
+    requires inside { node + BLOCK_WORDS ≤ length words.now }
     requires few { length words.now ≤ MOST_HEAP_WORDS }
-    requires low { right.blacks < 262145 }
+    requires low { right.blacks < MOST_BLOCKS + 1 }
     ensures low { IfOk result (λ side. side.blacks ≤ right.blacks + 1) }
     ensures looked { ColourLooked words.now node left right result }
 {
@@ -218,9 +219,9 @@ fn follow_down(
 /// Looks at the key of a node, which is to be `above` or more. The answer is the least key that
 /// may follow it.
 fn look_at_key(words: &[u64], node: usize, above: u64) -> Result<u64, Flaw>
-    requires inside { node + 8 ≤ length words.now }
+    requires inside { node + BLOCK_WORDS ≤ length words.now }
     requires few { length words.now ≤ MOST_HEAP_WORDS }
-    ensures key { OnOk result (slice_index words.now node < 4294967296) }
+    ensures key { OnOk result (slice_index words.now node < LAST_ID + 1) }
     ensures looked { KeyLooked words.now node above result }
 {
     let key = words[node];
@@ -237,7 +238,7 @@ fn look_at_root(words: &[u64], root: usize, tree: Side) -> Result<(), Flaw>
     ensures looked { RootLooked words.now root tree result }
 {
     if tree.red {
-        let top = (words[root] % 4_294_967_296) as u32;
+        let top = (words[root] % (LAST_ID + 1)) as u32;
         return Err(Flaw::Colour(top.wrapping_add(tx_tree::place::COLOUR)));
     }
     Ok(())
@@ -253,7 +254,7 @@ pub fn walk_table(
     root: usize,
 ) -> Result<u64, Fault>
     requires marked { IsMarked words.now reached.old.items }
-    requires inside { root < 16 }
+    requires inside { root < FIRST_BLOCK }
     requires ready { Ready table notes.old (unmarked reached.old.items) }
     requires room { HasRoom table notes.old (unmarked reached.old.items) }
     ensures size { length reached.new.items ≡ length reached.old.items }

@@ -5,13 +5,12 @@ use Rattle.std.specs.FinMap.{get, insert}
 use Rattle.stm_words.specs.Seen.{same_or}
 use Rattle.stm_words.specs.View.{View, Sees, Stands}
 use Rattle.vac_model.specs.declared.items.Kind.{Kind}
-use Rattle.vac_model.specs.declared.items.Kind.TheVariants.{Car, Flight, Room}
 use Rattle.vac_model.specs.declared.items.Item.{Item}
 use Rattle.vac_model.specs.declared.items.Booking.{Booking}
 use Rattle.vac_model.specs.declared.commands.Command.TheVariants as command
 use Rattle.vac_model.specs.declared.commands.Why.TheVariants.{Full}
 use Rattle.vac_model.specs.declared.replies.Reply.TheVariants as reply
-use Rattle.vac_model.specs.State.{State, Bookings, Place, kind_number, item_of, with_item, with_bookings, size, is_full}
+use Rattle.vac_model.specs.State.{State, Bookings, Place, item_of, with_item, with_bookings, size, is_full}
 use Rattle.vac_model.specs.Step.{done, refused, step, taken, new_booking}
 use Rattle.vac_model.proofs.States.{item_of-with_bookings}
 use Rattle.tx_alloc.specs.Pointer.{pointer}
@@ -24,7 +23,8 @@ use Rattle.tx_list.specs.Search.{SpotAt}
 use Rattle.tx_list.proofs.Frame.{list_frame, list_block}
 use Rattle.tx_list.proofs.Spots.{Unmoved, spot_stays}
 use Rattle.vac_records.specs.Items.{mem, item_in, IsNode, IsItemNow, CanMakeOf, ItemChangedOf}
-use Rattle.vac_records.specs.Bookings.{kind_of, place_in, place_key, booking_in}
+use Rattle.vac_model.specs.Coded.{kind_of_number, kind_back}
+use Rattle.vac_records.specs.Bookings.{place_in, place_key, booking_in}
 use Rattle.vac_records.specs.Customers.{head_of, IsLoose, IsBooked, BookedAt}
 use Rattle.vac_records.specs.Heap.{used_in, count_in}
 use Rattle.vac_records.specs.Represents.{Represents, IsState}
@@ -45,11 +45,6 @@ use Rattle.vac_commands.proofs.Owners.{here_at, owned, at_owner, its_list, at_it
 use Rattle.vac_commands.proofs.InHand.{loose, outside, same_rows}
 use Rattle.vac_commands.proofs.Cancelling.{item_stays, item_words}
 use Rattle.vac_commands.proofs.Extending.{counts_fit}
-
-kind_back : (kind : Kind) → kind_of (kind_number kind) ≡ kind
-kind_back Car = refl
-kind_back Flight = refl
-kind_back Room = refl
 
 enough_free : (free num : ℕ) → num ≤ free → nat_lt free num ≡ false
 enough_free free num l = grind (arith, nat_tests)
@@ -136,7 +131,7 @@ module _ (m : ℕ → ℕ) (n : ℕ) (s : State) (h : IsState m n s) (customer o
 
       placed : place_in k.between b ≡ (kind, id)
       placed =
-          let kind_is : kind_of (k.between b) ≡ kind = ap kind_of k.made.kind_is ∙ kind_back kind in
+          let kind_is : kind_of_number (k.between b) ≡ kind = ap kind_of_number k.made.kind_is ∙ kind_back kind in
           let id_is : k.between (b + 1) ≡ id = k.made.id_is in
           λ i. (kind_is i, id_is i)
 

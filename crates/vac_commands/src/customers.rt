@@ -3,7 +3,7 @@
 ghost use Rattle.std.specs.Prelude.{◌≡◌, ◌+◌, ◌≤◌, IfOk, IfErr, IsTrue, MatchOption, Some};
 ghost use Rattle.vac_model.specs.Ranges.{is_command};
 ghost use Rattle.tx_list.specs.Lists.{HasBooking};
-ghost use Rattle.vac_records.specs.Bookings.{kind_of};
+ghost use Rattle.vac_model.specs.Coded.{kind_of_number};
 ghost use Rattle.vac_records.specs.Holds.{HoldsState};
 ghost use Rattle.vac_commands.specs.Entries.{CustomerIsAt, CustomerIsMissing};
 ghost use Rattle.vac_commands.specs.CustomerSteps.{RanOn, ItemsStayOn, HasSeat, HasNoBookings, StartsAt, PlaceRead, OneGivenBack, GivenBack};
@@ -203,7 +203,7 @@ fn place_at<M: TxRead>(memory: &mut M, booking: Block) -> Result<(Kind, u32), M:
 
 /// The kind of a number, as a booking's words have it.
 fn kind_from(number: u64) -> Kind
-    ensures { result ≡ kind_of number }
+    ensures { result ≡ kind_of_number number }
 {
     match number {
         0 => Kind::Car,

@@ -15,7 +15,8 @@ use Rattle.tx_alloc.specs.Rows.{Rows, times, put_row, cut_row, block_at, Relinks
 use Rattle.tx_alloc.proofs.Times.{times_put, times_cut}
 use Rattle.tx_alloc.proofs.Sums.{with_here, with_else}
 use Rattle.tx_list.specs.Bookings.{IsList}
-use Rattle.vac_records.specs.Bookings.{kind_of, place_in, booking_in, place_key}
+use Rattle.vac_model.specs.Coded.{kind_of_number}
+use Rattle.vac_records.specs.Bookings.{place_in, booking_in, place_key}
 use Rattle.vac_records.specs.Represents.{items_in, bookings_in, customers_in, opened, Represents}
 use Rattle.vac_records.specs.Laws.{Stays, BookingFound, BookingMissing, BookingInserted, BookingReplaced, BookingRemoved, IsCustomerAt}
 use Rattle.vac_records.proofs.Keyed.{HasRow, Matches, entries_remove, find_absent, find_present, put_absent, put_present, cut_present, row_at, row_times, two_rows}
@@ -31,7 +32,7 @@ use Rattle.vac_records.proofs.Frames.{Entry, items_frame, bookings_frame, bookin
 use Rattle.vac_records.proofs.Shifts.{in_table, in_list, table_not_out, tables_apart, list_not_table, table_once, out_first, shifts_customers}
 use Rattle.vac_records.proofs.Customers.{shelf, shelf_matches, entries_at}
 
-pub kind_back : (x : ℕ) → x < 3 → kind_number (kind_of x) ≡ x
+pub kind_back : (x : ℕ) → x < 3 → kind_number (kind_of_number x) ≡ x
 kind_back zero l = refl
 kind_back (suc zero) l = refl
 kind_back (suc (suc n)) l = omega arith
@@ -186,7 +187,7 @@ module _ (m : ℕ → ℕ) (n : ℕ) (out : List ℕ) (s : State) (h : Represent
       ∙ put_present place_cmp place key (slot m) (slot m') (booking_in m' b) 0 b ls (list_from m n (m (c + 4)) ls the_list) (matches place small) is some
       (let kind_is : m' b ≡ m b = w b (omega arith) (omega arith) in
       let id_is : m' (b + 1) ≡ m (b + 1) = w (b + 1) (omega arith) (omega arith) in
-      λ i. ((kind_of (kind_is i), id_is i), booking_in m' b))
+      λ i. ((kind_of_number (kind_is i), id_is i), booking_in m' b))
       (λ k a r ne.
       let na : a ≢ b = λ q. absurd (omega (arith, two_rows k key a ls r (subst (λ (z : ℕ). HasRow key z ls) (sym q) row) ne, list_once a)) in
       booking_same m m' a (λ j nj less. far a j (in_list m n p h.heap c a there (row_times k a ls r)) na less))))

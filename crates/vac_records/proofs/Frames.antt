@@ -12,7 +12,8 @@ use Rattle.vac_model.specs.declared.items.Booking.{Booking}
 use Rattle.vac_model.specs.State.{Bookings, Place}
 use Rattle.tx_alloc.specs.Rows.{Rows, times}
 use Rattle.vac_records.specs.Items.{item_in}
-use Rattle.vac_records.specs.Bookings.{kind_of, place_in, booking_in}
+use Rattle.vac_model.specs.Coded.{kind_of_number}
+use Rattle.vac_records.specs.Bookings.{place_in, booking_in}
 use Rattle.vac_records.specs.Heap.{over}
 use Rattle.vac_records.specs.Represents.{items_in, bookings_in, customers_in, opened}
 use Rattle.vac_records.proofs.Keyed.{map_same, row_times}
@@ -31,7 +32,7 @@ booking_same m m' a same =
     let kind_is : m' a ≡ m a = rw add-zero at (same 0 (omega arith) (omega arith)) in
     let id_is = same 1 (omega arith) (omega arith) in let sum_is = same 2 (omega arith) (omega arith) in
     let units_is = same 4 (omega arith) (omega arith) in
-    λ i. ((kind_of (kind_is i), id_is i), record { units = units_is i; sum = sum_is i })
+    λ i. ((kind_of_number (kind_is i), id_is i), record { units = units_is i; sum = sum_is i })
 
 pub items_frame : (m m' : ℕ → ℕ) (rs : Rows) → ((a k : ℕ) → 0 < times a rs → 4 ≤ k → k < 8 → m' (a + k) ≡ m (a + k)) → items_in m' rs ≡ items_in m rs
 items_frame m m' rs same =

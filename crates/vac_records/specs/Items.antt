@@ -2,43 +2,45 @@
 -- used, free, total, price.
 use Rattle.std.specs.Prelude.{◌≡◌, ◌≢◌, ◌⊎◌, ℕ, ◌+◌, ◌<◌, ◌≤◌, ◌^◌, List}
 use Rattle.stm_words.specs.View.{View, Sees, Stands, Kept, IsWrite}
+use Rattle.tx_alloc.specs.declared.place.TheConstants.{BLOCK_WORDS}
 use Rattle.vac_model.specs.declared.items.Item.{Item}
+use Rattle.vac_records.specs.declared.place.TheConstants.{USED, FREE, TOTAL, PRICE}
 pub use Rattle.tx_alloc.specs.Steps.{mem}
 
 -- the item in the block that starts at node
 abbrev pub item_in : (ℕ → ℕ) → ℕ → Item
 item_in m node = record {
-  used = m (node + 4);
-  free = m (node + 5);
-  total = m (node + 6);
-  price = m (node + 7);
+  used = m (node + USED);
+  free = m (node + FREE);
+  total = m (node + TOTAL);
+  price = m (node + PRICE);
 }
 
 -- the eight words from node on are words of the memory, and each address fits 32 bits
 pub record IsNode (s : View) (node : ℕ) : Type 0 where
-  pub inside : node + 8 ≤ s.size
+  pub inside : node + BLOCK_WORDS ≤ s.size
   pub small : s.size ≤ 2 ^ 32
 
 -- under each image of the memory's size so many units can be added to the item's counts and fit a
 -- word
 pub record HasRoom (s : View) (node num : ℕ) : Type 0 where
-  pub free : (image : List ℕ) → Stands s image → mem s image (node + 5) + num < 2 ^ 64
-  pub total : (image : List ℕ) → Stands s image → mem s image (node + 6) + num < 2 ^ 64
+  pub free : (image : List ℕ) → Stands s image → mem s image (node + FREE) + num < 2 ^ 64
+  pub total : (image : List ℕ) → Stands s image → mem s image (node + TOTAL) + num < 2 ^ 64
 
 -- the block became an item of which nothing is used; its links and all words outside are as before
 pub record IsNewItem (m m' : ℕ → ℕ) (node key num price : ℕ) : Type 0 where
   pub key_is : m' node ≡ key
-  pub used_is : m' (node + 4) ≡ 0
-  pub free_is : m' (node + 5) ≡ num
-  pub total_is : m' (node + 6) ≡ num
-  pub price_is : m' (node + 7) ≡ price
-  pub others : (x : ℕ) → x ≢ node → (x < node + 4) ⊎ (node + 8 ≤ x) → m' x ≡ m x
+  pub used_is : m' (node + USED) ≡ 0
+  pub free_is : m' (node + FREE) ≡ num
+  pub total_is : m' (node + TOTAL) ≡ num
+  pub price_is : m' (node + PRICE) ≡ price
+  pub others : (x : ℕ) → x ≢ node → (x < node + USED) ⊎ (node + BLOCK_WORDS ≤ x) → m' x ≡ m x
 
 -- so many free units were added to the item, and all other words are as before
 pub record HasMore (m m' : ℕ → ℕ) (node num : ℕ) : Type 0 where
-  pub free_is : m' (node + 5) ≡ m (node + 5) + num
-  pub total_is : m' (node + 6) ≡ m (node + 6) + num
-  pub others : (x : ℕ) → x ≢ node + 5 → x ≢ node + 6 → m' x ≡ m x
+  pub free_is : m' (node + FREE) ≡ m (node + FREE) + num
+  pub total_is : m' (node + TOTAL) ≡ m (node + TOTAL) + num
+  pub others : (x : ℕ) → x ≢ node + FREE → x ≢ node + TOTAL → m' x ≡ m x
 
 -- under each image the block became a new item
 pub record ItemMade (s s' : View) (node key num price : ℕ) : Type 0 where
@@ -73,29 +75,29 @@ pub record Shifted (s s' : View) (a : ℕ) (f : ℕ → ℕ) : Type 0 where
 
 -- under each image so many units are free
 pub record HasFree (s : View) (node num : ℕ) : Type 0 where
-  pub free : EnoughAt s (node + 5) num
-  pub total : EnoughAt s (node + 6) num
+  pub free : EnoughAt s (node + FREE) num
+  pub total : EnoughAt s (node + TOTAL) num
 
 -- under each image so many units are free, and fit the used ones
 pub record CanMake (s : View) (node num : ℕ) : Type 0 where
-  pub free : EnoughAt s (node + 5) num
-  pub used : RoomAt s (node + 4) num
+  pub free : EnoughAt s (node + FREE) num
+  pub used : RoomAt s (node + USED) num
 
 -- the same, where this is how many units are free
 pub record CanMakeOf (s : View) (node num free : ℕ) : Type 0 where
-  pub free_is : (image : List ℕ) → Stands s image → mem s image (node + 5) ≡ free
+  pub free_is : (image : List ℕ) → Stands s image → mem s image (node + FREE) ≡ free
   pub enough : num ≤ free
-  pub used : RoomAt s (node + 4) num
+  pub used : RoomAt s (node + USED) num
 
 -- under each image so many units are used, and fit the free ones
 pub record CanCancel (s : View) (node num : ℕ) : Type 0 where
-  pub used : EnoughAt s (node + 4) num
-  pub free : RoomAt s (node + 5) num
+  pub used : EnoughAt s (node + USED) num
+  pub free : RoomAt s (node + FREE) num
 
 -- the block's item is this one now, and all words but those of the item are as before
 pub record IsItemNow (m m' : ℕ → ℕ) (node : ℕ) (item : Item) : Type 0 where
   pub is : item_in m' node ≡ item
-  pub others : (x : ℕ) → (x < node + 4) ⊎ (node + 8 ≤ x) → m' x ≡ m x
+  pub others : (x : ℕ) → (x < node + USED) ⊎ (node + BLOCK_WORDS ≤ x) → m' x ≡ m x
 
 -- under each image the item became what f makes of it
 pub record ItemChanged (s s' : View) (node : ℕ) (f : Item → Item) : Type 0 where
@@ -106,5 +108,5 @@ pub record ItemChanged (s s' : View) (node : ℕ) (f : Item → Item) : Type 0 w
 -- the same where so many units were free
 pub record ItemChangedOf (s s' : View) (node free : ℕ) (f : Item → Item) : Type 0 where
   pub kept : Kept s s'
-  pub changed : (image : List ℕ) → Sees s' image → mem s image (node + 5) ≡ free →
+  pub changed : (image : List ℕ) → Sees s' image → mem s image (node + FREE) ≡ free →
       IsItemNow (mem s image) (mem s' image) node (f (item_in (mem s image) node))

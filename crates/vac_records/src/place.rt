@@ -2,7 +2,7 @@
 //! and these link the block into its table.
 
 /// The key, which is the item's id.
-pub const KEY: u32 = 0;
+pub const KEY: u32 = tx_tree::place::KEY;
 
 /// How many units are booked.
 pub const USED: u32 = 4;

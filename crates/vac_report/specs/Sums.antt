@@ -5,9 +5,11 @@ use Rattle.stm_words.specs.View.{View, Sees, Stands}
 use Rattle.tx_alloc.specs.declared.place.TheConstants.{MOST_BLOCKS}
 use Rattle.tx_alloc.specs.Rows.{Rows}
 use Rattle.tx_list.specs.Lists.{IsListAt}
+use Rattle.tx_list.specs.declared.place.TheConstants.{SUM, UNITS}
 use Rattle.vac_model.specs.declared.items.Kind.{Kind}
 use Rattle.vac_model.specs.State.{State, Table, Customers, table_of, units_booked, bill_of}
 use Rattle.vac_records.specs.Items.{mem}
+use Rattle.vac_records.specs.declared.place.TheConstants.{USED, FREE, TOTAL}
 use Rattle.vac_records.specs.Customers.{head_of}
 use Rattle.vac_records.specs.Represents.{IsState}
 use Rattle.vac_records.specs.Holds.{OnlyRead}
@@ -65,9 +67,9 @@ sums_of_customers customers = record {
 abbrev pub item_alone : (ℕ → ℕ) → ℕ → ItemSums
 item_alone m node = record {
   count = 1;
-  used = m (node + 4);
-  free = m (node + 5);
-  total = m (node + 6);
+  used = m (node + USED);
+  free = m (node + FREE);
+  total = m (node + TOTAL);
 }
 
 -- only reads were made, and under each image these are the numbers of the block's item
@@ -98,8 +100,8 @@ words_at m place (r ∷ rs) = m (r.1 + place) + words_at m place rs
 pub record HasSums (m : ℕ → ℕ) (n customer : ℕ) (rows : Rows) : Type 0 where
   pub list : IsListAt m n (head_of customer) rows
   pub few : length rows ≤ MOST_BLOCKS
-  pub units : words_at m 4 rows < 2 ^ 64
-  pub sums : words_at m 2 rows < 2 ^ 64
+  pub units : words_at m UNITS rows < 2 ^ 64
+  pub sums : words_at m SUM rows < 2 ^ 64
 
 -- the customer has such bookings, whichever they are
 pub record SomeSums (m : ℕ → ℕ) (n customer : ℕ) : Type 0 where
@@ -115,7 +117,11 @@ pub record CanCount (s : View) (customer : ℕ) : Type 0 where
 
 -- the customer with these bookings, alone
 abbrev pub customer_alone : (ℕ → ℕ) → Rows → CustomerSums
-customer_alone m rows = record { count = 1; units = words_at m 4 rows; billed = words_at m 2 rows }
+customer_alone m rows = record {
+  count = 1;
+  units = words_at m UNITS rows;
+  billed = words_at m SUM rows;
+}
 
 -- only reads were made, and these are the sums over the customer's bookings
 pub record CustomerCounted (s s' : View) (customer : ℕ) (sums : CustomerSums) : Type 0 where
