@@ -13,8 +13,8 @@ use Rattle.vac_model.specs.declared.tasks.Task.TheVariants as task
 use Rattle.vac_lines.specs.declared.fault.LineFault.{LineFault}
 use Rattle.vac_lines.specs.declared.fault.LineFault.TheVariants.{LongLine, BadByte, BadCommand, BadCount, BadKind, BadNumber}
 use Rattle.vac_lines.specs.declared.line.TheConstants.{LINE_BYTES}
-use Rattle.vac_model.specs.declared.limits.TheConstants.{MOST_AMOUNT, MOST_UNITS_AT_ONCE, MOST_PARTS}
-use Rattle.vac_lines.specs.declared.words.TheConstants.{MOST_DIGITS, MOST_ID}
+use Rattle.vac_model.specs.declared.limits.TheConstants.{MOST_AMOUNT, MOST_ID, MOST_UNITS_AT_ONCE, MOST_PARTS}
+use Rattle.vac_lines.specs.declared.words.TheConstants.{MOST_DIGITS}
 use Rattle.vac_lines.specs.declared.names.LineName.{LineName}
 use Rattle.vac_lines.specs.declared.names.LineName.TheVariants as name
 use Rattle.vac_lines.specs.Lines.{words_of}

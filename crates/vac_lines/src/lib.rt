@@ -8,6 +8,7 @@ mod booking_lines;
 mod cutting;
 mod fault;
 mod item_lines;
+mod limits;
 mod line;
 mod lists;
 mod names;
@@ -19,7 +20,8 @@ mod writing;
 
 pub use cutting::cut_at;
 pub use fault::LineFault;
-pub use line::{LINE_BYTES, read_line};
+pub use limits::{CHUNK_BYTES, MOST_READS};
+pub use line::{LINE_BYTES, has_bad_byte, read_line};
 pub use numbers::read_memory_word;
 pub use reply::{print_fault, print_reply, print_word, refusal_name};
 pub use task_text::{print_task, task_texts_are_read, task_texts_fit};

@@ -40,7 +40,7 @@ pub fn read_line(alloc: Global, line: &[u8]) -> Result<Task, LineFault>
 }
 
 /// Whether a byte of the line is below 32 or above 126.
-fn has_bad_byte(line: &[u8]) -> bool
+pub fn has_bad_byte(line: &[u8]) -> bool
     ensures { result ≡ list_any is_bad_byte line.now }
 {
     line.iter().any(|byte| *byte < 32 || *byte > 126)

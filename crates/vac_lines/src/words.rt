@@ -8,13 +8,10 @@ use crate::fault::LineFault;
 use crate::names::is_name;
 use crate::numbers::read_number;
 use vac_model::Kind;
-use vac_model::limits::{MOST_AMOUNT, MOST_UNITS_AT_ONCE};
+use vac_model::limits::{MOST_AMOUNT, MOST_ID, MOST_UNITS_AT_ONCE};
 
 /// The most digits that a number of a line has. Zeros in front count.
 const MOST_DIGITS: usize = 10;
-
-/// The greatest id.
-const MOST_ID: u32 = u32::MAX;
 
 /// The item that two words name.
 pub(crate) fn place_at(kind: &[u8], id: &[u8]) -> Result<(Kind, u32), LineFault>
