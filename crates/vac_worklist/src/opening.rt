@@ -17,7 +17,7 @@ use vac_draws::{PcgDraws, Settings, draw_stock};
 use vac_model::{Command, Kind, Task};
 
 /// The opening's commands stand under this client.
-const OPENING: u32 = 0;
+pub const OPENING: u32 = 0;
 
 /// Sends the command that adds an item of this kind.
 fn send_stock<W: Write>(

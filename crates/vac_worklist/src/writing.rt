@@ -8,10 +8,7 @@ ghost use Rattle.vac_worklist.specs.Sending.{Sent};
 
 use crate::fault::TasksFault;
 use std::io::Write;
-use vac_lines::{write_all, write_and_flush};
-
-/// Text is written when there are so many bytes of it.
-const CHUNK_BYTES: usize = 65_536;
+use vac_lines::{CHUNK_BYTES, write_all, write_and_flush};
 
 /// Writes what is at hand, where it is a chunk. A fault is that the output could not be written.
 pub fn send_chunk<W: Write>(output: &mut W, hand: &mut Vec<u8>) -> Result<(), TasksFault>
