@@ -10,13 +10,13 @@ use Rattle.vac_judge.specs.declared.verdict.Verdict.{Verdict}
 use Rattle.vac_judge.specs.Call.{Call}
 use Rattle.vac_judge.specs.Order.{breaks_client, breaks_time, wrong_of}
 use Rattle.vac_judge.specs.Verdict.{judged}
-use Rattle.vac_plain.specs.Holds.{Holds}
+use Rattle.vac_plain.specs.Holds.{IsStateOf}
 use Rattle.vac_judge.specs.Follows.{Keeps}
 use Rattle.std.specs.Prelude.{true, false}
 
 -- the judge has judged these calls, which leave the state s
 pub record Follows (judge : Judge) (s : State) (earlier : List Call) : Type 0 where
-  pub heap : Holds judge.heap s
+  pub heap : IsStateOf judge.heap s
   pub keeps : Keeps judge.ends judge.latest judge.calls earlier
 
 -- this is wrong with the times of a call

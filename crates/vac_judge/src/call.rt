@@ -1,16 +1,14 @@
 //! Reading a line of a history: the call that it stands for, or its first fault.
 
 ghost use Rattle.std.specs.Prelude.{◌≡◌, ◌≢◌, true, IfOk, IfErr, Ok, Err};
-ghost use Rattle.std.specs.List.{list_any};
 ghost use Rattle.vac_model.specs.Ranges.{is_task};
-ghost use Rattle.vac_lines.specs.LineTable.{is_bad_byte};
 ghost use Rattle.vac_judge.specs.Call.{line_call, parts_call, at_client, at_time};
 ghost use Rattle.vac_judge.specs.Parts.{shown_parts, shown_call};
 
 use crate::arrow::{CallParts, cut_parts};
 use crate::fault::CallFault;
 use std::alloc::Global;
-use vac_lines::{LineFault, read_line, read_memory_word};
+use vac_lines::{LineFault, has_bad_byte, read_line, read_memory_word};
 use vac_model::Task;
 
 /// The most bytes that a line of a history has before its end.
@@ -55,13 +53,6 @@ fn time_at(word: &[u8]) -> Result<u64, CallFault>
     ensures { result ≡ at_time word.now }
 {
     read_memory_word(word).ok_or(CallFault::Line(LineFault::BadNumber))
-}
-
-/// Whether a byte of the line is below 32 or above 126.
-fn has_bad_byte(line: &[u8]) -> bool
-    ensures { result ≡ list_any is_bad_byte line.now }
-{
-    line.iter().any(|byte| *byte < 32 || *byte > 126)
 }
 
 /// The call of these parts, or its first fault.

@@ -15,14 +15,8 @@ use crate::judge::Judge;
 use crate::verdict::{Verdict, print_verdict};
 use std::alloc::{AllocError, Global};
 use std::io::{ErrorKind, Read, Write};
-use vac_lines::{cut_at, write_all};
+use vac_lines::{CHUNK_BYTES, MOST_READS, cut_at, write_all};
 use vac_model::limits::MOST_BLOCKS;
-
-/// The most reads of a history, but for one: the read after these is the last.
-const MOST_READS: u64 = 4_294_967_296;
-
-/// The bytes that are asked for by one read.
-const CHUNK_BYTES: usize = 65_536;
 
 /// How much is kept of a line that has not ended: enough to see that it is too long.
 const KEPT_BYTES: usize = CALL_BYTES + 1;

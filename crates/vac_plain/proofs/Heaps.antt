@@ -18,7 +18,7 @@ use Rattle.vac_records.proofs.Fresh.{fresh_state}
 use Rattle.vac_commands.specs.Ran.{IsOutcome}
 use Rattle.vac_tasks.specs.RanTask.{RanTask}
 use Rattle.vac_report.specs.Reported.{Reported}
-use Rattle.vac_plain.specs.Holds.{Holds}
+use Rattle.vac_plain.specs.Holds.{IsStateOf}
 use Rattle.vac_records.specs.Holds.{HoldsState}
 use Rattle.vac_records.specs.Steps.{stood}
 
@@ -33,34 +33,34 @@ flat_mem : (xs image : List ℕ) → length image ≡ length xs → mem (flat_vi
 flat_mem xs image e = λ i a. flat_at xs image a e i
 
 -- the words under an image of their size
-under : (xs image : List ℕ) (s : State) → length image ≡ length xs → Holds xs s → IsState (mem (flat_view xs) image) (length image) s
+under : (xs image : List ℕ) (s : State) → length image ≡ length xs → IsStateOf xs s → IsState (mem (flat_view xs) image) (length image) s
 under xs image s e h = subst (λ m. IsState m (length image) s) (sym (flat_mem xs image e)) (subst (λ n. IsState (slice_index xs) n s) (sym e) h)
 
-over : (xs image : List ℕ) (s : State) → length image ≡ length xs → IsState (mem (flat_view xs) image) (length image) s → Holds xs s
+over : (xs image : List ℕ) (s : State) → length image ≡ length xs → IsState (mem (flat_view xs) image) (length image) s → IsStateOf xs s
 over xs image s e h = subst (λ n. IsState (slice_index xs) n s) e (subst (λ m. IsState m (length image) s) (flat_mem xs image e) h)
 
 pub holds_empty : (words heap : List ℕ) (blocks : ℕ) → blocks ≤ 262144 → IsEmptyHeap words blocks
-    → IsPool (λ (a : ℕ). slice_index words a) (length words) (fresh_lists blocks) (λ (x : ℕ). 0) 0 → heap ≡ words → Holds heap (empty_state blocks)
-holds_empty words heap blocks few empty pool e = subst (λ w. Holds w (empty_state blocks)) (sym e) (record {
+    → IsPool (λ (a : ℕ). slice_index words a) (length words) (fresh_lists blocks) (λ (x : ℕ). 0) 0 → heap ≡ words → IsStateOf heap (empty_state blocks)
+holds_empty words heap blocks few empty pool e = subst (λ w. IsStateOf w (empty_state blocks)) (sym e) (record {
   represents = fresh_state words blocks empty pool;
   small = empty-small blocks few;
 })
 
 -- what a task did
-outcome : (xs ys : List ℕ) (t : Task) (r : Reply) (s : State) (ran : RanTask (flat_view xs) (flat_view ys) t r) → Holds xs s
+outcome : (xs ys : List ℕ) (t : Task) (r : Reply) (s : State) (ran : RanTask (flat_view xs) (flat_view ys) t r) → IsStateOf xs s
     → IsOutcome (mem (flat_view ys) (flat_seen ys).0) (length (flat_seen ys).0) (run s t) r
 outcome xs ys t r s ran h =
     let image = (flat_seen ys).0 in
     let stands = (flat_seen ys).1 in
     ran.outcome image s stands.sees (under xs image s (stands.size ∙ ran.kept.size) h)
 
-pub holds_run : (xs ys : List ℕ) (t : Task) (r : Reply) → RanTask (flat_view xs) (flat_view ys) t r → (s : State) → Holds xs s → Holds ys (run s t).0
+pub holds_run : (xs ys : List ℕ) (t : Task) (r : Reply) → RanTask (flat_view xs) (flat_view ys) t r → (s : State) → IsStateOf xs s → IsStateOf ys (run s t).0
 holds_run xs ys t r ran s h = over ys (flat_seen ys).0 (run s t).0 (flat_seen ys).1.size (outcome xs ys t r s ran h).state
 
-pub reply_run : (xs ys : List ℕ) (t : Task) (r : Reply) → RanTask (flat_view xs) (flat_view ys) t r → (s : State) → Holds xs s → (run s t).1 ≡ r
+pub reply_run : (xs ys : List ℕ) (t : Task) (r : Reply) → RanTask (flat_view xs) (flat_view ys) t r → (s : State) → IsStateOf xs s → (run s t).1 ≡ r
 reply_run xs ys t r ran s h = (outcome xs ys t r s ran h).reply_is
 
-pub report_is : (xs ys : List ℕ) (r : Report) → Reported (flat_view xs) (flat_view ys) r → (s : State) → Holds xs s → report s ≡ r
+pub report_is : (xs ys : List ℕ) (r : Report) → Reported (flat_view xs) (flat_view ys) r → (s : State) → IsStateOf xs s → report s ≡ r
 report_is xs ys r said s h =
     let image = (flat_seen ys).0 in
     let stands = (flat_seen ys).1 in

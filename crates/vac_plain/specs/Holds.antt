@@ -4,5 +4,5 @@ use Rattle.vac_model.specs.State.{State}
 use Rattle.vac_records.specs.Represents.{IsState}
 
 -- the words represent this balanced state
-abbrev pub Holds : List ℕ → State → Type 0
-Holds words s = IsState (slice_index words) (length words) s
+abbrev pub IsStateOf : List ℕ → State → Type 0
+IsStateOf words s = IsState (slice_index words) (length words) s

@@ -7,7 +7,7 @@ ghost use Rattle.vac_model.specs.Ranges.{is_task};
 ghost use Rattle.vac_model.specs.Run.{run as runs};
 ghost use Rattle.vac_records.specs.Holds.{HoldsState};
 ghost use Rattle.vac_tasks.specs.Reading as reading;
-ghost use Rattle.vac_plain.specs.Holds.{Holds};
+ghost use Rattle.vac_plain.specs.Holds.{IsStateOf};
 
 use std::alloc::{AllocError, Global};
 use std::marker::Model;
@@ -41,7 +41,7 @@ impl Heap {
     pub fn new(alloc: Global, blocks: u32) -> Result<Heap, AllocError>
         requires some { 1 ≤ blocks }
         requires most { blocks ≤ MOST_BLOCKS }
-        ensures { IfOk result (λ heap. Holds heap (empty_state blocks)) }
+        ensures { IfOk result (λ heap. IsStateOf heap (empty_state blocks)) }
     {
         let words = fresh_words(alloc, blocks as usize)?;
         let memory = Flat::new(words);
@@ -60,8 +60,9 @@ impl Heap {
     /// Runs a task, and answers its reply. New entries take their blocks from free list `start` on.
     pub fn run(&mut self, task: &Task, start: FreeList) -> Reply
         requires { is_task task.now ≡ true }
-        ensures state { (s : State) → Holds self.old s → Holds self.new (runs s task.now).0 }
-        ensures reply { (s : State) → Holds self.old s → (runs s task.now).1 ≡ result }
+        ensures state { (s : State) → IsStateOf self.old s
+            → IsStateOf self.new (runs s task.now).0 }
+        ensures reply { (s : State) → IsStateOf self.old s → (runs s task.now).1 ≡ result }
     {
         let Ok(reply) = run_task(&mut self.memory, task, start);
         reply
@@ -70,8 +71,9 @@ impl Heap {
     /// The reply to a task that only reads.
     pub fn read(&mut self, task: &Task) -> Reply
         requires { IsTrue (reading.only_reads task.now) }
-        ensures state { (s : State) → Holds self.old s → Holds self.new (runs s task.now).0 }
-        ensures reply { (s : State) → Holds self.old s → (runs s task.now).1 ≡ result }
+        ensures state { (s : State) → IsStateOf self.old s
+            → IsStateOf self.new (runs s task.now).0 }
+        ensures reply { (s : State) → IsStateOf self.old s → (runs s task.now).1 ≡ result }
     {
         let Ok(reply) = read_task(&mut self.memory, task);
         reply
@@ -79,7 +81,7 @@ impl Heap {
 
     /// The report of the state.
     pub fn report(&mut self) -> Report
-        ensures { (s : State) → Holds self.old s → report_of s ≡ result }
+        ensures { (s : State) → IsStateOf self.old s → report_of s ≡ result }
     {
         let Ok(found) = report(&mut self.memory);
         found

@@ -1,6 +1,6 @@
 use Rattle.std.proofs.Common.{subst, sym}
 use Rattle.vac_plain.proofs.Heaps.{held_task}
-use Rattle.vac_plain.specs.Holds.{Holds}
+use Rattle.vac_plain.specs.Holds.{IsStateOf}
 use Rattle.vac_plain.proofs.Heaps.{holds_run, reply_run}
 use Rattle.vac_plain.proofs.heap.Heap.run.Goals as goal
 
@@ -8,7 +8,7 @@ pub invariant_of-self : goal.invariant_of-self
 invariant_of-self c = held_task _ _ _ _ c.in-Ok.ensures.answer c.self.invariant
 
 pub returns-clause-state : goal.returns-clause-state
-returns-clause-state c = λ s h. holds_run _ _ _ _ c.in-Ok.ensures.answer s (subst (λ w. Holds w s) (sym c.self.view_is) h)
+returns-clause-state c = λ s h. holds_run _ _ _ _ c.in-Ok.ensures.answer s (subst (λ w. IsStateOf w s) (sym c.self.view_is) h)
 
 pub returns-clause-reply : goal.returns-clause-reply
-returns-clause-reply c = λ s h. reply_run _ _ _ _ c.in-Ok.ensures.answer s (subst (λ w. Holds w s) (sym c.self.view_is) h)
+returns-clause-reply c = λ s h. reply_run _ _ _ _ c.in-Ok.ensures.answer s (subst (λ w. IsStateOf w s) (sym c.self.view_is) h)
