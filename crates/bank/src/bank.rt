@@ -68,7 +68,7 @@ impl Bank {
             r.1 ≡ record { table = r.0.table; value = opener }) }
         ensures refused { IfErr result (λ fault. OpensNot ACCOUNTS last ACCOUNTS fault) }
     {
-        let image = [u64::from(each); 64];
+        let image = [u64::from(each); ACCOUNTS as usize];
         let (region, client) = Region::new(alloc, &image, last, ACCOUNTS)?;
         let teller = Teller {
             client,
