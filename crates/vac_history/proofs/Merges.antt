@@ -8,7 +8,7 @@ use Rattle.std.proofs.lemmas.List.Elements.{All-nil, All-cons, All-head, All-tai
 use Rattle.std.proofs.lemmas.Bool.{cases_lt, cases_eq}
 use Rattle.vac_manager.specs.declared.note.Note.{Note}
 use Rattle.vac_history.specs.Order.{Entry, entries_of, entries_from, list_at, Takes, Interleaves, precedes, AreOrdered, EachOrdered, IsMerged}
-use Rattle.vac_history.specs.Picking.{Picks, PicksAll, IsSpent, Merges}
+use Rattle.vac_history.specs.Picking.{Picks, PicksAll, IsEmpty, Merges}
 use Rattle.vac_history.proofs.Ordering.{precedes_chain, precedes_turns, precedes_self}
 
 -- how many calls are left
@@ -42,9 +42,9 @@ picks_one lists all e mid left p q = picks_both lists all (e ∷ []) mid left p 
 abbrev Found : List (List Entry) → Type 0
 Found lists = (e : Entry) × (others : List (List Entry)) × Picks e lists others
 
-spent_cons : (lists : List (List Entry)) → IsSpent lists → IsSpent ([] ∷ lists)
-spent_cons lists spent zero = refl
-spent_cons lists spent (suc k) = spent k
+empty_cons : (lists : List (List Entry)) → IsEmpty lists → IsEmpty ([] ∷ lists)
+empty_cons lists empty zero = refl
+empty_cons lists empty (suc k) = empty k
 
 same_first : (x y : Entry) (xs ys : List Entry) → x ∷ xs ≡ y ∷ ys → x ≡ y
 same_first x y xs ys e = cc
@@ -71,8 +71,8 @@ picked_later first lists others e less p = record {
     go (suc k) y more h = p.least k y more h
 
 module _ (x : Entry) (xs : List Entry) (lists : List (List Entry)) where
-  nothing_later : IsSpent lists → Found ((x ∷ xs) ∷ lists)
-  nothing_later spent = (x, xs ∷ lists, picked_first x xs lists (λ k y more e. absurd (let h : y ∷ more ≡ [] = sym e ∙ spent k in cc)))
+  nothing_later : IsEmpty lists → Found ((x ∷ xs) ∷ lists)
+  nothing_later empty = (x, xs ∷ lists, picked_first x xs lists (λ k y more e. absurd (let h : y ∷ more ≡ [] = sym e ∙ empty k in cc)))
 
   first_or_later : (e : Entry) (others : List (List Entry)) → Picks e lists others → (b : Bool) → precedes e.note x.note ≡ b → Found ((x ∷ xs) ∷ lists)
   first_or_later e others p true turn = (
@@ -84,14 +84,14 @@ module _ (x : Entry) (xs : List Entry) (lists : List (List Entry)) where
   first_or_later e others p false turn =
       (x, xs ∷ lists, picked_first x xs lists (λ k y more h. precedes_chain y.note e.note x.note (p.least k y more h) turn))
 
-found_or_spent : (lists : List (List Entry)) → IsSpent lists ⊎ Found lists
-found_or_spent [] = inl (λ k. refl)
-found_or_spent ([] ∷ lists) = elim (found_or_spent lists) [
-  | inl spent ↦ inl (spent_cons lists spent)
+found_or_empty : (lists : List (List Entry)) → IsEmpty lists ⊎ Found lists
+found_or_empty [] = inl (λ k. refl)
+found_or_empty ([] ∷ lists) = elim (found_or_empty lists) [
+  | inl empty ↦ inl (empty_cons lists empty)
   | inr p ↦ inr (p.0, [] ∷ p.1, picked_later [] lists p.1 p.0 (λ y more h. absurd (let k : [] ≡ y ∷ more = h in cc)) p.2)
 ]
-found_or_spent ((x ∷ xs) ∷ lists) = elim (found_or_spent lists) [
-  | inl spent ↦ inr (nothing_later x xs lists spent)
+found_or_empty ((x ∷ xs) ∷ lists) = elim (found_or_empty lists) [
+  | inl empty ↦ inr (nothing_later x xs lists empty)
   | inr p ↦ inr (first_or_later x xs lists p.0 p.1 p.2 (precedes p.0.note x.note) refl)
 ]
 
@@ -99,19 +99,19 @@ found_or_spent ((x ∷ xs) ∷ lists) = elim (found_or_spent lists) [
 abbrev pub IsMergeable : List (List Entry) → Type 0
 IsMergeable lists = (all : List Entry) × Merges lists all
 
-merges_none : (lists : List (List Entry)) → IsSpent lists → IsMergeable lists
-merges_none lists spent = ([], record { left = lists; picked = refl; spent = spent })
+merges_none : (lists : List (List Entry)) → IsEmpty lists → IsMergeable lists
+merges_none lists empty = ([], record { left = lists; picked = refl; empty = empty })
 
 merges_one : (lists others : List (List Entry)) (e : Entry) → Picks e lists others → IsMergeable others → IsMergeable lists
-merges_one lists others e p m = (e ∷ m.0, record { left = m.1.left; picked = (others, p, m.1.picked); spent = m.1.spent })
+merges_one lists others e p m = (e ∷ m.0, record { left = m.1.left; picked = (others, p, m.1.picked); empty = m.1.empty })
 
 merging_within : (n : ℕ) (lists : List (List Entry)) → count lists ≤ n → IsMergeable lists
-merging_within zero lists few = elim (found_or_spent lists) [
-  | inl spent ↦ merges_none lists spent
+merging_within zero lists few = elim (found_or_empty lists) [
+  | inl empty ↦ merges_none lists empty
   | inr p ↦ absurd (let less = one_fewer p.0 lists p.1 p.2 in omega (arith, less, few))
 ]
-merging_within (suc n) lists few = elim (found_or_spent lists) [
-  | inl spent ↦ merges_none lists spent
+merging_within (suc n) lists few = elim (found_or_empty lists) [
+  | inl empty ↦ merges_none lists empty
   | inr p ↦ let less = one_fewer p.0 lists p.1 p.2 in merges_one lists p.1 p.0 p.2 (merging_within n p.1 (omega (arith, less, few)))
 ]
 
@@ -120,9 +120,9 @@ merging lists = merging_within (count lists) lists (omega arith)
 
 -- ---- what was picked is an interleaving, in order where the lists are
 
-pub interleaves : (lists left : List (List Entry)) (all : List Entry) → PicksAll lists all left → IsSpent left → Interleaves lists all
-interleaves lists left [] p spent = subst IsSpent (sym p) spent
-interleaves lists left (e ∷ all) p spent = (p.0, p.1.takes, interleaves p.0 left all p.2 spent)
+pub interleaves : (lists left : List (List Entry)) (all : List Entry) → PicksAll lists all left → IsEmpty left → Interleaves lists all
+interleaves lists left [] p empty = subst IsEmpty (sym p) empty
+interleaves lists left (e ∷ all) p empty = (p.0, p.1.takes, interleaves p.0 left all p.2 empty)
 
 -- no call that stands later precedes an earlier one
 abbrev InOrder : Entry → Entry → Type 0
@@ -203,6 +203,6 @@ entries_each first (notes ∷ kept) each (suc k) = entries_each (suc first) kept
 
 pub is_merged : (kept : List (List Note)) (all : List Entry) → Merges (entries_from 0 kept) all → IsMerged kept all
 is_merged kept all m = record {
-  each_once = interleaves (entries_from 0 kept) m.left all m.picked m.spent;
+  each_once = interleaves (entries_from 0 kept) m.left all m.picked m.empty;
   ordered = λ each. notes_in_order all (picked_in_order (entries_from 0 kept) m.left all m.picked (entries_each 0 kept each));
 }

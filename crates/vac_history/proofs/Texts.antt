@@ -11,7 +11,7 @@ use Rattle.vac_worklist.specs.Sending.{Sent}
 use Rattle.vac_worklist.proofs.Texts.{sent_both, part_second, prefix_longer, prefix_is, none_written, sent_end, sent_end_in_part}
 use Rattle.vac_manager.specs.declared.note.Note.{Note}
 use Rattle.vac_history.specs.Order.{Entry, entries_from}
-use Rattle.vac_history.specs.Picking.{Picks, IsSpent, Merges}
+use Rattle.vac_history.specs.Picking.{Picks, IsEmpty, Merges}
 use Rattle.vac_history.specs.History.{call_of, entries_text, WroteHistory, WroteHistoryPrefix}
 use Rattle.vac_history.specs.Sending.{SentPicked, SentMerged, MergedPrefix}
 use Rattle.vac_history.proofs.Merges.{picks_both, picks_one, merging, is_merged}
@@ -55,7 +55,7 @@ one_in_part lists mid left e held holds grown hand p q w =
       merges = record {
         left = more.1.left;
         picked = picks_both lists before more.0 left more.1.left (picks_one lists p.all e mid left p.picked q) more.1.picked;
-        spent = more.1.spent;
+        empty = more.1.empty;
       };
       written = prefix_is held grown ((entries_text p.all ++ line_of e) ++ entries_text more.0) (entries_text (before ++ more.0))
           (sym (text_both before more.0 ∙ ap (λ t. t ++ entries_text more.0) (text_more p.all e)))
@@ -63,10 +63,10 @@ one_in_part lists mid left e held holds grown hand p q w =
     }
 
 -- nothing is left
-pub sent_all : (lists left : List (List Entry)) (held holds : Option (List ℕ)) (hand : List ℕ) → SentPicked lists left held holds hand → IsSpent left → SentMerged lists held holds hand
-sent_all lists left held holds hand p spent = record {
+pub sent_all : (lists left : List (List Entry)) (held holds : Option (List ℕ)) (hand : List ℕ) → SentPicked lists left held holds hand → IsEmpty left → SentMerged lists held holds hand
+sent_all lists left held holds hand p empty = record {
   all = p.all;
-  merges = record { left = left; picked = p.picked; spent = spent };
+  merges = record { left = left; picked = p.picked; empty = empty };
   sent = p.sent;
 }
 

@@ -16,11 +16,11 @@ PicksAll lists (e ∷ all) left =
     (others : List (List Entry)) × Picks e lists others × PicksAll others all left
 
 -- nothing is left
-abbrev pub IsSpent : List (List Entry) → Type 0
-IsSpent lists = (place : ℕ) → list_at lists place ≡ []
+abbrev pub IsEmpty : List (List Entry) → Type 0
+IsEmpty lists = (place : ℕ) → list_at lists place ≡ []
 
 -- these were picked, one after the other, until nothing was left
 pub record Merges (lists : List (List Entry)) (all : List Entry) : Type 0 where
   pub left : List (List Entry)
   pub picked : PicksAll lists all left
-  pub spent : IsSpent left
+  pub empty : IsEmpty left

@@ -20,10 +20,7 @@ use std::time::Clock;
 use vac_lines::{print_reply, print_task};
 use vac_manager::Note;
 use vac_model::Reply;
-use vac_worklist::{send_chunk, send_rest};
-
-/// The number of the client that runs the opening.
-const OPENING: u32 = 0;
+use vac_worklist::{OPENING, send_chunk, send_rest};
 
 /// Appends a number and a space.
 fn append_number(hand: &mut Vec<u8>, number: u64) -> Result<(), AllocError>
