@@ -5,17 +5,13 @@ use Rattle.stm_core.specs.Event.{opener}
 use Rattle.stm_region.specs.Shown.{RegionShown}
 use Rattle.stm_region.specs.Closed.{Ends}
 use Rattle.tx_alloc.specs.Pool.{heap_words}
-use Rattle.vac_model.specs.declared.limits.TheConstants.{MOST_BLOCKS}
+use Rattle.vac_model.specs.Ranges.{is_block_count}
 use Rattle.vac_model.specs.State.{State, empty_state}
 use Rattle.stm_core.specs.declared.limits.TheConstants.{MOST_STRIPES}
 use Rattle.stm_words.specs.declared.version.TheConstants.{VERSION_LIMIT}
 use Rattle.vac_manager.specs.Law.{Shows, IsLawful}
 use Rattle.vac_manager.specs.Legal.{IsLegal, AreVersioned, capacity_of}
 use Rattle.vac_manager.specs.Called.{CallerShown}
-
--- a heap has 1 to 262,144 blocks
-abbrev pub is_block_count : ℕ → Bool
-is_block_count n = nat_le 1 n && nat_le n MOST_BLOCKS
 
 -- the clock may end at this version
 abbrev pub is_last : ℕ → Bool

@@ -2,19 +2,19 @@
 
 ghost use Rattle.std.specs.Prelude.{◌≡◌, ◌≢◌, true, OnOk, OnErr, IfErr};
 ghost use Rattle.std.specs.Io.KnownBytes.{Appends};
-ghost use Rattle.vac_manager.specs.Opening.{is_block_count};
+ghost use Rattle.vac_model.specs.Ranges.{is_block_count};
 ghost use Rattle.vac_lines.specs.Memory.{dump_text};
 ghost use Rattle.vac_script.specs.declared.fault.RunFault.TheVariants.{Busy, Spent};
 ghost use Rattle.vac_lines.specs.Writing.{AppendsPrefix};
 ghost use Rattle.vac_script.specs.Dump.{Dumped, DumpStopped};
 
 use crate::fault::RunFault;
-use crate::script::{CHUNK_BYTES, run_input};
+use crate::script::run_input;
 use crate::system::{System, close, open};
 use std::alloc::Global;
 use std::io;
 use std::io::{Read, Write};
-use vac_lines::{print_word, write_all};
+use vac_lines::{CHUNK_BYTES, print_word, write_all};
 
 /// Runs a script for a system of so many blocks, 1 to 262,144, and dumps its memory: reads the
 /// lines to the end of the input, writes no reply, closes the system and writes its words in

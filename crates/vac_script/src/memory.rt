@@ -9,11 +9,11 @@ ghost use Rattle.vac_script.specs.Reading.{TookLine, RefusedLine, Took, TookNone
 ghost use Rattle.vac_script.specs.Reading.{TookLast, TookNoLast, ReadWords, ReadNone};
 
 use crate::fault::RunFault;
-use crate::script::{CHUNK_BYTES, MOST_READS, keep_start};
+use crate::script::keep_start;
 use std::alloc::{AllocError, Global};
 use std::io::{ErrorKind, Read};
 use vac_audit::MOST_HEAP_WORDS;
-use vac_lines::{LINE_BYTES, cut_at, read_memory_word};
+use vac_lines::{CHUNK_BYTES, LINE_BYTES, MOST_READS, cut_at, read_memory_word};
 
 /// A text that is read as the words of a memory.
 #[derive(Drop)]

@@ -4,9 +4,8 @@ ghost use Rattle.std.specs.Prelude.{◌≡◌, ◌≢◌, ◌≤◌, ◌+◌, []
 ghost use Rattle.std.specs.Prelude.{OnOk, OnErr, IfOk, IfErr};
 ghost use Rattle.std.specs.Io.KnownBytes.{Appends};
 ghost use Rattle.vac_model.specs.State.{State};
-ghost use Rattle.vac_model.specs.Ranges.{is_task};
+ghost use Rattle.vac_model.specs.Ranges.{is_block_count, is_task};
 ghost use Rattle.vac_manager.specs.Legal.{capacity_of};
-ghost use Rattle.vac_manager.specs.Opening.{is_block_count};
 ghost use Rattle.vac_lines.specs.Text.{Extends};
 ghost use Rattle.vac_lines.specs.LineTable.{line_task};
 ghost use Rattle.vac_script.specs.declared.fault.RunFault.TheVariants.{Busy, Memory, Spent, Write};
@@ -21,15 +20,12 @@ use crate::fault::RunFault;
 use crate::system::{System, open};
 use std::alloc::{AllocError, Global};
 use std::io::{ErrorKind, Read, Write};
-use vac_lines::{LINE_BYTES, LineFault, cut_at, print_fault, print_reply, read_line, write_all};
+use vac_lines::{
+    CHUNK_BYTES, LINE_BYTES, LineFault, MOST_READS, cut_at, print_fault, print_reply, read_line,
+    write_all,
+};
 use vac_manager::Client;
 use vac_model::Task;
-
-/// The most reads of a script, but for one: the read after these is the last.
-pub(crate) const MOST_READS: u64 = 4_294_967_296;
-
-/// The bytes that are asked for by one read, and about as many are written at once.
-pub(crate) const CHUNK_BYTES: usize = 65_536;
 
 /// How much is kept of a line that has not ended: enough to see that it is too long.
 const KEPT_BYTES: usize = LINE_BYTES + 1;

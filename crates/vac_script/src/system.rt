@@ -3,10 +3,9 @@
 ghost use Rattle.std.specs.Prelude.{◌≡◌, true, IfOk, IfErr};
 ghost use Rattle.vac_model.specs.State.{State};
 ghost use Rattle.vac_model.specs.Run.{run};
-ghost use Rattle.vac_model.specs.Ranges.{is_task};
+ghost use Rattle.vac_model.specs.Ranges.{is_block_count, is_task};
 ghost use Rattle.vac_manager.specs.Law.{Shows};
 ghost use Rattle.vac_manager.specs.Legal.{IsHistory};
-ghost use Rattle.vac_manager.specs.Opening.{is_block_count};
 ghost use Rattle.vac_script.specs.declared.fault.RunFault.TheVariants.{Memory};
 ghost use Rattle.vac_script.specs.System.{IsAlone, OpensAlone, StandsAt, Lasts, GoesOnBy};
 
