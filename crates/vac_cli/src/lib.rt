@@ -3,13 +3,13 @@
 //! Scripts over streams, and what is read and printed line by line, are handed on from below.
 #![tactic(auto)]
 
-mod command_line;
 mod load;
 mod noting;
+mod program;
 mod stats;
 mod status;
 mod telling;
 
-pub use command_line::{refuse_words, run_words};
+pub use program::{refuse_words, run_words};
 pub use vac_lines::{LineFault, print_reply, read_line};
 pub use vac_script::{RunFault, check_words, dump_script, run_script};

@@ -22,7 +22,7 @@ use Rattle.clap.specs.declared.parser.matches.Found.{Found}
 use Rattle.std.specs.Prelude.{Result, Ok, Err, IsSome}
 use Rattle.std.specs.Str.Parse.{ParsesUnsigned}
 use Rattle.std.proofs.lemmas.Bool.{le-leb}
-use Rattle.vac_options.specs.CommandLine.{is_block_count}
+use Rattle.vac_model.specs.Ranges.{is_block_count}
 use Rattle.clap.proofs.ValueTestLemmas.{accepts-Accepts}
 use Rattle.clap.specs.ValueTests.{accepts}
 use Rattle.clap.specs.Facts.{parser_of_value}
@@ -38,6 +38,7 @@ use Rattle.clap.specs.Facts.{unwrap_or_range}
 use Rattle.clap.specs.Values.{is_request}
 use Rattle.clap.specs.Walk.{action_of, arg_by_id}
 use Rattle.std.proofs.Common.{nat_lt}
+use Rattle.vac_options.specs.declared.asked.TheConstants.{MOST_SEED}
 use Rattle.vac_options.specs.CommandLine.{vacation, blocks_option, number_option, seed_option, flag, Gives, GivesIn, Says, IsFlag, HasSettings, Names}
 use Rattle.vac_options.proofs.FoundRows.{Each, IsFit, found_each, found_passes, is_counted, no_fault, no_some, same_some}
 use Rattle.vac_options.proofs.Walks.{AllFit}
@@ -171,9 +172,9 @@ settings_number of rows e name least most default own = number_given rows (fille
     (subst (IsGiven (filled (number_option name least most default))) e.rows_are
     (level_gives (with_settings of) e.words (filled (number_option name least most default)) (settings_fit of) e.passes own (omega arith)))
 
-settings_seed : (of : Text) (rows : List Row) → IsEntered (with_settings of) rows → GivesIn rows (codes "seed") 0 18446744073709551615
+settings_seed : (of : Text) (rows : List Row) → IsEntered (with_settings of) rows → GivesIn rows (codes "seed") 0 MOST_SEED
 unfolding shape_at with_settings
-settings_seed of rows e = seed_given rows (filled seed_option) 18446744073709551615 refl
+settings_seed of rows e = seed_given rows (filled seed_option) MOST_SEED refl
     (subst (IsGiven (filled seed_option)) e.rows_are (level_gives (with_settings of) e.words (filled seed_option) (settings_fit of) e.passes refl (omega arith)))
 
 settings_flag : (of : Text) (rows : List Row) → IsEntered (with_settings of) rows → (name : Text) → arg_by_id (with_settings of).rules name ≡ Some (filled (flag name)) → IsFlag rows name

@@ -1,5 +1,5 @@
 -- The command line that the program takes, in clap's terms, and what its words ask for.
-use Rattle.std.specs.Prelude.{◌≡◌, ℕ, ◌+◌, pos, ◌≤◌, ◌&&◌, nat_le, ◌⊎◌, Bool, true, false, Some, codes}
+use Rattle.std.specs.Prelude.{◌≡◌, ℕ, ◌+◌, pos, ◌≤◌, ◌⊎◌, Bool, true, false, Some, codes}
 use Rattle.std.specs.Prelude.{List, [], ◌∷◌, ◌++◌}
 use Rattle.std.specs.Str.Parse.{IsNumeral, digits_value, without_leading_plus}
 use Rattle.clap.specs.Simple.{new_shape}
@@ -13,12 +13,14 @@ use Rattle.clap.specs.declared.builder.command.Command.{Command}
 use Rattle.clap.specs.declared.builder.command.Command.TheViews.{out-Command}
 use Rattle.clap.specs.declared.builder.value_parser.ValueParser.{ValueParser}
 use Rattle.clap.specs.declared.builder.value_parser.ValueParser.TheVariants as parser
+use Rattle.vac_model.specs.Ranges.{is_block_count}
 use Rattle.vac_model.specs.declared.limits.TheConstants.{MOST_BLOCKS, MOST_PARTS}
 use Rattle.vac_draws.specs.declared.settings.TheConstants.{MOST_CLIENTS, MOST_TASKS, MOST_ITEMS}
 use Rattle.vac_draws.specs.declared.settings.TheConstants.{MOST_ROUNDS, PERCENT}
 use Rattle.vac_draws.specs.declared.settings.Settings.{Settings}
 use Rattle.vac_model.specs.declared.limits.TheConstants.{MOST_TRIES}
 use Rattle.stm_words.specs.declared.version.TheConstants.{VERSION_LIMIT}
+use Rattle.vac_options.specs.declared.asked.TheConstants.{MOST_SEED}
 use Rattle.vac_options.specs.declared.asked.How.{How}
 use Rattle.vac_options.specs.declared.asked.Asked.{Asked}
 use Rattle.vac_options.specs.declared.asked.Asked.TheVariants.{Run, Dump, Check, Judge, Load, Tasks}
@@ -79,7 +81,7 @@ user_option = number_option (codes "user") 0 PERCENT (codes "80")
 -- the option of the seed, any number of 64 bits
 abbrev pub seed_option : Rule
 seed_option = record (valued_option (codes "seed")) {
-  parser = Some (parser.Unsigned 0 18446744073709551615);
+  parser = Some (parser.Unsigned 0 MOST_SEED);
   defaults = codes "1" ∷ [];
 }
 
@@ -202,7 +204,7 @@ pub record HasSettings (rows : List Row) : Type 0 where
   pub items : GivesIn rows (codes "items") 1 MOST_ITEMS
   pub asks : GivesIn rows (codes "asks") 1 MOST_PARTS
   pub user : GivesIn rows (codes "user") 0 PERCENT
-  pub seed : GivesIn rows (codes "seed") 0 18446744073709551615
+  pub seed : GivesIn rows (codes "seed") 0 MOST_SEED
   pub blocks : GivesIn rows (codes "blocks") 1 MOST_BLOCKS
   pub tries : GivesIn rows (codes "tries") 1 MOST_TRIES
   pub rounds : GivesIn rows (codes "rounds") 1 MOST_ROUNDS
@@ -230,10 +232,6 @@ pub record IsTold (rows : List Row) (how : How) : Type 0 where
 -- the words name this subcommand, and clap found this for its options
 abbrev pub Names : List Text → Text → List Row → Type 0
 Names words name rows = subcommand_of vacation words ≡ Some (name, rows)
-
--- a system has 1 to 262,144 blocks
-abbrev pub is_block_count : ℕ → Bool
-is_block_count n = nat_le 1 n && nat_le n MOST_BLOCKS
 
 -- what the words ask for
 abbrev pub AsksFor : List Text → Asked → Type 0

@@ -5,7 +5,7 @@ ghost use Rattle.std.specs.Prelude.{string_bytes, codes, IfOk, IfSome, IsSome};
 ghost use Rattle.clap.specs.Words.{FailsBy, Row, fault_of, found_of, rows_of};
 ghost use Rattle.clap.specs.Words.{subcommand_of, subcommand_rows_of};
 ghost use Rattle.vac_model.specs.declared.limits.TheConstants.{MOST_BLOCKS};
-ghost use Rattle.vac_options.specs.CommandLine.{is_block_count};
+ghost use Rattle.vac_model.specs.Ranges.{is_block_count};
 ghost use Rattle.vac_options.specs.CommandLine.{vacation, Gives, GivesIn, HasSettings, AreGiven};
 ghost use Rattle.vac_options.specs.CommandLine.{Says, IsFlag, HasFlags, IsTold, AsksFor};
 
@@ -14,6 +14,9 @@ use clap::{ArgMatches, Error};
 use std::alloc::Global;
 use stm_words::VERSION_LIMIT;
 use vac_draws::Settings;
+
+/// The greatest seed of a load.
+pub const MOST_SEED: u64 = u64::MAX;
 
 /// What a load is to tell of itself, beside its two lines.
 #[derive(Clone, Copy)]
@@ -75,7 +78,7 @@ fn number_of(matches: &ArgMatches, option: &str) -> u32
 
 /// The seed of a load that its option gives, or the default.
 fn seed_of(matches: &ArgMatches) -> u64
-    requires { GivesIn (rows_of (found_of matches.now)) (codes "seed") 0 18446744073709551615 }
+    requires { GivesIn (rows_of (found_of matches.now)) (codes "seed") 0 MOST_SEED }
     ensures { Gives (rows_of (found_of matches.now)) (codes "seed") result }
 {
     match matches.get_one::<u64>("seed") {

@@ -1,10 +1,10 @@
-//! The command line of the program.
+//! The program: what its words ask for is done, and its status.
 
 ghost use Rattle.std.specs.Prelude.{◌≡◌, ◌≤◌, ℕ, true, List, map, string_bytes};
 ghost use Rattle.std.specs.Io.KnownBytes.{Appends};
 ghost use Rattle.clap.specs.Words.{kind_of};
 ghost use Rattle.clap.specs.declared.error.kind.ErrorKind.TheVariants.{DisplayVersion};
-ghost use Rattle.vac_options.specs.CommandLine.{is_block_count};
+ghost use Rattle.vac_model.specs.Ranges.{is_block_count};
 ghost use Rattle.vac_cli.specs.Ending.{as_run_fault};
 ghost use Rattle.vac_cli.specs.Program.{Does, Lists, Shows, Serves};
 

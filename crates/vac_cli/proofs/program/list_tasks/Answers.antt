@@ -1,7 +1,7 @@
 use Rattle.std.proofs.Common.{◌≡◌, true, rules, inl, inr}
 use Rattle.vac_draws.specs.Setting.{is_settings}
 use Rattle.vac_script.specs.declared.fault.RunFault.TheVariants.{Memory, Write}
-use Rattle.vac_cli.proofs.command_line.list_tasks.Goals as goal
+use Rattle.vac_cli.proofs.program.list_tasks.Goals as goal
 
 pub returns-in-Err-Memory : goal.returns-in-Err-Memory
 returns-in-Err-Memory g c =
