@@ -3,6 +3,7 @@
 ghost use Rattle.std.specs.Prelude.{◌≡◌};
 ghost use Rattle.booking_desk.specs.Setting.{is_settings};
 
+use stm_core::MOST_RENEWALS;
 use stm_words::VERSION_LIMIT;
 use vac_model::limits::{MOST_AMOUNT, MOST_BLOCKS};
 
@@ -12,8 +13,8 @@ pub const MOST_TRIPS: u32 = 1_000_000;
 /// The most calls by which a desk asks for one trip.
 pub const MOST_ASKS: u32 = 1_000_000;
 
-/// The most rounds. Each begins with a renewal, and a manager has 65,535 of them.
-pub const MOST_ROUNDS: u32 = 65_535;
+/// The most rounds. Each begins with a renewal.
+pub const MOST_ROUNDS: u32 = MOST_RENEWALS;
 
 /// The settings of the desks.
 #[derive(Clone, Copy, Debug, PartialEq, Eq)]
