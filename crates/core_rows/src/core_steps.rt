@@ -1,7 +1,7 @@
 //! Events played one by one: what each finds, which are refused, and the order that comes of them.
 ghost use Rattle.std.specs.Prelude.{◌≤◌};
 
-use crate::acts::{
+use crate::events::{
     DONE, REFUSED, begin, check, fetch, finds, finish, gather, give_back, lock, played, probe, put,
     release, renew, split, tick, validate,
 };

@@ -4,9 +4,9 @@
 #![tactic(auto)]
 
 #[cfg(test)]
-mod acts;
-#[cfg(test)]
 mod core_steps;
+#[cfg(test)]
+mod events;
 #[cfg(test)]
 mod history;
 #[cfg(test)]

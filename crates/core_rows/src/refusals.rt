@@ -1,7 +1,7 @@
 //! Memory that is refused to the core as running code, each growth in turn: what it shows is as
 //! before, and the same call, made again once there is memory, goes on as if none had been refused.
 
-use crate::acts::{
+use crate::events::{
     Act, DONE, Outcome, begin, check, fetch, finds, finish, gather, lock, probe, put, release,
     renew, split, tick, validate,
 };
