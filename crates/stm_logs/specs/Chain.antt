@@ -26,8 +26,10 @@ words_from ns lock (suc most) p =
 abbrev pub locks_from : List Node → ℕ → ℕ → List ℕ
 locks_from ns zero p = []
 locks_from ns (suc most) p =
-    let rest = locks_from ns most (at ns p).next in
-    cond (nat_eq p 0) [] (cond (goes_on ns (at ns p).lock (at ns p).next) rest ((at ns p).lock ∷ rest))
+    let lock = (at ns p).lock in
+    let next = (at ns p).next in
+    let rest = locks_from ns most next in
+    cond (nat_eq p 0) [] (cond (goes_on ns lock next) rest (lock ∷ rest))
 
 -- the locks of a chain as above, each with its words; those of the first lock begin at start, from
 -- where there are at most so many nodes as whole

@@ -8,7 +8,8 @@ use std::marker::Model;
 /// A written word.
 ///
 /// Position 0 has the root, behind which the order of the nodes begins and at which it ends; the
-/// words stand behind it as they entered. Nothing else leads to the root, so that 0 stands for none.
+/// words stand behind it as they entered. Only the last node leads to the root, so that 0 stands
+/// for none.
 #[derive(Clone, Copy)]
 pub(crate) struct Entry {
     /// The value that waits to be stored.
