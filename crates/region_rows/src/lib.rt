@@ -8,3 +8,5 @@ mod logs;
 mod regions;
 #[cfg(test)]
 mod renewals;
+#[cfg(test)]
+mod same;

@@ -2,6 +2,7 @@
 ghost use Rattle.std.specs.Prelude.{◌≡◌, ℕ, ◌%◌, ◌<◌, ◌≤◌};
 ghost use Rattle.stm_logs.specs.Log.{IsStriped};
 
+use crate::same::{holds, same};
 use linked_list_allocator::LocalHeap;
 use std::alloc::{AllocError, Allocator};
 use std::process::Abort;
@@ -38,25 +39,25 @@ fn put<A: Allocator + Copy>(
 #[test]
 fn a_value_is_replaced(rt: HostRuntime) -> Result<(), Fail> {
     let mut log = new_log(rt.alloc());
-    assert_eq!(rt; log.get(Addr(9)), None);
+    same(&rt, &log.get(Addr(9)), &None);
     put(&mut log, 10, 9, 1)?;
     put(&mut log, 10, 4, 2)?;
     put(&mut log, 10, 9, 3)?;
-    assert_eq!(rt; log.len(), 2);
-    assert_eq!(rt; log.get(Addr(9)), Some(3));
-    assert_eq!(rt; log.get(Addr(5)), None);
-    assert!(rt; log.has_lock(4) && log.has_lock(9) && !log.has_lock(5));
+    same(&rt, &log.len(), &2);
+    same(&rt, &log.get(Addr(9)), &Some(3));
+    same(&rt, &log.get(Addr(5)), &None);
+    holds(&rt, log.has_lock(4) && log.has_lock(9) && !log.has_lock(5));
     assert_eq!(rt; log.lock_count(), 2);
-    assert_eq!(rt; log.nth_lock(0), 4);
-    assert_eq!(rt; log.nth_lock(1), 9);
+    same(&rt, &log.nth_lock(0), &4);
+    same(&rt, &log.nth_lock(1), &9);
     let words: Vec<(Addr, u64)> = log.words_of(9).collect(rt.alloc())?;
-    assert_eq!(rt; words.as_slice(), [(Addr(9), 3)].as_slice());
+    same(&rt, &words.as_slice(), &[(Addr(9), 3)].as_slice());
     let mut none = log.words_of(5);
-    assert_eq!(rt; none.next(), None);
+    same(&rt, &none.next(), &None);
     log.clear();
-    assert_eq!(rt; log.len(), 0);
-    assert_eq!(rt; log.get(Addr(9)), None);
-    assert_eq!(rt; log.lock_count(), 0);
+    same(&rt, &log.len(), &0);
+    same(&rt, &log.get(Addr(9)), &None);
+    same(&rt, &log.lock_count(), &0);
     Ok(())
 }
 
@@ -65,11 +66,15 @@ fn two_words_share_a_lock(rt: HostRuntime) -> Result<(), Fail> {
     let mut log = new_log(rt.alloc());
     put(&mut log, 4, 9, 1)?;
     put(&mut log, 4, 5, 2)?;
-    assert_eq!(rt; log.lock_count(), 1);
+    same(&rt, &log.lock_count(), &1);
     let words: Vec<(Addr, u64)> = log.words_of(1).collect(rt.alloc())?;
-    assert_eq!(rt; words.as_slice(), [(Addr(5), 2), (Addr(9), 1)].as_slice());
+    same(
+        &rt,
+        &words.as_slice(),
+        &[(Addr(5), 2), (Addr(9), 1)].as_slice(),
+    );
     let locks: Vec<u32> = log.locks().collect(rt.alloc())?;
-    assert_eq!(rt; locks.as_slice(), [1].as_slice());
+    same(&rt, &locks.as_slice(), &[1].as_slice());
     Ok(())
 }
 
@@ -87,9 +92,9 @@ fn locks_come_with_their_words(rt: HostRuntime) -> Result<(), Fail> {
         }
     }
     let wanted = [(1, Addr(5), 3), (1, Addr(9), 4), (2, Addr(6), 2)];
-    assert_eq!(rt; found.as_slice(), wanted.as_slice());
+    same(&rt, &found.as_slice(), &wanted.as_slice());
     log.clear();
-    assert!(rt; log.by_lock().next().is_none());
+    holds(&rt, log.by_lock().next().is_none());
     Ok(())
 }
 
@@ -100,16 +105,16 @@ fn a_read_log_is_a_list(rt: HostRuntime) -> Result<(), Fail> {
         log.push(Addr(addr))?;
     }
     assert_eq!(rt; log.len(), 3);
-    assert_eq!(rt; log.get(1), Addr(9));
-    assert_eq!(rt; log.get(2), Addr(4));
+    same(&rt, &log.get(1), &Addr(9));
+    same(&rt, &log.get(2), &Addr(4));
     log.clear();
-    assert_eq!(rt; log.len(), 0);
+    same(&rt, &log.len(), &0);
     for _ in 0..2 {
         for addr in 0..100_000 {
             log.push(Addr(addr))?;
         }
         for i in 0..log.len() {
-            assert!(rt; log.get(i).0 as usize == i);
+            holds(&rt, log.get(i).0 as usize == i);
         }
         assert_eq!(rt; log.len(), 100_000);
         log.clear();
@@ -144,24 +149,24 @@ fn expect_all<A: Allocator + Copy, R: Abort>(
 ) -> Result<(), Fail>
     requires { 0 < stripes }
 {
-    assert_eq!(rt; log.len(), count as usize);
-    assert_eq!(rt; log.lock_count(), count.min(stripes) as usize);
+    same(rt, &log.len(), &(count as usize));
+    same(rt, &log.lock_count(), &(count.min(stripes) as usize));
     let mut next_lock = 0;
     let mut words = 0;
     for lock in log.locks() {
-        assert_eq!(rt; lock, next_lock);
+        same(rt, &lock, &next_lock);
         assert!(rt; next_lock < 1_000_000);
         next_lock += 1;
         let mut least = 0;
         for (addr, value) in log.words_of(lock) {
             assert!(rt; least <= addr.0 && addr.0 < 1_000_000);
             least = addr.0 + 1;
-            assert!(rt; addr.0 % stripes == lock && addr.0 as u64 == value);
+            holds(rt, addr.0 % stripes == lock && addr.0 as u64 == value);
             assert!(rt; words < 1_000_000);
             words += 1;
         }
     }
-    assert_eq!(rt; words, count);
+    same(rt, &words, &count);
     Ok(())
 }
 
@@ -209,7 +214,7 @@ fn each_growth_of_the_write_log_is_refused(rt: HostRuntime) -> Result<(), Fail> 
         {
             let mut log = new_log(&heap);
             let count = put_some(&mut log, 200);
-            assert_eq!(rt; count, most);
+            same(&rt, &count, &most);
             expect_all(&rt, &log, 1_000_000, count)?;
             if count > 0 {
                 put(&mut log, 1_000_000, 0, 0)?;
@@ -217,9 +222,9 @@ fn each_growth_of_the_write_log_is_refused(rt: HostRuntime) -> Result<(), Fail> 
             }
             clear(&mut log);
             let again = put_some(&mut log, 200);
-            assert_eq!(rt; again, count);
+            same(&rt, &again, &count);
         }
-        assert_eq!(rt; heap.used(), 0);
+        same(&rt, &heap.used(), &0);
     }
     Ok(())
 }
@@ -243,14 +248,14 @@ fn each_growth_of_the_read_log_is_refused(rt: HostRuntime) -> Result<(), Fail> {
                     break;
                 }
             }
-            assert_eq!(rt; log.len(), most);
+            same(&rt, &log.len(), &most);
             for i in 0..log.len() {
-                assert!(rt; log.get(i).0 as usize == i);
+                holds(&rt, log.get(i).0 as usize == i);
             }
             log.clear();
-            assert_eq!(rt; log.push(Addr(7)).is_ok(), most > 0);
+            same(&rt, &log.push(Addr(7)).is_ok(), &(most > 0));
         }
-        assert_eq!(rt; heap.used(), 0);
+        same(&rt, &heap.used(), &0);
     }
     Ok(())
 }

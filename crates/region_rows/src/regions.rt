@@ -2,6 +2,7 @@
 ghost use Rattle.std.specs.Prelude.{◌≡◌, ℕ, ◌<◌, IfOk, false, []};
 ghost use Rattle.stm_core.specs.Core.{IsFreeHanded};
 
+use crate::same::{holds, same};
 use std::alloc::{AllocError, Global};
 use std::test::Fail;
 use std::thread;
@@ -88,7 +89,7 @@ fn refuses_an_opening_in_order(rt: HostRuntime) -> Result<(), Fail> {
     ] {
         match Region::<FreeLaw>::new(rt.alloc(), &zeros[..words], last, stripes) {
             Ok(_) => panic!(rt; "it opened"),
-            Err(fault) => assert_eq!(rt; fault, want),
+            Err(fault) => same(&rt, &fault, &want),
         }
     }
     Ok(())
@@ -98,13 +99,16 @@ fn refuses_an_opening_in_order(rt: HostRuntime) -> Result<(), Fail> {
 fn sixty_three_clients_split_off(rt: HostRuntime) -> Result<(), Fail> {
     let (region, mut client) = Region::<FreeLaw>::new(rt.alloc(), &[0; 32], 100, 32)?;
     for _ in 0..63 {
-        assert!(rt; region.split(&mut client).is_ok());
+        holds(&rt, region.split(&mut client).is_ok());
     }
-    assert!(rt; matches!(region.split(&mut client), Err(RegionFault::Clients)));
+    holds(
+        &rt,
+        matches!(region.split(&mut client), Err(RegionFault::Clients)),
+    );
     let Err((_, _, fault)) = region.close(rt.alloc(), client) else {
         panic!(rt; "it closed with clients out")
     };
-    assert_eq!(rt; fault, RegionFault::StillOut { out: 63 });
+    same(&rt, &fault, &RegionFault::StillOut { out: 63 });
     Ok(())
 }
 
@@ -115,36 +119,39 @@ fn closes_once_all_are_gathered(rt: HostRuntime) -> Result<(), Fail> {
     gathering_keeps_all_grants::<FreeLaw>();
     running_threads_are_a_list::<FreeLaw>();
     let (region, mut client) = Region::<FreeLaw>::new(rt.alloc(), &[0; 32], 100, 32)?;
-    assert_eq!(rt; region.last().get(), 100);
-    assert_eq!(rt; region.lock_of(Addr(9)), 9);
-    assert_eq!(rt; read_at(&region, &mut client, Addr(9)), Some(0));
+    same(&rt, &region.last().get(), &100);
+    same(&rt, &region.lock_of(Addr(9)), &9);
+    same(&rt, &read_at(&region, &mut client, Addr(9)), &Some(0));
     let other = region.split(&mut client)?;
     let Err((region, mut client, fault)) = region.close(rt.alloc(), client) else {
         panic!(rt; "it closed with a client out")
     };
-    assert_eq!(rt; fault, RegionFault::StillOut { out: 1 });
+    same(&rt, &fault, &RegionFault::StillOut { out: 1 });
     region.gather(&mut client, other);
-    assert_eq!(rt; read_at(&region, &mut client, Addr(31)), Some(0));
+    same(&rt, &read_at(&region, &mut client, Addr(31)), &Some(0));
     let Ok((words, version)) = region.close(rt.alloc(), client) else {
         panic!(rt; "it stayed open")
     };
-    assert_eq!(rt; words.as_slice(), [0u64; 32].as_slice());
-    assert_eq!(rt; version.get(), 0);
+    same(&rt, &words.as_slice(), &[0u64; 32].as_slice());
+    same(&rt, &version.get(), &0);
     Ok(())
 }
 
 #[test]
 fn a_spent_clock_ticks_no_more(rt: HostRuntime) -> Result<(), Fail> {
     let (region, mut client) = Region::<FreeLaw>::new(rt.alloc(), &[0; 32], 1, 32)?;
-    assert!(rt; write_at(rt.alloc(), &region, &mut client, Addr(9), 5)?);
-    assert_eq!(rt; region.begin(&mut client).get(), region.last().get());
-    assert_eq!(rt; read_at(&region, &mut client, Addr(9)), Some(5));
-    assert!(rt; !write_at(rt.alloc(), &region, &mut client, Addr(9), 6)?);
+    holds(&rt, write_at(rt.alloc(), &region, &mut client, Addr(9), 5)?);
+    same(&rt, &region.begin(&mut client).get(), &region.last().get());
+    same(&rt, &read_at(&region, &mut client, Addr(9)), &Some(5));
+    holds(
+        &rt,
+        !write_at(rt.alloc(), &region, &mut client, Addr(9), 6)?,
+    );
     let Ok((words, version)) = region.close(rt.alloc(), client) else {
         panic!(rt; "it stayed open")
     };
-    assert_eq!(rt; words.as_slice()[9], 5);
-    assert_eq!(rt; version.get(), 1);
+    same(&rt, &words.as_slice()[9], &5);
+    same(&rt, &version.get(), &1);
     Ok(())
 }
 
@@ -195,7 +202,11 @@ fn two_threads_write_one_memory(rt: HostRuntime) -> Result<(), Fail> {
     let Ok((words, version)) = region.close(alloc, client) else {
         panic!(rt; "it stayed open")
     };
-    assert_eq!(rt; words.as_slice(), [0u64, 10, 0, 0, 0, 50, 0, 0].as_slice());
-    assert_eq!(rt; version.get(), 2);
+    same(
+        &rt,
+        &words.as_slice(),
+        &[0u64, 10, 0, 0, 0, 50, 0, 0].as_slice(),
+    );
+    same(&rt, &version.get(), &2);
     Ok(())
 }

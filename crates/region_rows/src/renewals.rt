@@ -3,6 +3,7 @@ ghost use Rattle.std.specs.Prelude.{◌≡◌, IfOk};
 ghost use Rattle.stm_core.specs.Core.{IsFreeHanded};
 
 use crate::regions::{read_at, write_at};
+use crate::same::{holds, same};
 use linked_list_allocator::LocalHeap;
 use std::alloc::{Allocator, Global};
 use std::test::Fail;
@@ -37,12 +38,12 @@ fn a_region_is_renewed_65535_times(rt: HostRuntime) -> Result<(), Fail> {
     let Err(RenewFault::Kept(region, client, fault)) = region.renew(rt.alloc(), client, 1) else {
         panic!(rt; "it was renewed once more")
     };
-    assert_eq!(rt; fault, RegionFault::Renewals);
+    same(&rt, &fault, &RegionFault::Renewals);
     let Ok((words, version)) = region.close(rt.alloc(), client) else {
         panic!(rt; "it stayed open")
     };
-    assert_eq!(rt; words.as_slice(), [7u64].as_slice());
-    assert_eq!(rt; version.get(), 0);
+    same(&rt, &words.as_slice(), &[7u64].as_slice());
+    same(&rt, &version.get(), &0);
     Ok(())
 }
 
@@ -55,7 +56,7 @@ fn a_spent_clock_goes_on(rt: HostRuntime) -> Result<(), Fail> {
     let Ok((region, mut client)) = region.renew(alloc, client, 2) else {
         panic!(rt; "it was not renewed")
     };
-    assert_eq!(rt; region.last().get(), 2);
+    same(&rt, &region.last().get(), &2);
     let read = read_at(&region, &mut client, Addr(9));
     let second = write_at(alloc, &region, &mut client, Addr(9), 7)?;
     let third = write_at(alloc, &region, &mut client, Addr(31), 8)?;
@@ -63,11 +64,11 @@ fn a_spent_clock_goes_on(rt: HostRuntime) -> Result<(), Fail> {
     let Ok((words, version)) = region.close(alloc, client) else {
         panic!(rt; "it stayed open")
     };
-    assert_eq!(rt; (first, spent), (true, false));
-    assert_eq!(rt; read, Some(5));
-    assert_eq!(rt; (second, third, spent_again), (true, true, false));
-    assert_eq!(rt; (words.as_slice()[9], words.as_slice()[31]), (7, 8));
-    assert_eq!(rt; version.get(), 2);
+    same(&rt, &(first, spent), &(true, false));
+    same(&rt, &read, &Some(5));
+    same(&rt, &(second, third, spent_again), &(true, true, false));
+    same(&rt, &(words.as_slice()[9], words.as_slice()[31]), &(7, 8));
+    same(&rt, &version.get(), &2);
     Ok(())
 }
 
@@ -84,7 +85,7 @@ fn a_new_and_a_renewed_region_begin_at_version_0(rt: HostRuntime) -> Result<(), 
     };
     let renewed = region.begin(&mut client).get();
     prove!(renewed == 0);
-    assert_eq!(rt; (first, written, renewed), (0, true, 0));
+    same(&rt, &(first, written, renewed), &(0, true, 0));
     Ok(())
 }
 
@@ -110,23 +111,24 @@ fn refuses_a_renewal_in_order(rt: HostRuntime) -> Result<(), Fail> {
         let Err(RenewFault::Kept(region, client, memory)) = region.renew(&none, client, 1) else {
             panic!(rt; "it was renewed without memory")
         };
-        assert_eq!(rt; region.last().get(), 100);
+        same(&rt, &region.last().get(), &100);
         let Ok((region, client)) = region.renew(&heap, client, (1 << 62) - 1) else {
             panic!(rt; "it was not renewed")
         };
-        assert_eq!(rt; region.last().get(), (1 << 62) - 1);
+        same(&rt, &region.last().get(), &((1 << 62) - 1));
         let Ok((words, version)) = region.close(&heap, client) else {
             panic!(rt; "it stayed open")
         };
-        assert_eq!(rt; (zero, high), (RegionFault::Last, RegionFault::Last));
-        assert_eq!(rt;
-            (out, memory),
-            (RegionFault::StillOut { out: 1 }, RegionFault::Memory)
+        same(&rt, &(zero, high), &(RegionFault::Last, RegionFault::Last));
+        same(
+            &rt,
+            &(out, memory),
+            &(RegionFault::StillOut { out: 1 }, RegionFault::Memory),
         );
-        assert_eq!(rt; words.as_slice(), [3u64; 512].as_slice());
-        assert_eq!(rt; version.get(), 0);
+        same(&rt, &words.as_slice(), &[3u64; 512].as_slice());
+        same(&rt, &version.get(), &0);
     }
-    assert_eq!(rt; heap.used(), 0);
+    same(&rt, &heap.used(), &0);
     Ok(())
 }
 
@@ -163,15 +165,15 @@ fn each_growth_of_a_renewal_is_refused(rt: HostRuntime) -> Result<(), Fail> {
     let (mut kept, mut closed, mut renewed) = (false, false, false);
     for k in 0..200 {
         let small = LocalHeap::new(rt.alloc(), 1_000 + 100 * k)?;
-        let (outcome, same) = renew_in(&heap, &small)?;
-        assert!(rt; same);
-        assert_eq!(rt; (heap.used(), small.used()), (0, 0));
+        let (outcome, kept_alike) = renew_in(&heap, &small)?;
+        holds(&rt, kept_alike);
+        same(&rt, &(heap.used(), small.used()), &(0, 0));
         match outcome {
             Outcome::Kept => kept = true,
             Outcome::Closed => closed = true,
             Outcome::Renewed => renewed = true,
         }
     }
-    assert!(rt; kept && closed && renewed);
+    holds(&rt, kept && closed && renewed);
     Ok(())
 }
