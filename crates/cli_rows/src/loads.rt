@@ -1,10 +1,9 @@
 //! Loads of one client, and arguments that are refused.
 
-use crate::small_load::{SETTINGS, THREE_TRIPS, all_answered};
+use crate::small_load::{SETTINGS, THREE_TRIPS, all_answered, spent_at};
 use std::test::Fail;
 use stm_attempt::NoGate;
 use vac_load::{FixedDraws, LoadFault, LoadReport, MOST_ROUNDS, Settings, run_load, run_load_with};
-use vac_manager::Fault;
 use vac_model::Report;
 
 #[test]
@@ -62,7 +61,7 @@ fn an_opening_finds_its_clock_spent(rt: HostRuntime) -> Result<(), Fail> {
         let clients = vec![in rt.alloc(); (FixedDraws(0), NoGate)]?;
         let loaded = run_load_with(&rt, &settings, FixedDraws(0), clients);
         let found = match loaded {
-            Err(LoadFault::Opening(Fault::Spent { version })) => Some(version.get()),
+            Err(LoadFault::Opening(fault)) => spent_at(fault),
             _ => None,
         };
         assert_eq!(rt; found, spent, "{last}");

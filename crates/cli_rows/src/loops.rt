@@ -1,10 +1,10 @@
 //! The opening of a load, and the loop of one client.
 
-use crate::small_load::{SETTINGS, THREE_TRIPS, all_answered};
+use crate::small_load::{SETTINGS, THREE_TRIPS, all_answered, spent_at};
 use std::test::Fail;
 use stm_attempt::{Gate, Point};
 use vac_load::{FixedDraws, PcgDraws, Settings, client_loop, open};
-use vac_manager::{Fault, Manager, Session};
+use vac_manager::{Manager, Session};
 use vac_model::{Command, Reply, Task};
 
 /// A gate that counts the answers that it is told of.
@@ -69,8 +69,8 @@ fn a_clock_too_short_for_the_opening(rt: HostRuntime) -> Result<(), Fail> {
     let mut session = Session::of(&manager, client);
     let opened = open(&mut session, &mut FixedDraws(0), &settings);
     let spent = match opened {
-        Err(Fault::Spent { version }) => Some(version.get()),
-        _ => None,
+        Err(fault) => spent_at(fault),
+        Ok(_) => None,
     };
     assert_eq!(rt; spent, Some(5));
     Ok(())

@@ -1,6 +1,7 @@
 //! The settings of a small load, and what it leaves where each task is a trip to the first car.
 
 use vac_load::{Settings, Tally};
+use vac_manager::Fault;
 use vac_model::Report;
 
 pub(crate) const SETTINGS: Settings = Settings {
@@ -49,5 +50,13 @@ pub(crate) fn all_answered(answered: u64) -> Tally {
         busy: 0,
         memory: 0,
         spent: 0,
+    }
+}
+
+/// The version at which the clock was found spent, where that is the fault.
+pub(crate) fn spent_at(fault: Fault) -> Option<u64> {
+    match fault {
+        Fault::Spent { version } => Some(version.get()),
+        _ => None,
     }
 }
