@@ -109,15 +109,17 @@ class Building:
         return True
 
     def start(self, pool):
-        """Starts what may be proved now. The first, for which the longest chain waits, gets two processors,
-        and all that are free where nothing else may be proved; the others get one each."""
+        """Starts what may be proved now, each on one processor. Where nothing else may be proved it gets all
+        that are free; and of three processors and more the first, for which the longest chain waits, gets two.
+        (A second job costs a quarter of its time, which of two processors nothing gives back.)"""
         waits = set(self.left) | {crate for crate, _ in self.running.values()}
         ready = [crate for crate in self.left if not waits & set(crate.below())]
         for place, crate in enumerate(ready):
             free = self.processors - sum(jobs for _, jobs in self.running.values())
             if free <= 0:
                 return
-            wanted = MOST_JOBS if len(ready) == 1 else 2 if place == 0 else 1
+            first = 2 if place == 0 and self.processors > 2 else 1
+            wanted = MOST_JOBS if len(ready) == 1 else first
             jobs = min(wanted, free)
             self.left.remove(crate)
             crate.out = tempfile.TemporaryFile("w+", errors="replace")
