@@ -170,7 +170,8 @@ template <class Memory>
 void clear_spare(Memory memory, Addr block)
 {
     for (Addr place = FIRST_SPARE; place < BLOCK_WORDS; ++place)
-        memory.write(block + place, 0);
+        if (memory.read(block + place) != 0)
+            memory.write(block + place, 0);
 }
 
 template <class Memory>

@@ -1,18 +1,31 @@
 -- Stores that make a customer and a booking, and what is added to a booking.
-use Rattle.std.proofs.Common.{◌≡◌, ◌≢◌, ◌⊎◌, inl, inr, ℕ, ◌+◌, ◌*◌, ◌<◌, ◌≤◌, sym, ap, ◌∙◌, arith}
+use Rattle.std.proofs.Common.{◌≡◌, ◌≢◌, inl, inr, ℕ, ◌+◌, ◌*◌, ◌<◌, ◌≤◌, sym, ap, ◌∙◌, arith}
 use Rattle.stm_words.specs.Seen.{same_or}
-use Rattle.stm_words.specs.View.{View, Stored, IsWrite}
+use Rattle.stm_words.specs.View.{View, Loaded, Stored, IsWrite, memory}
 use Rattle.vac_model.specs.State.{Place, kind_number}
 use Rattle.vac_records.specs.Items.{mem}
 use Rattle.vac_records.specs.Customers.{IsNewCustomer, CustomerMade, IsNewBooking, BookingMade}
-use Rattle.vac_records.specs.Steps.{kept_both}
+use Rattle.vac_records.specs.Spare.{WordCleared, IsCleared, SpareCleared}
+use Rattle.vac_records.specs.Steps.{kept_both, write_at_start}
 
--- the three spare words are cleared, and nothing else
-pub record Cleared (m m' : ℕ → ℕ) (node : ℕ) : Type 0 where
-  pub spare : (k : ℕ) → 5 ≤ k → k < 8 → m' (node + k) ≡ 0
-  pub others : (x : ℕ) → (x < node + 5) ⊎ (node + 8 ≤ x) → m' x ≡ m x
+-- a word that was 0 was read
+pub cleared_by_read : (s s' : View) (a : ℕ) → Loaded s s' a 0 → WordCleared s s' a
+cleared_by_read s s' a l = record {
+  kept = l.kept;
+  written = λ image i. record {
+    here = ap (λ w. memory image w a) l.writes ∙ l.answer image i;
+    others = λ x ne. ap (λ w. memory image w x) l.writes;
+  };
+}
 
-cleared_by : (m m1 m2 m3 : ℕ → ℕ) (node a b c : ℕ) → a ≡ node + 5 → b ≡ node + 6 → c ≡ node + 7 → IsWrite m m1 a 0 → IsWrite m1 m2 b 0 → IsWrite m2 m3 c 0 → Cleared m m3 node
+-- a word was read and then written
+pub cleared_by_store : (s s1 s' : View) (a v : ℕ) → Loaded s s1 a v → Stored s1 s' a 0 → WordCleared s s' a
+cleared_by_store s s1 s' a v l w = record {
+  kept = kept_both s s1 s' l.kept w.kept;
+  written = write_at_start s s1 s' a 0 l.writes w;
+}
+
+cleared_by : (m m1 m2 m3 : ℕ → ℕ) (node a b c : ℕ) → a ≡ node + 5 → b ≡ node + 6 → c ≡ node + 7 → IsWrite m m1 a 0 → IsWrite m1 m2 b 0 → IsWrite m2 m3 c 0 → IsCleared m m3 node
 cleared_by m m1 m2 m3 node a b c p q r w1 w2 w3 = record {
   spare = λ k low less. elim (same_or k 5) [
     | inl five ↦ (let e : a ≡ node + k = omega arith in ap m3 (sym e) ∙ (w3.others a (omega arith) ∙ (w2.others a (omega arith) ∙ w1.here)))
@@ -26,7 +39,17 @@ cleared_by m m1 m2 m3 node a b c p q r w1 w2 w3 = record {
       w3.others x (far c (omega arith) (omega arith)) ∙ (w2.others x (far b (omega arith) (omega arith)) ∙ w1.others x (far a (omega arith) (omega arith)));
 }
 
-new_customer_by : (m m1 m2 m3 : ℕ → ℕ) (node key a b : ℕ) → a ≡ node → b ≡ node + 4 → IsWrite m m1 a key → IsWrite m1 m2 b 0 → Cleared m2 m3 node → IsNewCustomer m m3 node key
+pub spare_cleared : (s s1 s2 s3 : View) (node a b c : ℕ) → a ≡ node + 5 → b ≡ node + 6 → c ≡ node + 7 →
+    WordCleared s s1 a → WordCleared s1 s2 b → WordCleared s2 s3 c → SpareCleared s s3 node
+spare_cleared s s1 s2 s3 node a b c p q r w1 w2 w3 = record {
+  kept = kept_both s s2 s3 (kept_both s s1 s2 w1.kept w2.kept) w3.kept;
+  cleared = λ image i.
+      let seen2 = w3.kept.seen image i in
+      cleared_by (mem s image) (mem s1 image) (mem s2 image) (mem s3 image) node a b c p q r
+      (w1.written image (w2.kept.seen image seen2)) (w2.written image seen2) (w3.written image i);
+}
+
+new_customer_by : (m m1 m2 m3 : ℕ → ℕ) (node key a b : ℕ) → a ≡ node → b ≡ node + 4 → IsWrite m m1 a key → IsWrite m1 m2 b 0 → IsCleared m2 m3 node → IsNewCustomer m m3 node key
 new_customer_by m m1 m2 m3 node key a b p q w1 w2 c = record {
   key_is = c.others node (inl (omega arith)) ∙ (w2.others node (omega arith) ∙ (ap m1 (sym p) ∙ w1.here));
   head_is = c.others (node + 4) (inl (omega arith)) ∙ (ap m2 (sym q) ∙ w2.here);
@@ -36,18 +59,17 @@ new_customer_by m m1 m2 m3 node key a b p q w1 w2 c = record {
       c.others x (elim out [ inl low ↦ inl (omega arith) | inr high ↦ inr high ]) ∙ (w2.others x nb ∙ w1.others x (λ is. nk (is ∙ p)));
 }
 
-pub customer_made : (s s1 s2 s3 s4 s5 : View) (node key a b c d e : ℕ) → a ≡ node → b ≡ node + 4 → c ≡ node + 5 → d ≡ node + 6 → e ≡ node + 7 →
-    Stored s s1 a key → Stored s1 s2 b 0 → Stored s2 s3 c 0 → Stored s3 s4 d 0 → Stored s4 s5 e 0 → CustomerMade s s5 node key
-customer_made s s1 s2 s3 s4 s5 node key a b c d e p q r t u w1 w2 w3 w4 w5 = record {
-  kept = kept_both s s4 s5 (kept_both s s3 s4 (kept_both s s2 s3 (kept_both s s1 s2 w1.kept w2.kept) w3.kept) w4.kept) w5.kept;
-  made = λ image i.
-      let z = cleared_by (mem s2 image) (mem s3 image) (mem s4 image) (mem s5 image) node c d e r t u (w3.written image) (w4.written image) (w5.written image) in
-      new_customer_by (mem s image) (mem s1 image) (mem s2 image) (mem s5 image) node key a b p q (w1.written image) (w2.written image) z;
+pub customer_made : (s s1 s2 s3 : View) (node key a b : ℕ) → a ≡ node → b ≡ node + 4 →
+    Stored s s1 a key → Stored s1 s2 b 0 → SpareCleared s2 s3 node → CustomerMade s s3 node key
+customer_made s s1 s2 s3 node key a b p q w1 w2 z = record {
+  kept = kept_both s s2 s3 (kept_both s s1 s2 w1.kept w2.kept) z.kept;
+  made = λ image i. new_customer_by (mem s image) (mem s1 image) (mem s2 image) (mem s3 image) node key a b p q
+      (w1.written image) (w2.written image) (z.cleared image i);
 }
 
 new_booking_by : (m m1 m2 m3 m4 m5 : ℕ → ℕ) (node : ℕ) (place : Place) (num price kind id sum units a b c d : ℕ) → a ≡ node + 0 → b ≡ node + 1 → c ≡ node + 2 → d ≡ node + 4 →
     kind ≡ kind_number place.0 → id ≡ place.1 → sum ≡ num * price → units ≡ num →
-    IsWrite m m1 a kind → IsWrite m1 m2 b id → IsWrite m2 m3 c sum → IsWrite m3 m4 d units → Cleared m4 m5 node → IsNewBooking m m5 node place num price
+    IsWrite m m1 a kind → IsWrite m1 m2 b id → IsWrite m2 m3 c sum → IsWrite m3 m4 d units → IsCleared m4 m5 node → IsNewBooking m m5 node place num price
 new_booking_by m m1 m2 m3 m4 m5 node place num price kind id sum units a b c d p q r t ek ei es eu w1 w2 w3 w4 z =
     let clear : (x : ℕ) → x < node + 5 → m5 x ≡ m4 x = λ x l. z.others x (inl l) in
     let at0 : a ≡ node = omega arith in
@@ -66,12 +88,12 @@ new_booking_by m m1 m2 m3 m4 m5 node place num price kind id sum units a b c d p
           ∙ (w4.others x (far d (omega arith) (omega arith)) ∙ (w3.others x (far c (omega arith) (omega arith)) ∙ (w2.others x (far b (omega arith) (omega arith)) ∙ w1.others x (far a (omega arith) (omega arith)))));
     }
 
-pub booking_made : (s s1 s2 s3 s4 s5 s6 s7 : View) (node : ℕ) (place : Place) (num price kind id sum units a b c d e f g : ℕ) → a ≡ node + 0 → b ≡ node + 1 → c ≡ node + 2 → d ≡ node + 4 → e ≡ node + 5 → f ≡ node + 6 → g ≡ node + 7 →
+pub booking_made : (s s1 s2 s3 s4 s5 : View) (node : ℕ) (place : Place) (num price kind id sum units a b c d : ℕ) → a ≡ node + 0 → b ≡ node + 1 → c ≡ node + 2 → d ≡ node + 4 →
     kind ≡ kind_number place.0 → id ≡ place.1 → sum ≡ num * price → units ≡ num →
-    Stored s s1 a kind → Stored s1 s2 b id → Stored s2 s3 c sum → Stored s3 s4 d units → Stored s4 s5 e 0 → Stored s5 s6 f 0 → Stored s6 s7 g 0 → BookingMade s s7 node place num price
-booking_made s s1 s2 s3 s4 s5 s6 s7 node place num price kind id sum units a b c d e f g p q r t u v w ek ei es eu w1 w2 w3 w4 w5 w6 w7 = record {
-  kept = kept_both s s6 s7 (kept_both s s5 s6 (kept_both s s4 s5 (kept_both s s3 s4 (kept_both s s2 s3 (kept_both s s1 s2 w1.kept w2.kept) w3.kept) w4.kept) w5.kept) w6.kept) w7.kept;
+    Stored s s1 a kind → Stored s1 s2 b id → Stored s2 s3 c sum → Stored s3 s4 d units → SpareCleared s4 s5 node → BookingMade s s5 node place num price
+booking_made s s1 s2 s3 s4 s5 node place num price kind id sum units a b c d p q r t ek ei es eu w1 w2 w3 w4 z = record {
+  kept = kept_both s s4 s5 (kept_both s s3 s4 (kept_both s s2 s3 (kept_both s s1 s2 w1.kept w2.kept) w3.kept) w4.kept) z.kept;
   made = λ image i.
-      let z = cleared_by (mem s4 image) (mem s5 image) (mem s6 image) (mem s7 image) node e f g u v w (w5.written image) (w6.written image) (w7.written image) in
-      new_booking_by (mem s image) (mem s1 image) (mem s2 image) (mem s3 image) (mem s4 image) (mem s7 image) node place num price kind id sum units a b c d p q r t ek ei es eu (w1.written image) (w2.written image) (w3.written image) (w4.written image) z;
+      new_booking_by (mem s image) (mem s1 image) (mem s2 image) (mem s3 image) (mem s4 image) (mem s5 image) node place num price kind id sum units a b c d p q r t ek ei es eu
+      (w1.written image) (w2.written image) (w3.written image) (w4.written image) (z.cleared image i);
 }

@@ -1,5 +1,6 @@
 pub mod Items
 pub mod Steps
+pub mod Spare
 pub mod Bookings
 pub mod Heap
 pub mod Represents

@@ -7,7 +7,7 @@ ghost use Rattle.vac_model.specs.Step.{extended};
 ghost use Rattle.vac_records.specs.Items.{IsNode};
 ghost use Rattle.vac_records.specs.Customers.{BookingMade, BookingRead, BookingChanged, CanExtend};
 
-use crate::word::raise;
+use crate::word::{clear_spare, raise};
 use stm_words::{TxMem, TxRead, load, store};
 use tx_alloc::Block;
 use tx_list::{Key, place};
@@ -51,14 +51,9 @@ pub(crate) fn init_booking<M: TxMem>(
     store(memory, node.word(place::ID), key.id)?;
     store(memory, node.word(place::SUM), num as u64 * price)?;
     store(memory, node.word(place::UNITS), num as u64)?;
-    store(memory, node.word(FIRST_SPARE), 0)?;
-    store(memory, node.word(FIRST_SPARE + 1), 0)?;
-    store(memory, node.word(FIRST_SPARE + 2), 0)?;
+    clear_spare(memory, node)?;
     Ok(())
 }
-
-/// The first of the three spare words of a booking's block and of a customer's.
-pub(crate) const FIRST_SPARE: u32 = 5;
 
 /// The booking of the block.
 pub fn booking_at<M: TxRead>(memory: &mut M, node: Block) -> Result<Booking, M::Stop>

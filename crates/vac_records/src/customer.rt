@@ -8,8 +8,9 @@ ghost use Rattle.vac_records.specs.Bookings.{place_key};
 ghost use Rattle.vac_records.specs.Items.{IsNode};
 ghost use Rattle.vac_records.specs.Customers.{head_of, CustomerMade, CanBook, BookedAt, Booked, UnbookedAt, Unbooked, CanBill, Billed};
 
-use crate::booking::{FIRST_SPARE, init_booking, key_of, sum_at, units_at};
+use crate::booking::{init_booking, key_of, sum_at, units_at};
 use crate::place;
+use crate::word::clear_spare;
 use stm_words::{TxMem, TxRead, store};
 use tx_alloc::Block;
 use tx_alloc::place::MOST_BLOCKS;
@@ -26,9 +27,7 @@ pub fn init_customer<M: TxMem>(memory: &mut M, node: Block, key: u32) -> Result<
 {
     store(memory, node.word(place::KEY), key as u64)?;
     store(memory, node.word(place::BOOKINGS), 0)?;
-    store(memory, node.word(FIRST_SPARE), 0)?;
-    store(memory, node.word(FIRST_SPARE + 1), 0)?;
-    store(memory, node.word(FIRST_SPARE + 2), 0)?;
+    clear_spare(memory, node)?;
     Ok(())
 }
 

@@ -1,9 +1,14 @@
 //! Words of a block.
 
 ghost use Rattle.std.specs.Prelude.{◌≡◌, ◌+◌, ◌-◌, ◌<◌, IfOk};
-ghost use Rattle.vac_records.specs.Items.{RoomAt, EnoughAt, Shifted};
+ghost use Rattle.vac_records.specs.Items.{IsNode, RoomAt, EnoughAt, Shifted};
+ghost use Rattle.vac_records.specs.Spare.{WordCleared, SpareCleared};
 
 use stm_words::{Addr, TxMem, load, store};
+use tx_alloc::Block;
+
+/// The first of the three spare words of a booking's block and of a customer's.
+const FIRST_SPARE: u32 = 5;
 
 /// Adds a number to a word.
 #[inline]
@@ -30,5 +35,34 @@ pub(crate) fn lower<M: TxMem>(memory: &mut M, word: Addr, by: u64) -> Result<(),
 {
     let value = load(memory, word)?;
     store(memory, word, value - by)?;
+    Ok(())
+}
+
+/// Lets a word be 0. One that is 0 already is read and not written: a read costs less than a lock,
+/// a store and a release.
+#[inline]
+fn clear<M: TxMem>(memory: &mut M, word: Addr) -> Result<(), M::Stop>
+    requires { word.0 < (M.view memory.old).size }
+    ensures origin { M.origin memory.new ≡ M.origin memory.old }
+    ensures answer { IfOk result (λ _.
+        WordCleared (M.view memory.old) (M.view memory.new) word.0) }
+{
+    if load(memory, word)? == 0 {
+        return Ok(());
+    }
+    store(memory, word, 0)?;
+    Ok(())
+}
+
+/// Lets the three spare words of a booking's block or of a customer's be 0.
+pub(crate) fn clear_spare<M: TxMem>(memory: &mut M, node: Block) -> Result<(), M::Stop>
+    requires { IsNode (M.view memory.old) node }
+    ensures origin { M.origin memory.new ≡ M.origin memory.old }
+    ensures answer { IfOk result (λ _.
+        SpareCleared (M.view memory.old) (M.view memory.new) node) }
+{
+    clear(memory, node.word(FIRST_SPARE))?;
+    clear(memory, node.word(FIRST_SPARE + 1))?;
+    clear(memory, node.word(FIRST_SPARE + 2))?;
     Ok(())
 }
