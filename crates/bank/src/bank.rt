@@ -78,7 +78,7 @@ impl Bank {
     }
 
     /// Moves an amount from one account to another as a transaction, by at most so many attempts,
-    /// and answers whether there was enough. After any stop the balances are as before.
+    /// and answers whether there was enough. A stopped transfer moves nothing.
     pub fn transfer(
         &self,
         teller: &mut Teller,

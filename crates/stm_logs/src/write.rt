@@ -142,6 +142,7 @@ impl<A: Allocator + Copy> WriteLog<A> {
         ensures { result ≡ length (log_locks self.now) }
     {
         self.few_locks();
+        // Read so that the proof has its range.
         let _most = self.len();
         self.locks().count()
     }

@@ -13,6 +13,9 @@ use stm_words::{Law, Version};
 
 /// A client of a region: the right to make its steps. Contracts see which table it belongs to and
 /// its value: its running attempt, the locks that it holds and the records of its commits.
+///
+/// A client that is dropped and not gathered is out for good: its region can then be neither closed
+/// nor renewed, and a lock that it held stays held.
 pub struct Client<L: Law> {
     pub(crate) seat: Seat<(), View>,
     pub(crate) grants: u64,

@@ -35,7 +35,7 @@ impl<A: Allocator + Copy> Model for Core<A> {
 
 impl<A: Allocator + Copy> Core<A> {
     /// A region just opened on an image: clock 0, every lock free with version 0, and client 1
-    /// with all grants but its own.
+    /// with all 63 grants.
     ///
     /// # Errors
     ///

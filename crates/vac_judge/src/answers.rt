@@ -1,4 +1,5 @@
-//! The numbers of a reply are those of its type.
+//! The numbers of a reply are those of its type. A proof knows the range of a value once the code
+//! has read it: these functions read, and do nothing else.
 
 ghost use Rattle.std.specs.Prelude.{◌≤◌, All, length};
 ghost use Rattle.vac_judge.specs.CallText.{IsPick, IsReply};

@@ -219,7 +219,7 @@ IsNext last before now (Err fault.Memory) = now ≡ before
 IsNext last before now (Err (fault.Busy conflict)) = ⊥
 IsNext last before now (Err (fault.Spent version)) = before ≡ last
 
--- why a call of a task was not made: its numbers, a conflict that the last attempt showed, or,
+-- why a call of a task was not answered: its numbers, a conflict that the last attempt showed, or,
 -- where the task may write, want of memory or a spent clock
 abbrev pub IsFault : RegionShown → Task → ℕ → Fault → Client → Client → Type 0
 IsFault region t tries fault.Arguments v v' = (is_call t tries ≡ false) × (v' ≡ v)
@@ -236,7 +236,7 @@ IsNotBusy (fault.Busy conflict) = ⊥
 IsNotBusy (fault.Spent version) = Unit {0}
 
 -- what a call of a task does: what its client is after it, what was recorded, how many attempts it
--- took, why it was not made, and, of a client that is alone, which history there is
+-- took, why it was not answered, and, of a client that is alone, which history there is
 pub record HasCalled (region : RegionShown) (t : Task) (tries : ℕ) (result : Result Reply Fault)
     (c c' : CallerShown) : Type 0 where
   pub client : c' ≡ record c { value = c'.value }

@@ -1,4 +1,4 @@
--- From why an attempt stopped to why the call was not made.
+-- From why an attempt stopped to why the call was not answered.
 use Rattle.stm_attempt.specs.declared.conflict.Stop.{Stop}
 use Rattle.stm_attempt.specs.declared.conflict.Stop.TheVariants as stop
 use Rattle.vac_manager.specs.declared.fault.Fault.{Fault}

@@ -8,6 +8,9 @@ use tx_alloc::FreeList;
 
 /// A client of a manager: the right to call it, from one thread at a time. Between calls it holds
 /// no lock. Contracts see which region it is of, its value, and its two free lists.
+///
+/// A client that is dropped and not gathered is out for good: its manager can then be neither
+/// closed nor renewed.
 #[derive(Drop)]
 pub struct Client {
     pub(crate) client: RegionClient<ManagerLaw>,

@@ -1,4 +1,4 @@
-//! Why a call of the manager was not made.
+//! Why a call of the manager was not answered.
 ghost use Rattle.std.specs.Prelude.{◌≡◌};
 ghost use Rattle.vac_manager.specs.Faults.{fault_of};
 
@@ -6,7 +6,8 @@ use stm_attempt::{Conflict, Stop};
 use stm_words::Version;
 use thiserror::Error;
 
-/// Why a call was not made. After any fault the state is as it was before.
+/// Why a call was not answered. Whatever the fault, the call has left no trace: it added no record,
+/// stored nothing and holds no lock.
 #[derive(Clone, Copy, Debug, PartialEq, Eq, Error)]
 pub enum Fault {
     /// A number is out of its range.

@@ -17,7 +17,8 @@ use stm_region::RegionFault;
 use vac_model::{Reply, Task};
 
 /// A client together with the manager that it calls. That they belong together is the type's
-/// invariant, so that no call asks for it. Contracts see both.
+/// invariant, so that no call asks for it. Contracts see both. A session that is dropped and not
+/// gathered leaves its client out for good.
 #[derive(Drop)]
 pub struct Session<'a> {
     manager: &'a Manager,
