@@ -12,7 +12,7 @@ use Rattle.stm_core.specs.Invariant.{now}
 use Rattle.stm_core.proofs.Facts.{one_version}
 use Rattle.stm_core.proofs.Lones.{at_map}
 use Rattle.stm_core.proofs.Playing.{every_list_stands}
-use Rattle.stm_core.proofs.Whole.{whole_serial, whole_lawful, whole_shared}
+use Rattle.stm_core.proofs.Whole.{whole_serial, whole_lawful, whole_shared, own_sorted}
 use Rattle.stm_region.specs.Shown.{Opened, joined}
 use Rattle.stm_core.specs.Guards.{stripe_of}
 use Rattle.stm_region.specs.Traced.{Mirrors}
@@ -40,12 +40,13 @@ module _ (fits : List ℕ → Type 0) (lawful : RecordLaw) (o : Opened) (s : Sta
 
   pub is_listed : IsListed lawful o s
   is_listed =
-      let t = h.traced in record {
+      let t = h.traced in
+      let stands = every_list_stands lawful o.first t.last o.stripes t.events t.core t.leads in record {
         last = t.last;
         events = t.events;
         core = t.core;
         leads = t.leads;
-        stands = every_list_stands lawful o.first t.last o.stripes t.events t.core t.leads;
+        stands = stands;
         gap = h.gap;
         pad = h.pad;
         words = h.words ∙ ap (λ (c : Core). listed h.gap h.pad c) t.same;
@@ -53,6 +54,8 @@ module _ (fits : List ℕ → Type 0) (lawful : RecordLaw) (o : Opened) (s : Sta
         locks = sym (ap (λ (c : Core). length c.locks) t.same) ∙ h.locks;
         before_cells = h.before_cells;
         clients = subst (λ vs. Mirrors vs t.core.clients) (sym h.views) t.clients;
+        sorted = λ i v e. own_sorted lawful (stripe_of o.stripes) h.core h.rule i v (subst (λ cs. get_elem? cs i ≡ some v) h.views e);
+        core_sorted = own_sorted lawful (stripe_of o.stripes) t.core stands.rule;
         first = sym (ap (λ (c : Core). c.first) t.same) ∙ h.first;
         renewal = sym (ap (λ (c : Core). c.renewal) t.same) ∙ h.renewal;
         opening = sym (ap (λ (c : Core). c.opening) t.same) ∙ h.opening;

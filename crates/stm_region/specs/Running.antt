@@ -1,9 +1,12 @@
 -- What holds of a region's table between any two steps of any threads: it is where a list of
 -- allowed events leads, so that all holds of it that holds of such a list.
 use Rattle.std.specs.Prelude.{◌≡◌, ℕ, ◌-◌, List, length}
+use mathlib.Core.Option.{some}
+use lib.ListN.{get_elem?}
 use Rattle.atomic_table.specs.Table.{State}
 use Rattle.stm_core.specs.Client.{Client, RecordLaw}
 use Rattle.stm_core.specs.Core.{Core, Event, opened}
+use Rattle.stm_core.specs.Invariant.{Sorted}
 use Rattle.stm_core.specs.Theorem.{Reaches, Stands}
 use Rattle.stm_region.specs.Shown.{Opened}
 use Rattle.stm_core.specs.Guards.{stripe_of}
@@ -32,6 +35,10 @@ pub record IsListed (lawful : RecordLaw) (o : Opened) (s : State (Unit {0}) Clie
   pub before_cells : length pad ≡ padding o.stripes
   -- and the core's clients
   pub clients : Mirrors s.views core.clients
+  -- in both each client's records stand in order, by renewal, then version, the writer of a version
+  -- before its readers: so none but readers of one version stand otherwise in one than in the other
+  pub sorted : (i : ℕ) (v : Client) → get_elem? s.views i ≡ some v → Sorted v.records
+  pub core_sorted : (i : ℕ) (v : Client) → get_elem? core.clients i ≡ some v → Sorted v.records
   -- the core is in the region's renewal, which was opened on the region's image
   pub first : core.first ≡ o.first
   pub renewal : core.renewal ≡ o.renewal

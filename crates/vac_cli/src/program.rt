@@ -30,8 +30,8 @@ use vac_worklist::{TasksFault, write_tasks};
 /// line was refused.
 ///
 /// Help and the version go to `output`, the text of a refused command line to `errors`. A fault is
-/// the last line of `output`, unless `output` is what failed. What a load tells on `errors` (how far
-/// it is, its numbers, with `--history` its two lines) changes neither `output` nor the status.
+/// the last line of `output`, unless `output` is what failed. What a load tells on `errors` (how
+/// far it is, its numbers, with `--history` its two lines) changes neither `output` nor the status.
 pub fn run_words<
     T: Threads + Wait + Clock + Sync + AllocGlobal,
     R: Read,
