@@ -29,7 +29,7 @@ abbrev pub unplaced_client : List Record → Client → Client
 unplaced_client rs w = record w { records = rs; attempt = unplaced_attempt w.attempt }
 
 -- a client's value in a region is that of the list, but for the places in it, and for the order of
--- its records: since both are sorted (`IsListed`), readers of one version alone may stand in another
+-- its records: since both are sorted (`IsListed`), only readers of one version may stand in another
 abbrev pub IsShadow : Client → Client → Type 0
 IsShadow v w =
     (v ≡ unplaced_client v.records w) × Shuffled v.records (map unplaced_record w.records)
