@@ -50,7 +50,7 @@ pub took_answered : (tries before now : ℕ) (end : Result Placed Fault) (placed
 took_answered tries before now end placed cs e is a same b =
     subst (λ (r : Result Placed Fault). IsEffort tries (counted (replied r) nothing) (with_call e no_effort)) is (took_effort tries before now end cs e a same b)
 
-counted_same : (R S : Type 0) (f : Fault) → counted {R = R} (Err f) nothing ≡ counted {R = S} (Err f) nothing
+pub counted_same : (R S : Type 0) (f : Fault) → counted {R = R} (Err f) nothing ≡ counted {R = S} (Err f) nothing
 counted_same R S fault.Arguments = refl
 counted_same R S fault.Memory = refl
 counted_same R S (fault.Busy conflict) = refl

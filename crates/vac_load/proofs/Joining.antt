@@ -117,6 +117,11 @@ module _ {D P : Type 0} (leads : D → ℕ → D → Type 0) (s : Settings) (sho
             let a = h.alone one in
             let b = k.alone (same ∙ one) in
             omega (arith, a, b));
+        in_time = λ one time. (
+            let same : length between ≡ length pairs = paired_length _ h.shares between h.left_are ∙ paired_length _ pairs h.shares h.each in
+            let a = h.in_time one time in
+            let b = k.in_time (same ∙ one) time in
+            omega (arith, a, b));
       }
 
 -- one round more

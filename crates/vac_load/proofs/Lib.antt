@@ -1,6 +1,7 @@
 mod Order
 mod Sessions
 mod Attempting
+mod Clocking
 mod Answering
 mod Beginning
 mod Opened

@@ -1,6 +1,6 @@
 -- A load as a whole: the opening, the clients, and the report.
 use Rattle.std.proofs.lemmas.Bool.Decides.{nat_tests}
-use Rattle.std.proofs.Common.{Bool, true, ◌≡◌, ◌∙◌, ◌⊎◌, ℕ, ◌+◌, ◌*◌, ◌-◌, ◌/◌, List, [], ◌∷◌, ◌++◌, length, length-append, map, refl, sym, inl, inr, ap, subst, arith}
+use Rattle.std.proofs.Common.{Bool, true, ◌≡◌, ◌∙◌, ◌≤◌, ◌⊎◌, ℕ, ◌+◌, ◌*◌, ◌-◌, ◌/◌, List, [], ◌∷◌, ◌++◌, length, length-append, map, refl, sym, inl, inr, ap, subst, arith}
 use Rattle.stm_words.specs.Image.{In}
 use Rattle.stm_core.specs.Client.{Client, Record}
 use Rattle.stm_region.specs.Shown.{RegionShown}
@@ -40,6 +40,13 @@ opened_known leads renewal reader v v' state last empty ran = λ r i.
     (let a = ran.answered in
     let all : v'.records ≡ a.added = a.records ∙ ap (λ (l : List Record). l ++ a.added) empty in
     added_known renewal v.floor v'.floor r (a.each r (subst (λ (l : List Record). In r l) all i)))
+
+-- an opening takes the clock on by at most one for each of its commands
+pub opened_early : {D : Type 0} (leads : D → ℕ → D → Type 0) (s : Settings) (renewal : ℕ) (v v' : Client) (state last : D) → v.floor ≡ 0 → Ran leads renewal (opening s) v v' state last → v'.floor ≤ 4 * s.items
+opened_early leads s renewal v v' state last first ran =
+    let d = ran.drawn in
+    let long = long_opening s (d.words ++ []) ran.commands [] (d.reads []) in
+    omega (arith, long, first, ran.near)
 
 -- shares without what was kept
 module _ {D : Type 0} where
@@ -113,6 +120,7 @@ loaded_kept leads s shown_of state last seats left stripes region region' opener
         tallies = all.tallies ∙ sym (tallies_drawn all.shares);
         all = ran_total leads s shown_of (s.rounds * s.tasks) ready.records after.records seats left t all ∙ (ap (λ (k : ℕ). k * (s.rounds * s.tasks)) n ∙ count);
         alone = λ one. all.alone (n ∙ one);
+        in_time = λ one time. all.in_time (n ∙ one) time;
       };
       opening_kept = kept_added opener.value ready ran.answered.added before kept ran.answered.records keeps;
       clients_kept = kept_drawn leads s shown_of (s.rounds * s.tasks) seats all.shares left all.each all.left_are;
@@ -156,6 +164,7 @@ kept_on leads s draws_of drawing state ps qs t r before after befores afters e h
     tallies = h.loaded.tallies;
     all = h.loaded.all;
     alone = h.loaded.alone;
+    in_time = h.loaded.in_time;
   };
   opening_kept = h.opening_kept;
   clients_kept = h.clients_kept;

@@ -1,5 +1,5 @@
 -- What each client did, from its client before and after.
-use Rattle.std.proofs.Common.{◌≡◌, ◌∙◌, ℕ, suc, ◌+◌, ◌-◌, ◌≤◌, List, [], ◌∷◌, ◌++◌, length, All, inl, inr, refl, sym, ap, subst, arith}
+use Rattle.std.proofs.Common.{◌≡◌, ◌∙◌, ℕ, suc, ◌+◌, ◌*◌, ◌-◌, ◌≤◌, List, [], ◌∷◌, ◌++◌, length, All, inl, inr, refl, sym, ap, subst, arith}
 use Rattle.stm_words.specs.Image.{In}
 use Rattle.stm_core.specs.Client.{Client, Record, merged}
 use Rattle.stm_core.specs.declared.limits.TheConstants.{MOST_GRANTS}
@@ -19,6 +19,7 @@ use Rattle.vac_load.specs.Keeping.{AreKept, SeatShown}
 use Rattle.vac_load.specs.Sums.{sum_of, plus, added_up}
 use Rattle.vac_load.specs.Lists.{Paired, none, both, Interleaved}
 use Rattle.vac_load.specs.Load.{InterleavedAll, all_merged, Gathered, HasWorked, IsWorker, IsCrew, AreKnown, IsInRenewal, Share, HasKeptShare, RanAll}
+use Rattle.vac_load.proofs.Clocking.{clocked_in_time}
 use Rattle.vac_load.proofs.Eras.{more_in}
 use Rattle.vac_load.proofs.Order.{IsLater, added_later, known_first, merged_behind}
 use Rattle.vac_load.proofs.Merging.{interleaved_alone, regrouped, merged_interleaved}
@@ -31,7 +32,7 @@ pub split_worker : {D : Type 0} (y before after other : SessionShown) (state : D
 split_worker y before after other state s m t f = record {
   manager_is = m ∙ t;
   records_are = ap (λ (x : CallerShown). x.value.records) s.theirs;
-  knows = let q = ap (λ (x : CallerShown). x.value.floor) s.theirs in omega (arith, q, f);
+  knows = ap (λ (x : CallerShown). x.value.floor) s.theirs ∙ f;
   draws_are = refl;
 }
 
@@ -79,7 +80,7 @@ did leads s manager floor before state seat left y y' t h w =
       added = a.added;
       records_are = a.records ∙ ap (λ (rs : List Record). rs ++ a.added) h.records_are;
       sorted = a.sorted;
-      later = λ r i. subst (λ (m : RegionShown). IsLater m.renewal floor r) h.manager_is (added_later y.manager.renewal floor y.client.value.floor y'.client.value.floor r h.knows (a.each r i));
+      later = λ r i. subst (λ (m : RegionShown). IsLater m.renewal floor r) h.manager_is (added_later y.manager.renewal floor y.client.value.floor y'.client.value.floor r (omega (arith, h.knows)) (a.each r i));
       has = record {
         has = record {
           tasks = l.tasks;
@@ -170,8 +171,10 @@ module _ {D P W R : Type 0} (leads : D → ℕ → D → Type 0) (s : Settings) 
       Gathered (λ r. (after_of r).client.value.records) tally_of first' others' after.records t →
       Paired (λ r p. shown_of p ≡ last_of r) (first' ∷ others') left →
       (session_of first).client.value.grants + length others ≡ MOST_GRANTS →
+      opener.manager.last ≡ s.last →
+      opener.client.value.floor ≤ 4 * s.items →
       RanAll leads s shown_of s.tasks opener.client.value.records pairs after.records left t
-  ran_all pairs left first others first' others' after t known h k ks g lefts grants =
+  ran_all pairs left first others first' others' after t known h k ks g lefts grants last early =
       let floor = opener.client.value.floor in
       let d = did leads s opener.manager floor opener.client.value.records (shown_of h.pair) (seat_of first) (last_of first') (session_of first) (after_of first') (counts_of first') h.opening k in
       let more = shared floor h.rest others others' h.others_are ks in
@@ -195,6 +198,15 @@ module _ {D P W R : Type 0} (leads : D → ℕ → D → Type 0) (s : Settings) 
             let quiet : sum_of (λ r. (tally_of r).busy) others' ≡ 0 = no_sum (λ r. (tally_of r).busy) others' (omega (arith, one, long, same, paired_length _ others others' ks)) in
             let busy : t.busy ≡ (tally_of first').busy + sum_of (λ r. (tally_of r).busy) others' = ap (λ (u : Tally). u.busy) g.tallies in
             omega (arith, none, quiet, busy));
+        in_time = λ one time. (
+            let long : length pairs ≡ suc (length h.rest) = ap (λ (l : List P). length l) h.pairs_are in
+            let same = paired_length _ h.rest others h.others_are in
+            let clock = k.clock (omega (arith, one, long, same, grants)) in
+            let ends : (session_of first).manager.last ≡ s.last = ap (λ (m : RegionShown). m.last) h.opening.manager_is ∙ last in
+            let none = clocked_in_time _ _ _ _ s.tasks (4 * s.items) clock k.looped.all (omega (arith, h.opening.knows, early)) (omega (arith, ends, time)) in
+            let quiet : sum_of (λ r. (tally_of r).spent) others' ≡ 0 = no_sum (λ r. (tally_of r).spent) others' (omega (arith, one, long, same, paired_length _ others others' ks)) in
+            let spent : t.spent ≡ (tally_of first').spent + sum_of (λ r. (tally_of r).spent) others' = ap (λ (u : Tally). u.spent) g.tallies in
+            omega (arith, none, quiet, spent));
       }
 
   -- what they added is of this renewal

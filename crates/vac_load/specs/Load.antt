@@ -1,12 +1,12 @@
 -- What a load promises.
-use Rattle.std.specs.Prelude.{◌≡◌, ◌≤◌, ◌<◌, ◌*◌, ◌⊎◌, ◌++◌, ◌&&◌, nat_eq, Bool, ℕ, List, [], ◌∷◌, length}
+use Rattle.std.specs.Prelude.{◌≡◌, ◌≤◌, ◌<◌, ◌+◌, ◌*◌, ◌⊎◌, ◌++◌, ◌&&◌, nat_eq, Bool, ℕ, List, [], ◌∷◌, length}
 use Rattle.stm_words.specs.Image.{In}
 use Rattle.vac_model.specs.declared.tasks.Task.{Task}
 use Rattle.stm_core.specs.Client.{Client, Record, merged}
 use Rattle.stm_core.specs.History.{Sub}
 use Rattle.stm_core.specs.Invariant.{Sorted}
 use Rattle.stm_region.specs.Shown.{RegionShown}
-use Rattle.vac_manager.specs.Called.{CallerShown}
+use Rattle.vac_manager.specs.Called.{CallerShown, HasAllGrants}
 use Rattle.vac_manager.specs.Opening.{Opens}
 use Rattle.vac_manager.specs.Session.{SessionShown, GoesOn}
 use Rattle.vac_manager.specs.declared.fault.Fault.{Fault}
@@ -16,7 +16,7 @@ use Rattle.vac_load.specs.declared.tally.Tally.{Tally}
 use Rattle.vac_load.specs.Attempted.{CountsShown}
 use Rattle.vac_load.specs.declared.workers.WorkOf.{WorkOf}
 use Rattle.vac_load.specs.declared.seats.Seat.{Seat}
-use Rattle.vac_load.specs.Looping.{Looped, AreOf, total}
+use Rattle.vac_load.specs.Looping.{Looped, Clocked, AreOf, total}
 use Rattle.vac_load.specs.Lists.{Paired, Interleaved}
 use Rattle.vac_load.specs.Keeping.{Kept, AreKept, AllKept, HasKeptAdded, SeatShown}
 use Rattle.vac_load.specs.Opening.{as_tasks, Ran, Stopped}
@@ -31,14 +31,21 @@ use Rattle.vac_draws.specs.Draws.{Drawn, times}
 use Rattle.vac_draws.specs.Tasks.{task_of, opening}
 use Rattle.vac_load.specs.Sums.{plus, added_up}
 
+-- the clock has a version for each command of the opening, and one for each task of a round of one
+-- client behind them
+abbrev pub HasTime : Settings → Type 0
+HasTime s = 4 * s.items + s.tasks ≤ s.last
+
 -- a worker ran its tasks of a round, by the settings' tries each: its session went on, its client's
--- value has what its loop made of it in its manager's renewal, and its keeper kept its answered
--- calls
+-- value has what its loop made of it in its manager's renewal and, where it is alone, by its
+-- manager's clock, and its keeper kept its answered calls
 pub record HasWorked {D : Type 0} (leads : D → ℕ → D → Type 0) (s : Settings)
     (y y' : SessionShown) (state last : SeatShown D) (t : CountsShown) : Type 0 where
   pub session : GoesOn y y'
   pub looped : Looped leads s y.manager.renewal s.tasks y.client.value y'.client.value
       state.draws last.draws t.tally
+  pub clock : HasAllGrants y.client.value
+      → Clocked y.manager.last y.client.value y'.client.value t.tally
   pub tries : t.tries ≡ s.tries
   pub kept : HasKeptAdded y.client.value y'.client.value state.kept last.kept
 
@@ -67,13 +74,13 @@ pub record Gathered {X : Type 0} (records_of : X → List Record) (tally_of : X 
   pub records_are : all ≡ all_merged records_of (records_of first) others
   pub tallies : t ≡ added_up tally_of (first ∷ others)
 
--- a worker's session is one with this manager, and its client begins with these records and a floor
--- of at least this one; and the worker has this seat
+-- a worker's session is one with this manager, and its client begins with these records and this
+-- floor; and the worker has this seat
 pub record IsWorker {D : Type 0} (manager : RegionShown) (records : List Record) (floor : ℕ)
     (state : D) (y : SessionShown) (draws : D) : Type 0 where
   pub manager_is : y.manager ≡ manager
   pub records_are : y.client.value.records ≡ records
-  pub knows : floor ≤ y.client.value.floor
+  pub knows : y.client.value.floor ≡ floor
   pub draws_are : draws ≡ state
 
 -- each seat got a session with the opening session's manager: the first that session, the others
@@ -142,7 +149,7 @@ pub record HasKeptShare {D : Type 0} (leads : D → ℕ → D → Type 0) (s : S
 -- all clients ran n tasks each, in one round or in several, and were gathered: the records of
 -- their answered tasks, and no others, stand behind those from before, each client's in their
 -- order. The seat of each client is left as its tasks left it. One client alone meets no
--- conflict
+-- conflict, and with a clock that has time it finds it at its end in no task
 pub record RanAll {D P : Type 0} (leads : D → ℕ → D → Type 0) (s : Settings)
     (shown_of : P → SeatShown D) (n : ℕ) (before : List Record) (seats : List P)
     (after : List Record) (left : List P) (t : Tally) : Type 0 where
@@ -154,6 +161,7 @@ pub record RanAll {D P : Type 0} (leads : D → ℕ → D → Type 0) (s : Setti
   pub each_once : InterleavedAll (λ x. x.records) shares rest
   pub tallies : t ≡ added_up (λ x. x.tally) shares
   pub alone : length seats ≡ 1 → t.busy ≡ 0
+  pub in_time : length seats ≡ 1 → HasTime s → t.spent ≡ 0
 
 -- one round more was run, from these records, seats and tally on
 pub record RanMore {D P : Type 0} (leads : D → ℕ → D → Type 0) (s : Settings)
@@ -219,7 +227,8 @@ IsLoadFault {D} leads s state e =
 -- others, one round behind the other. A client's tasks are drawn one behind the other over all
 -- rounds, and those of them that were answered stand in the history in their order. Each version
 -- has at most one writer, and a reader wrote nothing. The tally counts all tasks of all clients in
--- all rounds; no task of one client alone is busy
+-- all rounds; no task of one client alone is busy, and where the clock has time none finds it at
+-- its end
 pub record Loaded {D P : Type 0} (leads : D → ℕ → D → Type 0) (s : Settings) (draws_of : P → D)
     (state : D) (pairs : List P) (t : Tally) (r : Report) : Type 0 where
   pub history : List Record
@@ -241,6 +250,7 @@ pub record Loaded {D P : Type 0} (leads : D → ℕ → D → Type 0) (s : Setti
   pub tallies : t ≡ added_up (λ x. x.tally) shares
   pub all : total t ≡ s.rounds * s.clients * s.tasks
   pub alone : s.clients ≡ 1 → t.busy ≡ 0
+  pub in_time : s.clients ≡ 1 → HasTime s → t.spent ≡ 0
 
 -- a load whose keepers kept the answered calls: the opening's keeper those of the opening, and the
 -- keeper of each client those of its client's tasks, each call once, in the order of its records

@@ -78,6 +78,12 @@ pub record Looped {D : Type 0} (leads : D → ℕ → D → Type 0) (s : Setting
   pub attempts : v.attempt.number + least_attempts s.tries t ≤ v'.attempt.number
   pub alone : HasAllGrants v → t.busy ≡ 0
 
+-- a client was alone, and its clock ends at this version. Each answer took the version that it
+-- knows on by at most one; where a task found the clock at its end, the answers took it there
+pub record Clocked (last : ℕ) (v v' : Client) (t : Tally) : Type 0 where
+  pub near : t.spent ≡ 0 → v'.floor ≤ v.floor + t.answered
+  pub spent : 0 < t.spent → last ≤ v.floor + t.answered
+
 -- how many attempts a task made at least that ended so, with so many tries
 abbrev pub attempts_of : {R : Type 0} → ℕ → Result R Fault → ℕ
 attempts_of tries end = least_attempts tries (counted end nothing)

@@ -8,7 +8,7 @@ use vac_manager::Effort;
 
 /// How many attempts the calls of a load took, and how many of these ended in a conflict of each
 /// kind.
-#[derive(Clone, Copy, Debug, PartialEq, Eq, Default)]
+#[derive(Clone, Copy, Debug, PartialEq, Eq)]
 pub struct Efforts {
     /// How many attempts were begun.
     pub attempts: u64,

@@ -1,6 +1,6 @@
 //! Sessions that are split off for a round, and gathered after it.
 
-ghost use Rattle.std.specs.Prelude.{◌≡◌, ◌≤◌, ◌<◌, ◌+◌, ◌⊎◌, ◌∷◌, [], true, All, vec_len, vec_capacity, IfOk, IfErr};
+ghost use Rattle.std.specs.Prelude.{◌≡◌, ◌≤◌, ◌<◌, ◌+◌, ◌*◌, ◌⊎◌, ◌∷◌, [], true, All, vec_len, vec_capacity, IfOk, IfErr};
 ghost use Rattle.stm_core.specs.declared.limits.TheConstants.{MOST_GRANTS};
 ghost use Rattle.vac_manager.specs.Called.{HasAllGrants};
 ghost use Rattle.vac_load.specs.Looping.{total};
@@ -140,6 +140,8 @@ pub(crate) fn run_clients<
     requires known { AreKnown session.manager.renewal
         session.client.value.floor session.client.value.records }
     requires era { IsInRenewal session.manager.renewal session.client.value.records }
+    requires last { session.manager.last ≡ settings.now.last }
+    requires early { session.client.value.floor ≤ 4 * settings.now.items }
     ensures own { IfOk result (λ r. r.client.table ≡ session.entry.manager.table) }
     ensures alone { IfOk result (λ r. HasAllGrants r.client.value) }
     ensures ran { IfOk result (λ r. RanAll D.leads settings.now (shown K.notes)

@@ -2,11 +2,10 @@
 
 ghost use Rattle.std.specs.Prelude.{◌≡◌, ◌≢◌, true, IfErr, IfOk};
 ghost use Rattle.vac_model.specs.Ranges.{is_task};
-ghost use Rattle.vac_manager.specs.Called.{is_try_count};
+ghost use Rattle.vac_manager.specs.Called.{is_try_count, HasAllGrants};
 ghost use Rattle.vac_draws.specs.Setting.{is_settings};
-ghost use Rattle.vac_manager.specs.Placed.{nothing_done};
 ghost use Rattle.vac_manager.specs.Session.{GoesOn};
-ghost use Rattle.vac_load.specs.Looping.{Looped, RanOne, nothing, counted};
+ghost use Rattle.vac_load.specs.Looping.{Looped, RanOne, Clocked, nothing, counted};
 ghost use Rattle.vac_load.specs.Keeping.{HasKeptAdded};
 ghost use Rattle.vac_load.specs.Attempted.{IsEffort, no_effort, with_call};
 
@@ -17,20 +16,6 @@ use stm_attempt::{Gate, Point};
 use vac_draws::{Draws, Settings, draw_task};
 use vac_manager::{Effort, Fault, Keep, Session, Unkept};
 use vac_model::Task;
-
-/// What no call took.
-fn no_call() -> Effort
-    ensures { result ≡ nothing_done }
-{
-    Effort {
-        attempts: 0,
-        held: 0,
-        newer: 0,
-        moved: 0,
-        lost_lock: 0,
-        lost_tick: 0,
-    }
-}
 
 /// Asks for a task that was drawn, keeps the call where it is answered, and tells the gate then.
 /// Where there is no room to keep it, the task is not asked for. Beside how it ended, answers what
@@ -48,15 +33,17 @@ fn ask_for<G: Gate, K: Keep>(
     ensures in_range { IfErr result.0 (λ fault. fault ≢ Fault.Arguments) }
     ensures one { RanOne session.old.manager.renewal task tries result.0
         session.old.client.value session.new.client.value }
+    ensures clock { HasAllGrants session.old.client.value → Clocked session.old.manager.last
+        session.old.client.value session.new.client.value (counted result.0 nothing) }
     ensures took { IsEffort tries (counted result.0 nothing) (with_call result.1 no_effort) }
     ensures kept { HasKeptAdded session.old.client.value session.new.client.value
         (K.notes keep.old) (K.notes keep.new) }
 {
     let Ok(task) = task else {
-        return (Err(Fault::Memory), no_call());
+        return (Err(Fault::Memory), Effort::new());
     };
     if keep.begin().is_err() {
-        return (Err(Fault::Memory), no_call());
+        return (Err(Fault::Memory), Effort::new());
     }
     let (end, effort) = session.call_placed(&task, tries, gate);
     match end {
@@ -85,6 +72,8 @@ pub(crate) fn count_loop<D: Draws, G: Gate, K: Keep>(
     ensures session { GoesOn session.old session.new }
     ensures looped { Looped D.leads settings.now session.old.manager.renewal settings.now.tasks
         session.old.client.value session.new.client.value draws.old draws.new result.tally }
+    ensures clock { HasAllGrants session.old.client.value → Clocked session.old.manager.last
+        session.old.client.value session.new.client.value result.tally }
     ensures tries { result.tries ≡ settings.now.tries }
     ensures kept { HasKeptAdded session.old.client.value session.new.client.value
         (K.notes keep.old) (K.notes keep.new) }
@@ -112,6 +101,8 @@ pub fn client_loop<D: Draws, G: Gate>(
     ensures session { GoesOn session.old session.new }
     ensures looped { Looped D.leads settings.now session.old.manager.renewal settings.now.tasks
         session.old.client.value session.new.client.value draws.old draws.new result }
+    ensures clock { HasAllGrants session.old.client.value → Clocked session.old.manager.last
+        session.old.client.value session.new.client.value result }
 {
     let keep = &mut Unkept;
     count_loop(alloc, session, draws, settings, gate, keep)

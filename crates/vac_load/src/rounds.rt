@@ -135,6 +135,8 @@ pub(crate) fn run_rounds<
     requires number { vec_len seats ≡ settings.now.clients }
     requires known { AreKnown manager.renewal client.value.floor client.value.records }
     requires era { IsInRenewal manager.renewal client.value.records }
+    requires last { manager.last ≡ settings.now.last }
+    requires early { client.value.floor ≤ 4 * settings.now.items }
     ensures own { IfOk result (λ r. r.round.client.table ≡ r.manager.table) }
     ensures alone { IfOk result (λ r. HasAllGrants r.round.client.value) }
     ensures size { IfOk result (λ r. r.manager.size ≡ manager.size) }

@@ -28,7 +28,7 @@ pub struct Placed {
 }
 
 /// What a call took: how many attempts, and how many of them ended in a conflict of each kind.
-#[derive(Clone, Copy, Debug, PartialEq, Eq, Default)]
+#[derive(Clone, Copy, Debug, PartialEq, Eq)]
 pub struct Effort {
     /// How many attempts were begun.
     pub attempts: u32,
@@ -66,7 +66,7 @@ impl Traced {
 
 impl Effort {
     /// No attempt.
-    pub(crate) fn new() -> Effort
+    pub fn new() -> Effort
         ensures { result ≡ nothing_done }
     {
         Effort {

@@ -35,6 +35,7 @@ returns-clause-tries g c = c.gather_all.ensures.tries ∙ c.in_ok-crew-2.ensures
 pub returns-clause-ran : goal.returns-clause-ran
 returns-clause-ran g c = ran_all g.D.Draws.leads c.args.settings.now c.args.session (shown g.K.Keep.notes) (λ w. w.session) (λ w. shown g.K.Keep.notes w.seat) (λ r. r.worker.session) (λ r. shown g.K.Keep.notes r.worker.seat) (λ r. r.tally) _ _ _ _ _ _ c.gather_all.result.client.value _
     c.requires.known c.in_ok-crew.ensures.crew c.in_ok-crew-2.ensures.first c.in_ok-crew-2.ensures.others c.gather_all.ensures.gathered c.gather_all.ensures.seats (omega (arith, c.in_ok-crew.ensures.grants))
+    c.requires.last c.requires.early
 
 pub returns-clause-number : goal.returns-clause-number
 returns-clause-number g c =

@@ -60,6 +60,6 @@ returns-clause-crew g c =
       pair = c.in-Some.seat;
       rest = into_iter_items c.into_iter-another-iterator.result;
       pairs_are = sym c.into_iter-seats.ensures.rest ∙ (c.in-Some.ensures.items ∙ ap (λ it. c.in-Some.seat ∷ into_iter_items it) (sym c.into_iter-another-iterator.ensures.into_iter_gives));
-      opening = record { manager_is = i.manager; records_are = i.records; knows = omega (arith, i.floor); draws_are = refl };
+      opening = record { manager_is = i.manager; records_are = i.records; knows = i.floor; draws_are = refl };
       others_are = paired_all _ _ _ _ _ i.all (nothing_left c.loop-another.another-iterator end.steps.0) i.crew;
     }

@@ -7,7 +7,7 @@ use Rattle.vac_load.specs.Load.{IsStopOfLoad, RanAll}
 use Rattle.vac_load.specs.Opening.{Ran, Stopped}
 use Rattle.vac_load.specs.Attempted.{IsEffort}
 use Rattle.vac_load.proofs.Opened.{handed_on}
-use Rattle.vac_load.proofs.Loads.{loaded_kept, opened_known, was_opened, was_stopped, stop_behind}
+use Rattle.vac_load.proofs.Loads.{loaded_kept, opened_known, opened_early, was_opened, was_stopped, stop_behind}
 use Rattle.vac_load.proofs.Eras.{opened_in}
 use Rattle.vac_load.proofs.load.run_in_range.Goals as goal
 
@@ -22,6 +22,12 @@ run_rounds-requires-clause-era g c = λ _ _.
     let ran = subst (λ (y : SessionShown). Ran g.D.Draws.leads y.manager.renewal (opening c.args.settings.now) y.client.value c.open_kept.new.session.client.value c.args.opening.now c.open_kept.new.draws) c.of-session.ensures c.in_default-open_kept.ensures.ran in
     rw c.into_client-client.ensures.client (opened_in g.D.Draws.leads c.in-Ok.manager.renewal _ c.in-Ok.client.value c.open_kept.new.session.client.value c.args.opening.now c.open_kept.new.draws
     (ap (λ (x : CallerShown). x.value.records) c.in-Ok.ensures.ok.client_is) ran)
+
+pub run_rounds-requires-clause-early : goal.run_rounds-requires-clause-early
+run_rounds-requires-clause-early g c = λ _ _.
+    let ran = subst (λ (y : SessionShown). Ran g.D.Draws.leads y.manager.renewal (opening c.args.settings.now) y.client.value c.open_kept.new.session.client.value c.args.opening.now c.open_kept.new.draws) c.of-session.ensures c.in_default-open_kept.ensures.ran in
+    rw c.into_client-client.ensures.client (opened_early g.D.Draws.leads c.args.settings.now c.in-Ok.manager.renewal c.in-Ok.client.value c.open_kept.new.session.client.value c.args.opening.now c.open_kept.new.draws
+    (ap (λ (x : CallerShown). x.value.floor) c.in-Ok.ensures.ok.client_is) ran)
 
 pub returns-clause-kept : goal.returns-clause-kept
 returns-clause-kept g c =

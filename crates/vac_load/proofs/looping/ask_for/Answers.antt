@@ -1,5 +1,6 @@
 use Rattle.std.proofs.Common.{rules, refl}
 use Rattle.vac_load.proofs.Attempting.{took_answered, took_refused, took_none}
+use Rattle.vac_load.proofs.Clocking.{clocked_quiet, clocked_answered, clocked_refused}
 use Rattle.vac_load.proofs.Notes.{kept_none, kept_answered, kept_refused}
 use Rattle.vac_load.proofs.looping.ask_for.Goals as goal
 
@@ -32,3 +33,19 @@ returns-in_default-clause-took g c = took_none c.args.tries _ (search rules)
 
 pub returns-then-is_err-clause-took : goal.returns-then-is_err-clause-took
 returns-then-is_err-clause-took g c = took_none c.args.tries _ (search rules)
+
+pub returns-in_default-clause-clock : goal.returns-in_default-clause-clock
+returns-in_default-clause-clock g c = λ _. clocked_quiet _ _ _ refl
+
+pub returns-then-is_err-clause-clock : goal.returns-then-is_err-clause-clock
+returns-then-is_err-clause-clock g c = λ _. clocked_quiet _ _ _ refl
+
+pub returns-in-Ok-end-clause-clock : goal.returns-in-Ok-end-clause-clock
+returns-in-Ok-end-clause-clock g c = λ alone.
+    clocked_answered c.args.session.now.manager.last c.call_placed-end.result.0 c.in-Ok-end.placed c.args.session.now.client.value c.call_placed-end.new.self.client.value
+    c.in-Ok-end.is (c.call_placed-end.ensures.called.next alone)
+
+pub returns-in-Err-clause-clock : goal.returns-in-Err-clause-clock
+returns-in-Err-clause-clock g c = λ alone.
+    clocked_refused c.args.session.now.manager.last c.call_placed-end.result.0 c.in-Err.fault c.args.session.now.client.value c.call_placed-end.new.self.client.value
+    c.in-Err.is (c.call_placed-end.ensures.called.next alone)

@@ -23,6 +23,13 @@ run_clients-requires-clause-era g c = λ _ _.
     rw c.of-session.ensures (renewed_in c.args.progress.manager c.in-Ok.renewed.0 c.args.progress.round.client c.in-Ok.renewed.1 _ c.in-Ok.ensures.words
     (ap (λ (r : RegionShown). r.renewal) c.in-Ok.ensures.manager) (ap (λ (x : CallerShown). x.value.records) c.in-Ok.ensures.client) c.requires.era)
 
+pub run_clients-requires-clause-last : goal.run_clients-requires-clause-last
+run_clients-requires-clause-last g c = λ _ _. rw c.of-session.ensures (ap (λ (r : RegionShown). r.last) c.in-Ok.ensures.manager)
+
+pub run_clients-requires-clause-early : goal.run_clients-requires-clause-early
+run_clients-requires-clause-early g c = λ _ _.
+    rw c.of-session.ensures (let none : c.in-Ok.renewed.1.value.floor ≡ 0 = ap (λ (x : CallerShown). x.value.floor) c.in-Ok.ensures.client in omega (arith, none))
+
 pub plus-requires : goal.plus-requires
 plus-requires g c =
     let most = few c.args.settings.now c.requires.settings in

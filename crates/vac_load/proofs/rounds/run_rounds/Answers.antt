@@ -8,6 +8,12 @@ use Rattle.vac_load.proofs.rounds.run_rounds.Goals as goal
 pub run_clients-requires-clause-known : goal.run_clients-requires-clause-known
 run_clients-requires-clause-known g c = λ _ _. rw c.of-session.ensures c.requires.known
 
+pub run_clients-requires-clause-last : goal.run_clients-requires-clause-last
+run_clients-requires-clause-last g c = λ _ _. rw c.of-session.ensures c.requires.last
+
+pub run_clients-requires-clause-early : goal.run_clients-requires-clause-early
+run_clients-requires-clause-early g c = λ _ _. rw c.of-session.ensures c.requires.early
+
 pub rounds-init : goal.rounds-init
 rounds-init g c =
     let one : c.args.settings.now.tasks ≡ 1 * c.args.settings.now.tasks = omega arith in
