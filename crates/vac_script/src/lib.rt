@@ -12,4 +12,3 @@ pub use check::check_words;
 pub use dump::dump_script;
 pub use fault::RunFault;
 pub use script::run_script;
-pub use system::LAST_VERSION;

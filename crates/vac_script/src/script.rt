@@ -5,6 +5,7 @@ ghost use Rattle.std.specs.Prelude.{OnOk, OnErr, IfOk, IfErr};
 ghost use Rattle.std.specs.Io.KnownBytes.{Appends};
 ghost use Rattle.vac_model.specs.State.{State};
 ghost use Rattle.vac_model.specs.Ranges.{is_block_count, is_task};
+ghost use Rattle.vac_manager.specs.Called.{HasAllGrants};
 ghost use Rattle.vac_manager.specs.Legal.{capacity_of};
 ghost use Rattle.vac_lines.specs.Text.{Extends};
 ghost use Rattle.vac_lines.specs.LineTable.{line_task};
@@ -250,6 +251,7 @@ pub(crate) fn run_input<R: Read, W: Write>(
 ) -> Result<Client, RunFault>
     requires fresh { IsNew system }
     ensures own { IfOk result (λ client. client.table ≡ system.entry.manager.table) }
+    ensures alone { IfOk result (λ client. HasAllGrants client.value) }
     ensures ok { IfOk result (λ client. RanAll (capacity_of system.entry.manager)
         (record { manager = system.entry.manager; client = client })
         (R.remaining input.old) (R.remaining input.new)

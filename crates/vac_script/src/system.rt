@@ -4,6 +4,7 @@ ghost use Rattle.std.specs.Prelude.{◌≡◌, true, IfOk, IfErr};
 ghost use Rattle.vac_model.specs.State.{State};
 ghost use Rattle.vac_model.specs.Run.{run};
 ghost use Rattle.vac_model.specs.Ranges.{is_block_count, is_task};
+ghost use Rattle.vac_manager.specs.Called.{HasAllGrants};
 ghost use Rattle.vac_manager.specs.Law.{Shows};
 ghost use Rattle.vac_manager.specs.Legal.{IsHistory};
 ghost use Rattle.vac_script.specs.declared.fault.RunFault.TheVariants.{Memory};
@@ -12,12 +13,12 @@ ghost use Rattle.vac_script.specs.System.{IsAlone, OpensAlone, StandsAt, Lasts, 
 use crate::fault::RunFault;
 use std::alloc::Global;
 use std::marker::Model;
-use stm_region::VERSION_LIMIT;
+use stm_region::{RegionFault, VERSION_LIMIT};
 use vac_manager::{Client, Fault, Manager, Session};
 use vac_model::{Reply, Task};
 
 /// The version that the clock ends at: the last one that there is.
-pub const LAST_VERSION: u64 = VERSION_LIMIT - 1;
+pub(crate) const LAST_VERSION: u64 = VERSION_LIMIT - 1;
 
 /// The session of a manager's one client, which runs each task as a transaction and commits it.
 #[derive(Drop)]
@@ -51,6 +52,7 @@ impl<'a> System<'a> {
     pub(crate) fn into_client(self) -> Client
         ensures client { result ≡ self.entry.client }
         ensures own { result.table ≡ self.entry.manager.table }
+        ensures alone { HasAllGrants result.value }
     {
         self.session.into_client()
     }
@@ -85,19 +87,27 @@ pub(crate) fn open(alloc: Global, blocks: u32) -> Result<(Manager, Client), RunF
 {
     match Manager::new(alloc, blocks, LAST_VERSION) {
         Ok(opened) => Ok(opened),
-        Err(_) => Err(RunFault::Memory),
+        Err(fault) => {
+            prove!(fault == Fault::Memory);
+            Err(RunFault::Memory)
+        }
     }
 }
 
-/// Ends a manager with its one client, and answers the words of its memory.
+/// Ends a manager with its one client, and answers the words of its memory. That is refused for
+/// want of memory alone.
 pub(crate) fn close(manager: Manager, client: Client) -> Result<Vec<u64>, RunFault>
     requires own { client.table ≡ manager.table }
+    requires alone { HasAllGrants client.value }
     ensures words { IfOk result (λ words. (s : State)
         → IsHistory manager client.value.records s → Shows words.items s) }
     ensures memory { IfErr result (λ fault. fault ≡ Memory) }
 {
     match manager.close(client) {
         Ok((words, _version)) => Ok(words),
-        Err(_) => Err(RunFault::Memory),
+        Err((_, _, fault)) => {
+            prove!(fault == RegionFault::Memory);
+            Err(RunFault::Memory)
+        }
     }
 }
