@@ -1,5 +1,5 @@
 -- The calls of a load whose keepers are journals.
-use Rattle.std.proofs.Common.{◌≡◌, ◌∙◌, refl, sym, ap, subst, ℕ, List, [], ◌∷◌, Option, Some, None, map, length, suc}
+use Rattle.std.proofs.Common.{◌≡◌, ◌∙◌, refl, sym, ap, subst, List, [], ◌∷◌, Some, map, length, suc}
 use Rattle.std.specs.List.{All}
 use Rattle.std.proofs.lemmas.List.{length-map}
 use Rattle.std.proofs.lemmas.List.Elements.{All-head, All-tail}
@@ -12,7 +12,7 @@ use Rattle.vac_history.specs.History.{notes_of}
 use Rattle.vac_load.specs.declared.seats.Keepers.{Keepers}
 use Rattle.vac_load.specs.declared.load.LoadReport.{LoadReport}
 use Rattle.vac_load.specs.Lists.{Paired, none, both}
-use Rattle.vac_load.specs.Keeping.{Kept, AreKept, AllKept, none_kept, one_kept}
+use Rattle.vac_load.specs.Keeping.{Kept, AreKept, AllKept, one_kept}
 use Rattle.vac_load.specs.Streams.{KeptBySeed}
 use Rattle.vac_cli.specs.Load.{HasNoted}
 

@@ -1,11 +1,11 @@
 -- The calls of a load are those of its records.
-use Rattle.std.proofs.Common.{◌≡◌, ◌∙◌, ℕ, zero, suc, List, [], ◌∷◌, ◌++◌, get_or, set, map, refl, sym, ap, subst}
+use Rattle.std.proofs.Common.{◌≡◌, ℕ, zero, suc, List, [], ◌∷◌, ◌++◌, get_or, set, map, refl, sym, ap, subst}
 use Rattle.stm_core.specs.Client.{Record}
 use Rattle.vac_draws.specs.declared.settings.Settings.{Settings}
 use Rattle.vac_manager.specs.declared.note.Note.{Note}
 use Rattle.vac_manager.specs.Keeping.{IsNoted}
 use Rattle.vac_history.specs.Turns.{EachInTurn}
-use Rattle.vac_history.specs.Order.{Entry, entries_of, entries_from, list_at, Interleaves, IsMerged, AreOrdered}
+use Rattle.vac_history.specs.Order.{Entry, entries_of, entries_from, Interleaves, IsMerged, AreOrdered}
 use Rattle.vac_history.specs.History.{call_of}
 use Rattle.vac_history.specs.Legal.{AreCallsOf, AreRecorded, AreLegal}
 use Rattle.vac_history.proofs.Legality.{ordered_calls_legal}

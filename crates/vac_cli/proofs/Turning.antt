@@ -1,5 +1,5 @@
 -- The calls of a load's journals stand in order.
-use Rattle.std.proofs.Common.{◌≡◌, ◌∙◌, ◌≤◌, ◌<◌, ◌&&◌, ◌||◌, eqb, ltb, cond, Bool, true, false, refl, sym, ap, subst, arith, ℕ, zero, suc, List, [], ◌∷◌, ◌++◌, get_or, length, map}
+use Rattle.std.proofs.Common.{◌≡◌, ◌≤◌, ◌<◌, ◌&&◌, ◌||◌, eqb, ltb, Bool, false, refl, sym, subst, arith, ℕ, zero, suc, List, [], ◌∷◌, ◌++◌, get_or, length, map}
 use Rattle.std.proofs.lemmas.Bool.Decides.{nat_tests}
 use Rattle.stm_words.specs.Image.{In}
 use Rattle.stm_core.specs.Client.{Record, before, rank}
@@ -8,7 +8,6 @@ use Rattle.stm_core.specs.Invariant.{Sorted}
 use Rattle.stm_core.proofs.Merging.{in_sub}
 use Rattle.vac_draws.specs.declared.settings.Settings.{Settings}
 use Rattle.vac_manager.specs.declared.placed.Place.{Place}
-use Rattle.vac_manager.specs.Placed.{place_of}
 use Rattle.vac_manager.specs.declared.note.Note.{Note}
 use Rattle.vac_manager.specs.Keeping.{IsNoted}
 use Rattle.vac_history.specs.declared.journal.Journal.{Journal}

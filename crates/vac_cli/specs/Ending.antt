@@ -1,5 +1,5 @@
 -- How the program says that a fault ended it.
-use Rattle.std.specs.Prelude.{ℕ, Option, List, [], codes}
+use Rattle.std.specs.Prelude.{◌≡◌, ◌≢◌, ◌⊎◌, ℕ, Option, List, [], codes}
 use Rattle.vac_lines.specs.Script.{as_line}
 use Rattle.vac_lines.specs.Writing.{AppendsPrefix}
 use Rattle.vac_script.specs.declared.fault.RunFault.{RunFault}
@@ -32,7 +32,17 @@ load_fault_line load.Memory = as_line (codes "fault memory")
 load_fault_line load.Spawn = as_line (codes "fault spawn")
 load_fault_line (load.Opening fault) = as_line (codes "fault opening")
 
--- behind what was written before a fault, a prefix of the line that names a fault was written
-abbrev pub NamedAfter : (Option (List ℕ) → Type 0) → Option (List ℕ) → Type 0
-NamedAfter before holds = (held : Option (List ℕ)) × before held
-    × ((fault : RunFault) × AppendsPrefix held holds (fault_line fault))
+-- a fault that can stop what reads its input: the clock is never spent, and no client meets another
+abbrev pub CanStopReading : RunFault → Type 0
+CanStopReading fault = (fault ≢ run.Spent) × (fault ≢ run.Busy)
+
+-- a fault that can stop what only writes
+abbrev pub CanStopWriting : RunFault → Type 0
+CanStopWriting fault = (fault ≡ run.Memory) ⊎ (fault ≡ run.Write)
+
+-- behind what was written before a fault, a prefix of the line that names a fault was written, one
+-- of those that can stop this
+abbrev pub NamedAfter : (RunFault → Type 0) → (Option (List ℕ) → Type 0) → Option (List ℕ)
+    → Type 0
+NamedAfter can_stop before holds = (held : Option (List ℕ)) × before held
+    × ((fault : RunFault) × can_stop fault × AppendsPrefix held holds (fault_line fault))

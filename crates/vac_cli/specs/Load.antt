@@ -1,12 +1,14 @@
 -- The lines that a load writes.
-use Rattle.std.specs.Prelude.{◌≡◌, ℕ, ◌⊎◌, true, false, Bool, List, ◌∷◌, ◌++◌, map, Option, codes}
+use Rattle.std.specs.Prelude.{◌≢◌, ℕ, ◌⊎◌, true, false, Bool, List, ◌∷◌, ◌++◌, map, Option, codes}
 use Rattle.std.specs.Io.KnownBytes.{Appends}
 use Rattle.vac_lines.specs.Script.{as_line}
 use Rattle.vac_lines.specs.Text.{field_text, report_text}
 use Rattle.vac_load.specs.declared.tally.Tally.{Tally}
 use Rattle.vac_load.specs.declared.load.LoadReport.{LoadReport}
 use Rattle.vac_load.specs.declared.load.LoadFault.{LoadFault}
+use Rattle.vac_load.specs.declared.load.LoadFault.TheVariants as load
 use Rattle.vac_draws.specs.declared.settings.Settings.{Settings}
+use Rattle.vac_draws.specs.Streams.{gives, stream_of}
 use Rattle.vac_manager.specs.declared.note.Note.{Note}
 use Rattle.vac_manager.specs.Keeping.{IsNoted}
 use Rattle.vac_history.specs.Turns.{EachInTurn}
@@ -14,9 +16,10 @@ use Rattle.vac_history.specs.Order.{AreOrdered}
 use Rattle.vac_history.specs.History.{call_of, WroteHistory, WroteHistoryPrefix}
 use Rattle.vac_history.specs.Legal.{AreLegal}
 use Rattle.vac_load.specs.Lists.{Paired}
+use Rattle.vac_load.specs.Load.{IsLoadFault}
 use Rattle.vac_load.specs.Streams.{LoadedBySeed}
 use Rattle.vac_lines.specs.Writing.{AppendsPrefix}
-use Rattle.vac_cli.specs.Ending.{NamedAfter, load_fault_line}
+use Rattle.vac_cli.specs.Ending.{NamedAfter, CanStopWriting, load_fault_line}
 
 -- how many tasks were answered, and how many met other clients in each try
 abbrev pub tried_text : Tally → List ℕ
@@ -46,14 +49,19 @@ pub record WroteLoadInPart (s : Settings) (held holds : Option (List ℕ)) : Typ
   pub loaded : LoadedBySeed s load.tally load.report
   pub written : AppendsPrefix held holds (load_text load)
 
--- a prefix of the line that names a fault was written
-abbrev pub NamedFault : Option (List ℕ) → Option (List ℕ) → Type 0
-NamedFault held holds =
-    (fault : LoadFault) × AppendsPrefix held holds (load_fault_line fault)
+-- why the load of a seed was not run to its end: its opening draws from stream 0
+abbrev pub IsFaultBySeed : Settings → LoadFault → Type 0
+IsFaultBySeed s fault = IsLoadFault gives s (stream_of s.seed 0) fault
+
+-- a load of these settings was stopped by a fault, which is not that they do not fit each other,
+-- and a prefix of the line that names it was written
+abbrev pub NamedFault : Settings → Option (List ℕ) → Option (List ℕ) → Type 0
+NamedFault s held holds = (fault : LoadFault) × (fault ≢ load.Arguments)
+    × IsFaultBySeed s fault × AppendsPrefix held holds (load_fault_line fault)
 
 -- a load ended by a fault: nothing was written but a prefix of its line, or of those of the load
 abbrev pub LoadStopped : Settings → Option (List ℕ) → Option (List ℕ) → Type 0
-LoadStopped s held holds = NamedFault held holds ⊎ WroteLoadInPart s held holds
+LoadStopped s held holds = NamedFault s held holds ⊎ WroteLoadInPart s held holds
 
 -- the load of these settings was run to its end, and these are its answered calls: those of the
 -- opening, one for each of its records, and those of each client, one for each of its records
@@ -94,5 +102,5 @@ LoadWrote false s held holds = WroteLoad s held holds
 -- a load that is to write the history, or the two lines, ended by a fault
 abbrev pub LoadEnded : Bool → Settings → Option (List ℕ) → Option (List ℕ) → Type 0
 LoadEnded true s held holds =
-    NamedFault held holds ⊎ NamedAfter (WroteCallsInPart s held) holds
+    NamedFault s held holds ⊎ NamedAfter CanStopWriting (WroteCallsInPart s held) holds
 LoadEnded false s held holds = LoadStopped s held holds

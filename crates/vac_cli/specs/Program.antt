@@ -19,7 +19,8 @@ use Rattle.vac_script.specs.Check.{Checked, CheckStopped}
 use Rattle.vac_judge.specs.Reading.{HasJudged, HasStopped}
 use Rattle.vac_worklist.specs.Worklist.{WroteTasks, WroteTasksPrefix}
 use Rattle.vac_cli.specs.Load.{LoadWrote, LoadEnded}
-use Rattle.vac_cli.specs.Ending.{NamedAfter, fault_line, load_fault_line}
+use Rattle.vac_cli.specs.Ending.{NamedAfter, CanStopReading, CanStopWriting, fault_line}
+use Rattle.vac_cli.specs.Ending.{load_fault_line}
 use Rattle.vac_options.specs.CommandLine.{vacation, AsksFor}
 
 -- status 0 where this was done, 1 where that stopped it
@@ -40,7 +41,7 @@ Loads history status s held holds =
 abbrev pub Lists : ℕ → Settings → Option (List ℕ) → Option (List ℕ) → Type 0
 Lists status s held holds =
     ((is_settings s ≡ true) × Ends status (WroteTasks s held holds)
-    (NamedAfter (WroteTasksPrefix s held) holds))
+    (NamedAfter CanStopWriting (WroteTasksPrefix s held) holds))
     ⊎ ((is_settings s ≡ false) × (status ≡ 2)
     × AppendsPrefix held holds (load_fault_line Arguments))
 
@@ -49,17 +50,18 @@ abbrev pub Does : Asked → ℕ → Option (List ℕ) → Option (List ℕ) → 
     → Option (List ℕ) → Type 0
 Does (Run blocks) status unread left held holds =
     Ends status (WroteAll blocks unread left held holds)
-    (NamedAfter (WrotePrefix blocks unread left held) holds)
+    (NamedAfter CanStopReading (WrotePrefix blocks unread left held) holds)
 Does (Dump blocks) status unread left held holds =
     Ends status (Dumped blocks unread left held holds)
-    (NamedAfter (DumpStopped blocks unread left held) holds)
+    (NamedAfter CanStopReading (DumpStopped blocks unread left held) holds)
 Does Check status unread left held holds =
     Ends status (Checked true unread left held holds)
-    (Checked false unread left held holds ⊎ NamedAfter (CheckStopped unread left held) holds)
+    (Checked false unread left held holds
+    ⊎ NamedAfter CanStopReading (CheckStopped unread left held) holds)
 Does (Judge blocks) status unread left held holds =
     Ends status (HasJudged blocks true unread left held holds)
     (HasJudged blocks false unread left held holds
-    ⊎ NamedAfter (HasStopped blocks unread left held) holds)
+    ⊎ NamedAfter CanStopReading (HasStopped blocks unread left held) holds)
 Does (Load settings how) status unread left held holds =
     (left ≡ unread) × Loads how.history status settings held holds
 Does (Tasks settings) status unread left held holds =

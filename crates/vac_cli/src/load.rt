@@ -4,10 +4,11 @@ ghost use Rattle.std.specs.Prelude.{◌≡◌, ◌≤◌, ◌++◌, ◌↔◌, �
 ghost use Rattle.vac_draws.specs.Setting.{is_settings};
 ghost use Rattle.vac_load.specs.Streams.{LoadedBySeed};
 ghost use Rattle.vac_cli.specs.Load.{tried_text, wanting_text};
-ghost use Rattle.vac_cli.specs.Load.{tally_text, load_text, NamedFault};
+ghost use Rattle.vac_cli.specs.Load.{tally_text, load_text};
 ghost use Rattle.vac_cli.specs.Program.{Loads};
 ghost use Rattle.std.specs.Io.KnownBytes.{Appends};
-ghost use Rattle.vac_cli.specs.Ending.{load_fault_line};
+ghost use Rattle.vac_script.specs.declared.fault.RunFault.TheVariants.{Memory};
+ghost use Rattle.vac_cli.specs.Ending.{fault_line};
 ghost use Rattle.vac_lines.specs.Script.{as_line};
 ghost use Rattle.vac_lines.specs.Writing.{AppendsPrefix};
 ghost use Rattle.vac_lines.specs.Text.{field_text, report_text};
@@ -89,7 +90,8 @@ fn write_load<W: Write>(alloc: Global, report: &LoadReport, output: &mut W) -> u
     ensures status { result ≤ 1 }
     ensures done { result ≡ 0 →
         Appends (W.contents output.old) (W.contents output.new) (load_text report.now) }
-    ensures stopped { result ≡ 1 → NamedFault (W.contents output.old) (W.contents output.new)
+    ensures stopped { result ≡ 1 →
+        AppendsPrefix (W.contents output.old) (W.contents output.new) (fault_line Memory)
         ⊎ AppendsPrefix (W.contents output.old) (W.contents output.new) (load_text report.now) }
 {
     let mut text = Vec::new(alloc);

@@ -1,8 +1,9 @@
 //! Loads that write the history of their calls.
 
-ghost use Rattle.std.specs.Prelude.{◌≡◌, ◌↔◌, [], true, false, vec_len, All, IfOk, IsErrOf};
+ghost use Rattle.std.specs.Prelude.{◌≡◌, ◌↔◌, [], true, false, vec_len, All, IfOk, IfErr, IsErrOf};
 ghost use Rattle.vac_load.specs.Load.{is_load};
 ghost use Rattle.vac_load.specs.Streams.{KeptBySeed};
+ghost use Rattle.vac_cli.specs.Load.{IsFaultBySeed};
 ghost use Rattle.vac_cli.specs.Program.{Loads};
 
 use crate::load::tell_load;
@@ -60,6 +61,7 @@ pub(crate) fn run_told<
         ↔ (is_load settings.now (vec_len keepers.clients) ≡ false) }
     ensures kept { IfOk result (λ r.
         KeptBySeed K.notes settings.now r.0.tally r.0.report keepers r.2) }
+    ensures refused { IfErr result (λ fault. IsFaultBySeed settings.now fault) }
 {
     if how.progress {
         run_load_told(rt, settings, keepers, span, errors)

@@ -5,7 +5,7 @@ ghost use Rattle.std.specs.Io.KnownBytes.{Appends};
 ghost use Rattle.clap.specs.Words.{kind_of};
 ghost use Rattle.clap.specs.declared.error.kind.ErrorKind.TheVariants.{DisplayVersion};
 ghost use Rattle.vac_model.specs.Ranges.{is_block_count};
-ghost use Rattle.vac_cli.specs.Ending.{as_run_fault};
+ghost use Rattle.vac_cli.specs.Ending.{as_run_fault, CanStopReading};
 ghost use Rattle.vac_cli.specs.Program.{Does, Lists, Shows, Serves};
 
 use crate::load::load;
@@ -117,7 +117,8 @@ fn judge<R: Read, W: Write>(alloc: Global, blocks: u32, input: &mut R, output: &
 
 /// The fault of the same name.
 fn as_run_fault(fault: JudgeFault) -> RunFault
-    ensures { result ≡ as_run_fault fault }
+    ensures name { result ≡ as_run_fault fault }
+    ensures can_stop { CanStopReading result }
 {
     match fault {
         JudgeFault::Read => RunFault::Read,

@@ -1,8 +1,9 @@
 //! Loads that tell how far they are while they run.
 
-ghost use Rattle.std.specs.Prelude.{◌≡◌, ◌↔◌, false, vec_len, IfOk, IsErrOf};
+ghost use Rattle.std.specs.Prelude.{◌≡◌, ◌↔◌, false, vec_len, IfOk, IfErr, IsErrOf};
 ghost use Rattle.vac_load.specs.Load.{is_load};
 ghost use Rattle.vac_load.specs.Streams.{KeptBySeed};
+ghost use Rattle.vac_cli.specs.Load.{IsFaultBySeed};
 
 use crate::stats::Span;
 use std::alloc::Global;
@@ -62,6 +63,7 @@ impl Progress {
             ↔ (is_load settings.now (vec_len keepers.clients) ≡ false) }
         ensures kept { IfOk result (λ r.
             KeptBySeed K.notes settings.now r.0.tally r.0.report keepers r.2) }
+        ensures refused { IfErr result (λ fault. IsFaultBySeed settings.now fault) }
     {
         let answered = &self.answered;
         let loaded = run_load_kept(rt, settings, Counter { answered }, span, keepers);
@@ -141,6 +143,7 @@ pub(crate) fn run_load_told<
         ↔ (is_load settings.now (vec_len keepers.clients) ≡ false) }
     ensures kept { IfOk result (λ r.
         KeptBySeed K.notes settings.now r.0.tally r.0.report keepers r.2) }
+    ensures refused { IfErr result (λ fault. IsFaultBySeed settings.now fault) }
 {
     let progress = Progress::new();
     let (shared, settings) = (&progress, *settings);
@@ -151,6 +154,7 @@ pub(crate) fn run_load_told<
             ↔ (is_load settings (vec_len keepers.clients) ≡ false) }
         ensures kept { IfOk result (λ r.
             KeptBySeed K.notes settings r.0.tally r.0.report keepers r.2) }
+        ensures refused { IfErr result (λ fault. IsFaultBySeed settings fault) }
     { shared.run(rt, &settings, keepers, span) };
     let ((), loaded) = thread::join(rt, tell, run);
     loaded

@@ -1,9 +1,8 @@
 -- What reading a history says of the verdict on all of it.
-use Rattle.std.proofs.Common.{◌≡◌, ◌≢◌, ℕ, ◌<◌, Bool, List, [], ◌∷◌, ◌++◌, length, take, map, refl, ap, sym, ◌∙◌, inl, inr, arith, append-nil, append_assoc, subst, Option, Some, None, IfSome, Result, Ok, Err, IfOk}
-use Rattle.std.proofs.lemmas.List.{take_all}
+use Rattle.std.proofs.Common.{◌≡◌, ◌≢◌, ℕ, ◌<◌, List, [], ◌∷◌, ◌++◌, length, take, map, refl, ap, sym, ◌∙◌, inl, inr, arith, append-nil, append_assoc, subst, Option, Some, None, IfSome, Result, Ok, Err, IfOk}
 use Rattle.std.proofs.lemmas.List.Elements.{All-append}
-use Rattle.std.specs.Io.KnownBytes.{Appends, Consumes, IsAtEnd, Keeps}
-use Rattle.std.proofs.KnownBytes.{Consumes-nil, Consumes-trans, Consumes-kept, Consumes-whole, Appends-kept}
+use Rattle.std.specs.Io.KnownBytes.{Consumes, IsAtEnd, Keeps}
+use Rattle.std.proofs.KnownBytes.{Consumes-nil, Consumes-trans, Consumes-kept, Consumes-whole}
 use Rattle.vac_model.specs.State.{State, empty_state}
 use Rattle.vac_lines.specs.Lines.{lines_of}
 use Rattle.vac_judge.specs.declared.judge.Judge.{Judge}
@@ -11,10 +10,9 @@ use Rattle.vac_judge.specs.declared.verdict.Summary.{Summary}
 use Rattle.vac_judge.specs.declared.verdict.Verdict.{Verdict}
 use Rattle.vac_judge.specs.declared.verdict.Verdict.TheVariants.{Legal}
 use Rattle.vac_judge.specs.Call.{Call, line_call}
-use Rattle.vac_judge.specs.Verdict.{judged, summary_of, verdict_on, verdict_text, is_legal}
+use Rattle.vac_judge.specs.Verdict.{judged, summary_of, verdict_on}
 use Rattle.vac_judge.specs.Judging.{Follows, Takes, Ends}
-use Rattle.vac_lines.specs.Writing.{AppendsPrefix}
-use Rattle.vac_judge.specs.Reading.{verdict_behind, TakesText, EndsText, EndsLast, HasVerdict, HasJudged, HasStopped}
+use Rattle.vac_judge.specs.Reading.{verdict_behind, TakesText, EndsText, EndsLast, HasVerdict}
 use Rattle.vac_judge.proofs.Cutting.{HasNoEnd, calls_cut, calls_kept, calls_last}
 
 -- of a chunk this rest is still to be judged
@@ -168,32 +166,6 @@ read_finished n unread left now judge line verdict p c e t =
       of_read = inl (e, same);
       of_input = Consumes-whole unread now p.bytes (λ input. verdict_on n input ≡ verdict) all e same;
     }
-
--- the text of a verdict was written in part
-pub judged_in_part : (n : ℕ) (unread left held holds : Option (List ℕ)) (verdict : Verdict) (text : List ℕ) → HasVerdict n unread left verdict → text ≡ verdict_text verdict
-    → AppendsPrefix held holds text → HasStopped n unread left held holds
-judged_in_part n unread left held holds verdict text is e w = inr (record { verdict = verdict; is = is; written = subst (AppendsPrefix held holds) e w })
-
--- it was written, but maybe not flushed
-pub judged_unflushed : (n : ℕ) (unread left held holds now : Option (List ℕ)) (verdict : Verdict) (text : List ℕ) → HasVerdict n unread left verdict → text ≡ verdict_text verdict
-    → Appends held holds text → Keeps holds now → HasStopped n unread left held now
-judged_unflushed n unread left held holds now verdict text is e w k =
-    judged_in_part n unread left held now verdict text is e
-    (length text, subst (Appends held now) (sym (take_all (length text) text (omega arith))) (Appends-kept held holds now text w k))
-
--- it was written
-pub judged_whole : (n : ℕ) (legal : Bool) (unread left held holds now : Option (List ℕ)) (verdict : Verdict) (text : List ℕ) → HasVerdict n unread left verdict → text ≡ verdict_text verdict
-    → Appends held holds text → Keeps holds now → legal ≡ is_legal verdict → HasJudged n legal unread left held now
-judged_whole n legal unread left held holds now verdict text is e w k a = record {
-  verdict = verdict;
-  is = is;
-  answered = a;
-  written = subst (Appends held now) e (Appends-kept held holds now text w k);
-}
-
--- the text that is written is the verdict's
-pub text_is : (old items given text : List ℕ) → old ≡ [] → items ≡ old ++ text → given ≡ items → given ≡ text
-text_is old items given text e f g = g ∙ f ∙ ap (λ t. t ++ text) e
 
 -- a verdict at the end of the input, where there is one
 pub read_last : {E : Type 0} (n : ℕ) (unread left now : Option (List ℕ)) (judge : Judge) (line : List ℕ) (r : Result Verdict E) → TextRead n unread left judge line → Consumes left now []

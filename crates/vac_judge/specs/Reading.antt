@@ -1,5 +1,5 @@
 -- What judging a history that is read answers and writes, as a function of all its bytes.
-use Rattle.std.specs.Prelude.{◌≡◌, ◌⊎◌, ℕ, ◌+◌, ◌≤◌, Bool, Option, IfSome, List, [], ◌++◌, map, length, take}
+use Rattle.std.specs.Prelude.{◌≡◌, ◌⊎◌, ℕ, ◌+◌, ◌≤◌, Bool, Option, IfSome, List, [], ◌++◌, map, length}
 use Rattle.std.specs.Io.KnownBytes.{Appends, Consumes, IsAtEnd}
 use Rattle.vac_model.specs.State.{State}
 use Rattle.vac_lines.specs.Writing.{AppendsPrefix}

@@ -15,7 +15,7 @@ use crate::judge::Judge;
 use crate::verdict::{Verdict, print_verdict};
 use std::alloc::{AllocError, Global};
 use std::io::{ErrorKind, Read, Write};
-use vac_lines::{CHUNK_BYTES, MOST_READS, cut_at, write_all};
+use vac_lines::{CHUNK_BYTES, MOST_READS, cut_at, write_and_flush};
 use vac_model::limits::MOST_BLOCKS;
 
 /// How much is kept of a line that has not ended: enough to see that it is too long.
@@ -164,9 +164,6 @@ pub fn judge_history<R: Read, W: Write>(
     let verdict = judge_input(alloc, blocks, input)?;
     let mut text = Vec::new(alloc);
     print_verdict(&verdict, &mut text)?;
-    write_all(output, text.as_slice())?;
-    match output.flush() {
-        Ok(()) => Ok(is_legal(&verdict)),
-        Err(_) => Err(JudgeFault::Write),
-    }
+    write_and_flush(output, text.as_slice())?;
+    Ok(is_legal(&verdict))
 }

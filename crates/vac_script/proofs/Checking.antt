@@ -1,9 +1,7 @@
 -- What is said of words that were read.
 use Rattle.std.proofs.Common.{◌≡◌, ◌⊎◌, ◌+◌, ◌≤◌, ◌%◌, ℕ, Bool, List, [], ◌++◌, length, slice_index, sym, ap, ◌∙◌, subst, inl, inr, arith, Result, Ok, Err, IfOk, Option, Some, None}
 use Rattle.std.proofs.lemmas.Bool.{cases_lt}
-use Rattle.std.proofs.lemmas.List.{take_all}
-use Rattle.std.specs.Io.KnownBytes.{Appends, Keeps}
-use Rattle.std.proofs.KnownBytes.{Appends-kept}
+use Rattle.std.specs.Io.KnownBytes.{Appends}
 use Rattle.vac_model.specs.State.{State}
 use Rattle.vac_model.specs.declared.replies.Report.{Report}
 use Rattle.vac_records.specs.Represents.{IsState}
@@ -121,21 +119,10 @@ pub checked_in_part : (unread left held holds : Option (List ℕ)) (verdict : Ve
     → AppendsPrefix held holds line → CheckStopped unread left held holds
 checked_in_part unread left held holds verdict line is e w = inr (record { verdict = verdict; is = is; written = subst (AppendsPrefix held holds) e w })
 
--- it was written, but maybe not flushed
-pub checked_unflushed : (unread left held holds now : Option (List ℕ)) (verdict : Verdict) (line : List ℕ) → IsVerdict unread left verdict → line ≡ as_line (verdict_text verdict)
-    → Appends held holds line → Keeps holds now → CheckStopped unread left held now
-checked_unflushed unread left held holds now verdict line is e w k =
-    checked_in_part unread left held now verdict line is e (length line, subst (Appends held now) (sym (take_all (length line) line (omega arith))) (Appends-kept held holds now line w k))
-
 -- it was written
-pub checked : (sound : Bool) (unread left held holds now : Option (List ℕ)) (verdict : Verdict) (line : List ℕ) → IsVerdict unread left verdict → line ≡ as_line (verdict_text verdict)
-    → Appends held holds line → Keeps holds now → sound ≡ is_sound verdict → Checked sound unread left held now
-checked sound unread left held holds now verdict line is e w k a = record {
-  verdict = verdict;
-  is = is;
-  answered = a;
-  written = subst (Appends held now) e (Appends-kept held holds now line w k);
-}
+pub checked : (sound : Bool) (unread left held holds : Option (List ℕ)) (verdict : Verdict) (line : List ℕ) → IsVerdict unread left verdict → line ≡ as_line (verdict_text verdict)
+    → Appends held holds line → sound ≡ is_sound verdict → Checked sound unread left held holds
+checked sound unread left held holds verdict line is e w a = record { verdict = verdict; is = is; answered = a; written = subst (Appends held holds) e w }
 
 -- the same, where the fault is known by an equation
 pub flawed_as : (words : List ℕ) (fault : AuditFault) (flaw : Flaw) → fault ≡ HasOne flaw → ((IsHeapSize (length words) → ⊥) → err fault ≡ err Size)

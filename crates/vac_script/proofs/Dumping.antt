@@ -3,8 +3,8 @@ use Rattle.std.proofs.Common.{◌≡◌, ◌<◌, ◌+◌, ℕ, List, [], ◌∷
 use Rattle.std.proofs.Math.Seq.{take-append_seam}
 use Rattle.std.proofs.lemmas.List.{take_more}
 use Rattle.std.proofs.lemmas.Grind.{flat_map-append}
-use Rattle.std.specs.Io.KnownBytes.{Appends, Keeps}
-use Rattle.std.proofs.KnownBytes.{Appends-trans, Appends-kept}
+use Rattle.std.specs.Io.KnownBytes.{Appends}
+use Rattle.std.proofs.KnownBytes.{Appends-trans}
 use Rattle.vac_lines.specs.Memory.{word_line, dump_text}
 use Rattle.vac_model.specs.State.{State}
 use Rattle.vac_manager.specs.Law.{Shows}
@@ -55,10 +55,6 @@ pub sent_prefix : (held holds : Option (List ℕ)) (text words : List ℕ) (i : 
 sent_prefix held holds text words i s =
     prefix_of held holds s.front (text ++ dump_text (drop i words)) (dump_text words) s.written
     (sym (append_assoc s.front text (dump_text (drop i words))) ∙ ap (λ t. t ++ dump_text (drop i words)) s.all ∙ dump_cut i words)
-
--- the same where the output stayed as it was
-pub sent_prefix_kept : (held holds now : Option (List ℕ)) (text words : List ℕ) (i : ℕ) → Sent held holds text (take i words) → Keeps holds now → AppendsPrefix held now (dump_text words)
-sent_prefix_kept held holds now text words i s k = let p = sent_prefix held holds text words i s in (p.0, Appends-kept held holds now (take p.0 (dump_text words)) p.1 k)
 
 -- what was at hand was written in part
 pub sent_in_part : (held holds grown : Option (List ℕ)) (text words : List ℕ) (i : ℕ) → Sent held holds text (take i words) → AppendsPrefix holds grown text → AppendsPrefix held grown (dump_text words)

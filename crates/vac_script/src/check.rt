@@ -12,7 +12,7 @@ use crate::memory::read_memory;
 use std::alloc::{AllocError, Global};
 use std::io::{Read, Write};
 use vac_audit::{AuditFault, Flaw, audit_words};
-use vac_lines::{print_reply, write_all};
+use vac_lines::{print_reply, write_and_flush};
 use vac_model::{Reply, Report};
 
 /// What is said of a text of words.
@@ -143,9 +143,6 @@ pub fn check_words<R: Read, W: Write>(
     let verdict = read_verdict(alloc, input)?;
     let mut line = Vec::new(alloc);
     print_verdict(verdict, &mut line)?;
-    write_all(output, line.as_slice())?;
-    match output.flush() {
-        Ok(()) => Ok(is_sound(verdict)),
-        Err(_) => Err(RunFault::Write),
-    }
+    write_and_flush(output, line.as_slice())?;
+    Ok(is_sound(verdict))
 }

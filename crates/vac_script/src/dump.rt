@@ -14,7 +14,7 @@ use crate::system::{System, close, open};
 use std::alloc::Global;
 use std::io;
 use std::io::{Read, Write};
-use vac_lines::{CHUNK_BYTES, print_word, write_all};
+use vac_lines::{CHUNK_BYTES, print_word, write_all, write_and_flush};
 
 /// Runs a script for a system of so many blocks, 1 to 262,144, and dumps its memory: reads the
 /// lines to the end of the input, writes no reply, closes the system and writes its words in
@@ -60,6 +60,6 @@ fn write_words<W: Write>(alloc: Global, words: &[u64], output: &mut W) -> Result
             text.clear();
         }
     }
-    write_all(output, text.as_slice())?;
-    output.flush().map_err(|_| RunFault::Write)
+    write_and_flush(output, text.as_slice())?;
+    Ok(())
 }

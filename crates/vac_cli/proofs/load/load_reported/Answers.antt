@@ -1,5 +1,5 @@
 use Rattle.std.proofs.Common.{rules, false}
-use Rattle.vac_cli.proofs.LoadEnds.{ended_for_memory}
+use Rattle.vac_cli.proofs.LoadEnds.{ended_for_memory, ended_with_lines}
 use Rattle.vac_cli.proofs.load.load_reported.Goals as goal
 
 -- src/load.rt:64:9
@@ -7,3 +7,9 @@ pub returns-in_default : goal.returns-in_default
 returns-in_default g c =
     let e = c.end_load_by-in_default.ensures in
     ended_for_memory false c.args.settings.now _ (g.W.Write.contents c.args.output.now) (g.W.Write.contents c.end_load_by-in_default.new.output) (search rules) e.low e.high e.refused e.line
+
+-- src/load.rt:51:1
+pub returns-after-how : goal.returns-after-how
+returns-after-how g c =
+    let e = c.write_load.ensures in
+    ended_with_lines c.args.settings.now c.in-Ok-run_told.report c.write_load.result (g.W.Write.contents c.args.output.now) (g.W.Write.contents c.write_load.new.output) (search rules) c.in-Ok-run_told.ensures.kept.loaded e.status e.done e.stopped

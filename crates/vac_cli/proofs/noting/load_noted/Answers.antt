@@ -1,4 +1,4 @@
-use Rattle.std.proofs.Common.{rules, ◌≡◌, ◌≤◌, true, length, arith}
+use Rattle.std.proofs.Common.{rules, refl, inl, inr, ◌≡◌, ◌≤◌, true, length, arith}
 use Rattle.vac_draws.specs.Setting.{is_settings}
 use Rattle.vac_script.specs.declared.fault.RunFault.TheVariants as run
 use Rattle.vac_cli.proofs.Journals.{noted, same_clients}
@@ -41,7 +41,7 @@ returns-in-Err-Memory g c =
     let k = c.in-Ok-run_told.loaded.2 in
     stopped_calls c.args.settings.now k.opening k.clients.items c.end_by.result run.Memory (g.W.Write.contents c.args.output.now) (g.W.Write.contents c.write_history.new.output) (g.W.Write.contents c.end_by.new.output) (search rules) c.end_by.ensures.status
     (noted c.args.settings.now c.in-Ok-run_told.loaded.0 (record { opening = c.new.result; clients = c.in-Ok.clients }) k c.new.ensures.empty c.in-Ok.ensures.empty c.in-Ok-run_told.ensures.kept)
-    (search rules) c.end_by.ensures.line
+    (search rules) (inl refl) c.end_by.ensures.line
 
 -- src/noting.rt:72:1
 pub returns : goal.returns
@@ -49,4 +49,4 @@ returns g c =
     let k = c.in-Ok-run_told.loaded.2 in
     stopped_calls c.args.settings.now k.opening k.clients.items c.end_by-in-Err-Write.result run.Write (g.W.Write.contents c.args.output.now) (g.W.Write.contents c.write_history.new.output) (g.W.Write.contents c.end_by-in-Err-Write.new.output) (search rules) c.end_by-in-Err-Write.ensures.status
     (noted c.args.settings.now c.in-Ok-run_told.loaded.0 (record { opening = c.new.result; clients = c.in-Ok.clients }) k c.new.ensures.empty c.in-Ok.ensures.empty c.in-Ok-run_told.ensures.kept)
-    (search rules) c.end_by-in-Err-Write.ensures.line
+    (search rules) (inr refl) c.end_by-in-Err-Write.ensures.line

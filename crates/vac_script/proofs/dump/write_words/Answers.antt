@@ -1,6 +1,6 @@
-use Rattle.std.proofs.Common.{◌<◌, ◌+◌, [], length, take, arith, refl}
+use Rattle.std.proofs.Common.{◌<◌, ◌+◌, length, take, arith}
 use Rattle.vac_lines.proofs.Extends.{on_err}
-use Rattle.vac_script.proofs.Dumping.{sent_more, sent_all, sent_prefix, sent_prefix_kept, sent_in_part, word_more}
+use Rattle.vac_script.proofs.Dumping.{sent_more, sent_all, sent_prefix, sent_in_part, word_more}
 use Rattle.vac_script.proofs.dump.write_words.Goals as goal
 use Rattle.vac_script.proofs.dump.write_words.Goals.{then-len-ge-CHUNK_BYTES+in_ok-write_all, else-len-ge-CHUNK_BYTES}
 
@@ -27,12 +27,7 @@ loop-word-preserved g c =
       | else-len-ge-CHUNK_BYTES w ↦ rw (w.output-is, w.text-is) next
     ]
 
-pub returns-in_err-write_all-2-clause-err : goal.returns-in_err-write_all-2-clause-err
-returns-in_err-write_all-2-clause-err g c =
-    on_err c.from_residual-in_err-write_all-2.result
-    (sent_in_part _ _ _ _ c.args.words.now c.loop-word.word-index c.loop-word.invariant (rw c.as_slice-2.ensures.value at c.in_err-write_all-2.ensures.err))
-
-pub returns-clause-err : goal.returns-clause-err
-returns-clause-err g c =
-    let sent = sent_all _ _ _ _ (take c.loop-word.word-index c.args.words.now) [] c.loop-word.invariant (rw c.as_slice-2.ensures.value at c.in_ok-write_all-2.ensures.ok) refl in
-    on_err c.map_err.result (sent_prefix_kept _ _ _ _ c.args.words.now c.loop-word.word-index sent c.flush.ensures.bytes)
+pub returns-in_err-write_and_flush-clause-err : goal.returns-in_err-write_and_flush-clause-err
+returns-in_err-write_and_flush-clause-err g c =
+    on_err c.from_residual-in_err-write_and_flush.result
+    (sent_in_part _ _ _ _ c.args.words.now c.loop-word.word-index c.loop-word.invariant (rw c.as_slice-2.ensures.value at c.in_err-write_and_flush.ensures.err))
