@@ -30,7 +30,7 @@ use Rattle.tx_tree.specs.Table.{IsTable}
 use Rattle.tx_list.specs.Bookings.{IsList}
 use Rattle.vac_records.specs.Items.{mem}
 use Rattle.vac_records.specs.Heap.{Parts, IsHeap, used_in}
-use Rattle.vac_records.specs.Holds.{HoldsState}
+use Rattle.vac_records.specs.InMemory.{HoldsState}
 use Rattle.vac_records.proofs.Single.{same_words}
 use Rattle.vac_records.specs.Represents.{Represents, items_in, customers_in, bookings_in, opened}
 use Rattle.audit_rows.specs.Stock.{stock_words}

@@ -2,7 +2,7 @@
 use Rattle.std.proofs.Common.{◌≡◌, ℕ, ◌+◌, ◌-◌, ◌<◌, ◌≤◌, inl, inr, List, length, slice_index, slice_set, take, sum, sym, ap, ◌∙◌, subst, arith, length-set, get_or-set_same, get_or-set_other}
 use Rattle.std.proofs.lemmas.List.{take_all}
 use Rattle.std.proofs.lemmas.List.Sums.{get_or-le-sum_by, sum_by_more, sum_by-take-le}
-use Rattle.stm_words.specs.View.{View, Sees, Stands, IsWrite, Loaded, Stored, mem}
+use Rattle.stm_words.specs.View.{View, Sees, RestsOn, IsWrite, Loaded, Stored, mem}
 use Rattle.stm_words.specs.Seen.{same_or, some_le}
 use Rattle.bank.specs.declared.entry.Entry.TheVariants.{Sum}
 use Rattle.bank.specs.declared.law.TheConstants.{ACCOUNTS}
@@ -42,7 +42,7 @@ taken s0 s1 s2 from amount left less enough l st image i xs b h =
 
 -- what is put to an account that has so much
 pub room : (s0 s1 s2 s3 : View) (from to amount left there : ℕ) → HasBank s0 → from < ACCOUNTS → to < ACCOUNTS → amount ≤ left → Loaded s0 s1 from left → Stored s1 s2 from (left - amount) → Loaded s2 s3 to there →
-    ∥ ((image : List ℕ) × Stands s3 image) ∥₁ → there + amount ≤ 18446744073709551615
+    ∥ ((image : List ℕ) × RestsOn s3 image) ∥₁ → there + amount ≤ 18446744073709551615
 room s0 s1 s2 s3 from to amount left there held f t enough l st k ws = some_le (there + amount) 18446744073709551615 ws (λ w.
     let i2 = k.kept.seen w.0 w.1.sees in
     let i0 = l.kept.seen w.0 (st.kept.seen w.0 i2) in
@@ -71,7 +71,7 @@ one_more s s' s'' done total v less c l = record {
 }
 
 pub total_small : (s s' s'' : View) (done total v : ℕ) → HasBank s → done < ACCOUNTS → Counted s s' done total → Loaded s' s'' done v →
-    ∥ ((image : List ℕ) × Stands s'' image) ∥₁ → total + v ≤ 18446744073709551615
+    ∥ ((image : List ℕ) × RestsOn s'' image) ∥₁ → total + v ≤ 18446744073709551615
 total_small s s' s'' done total v held less c l ws = some_le (total + v) 18446744073709551615 ws (λ w.
     let n = one_more s s' s'' done total v less c l in
     let h = held.under w.0 (n.kept.seen w.0 w.1.sees) in

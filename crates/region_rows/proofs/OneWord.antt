@@ -34,7 +34,7 @@ Free tag reads writes = Unit {0}
 
 -- a client that has taken one lock
 pub record HasOne (k from : ℕ) (v : Client) : Type 0 where
-  pub alive : v.spent ≡ false
+  pub alive : v.is_gathered ≡ false
   pub phase : v.attempt.phase ≡ running
   pub none : v.attempt.wv ≡ 0
   pub ticks : v.attempt.ticks ≡ 0
@@ -82,7 +82,7 @@ may_tick r d k n a x tag pairs h below inside is one = (
 
 -- a running client that holds one lock
 pub record HasLock (k : ℕ) (v : Client) : Type 0 where
-  pub alive : v.spent ≡ false
+  pub alive : v.is_gathered ≡ false
   pub phase : v.attempt.phase ≡ running
   pub old : ℕ
   pub held : v.attempt.held ≡ (k, old) ∷ []
@@ -104,7 +104,7 @@ lost_one r c d k n m tag pairs h ne e = subst (λ (x : ClientShown). HasLock k x
 
 -- a decided client with one word to write
 pub record HasDecided (k a x : ℕ) (v : Client) : Type 0 where
-  pub alive : v.spent ≡ false
+  pub alive : v.is_gathered ≡ false
   pub phase : v.attempt.phase ≡ committed
   pub writes : v.attempt.writes ≡ (a, x) ∷ []
   pub stored : v.attempt.stored ≡ []

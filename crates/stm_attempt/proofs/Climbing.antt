@@ -22,10 +22,10 @@ module _ (lawful : RecordLaw) (t : Stamp) (lk : ℕ → ℕ) (b : Bounds) (v w :
   pub held_shown : IsHeld n → (k ≡ k) × (w.attempt.last ≡ probed k n) × IsHeld n × (w.attempt.mine ≡ false)
   held_shown h = (refl, ap (λ (x : Client). x.attempt.last) stepped, h, ap (λ (x : Client). x.attempt.mine) stepped ∙ not_mine v.attempt.held k above)
 
-  pub may_lock : v.spent ≡ false → IsReading v.attempt → k < b.stripes → (u : ℕ) → n ≡ free_word u → May lawful lk b (lock k) w
-  may_lock unspent reading range u free =
+  pub may_lock : v.is_gathered ≡ false → IsReading v.attempt → k < b.stripes → (u : ℕ) → n ≡ free_word u → May lawful lk b (lock k) w
+  may_lock out reading range u free =
       let is_free : IsFree n = omega arith in (
-        ap (λ (x : Client). x.spent) stepped ∙ unspent,
+        ap (λ (x : Client). x.is_gathered) stepped ∙ out,
         may_act_so lk lawful b w.attempt (lock k) (
           (ap (λ (x : Client). x.attempt.phase) stepped ∙ reading.0, ap (λ (x : Client). x.attempt.wv) stepped ∙ reading.1),
           range,

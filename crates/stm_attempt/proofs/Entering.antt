@@ -12,7 +12,7 @@ use Rattle.stm_core.specs.Client.{Client}
 use Rattle.stm_logs.specs.Log.{LogValue, empty_log}
 use Rattle.stm_region.specs.Shown.{RegionShown}
 use Rattle.stm_core.specs.Guards.{stripe_of}
-use Rattle.stm_region.specs.Told.{StandsOn}
+use Rattle.stm_region.specs.Findings.{StandsOn}
 use Rattle.stm_attempt.specs.Begun.{HasReadWord, IsPlaced, addresses}
 use Rattle.stm_attempt.specs.declared.conflict.Conflict.{Conflict}
 use Rattle.stm_attempt.specs.Meaning.{memory_of}

@@ -1,7 +1,7 @@
 -- What a lone attempt finds: nothing that could stop it.
 use Rattle.std.proofs.Common.{◌≡◌, ◌⊎◌, inl, inr, ap, ℕ, ◌<◌, true, arith}
 use Rattle.stm_core.specs.Client.{Client, IsFree, is_committed}
-use Rattle.stm_region.specs.Told.{IsLoneOpen}
+use Rattle.stm_region.specs.Findings.{IsLoneOpen}
 use Rattle.stm_attempt.specs.Conflicts.{IsHeld}
 use Rattle.stm_attempt.specs.CommitParts.{IsAbove}
 use Rattle.stm_core.proofs.Conditions.{IsReading}

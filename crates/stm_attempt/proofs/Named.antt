@@ -21,7 +21,7 @@ apart v = record v {
 pub same_attempt : (v v' : Client) → apart v' ≡ apart v → IsSameAttempt v v'
 same_attempt v v' e = record {
   grants = ap (λ (x : Client). x.grants) e;
-  spent = ap (λ (x : Client). x.spent) e;
+  is_gathered = ap (λ (x : Client). x.is_gathered) e;
   number = ap (λ (x : Client). x.attempt.number) e;
   rv = ap (λ (x : Client). x.attempt.rv) e;
   reads = ap (λ (x : Client). x.attempt.reads) e;
@@ -32,7 +32,7 @@ same_attempt v v' e = record {
 pub same_on : (v w u : Client) → IsSameAttempt v w → IsSameAttempt w u → IsSameAttempt v u
 same_on v w u a b = record {
   grants = b.grants ∙ a.grants;
-  spent = b.spent ∙ a.spent;
+  is_gathered = b.is_gathered ∙ a.is_gathered;
   number = b.number ∙ a.number;
   rv = b.rv ∙ a.rv;
   reads = b.reads ∙ a.reads;

@@ -12,7 +12,7 @@ use Rattle.stm_core.specs.Client.{Client, Record, RecordLaw, inserted, committed
 use Rattle.stm_core.specs.Event.{Action, is_empty, after, finish, decision, writer_record, reader_record}
 use Rattle.stm_logs.specs.Log.{LogValue, SameAddresses, log_pairs, log_locks}
 use Rattle.stm_logs.proofs.LockLemmas.{locks_few}
-use Rattle.stm_region.specs.Told.{StandsOn, Decides, DecidesAt}
+use Rattle.stm_region.specs.Findings.{StandsOn, Decides, DecidesAt}
 use Rattle.stm_region.specs.Shown.{RegionShown, unplaced}
 use Rattle.stm_core.specs.Guards.{stripe_of}
 use Rattle.stm_attempt.specs.Begun.{addresses, IsBegun, AreInside}
@@ -36,7 +36,7 @@ inside_same size reads reads' e inside = λ a x i. inside a x (subst (λ (rs : L
 -- an attempt that took its locks may still commit
 pub still_ready : (region : RegionShown) (v l : Client) (rv : ℕ) → settling l ≡ settling v → IsReady region v rv → IsReady region l rv
 still_ready region v l rv e ready = record {
-  unspent = ap (λ (x : Client). x.spent) e ∙ ready.unspent;
+  out = ap (λ (x : Client). x.is_gathered) e ∙ ready.out;
   reading = (ap (λ (x : Client). x.attempt.phase) e ∙ ready.reading.0, ap (λ (x : Client). x.attempt.wv) e ∙ ready.reading.1);
   begun_at = ap (λ (x : Client). x.attempt.rv) e ∙ ready.begun_at;
   known = ap (λ (x : Client). x.floor) e ∙ ready.known;
@@ -56,7 +56,7 @@ some_read v version later none = let at_once : is_at_once v version ≡ true = r
 -- a ticked attempt that is not decided may validate its reads
 pub may_validate : (region : RegionShown) (tag : List ℕ) (writes : List (ℕ × ℕ)) (v t : Client) (rv version : ℕ) → HasTicked region tag writes v t version → IsReady region v rv → 0 < version → is_at_once v version ≡ false → CanValidate region t rv
 may_validate region tag writes v t rv version ticked ready less later = record {
-  unspent = ticked.same.spent ∙ ready.unspent;
+  out = ticked.same.is_gathered ∙ ready.out;
   phase = ticked.phase ∙ ap (λ (b : Bool). cond b committed running) later;
   versioned = omega (arith, less, ticked.versioned);
   unvalidated = ticked.unvalidated;

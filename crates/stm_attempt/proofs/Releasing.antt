@@ -40,11 +40,11 @@ module _ (lawful : RecordLaw) (t : Stamp) (lk : ℕ → ℕ) (b : Bounds) (w : L
   pub release_logged : (a : ℕ) × (get w.locks a ≡ Some k)
   release_logged = locks_in w k (subst (λ (xs : List ℕ). Among k xs) order (among_middle releasing.gone k rest))
 
-  pub may_release : (v0.spent ≡ false) × (v0.attempt.phase ≡ committed) → IsAllStored v0 → May lawful lk b (release k) v
+  pub may_release : (v0.is_gathered ≡ false) × (v0.attempt.phase ≡ committed) → IsAllStored v0 → May lawful lk b (release k) v
   may_release decided stored =
       let writes : v.attempt.writes ≡ v0.attempt.writes = ap (λ (x : Client). x.attempt.writes) releasing.same in
       let kept : v.attempt.stored ≡ v0.attempt.stored = releasing.stored in (
-        ap (λ (x : Client). x.spent) releasing.same ∙ decided.0,
+        ap (λ (x : Client). x.is_gathered) releasing.same ∙ decided.0,
         may_act_so lk lawful b v.attempt (release k) (
           ap (λ (x : Client). x.attempt.phase) releasing.same ∙ decided.1,
           first.0,

@@ -120,11 +120,11 @@ module _ (lawful : RecordLaw) (t : Stamp) (region : RegionShown) (v0 v : Client)
   pub put_inside : a < region.size
   put_inside = able.inside a x here
 
-  pub may_put : (v0.spent ≡ false) × (v0.attempt.phase ≡ committed) → May lawful (stripe_of region.stripes) (bounds region) (put a x) v
+  pub may_put : (v0.is_gathered ≡ false) × (v0.attempt.phase ≡ committed) → May lawful (stripe_of region.stripes) (bounds region) (put a x) v
   may_put decided =
       let same_writes : v0.attempt.writes ≡ v.attempt.writes = sym (ap (λ (c : Client). c.attempt.writes) storing.has.same) in
       let same_held : v0.attempt.held ≡ v.attempt.held = sym (storing.has.held) in (
-        ap (λ (c : Client). c.spent) storing.has.same ∙ decided.0,
+        ap (λ (c : Client). c.is_gathered) storing.has.same ∙ decided.0,
         may_act_so (stripe_of region.stripes) lawful (bounds region) v.attempt (put a x) (
           ap (λ (c : Client). c.attempt.phase) storing.has.same ∙ decided.1,
           subst (In (a, x)) same_writes (able.written a x here),

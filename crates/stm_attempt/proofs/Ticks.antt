@@ -5,7 +5,7 @@ use Rattle.stm_core.specs.Client.{Client, running, committed, is_committed, tick
 use Rattle.stm_core.specs.Event.{tick, after, won, versioned, committed_by, stepping, with_ticks, forgetting}
 use Rattle.stm_region.specs.Shown.{RegionShown, unplaced}
 use Rattle.stm_core.specs.Guards.{stripe_of}
-use Rattle.stm_region.specs.Told.{IsLoneOpen}
+use Rattle.stm_region.specs.Findings.{IsLoneOpen}
 use Rattle.stm_attempt.specs.Committing.{ticked_record}
 use Rattle.stm_attempt.specs.CommitParts.{HasTicked, HasFailed, is_at_once}
 use Rattle.stm_attempt.proofs.Named.{apart, same_attempt}
@@ -71,13 +71,13 @@ ticking_none v from none next = record {
 }
 
 -- no tick was won
-pub has_lost : (v w : Client) (count from : ℕ) → IsTicking v w count from → v.spent ≡ false → IsReading v.attempt → HasFailed v w
-has_lost v w count from ticking unspent reading = record {
+pub has_lost : (v w : Client) (count from : ℕ) → IsTicking v w count from → v.is_gathered ≡ false → IsReading v.attempt → HasFailed v w
+has_lost v w count from ticking out reading = record {
   same = same_attempt v w (ap apart ticking.same);
   records = ap (λ (x : Client). x.records) ticking.same;
   held = ap (λ (x : Client). x.attempt.held) ticking.same;
   floor = ap (λ (x : Client). x.floor) ticking.same;
-  able = (ap (λ (x : Client). x.spent) ticking.same ∙ unspent, inl (ap (λ (x : Client). x.attempt.phase) ticking.same ∙ reading.0));
+  able = (ap (λ (x : Client). x.is_gathered) ticking.same ∙ out, inl (ap (λ (x : Client). x.attempt.phase) ticking.same ∙ reading.0));
   unversioned = ap (λ (x : Client). x.attempt.wv) ticking.same ∙ reading.1;
 }
 

@@ -50,13 +50,13 @@ read_inside size reads i inside l = let at = read_at reads i l in inside (slice_
 
 module _ (region : RegionShown) (v w : Client) (count : ℕ) (validating : IsValidating region v w count) (less : count < length v.attempt.reads) where
   -- the next lock may be validated
-  pub may_validate_next : (lawful : RecordLaw) (lk : ℕ → ℕ) (b : Bounds) → v.spent ≡ false → 0 < v.attempt.wv → (a k : ℕ) → a ≡ slice_index (addresses v.attempt.reads) count → k ≡ lk a → May lawful lk b (validate k) w
-  may_validate_next lawful lk b unspent versioned a k address lock =
+  pub may_validate_next : (lawful : RecordLaw) (lk : ℕ → ℕ) (b : Bounds) → v.is_gathered ≡ false → 0 < v.attempt.wv → (a k : ℕ) → a ≡ slice_index (addresses v.attempt.reads) count → k ≡ lk a → May lawful lk b (validate k) w
+  may_validate_next lawful lk b out versioned a k address lock =
       let at = read_at v.attempt.reads count less in
       let here : get_elem? w.attempt.reads w.attempt.passed ≡ some (a, at.0) =
       ap (λ (x : Client). get_elem? x.attempt.reads w.attempt.passed) validating.same ∙ ap (get_elem? v.attempt.reads) validating.passed ∙ at.1 ∙ ap (λ (n : ℕ). some (n, at.0)) (sym address) in
       let version : w.attempt.wv ≡ v.attempt.wv = ap (λ (x : Client). x.attempt.wv) validating.same in
-      (ap (λ (x : Client). x.spent) validating.same ∙ unspent, may_act_so lk lawful b w.attempt (validate k) ((validating.runs less).0, omega (arith, version), (a, at.0, here, sym lock)))
+      (ap (λ (x : Client). x.is_gathered) validating.same ∙ out, may_act_so lk lawful b w.attempt (validate k) ((validating.runs less).0, omega (arith, version), (a, at.0, here, sym lock)))
 
   -- one lock more passed, by whether it was the last of all
   validated_by : (d : Bool) (w' : Client) (lock word : ℕ) → w' ≡ marking (writes_to w.attempt.held lock) (stepping (validated lock word) (let x = counting w in cond d (committed_by (unplaced region.renewal) x) x)) → eqb (count + 1) (length v.attempt.reads) ≡ d → v.attempt.ticked_at ≡ 0 → IsValidating region v w' (count + 1)
@@ -107,13 +107,13 @@ module _ (region : RegionShown) (v w : Client) (count : ℕ) (validating : IsVal
       (a, at.0, (count, ap (λ (rs : List (ℕ × ℕ)). get_elem? rs count) same ∙ at.1 ∙ ap (λ (n : ℕ). some (n, at.0)) (sym address)), lock)
 
   -- a lock that did not pass leaves the attempt to give back what it holds
-  pub failed_lock : (lock : ℕ) (w' : Client) → HasValidatedLock region lock false w w' → v.spent ≡ false → HasFailedValidating v w'
-  failed_lock lock w' step unspent =
+  pub failed_lock : (lock : ℕ) (w' : Client) → HasValidatedLock region lock false w w' → v.is_gathered ≡ false → HasFailedValidating v w'
+  failed_lock lock w' step out =
       let stepped = by_validate region lock false w w' step in record {
         same = same_attempt v w' (ap apart stepped ∙ ap apart validating.same);
         records = ap (λ (x : Client). x.records) stepped ∙ (validating.runs less).1;
         held = ap (λ (x : Client). x.attempt.held) stepped ∙ ap (λ (x : Client). x.attempt.held) validating.same;
         floor = ap (λ (x : Client). x.floor) stepped ∙ ap (λ (x : Client). x.floor) validating.same;
-        able = (ap (λ (x : Client). x.spent) stepped ∙ ap (λ (x : Client). x.spent) validating.same ∙ unspent, inr (ap (λ (x : Client). x.attempt.phase) stepped));
+        able = (ap (λ (x : Client). x.is_gathered) stepped ∙ ap (λ (x : Client). x.is_gathered) validating.same ∙ out, inr (ap (λ (x : Client). x.attempt.phase) stepped));
         steps = let s : w'.attempt.steps ≡ w.attempt.steps + 1 = ap (λ (x : Client). x.attempt.steps) stepped in omega (arith, validating.steps, less);
       }

@@ -2,7 +2,7 @@
 use Rattle.std.proofs.Common.{◌≡◌, inl, inr, refl, sym, ap, ◌∙◌, ℕ, ◌*◌, ◌/◌, ◌<◌, ◌≤◌, Bool, true, false, ◌||◌, ◌&&◌, eq-eqb, List, Some, cond, arith}
 use Rattle.std.proofs.lemmas.Bool.{ne_eqb, le-leb, lt-leb}
 use Rattle.std.proofs.Math.Bool.{or-true}
-use Rattle.std.specs.Prelude.{◌↔◌, IsTrue, leb}
+use Rattle.std.specs.Prelude.{◌≡◌, ◌↔◌, leb, true}
 use Rattle.std.specs.FinMap.{get}
 use Rattle.stm_words.specs.LockWord.{free_word, held_word}
 use Rattle.stm_logs.specs.Log.{LogValue, log_locks}
@@ -23,7 +23,7 @@ pub by_validate : (region : RegionShown) (lock : ℕ) (passed : Bool) (v v' : Cl
 by_validate region lock passed v v' step = step.1 ∙ ap (λ (t : Bool). marking (writes_to v.attempt.held lock) (stepping (validated lock step.0) (cond t (passing (unplaced region.renewal) v) (failing v)))) step.2
 
 -- the word is free, or held by the client itself
-pub own_passes : (word : ℕ) (held : List (ℕ × ℕ)) (lock : ℕ) (w : LogValue) → addresses held ≡ log_locks w → (has : Bool) → IsTrue has ↔ ((a : ℕ) × (get w.locks a ≡ Some lock)) → has ≡ true → (is_free word || writes_to held lock) ≡ true
+pub own_passes : (word : ℕ) (held : List (ℕ × ℕ)) (lock : ℕ) (w : LogValue) → addresses held ≡ log_locks w → (has : Bool) → (has ≡ true) ↔ ((a : ℕ) × (get w.locks a ≡ Some lock)) → has ≡ true → (is_free word || writes_to held lock) ≡ true
 own_passes word held lock w held_are has told there = ap (λ (t : Bool). is_free word || t) (own_lock w held lock held_are has told ∙ there) ∙ or-true (is_free word)
 
 -- what a decoded word says
@@ -54,7 +54,7 @@ module _ (word version : ℕ) (held : Bool) (free : (u : ℕ) → word ≡ free_
     last = ap (λ (x : Client). x.attempt.last) value_is
 
     -- the word is held, and not by the client itself
-    module _ (is : held ≡ true) (has : Bool) (told : IsTrue has ↔ ((a : ℕ) × (get w.locks a ≡ Some lock))) (none : has ≡ false) where
+    module _ (is : held ≡ true) (has : Bool) (told : (has ≡ true) ↔ ((a : ℕ) × (get w.locks a ≡ Some lock))) (none : has ≡ false) where
       other : writes_to c.value.attempt.held lock ≡ false
       other = own_lock w c.value.attempt.held lock held_are has told ∙ none
 

@@ -1,7 +1,7 @@
 -- The pairs of a write log: each address once, inside the region, and their locks are those that are held.
 use Rattle.std.proofs.Common.{◌≡◌, ◌≢◌, inl, inr, refl, sym, ap, subst, ◌∙◌, ℕ, ◌<◌, Bool, true, false, ◌||◌, eqb, eq-eqb, eqb-true, List, [], ◌∷◌, Option, Some, None, length, arith}
 use Rattle.std.proofs.lemmas.Bool.{ne_eqb}
-use Rattle.std.specs.Prelude.{◌↔◌, IsTrue}
+use Rattle.std.specs.Prelude.{◌≡◌, ◌↔◌, true}
 use Rattle.std.specs.FinMap.{get, len, len-entries}
 use Rattle.stm_logs.specs.Log.{LogValue, log_pairs, log_locks, SameAddresses}
 use Rattle.stm_logs.proofs.RisingLemmas.{Rising, rising_entries, in_map, get_in, in_get, In as Among}
@@ -33,13 +33,13 @@ among_written (p ∷ ps) a (inr i) =
     ]
 
 -- a lock is the client's own exactly where the log has it
-pub own_lock : (w : LogValue) (held : List (ℕ × ℕ)) (k : ℕ) → addresses held ≡ log_locks w → (b : Bool) → IsTrue b ↔ ((a : ℕ) × (get w.locks a ≡ Some k)) → writes_to held k ≡ b
+pub own_lock : (w : LogValue) (held : List (ℕ × ℕ)) (k : ℕ) → addresses held ≡ log_locks w → (b : Bool) → (b ≡ true) ↔ ((a : ℕ) × (get w.locks a ≡ Some k)) → writes_to held k ≡ b
 own_lock w held k same true has =
     let at = has.0 refl in
     among_written held k (subst (λ (ks : List ℕ). Among k ks) (sym same) (in_locks w at.0 k at.1))
 own_lock w held k same false has =
     elim (both_bool (writes_to held k)) [
-      | inl held_too ↦ (let there = written_among held k held_too in let key : Among k (addresses held) = in_map (λ (p : ℕ × ℕ). p.0) held (k, there.0) there.1 in let at : IsTrue false = has.1 (locks_in w k (subst (λ (ks : List ℕ). Among k ks) same key)) in cc)
+      | inl held_too ↦ (let there = written_among held k held_too in let key : Among k (addresses held) = in_map (λ (p : ℕ × ℕ). p.0) held (k, there.0) there.1 in let at : false ≡ true = has.1 (locks_in w k (subst (λ (ks : List ℕ). Among k ks) same key)) in cc)
       | inr none ↦ none
     ]
 

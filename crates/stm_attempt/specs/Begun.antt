@@ -18,7 +18,7 @@ still v = record v {
 
 -- the client's attempt began with the read version rv, and has done nothing but read
 pub record IsBegun (v : Client) (rv : ℕ) : Type 0 where
-  pub unspent : v.spent ≡ false
+  pub out : v.is_gathered ≡ false
   pub begun_at : v.attempt.rv ≡ rv
   pub known : v.floor ≡ rv
   pub free : v.attempt.held ≡ []

@@ -13,7 +13,7 @@ use Rattle.stm_attempt.specs.declared.conflict.Stop.{Stop}
 
 -- the attempt may commit what it wrote: it has begun at rv and only read, inside the region
 pub record IsReady (region : RegionShown) (v : Client) (rv : ℕ) : Type 0 where
-  pub unspent : v.spent ≡ false
+  pub out : v.is_gathered ≡ false
   pub reading : (v.attempt.phase ≡ running) × (v.attempt.wv ≡ 0)
   pub begun_at : v.attempt.rv ≡ rv
   pub known : v.floor ≡ rv
@@ -31,7 +31,7 @@ pub record IsLogged (region : RegionShown) (v : Client) (logged : List ℕ)
 
 -- it may validate its reads: all its locks are held, the clock is ticked, and nothing is decided
 pub record CanValidate (region : RegionShown) (v : Client) (rv : ℕ) : Type 0 where
-  pub unspent : v.spent ≡ false
+  pub out : v.is_gathered ≡ false
   pub phase : v.attempt.phase ≡ running
   pub versioned : 0 < v.attempt.wv
   pub unvalidated : v.attempt.passed ≡ 0
@@ -42,7 +42,7 @@ pub record CanValidate (region : RegionShown) (v : Client) (rv : ℕ) : Type 0 w
 
 -- the attempt is decided, and has nothing stored yet
 pub record CanSettle (v : Client) (log : LogValue) : Type 0 where
-  pub unspent : v.spent ≡ false
+  pub out : v.is_gathered ≡ false
   pub phase : v.attempt.phase ≡ committed
   pub stored : v.attempt.stored ≡ []
   pub writes : v.attempt.writes ≡ log_pairs log
@@ -54,7 +54,7 @@ commit_bound v log = v.attempt.steps + length v.attempt.reads + 4 * len log.word
 
 -- it may take locks
 abbrev pub CanLock : Client → Type 0
-CanLock v = (v.spent ≡ false) × ((v.attempt.phase ≡ running) × (v.attempt.wv ≡ 0))
+CanLock v = (v.is_gathered ≡ false) × ((v.attempt.phase ≡ running) × (v.attempt.wv ≡ 0))
 
 -- it holds no lock from this one on
 abbrev pub IsAbove : Client → ℕ → Type 0
@@ -76,7 +76,7 @@ pub record HasTakenAll (v v' : Client) (log : LogValue) (taken : ℕ) : Type 0 w
 
 -- it may give back what it holds
 abbrev pub CanGiveBack : Client → Type 0
-CanGiveBack v = (v.spent ≡ false) × ((v.attempt.phase ≡ running) ⊎ (v.attempt.phase ≡ ending))
+CanGiveBack v = (v.is_gathered ≡ false) × ((v.attempt.phase ≡ running) ⊎ (v.attempt.phase ≡ ending))
 
 -- a step of a commit failed: the locks are held as before
 pub record HasFailed (v v' : Client) : Type 0 where

@@ -6,7 +6,7 @@ use Rattle.stm_core.specs.Event.{forgetting, versioned, writer_record, reader_re
 use Rattle.stm_logs.specs.Log.{LogValue, log_pairs, log_locks}
 use Rattle.stm_region.specs.Shown.{RegionShown, unplaced}
 use Rattle.stm_core.specs.Guards.{stripe_of}
-use Rattle.stm_region.specs.Told.{Decides}
+use Rattle.stm_region.specs.Findings.{Decides}
 use Rattle.stm_attempt.specs.Conflicts.{IsCommitConflict}
 use Rattle.stm_attempt.specs.declared.conflict.Stop.{Stop}
 use Rattle.stm_attempt.specs.declared.conflict.Stop.TheVariants.{Memory, Spent, Conflict as Conflicting}
@@ -14,7 +14,7 @@ use Rattle.stm_attempt.specs.declared.conflict.Stop.TheVariants.{Memory, Spent, 
 -- the same attempt of the same client, with the same reads
 pub record IsSameAttempt (v v' : Client) : Type 0 where
   pub grants : v'.grants ≡ v.grants
-  pub spent : v'.spent ≡ v.spent
+  pub is_gathered : v'.is_gathered ≡ v.is_gathered
   pub number : v'.attempt.number ≡ v.attempt.number
   pub rv : v'.attempt.rv ≡ v.attempt.rv
   pub reads : v'.attempt.reads ≡ v.attempt.reads

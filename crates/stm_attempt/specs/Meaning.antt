@@ -3,12 +3,12 @@ use Rattle.std.specs.Prelude.{◌≡◌, ℕ, Bool, true, false, List, [], Some}
 use Rattle.std.specs.FinMap.{get, empty, get-empty}
 use Rattle.std.specs.Ordering.{nat_cmp}
 use Rattle.stm_words.specs.Image.{Has, Agrees}
-use Rattle.stm_words.specs.View.{View, Stands}
+use Rattle.stm_words.specs.View.{View, RestsOn}
 use Rattle.stm_words.specs.Pairs.{map_of}
 use Rattle.stm_core.specs.Client.{Client}
 use Rattle.stm_logs.specs.Log.{LogValue}
 use Rattle.stm_region.specs.Shown.{RegionShown, ClientShown}
-use Rattle.stm_region.specs.Told.{StandsOn}
+use Rattle.stm_region.specs.Findings.{StandsOn}
 use Rattle.stm_attempt.specs.Begun.{still}
 use Rattle.std.proofs.Common.{refl, subst, ◌∙◌}
 use Rattle.std.proofs.Math.Logic.{∥∥₁_map}
@@ -55,7 +55,7 @@ pub attempt_seen :
     (in_use : Bool) (region : RegionShown) (fits : List ℕ → Type 0) (v : Client)
     (writes : LogValue) (size : ℕ) (reads : List (ℕ × ℕ)) → IsStanding in_use region v size reads →
     ∥ StandsOn fits size reads ∥₁ →
-    ∥ ((image : List ℕ) × Stands (memory_of in_use region fits v writes) image) ∥₁
+    ∥ ((image : List ℕ) × RestsOn (memory_of in_use region fits v writes) image) ∥₁
 attempt_seen true region fits v writes size reads same stands =
     ∥∥₁_map stands (λ s. (
       s.image,

@@ -4,7 +4,7 @@ ghost use Rattle.stm_core.specs.Core.{IsFreeHanded};
 ghost use Rattle.stm_core.specs.Event.{begin as begins};
 ghost use Rattle.stm_region.specs.declared.limits.TheConstants.{MOST_GRANTS};
 ghost use Rattle.stm_region.specs.Shown.{acted};
-ghost use Rattle.stm_region.specs.Told.{AreEarlier};
+ghost use Rattle.stm_region.specs.Findings.{AreEarlier};
 ghost use Rattle.stm_attempt.specs.Begun.{AreInside, IsPlaced, IsRunning, IsUnstopped, addresses};
 ghost use Rattle.stm_attempt.specs.Conflicts.{HasMet};
 ghost use Rattle.stm_attempt.specs.Meaning.{IsStanding};
@@ -19,7 +19,7 @@ use stm_words::{Addr, Law, TxMem, TxRead, Version};
 
 /// A running transaction of a client, with its read log and its write log.
 ///
-/// It must be spent by `commit` or `drop_it`.
+/// It must be ended by `commit` or `drop_it`.
 pub struct Attempt<'a, L: Law, R: Allocator = Global, A: Allocator + Copy = Global> {
     pub(crate) region: &'a Region<L, R>,
     pub(crate) client: &'a mut Client<L>,

@@ -4,7 +4,7 @@ ghost use Rattle.stm_core.specs.Core.{IsFreeHanded};
 ghost use Rattle.stm_core.specs.Event.{begin as begins, finish as finishes};
 ghost use Rattle.stm_region.specs.declared.limits.TheConstants.{MOST_GRANTS};
 ghost use Rattle.stm_region.specs.Shown.{acted};
-ghost use Rattle.stm_region.specs.Told.{AreEarlier};
+ghost use Rattle.stm_region.specs.Findings.{AreEarlier};
 ghost use Rattle.stm_attempt.specs.Begun.{IsRunning, IsUnstopped, is_unfinished};
 ghost use Rattle.stm_attempt.specs.Committing.{DecidesWith, commit_record};
 ghost use Rattle.stm_attempt.specs.Conflicts.{HasMet, most_steps};
@@ -19,7 +19,7 @@ use stm_words::{Addr, Law, Tag, TxRead, Version};
 
 /// A running transaction that only reads. It keeps no log and takes no memory.
 ///
-/// It must be spent by `finish` or `drop_it`.
+/// It must be ended by `finish` or `drop_it`.
 pub struct ReadAttempt<'a, L: Law, R: Allocator = Global> {
     pub(crate) region: &'a Region<L, R>,
     pub(crate) client: &'a mut Client<L>,

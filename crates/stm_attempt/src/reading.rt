@@ -3,7 +3,7 @@ ghost use Rattle.std.specs.Prelude.{◌≡◌, ◌+◌, ◌<◌, ◌≤◌, ◌^
 ghost use Rattle.stm_words.specs.LockWord.{free_word};
 ghost use Rattle.stm_core.specs.Client.{running};
 ghost use Rattle.stm_core.specs.Guards.{stripe_of};
-ghost use Rattle.stm_region.specs.Told.{StandsOn};
+ghost use Rattle.stm_region.specs.Findings.{StandsOn};
 ghost use Rattle.stm_attempt.specs.Begun.{still, IsBegun, HasReadWord, is_unfinished};
 ghost use Rattle.stm_attempt.specs.Conflicts.{IsHeld, IsReadConflict};
 

@@ -1,6 +1,6 @@
 //! What the proof keeps of an attempt's reads.
 ghost use Rattle.std.specs.Prelude.{◌≡◌};
-ghost use Rattle.stm_region.specs.Told.{StandsOn};
+ghost use Rattle.stm_region.specs.Findings.{StandsOn};
 
 use std::alloc::Allocator;
 use std::snapshot::Snapshot;

@@ -18,7 +18,7 @@ fn store_words<L: Law, R: Allocator, A: Allocator>(
     words: Words<'_, A>,
 )
     requires own { client.old.table ≡ region.now.table }
-    requires committed { (client.old.value.spent ≡ false)
+    requires committed { (client.old.value.is_gathered ≡ false)
         × (client.old.value.attempt.phase ≡ committed) }
     requires storable { AreStorable region.now client.old.value words }
     ensures own { client.new.table ≡ client.old.table }
@@ -54,7 +54,7 @@ pub(crate) fn release_all<L: Law, R: Allocator, A: Allocator + Copy>(
     writes: &WriteLog<A>,
 )
     requires own { client.old.table ≡ region.now.table }
-    requires committed { (client.old.value.spent ≡ false)
+    requires committed { (client.old.value.is_gathered ≡ false)
         × (client.old.value.attempt.phase ≡ committed) }
     requires stored { IsAllStored client.old.value }
     requires held { addresses client.old.value.attempt.held ≡ log_locks writes.now }

@@ -4,7 +4,7 @@ ghost use Rattle.stm_core.specs.Client.{decided};
 ghost use Rattle.stm_core.specs.declared.limits.TheConstants.{MOST_TICKS};
 ghost use Rattle.stm_core.specs.Guards.{may_write, stripe_of};
 ghost use Rattle.stm_logs.specs.Log.{log_pairs};
-ghost use Rattle.stm_region.specs.Told.{Decides};
+ghost use Rattle.stm_region.specs.Findings.{Decides};
 ghost use Rattle.stm_attempt.specs.Answers.{IsSpent};
 ghost use Rattle.stm_attempt.specs.Committing.{IsCommitStop, IsCounted};
 ghost use Rattle.stm_attempt.specs.CommitParts.{IsReady, HasTicked, HasFailed};

@@ -5,7 +5,7 @@ ghost use Rattle.stm_core.specs.Event.{validate as validates};
 ghost use Rattle.stm_logs.specs.Log.{log_locks};
 ghost use Rattle.stm_region.specs.Shown.{IsAllowed};
 ghost use Rattle.stm_core.specs.Guards.{stripe_of};
-ghost use Rattle.stm_region.specs.Told.{Decides};
+ghost use Rattle.stm_region.specs.Findings.{Decides};
 ghost use Rattle.stm_attempt.specs.Begun.{IsPlaced, addresses};
 ghost use Rattle.stm_attempt.specs.Conflicts.{IsValidateConflict, IsReadLock};
 ghost use Rattle.stm_attempt.specs.CommitParts.{CanValidate, HasValidated, HasFailedValidating};

@@ -16,7 +16,7 @@ module _ (lawful : RecordLaw) (size renewal : ℕ) (story : List (List (ℕ × �
   it : IsFiled lawful size renewal story v
   it = h.filed id v at
 
-  module _ (open' : IsOpen v) (numbers : (i : ℕ) (o : Client) → At cs i o → i ≢ id → decided o ≡ true → (0 < o.attempt.wv) × (o.attempt.wv ≢ v.attempt.wv)) (phase : decided w ≡ true) (spent : w.spent ≡ false) (reads : w.attempt.reads ≡ v.attempt.reads) (wv : w.attempt.wv ≡ v.attempt.wv) (writes : w.attempt.writes ≡ v.attempt.writes)
+  module _ (open' : IsOpen v) (numbers : (i : ℕ) (o : Client) → At cs i o → i ≢ id → decided o ≡ true → (0 < o.attempt.wv) × (o.attempt.wv ≢ v.attempt.wv)) (phase : decided w ≡ true) (is_gathered : w.is_gathered ≡ false) (reads : w.attempt.reads ≡ v.attempt.reads) (wv : w.attempt.wv ≡ v.attempt.wv) (writes : w.attempt.writes ≡ v.attempt.writes)
       (records : w.records ≡ inserted r v.records) (r_tag : r.tag ≡ v.attempt.tag) (r_reads : r.reads ≡ v.attempt.reads) (r_writes : r.writes ≡ v.attempt.writes) (r_writer : r.writer ≡ true) (r_version : r.version ≡ v.attempt.wv) (r_renewal : r.renewal ≡ renewal) where
     abbrev story' : List (List (ℕ × ℕ))
     story' = set story (v.attempt.wv - 1) v.attempt.writes
@@ -55,7 +55,7 @@ module _ (lawful : RecordLaw) (size renewal : ℕ) (story : List (List (ℕ × �
       writes = λ z. rw writes (it.writes open'.0);
       abides = λ o. clash phase o.1;
       commits = λ d. rw (wv, writes) here;
-      gone = λ s. clash s spent;
+      gone = λ s. clash s is_gathered;
     }
 
     new_else : (i : ℕ) (o : Client) (x y : Record) → At cs i o → i ≢ id → In x w.records → x.writer ≡ true → In y o.records → y.writer ≡ true → x.version ≢ y.version
@@ -80,7 +80,7 @@ module _ (lawful : RecordLaw) (size renewal : ℕ) (story : List (List (ℕ × �
         back u ws q e = ⊎_elim (λ p. absurd (q p.0)) (λ p. p.1) (at_set story (v.attempt.wv - 1) u v.attempt.writes ws e)
 
   -- a reader's record
-  module _ (phase : decided w ≡ false) (spent : w.spent ≡ false) (reads : w.attempt.reads ≡ v.attempt.reads) (wv : w.attempt.wv ≡ v.attempt.wv) (none' : v.attempt.wv ≡ 0) (records : w.records ≡ inserted r v.records) (r_lawful : lawful r.tag r.reads r.writes) (r_reads : r.reads ≡ v.attempt.reads) (r_writes : r.writes ≡ [])
+  module _ (phase : decided w ≡ false) (is_gathered : w.is_gathered ≡ false) (reads : w.attempt.reads ≡ v.attempt.reads) (wv : w.attempt.wv ≡ v.attempt.wv) (none' : v.attempt.wv ≡ 0) (records : w.records ≡ inserted r v.records) (r_lawful : lawful r.tag r.reads r.writes) (r_reads : r.reads ≡ v.attempt.reads) (r_writes : r.writes ≡ [])
       (r_writer : r.writer ≡ false) (r_renewal : r.renewal ≡ renewal) where
     closed : 0 < w.attempt.wv → ⊥
     closed z = (let e : w.attempt.wv ≡ 0 = wv ∙ none' in omega arith)
@@ -108,7 +108,7 @@ module _ (lawful : RecordLaw) (size renewal : ℕ) (story : List (List (ℕ × �
           writes = λ z. absurd (closed z);
           abides = λ o. absurd (closed o.0);
           commits = λ d. clash d phase;
-          gone = λ s. clash s spent;
+          gone = λ s. clash s is_gathered;
         }
         (λ x m t. ⊎_elim (λ e. clash t (sym (ap (λ (z : Record). z.writer) e) ∙ r_writer)) (λ old. old) (in_inserted r v.records x (subst (In x) records m)))
         (λ x m. rw records (inserted_old r v.records x m)) (λ o. absurd (closed o.0))

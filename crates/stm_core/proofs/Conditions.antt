@@ -9,7 +9,7 @@ use Rattle.stm_words.specs.declared.version.TheConstants.{VERSION_LIMIT}
 use Rattle.stm_core.specs.Client.{Attempt, Client, Phase, running, ending, committed, Step, probed, fetched, version_of, IsFree, is_free, is_committed, writes_to, old_version, RecordLaw}
 use Rattle.stm_core.specs.Event.{Action, begin, probe, fetch, check, lock, tick, validate, put, release, give_back, finish, Bounds, is_empty, gone}
 use Rattle.stm_core.specs.Guards.{Holds, is_running, may_end, is_reading, has_probed, has_found_free, has_fetched, is_map, may_write, is_next, are_stored, may_act, MayAct, IsLawful}
-use Rattle.stm_core.specs.Core.{Core, bounds_of, client_of, Event, acts, splits, gathers, renews, is_out, are_spent, others_spent, Allowed, MakesLawful}
+use Rattle.stm_core.specs.Core.{Core, bounds_of, client_of, Event, acts, splits, gathers, renews, is_out, are_gathered, others_gathered, Allowed, MakesLawful}
 use Rattle.stm_core.specs.Theorem.{free_law}
 use Rattle.stm_core.specs.declared.limits.TheConstants.{MOST_RENEWALS, MOST_TICKS}
 use Rattle.stm_core.proofs.Lists.{clash, nothing_in, by_bool, in_range}
@@ -48,13 +48,13 @@ pub record MayWrite (lk : ℕ → ℕ) (size : ℕ) (held writes : List (ℕ × 
 abbrev pub IsNext : (ℕ → ℕ) → ℕ → List (ℕ × ℕ) → ℕ → Type 0
 IsNext lk k reads n = (a x : ℕ) × (get_elem? reads n ≡ some (a, x)) × (lk a ≡ k)
 
--- every other client is spent
+-- every other client is gathered
 abbrev pub IsAlone : Core → ℕ → Type 0
-IsAlone c i = (j : ℕ) (w : Client) → get_elem? c.clients j ≡ some w → j ≢ i → w.spent ≡ true
+IsAlone c i = (j : ℕ) (w : Client) → get_elem? c.clients j ≡ some w → j ≢ i → w.is_gathered ≡ true
 
--- the number was given to a client, and that client is not spent
+-- the number was given to a client, and that client is not gathered
 abbrev pub IsOut : Core → ℕ → Type 0
-IsOut c k = (0 < k) × (get_elem? c.clients (k - 1) ≡ some (client_of c k)) × ((client_of c k).spent ≡ false)
+IsOut c k = (0 < k) × (get_elem? c.clients (k - 1) ≡ some (client_of c k)) × ((client_of c k).is_gathered ≡ false)
 
 module _ (lawful : RecordLaw) (lk : ℕ → ℕ) where
   -- what it means that an attempt may make a step
@@ -287,17 +287,17 @@ module _ (lk : ℕ → ℕ) where
     may_act_so (finish tag) m = ((act_test b t (finish tag)).complete (m.0, m.1, tt), m.2)
     may_act_so e m = ((act_test b t e).complete m, tt)
 
-all_spent : (l : List Client) → are_spent l ≡ true → (j : ℕ) (w : Client) → get_elem? l j ≡ some w → w.spent ≡ true
-all_spent [] h j w e = absurd (nothing_in w (j, e))
-all_spent (v ∷ vs) h zero w e = let q = (and2 (bool_test v.spent) (bool_test (are_spent vs))).sound h in subst (λ (z : Client). z.spent ≡ true) (some-injective v w e) q.0
-all_spent (v ∷ vs) h (suc j) w e = let q = (and2 (bool_test v.spent) (bool_test (are_spent vs))).sound h in all_spent vs q.1 j w e
+all_gathered : (l : List Client) → are_gathered l ≡ true → (j : ℕ) (w : Client) → get_elem? l j ≡ some w → w.is_gathered ≡ true
+all_gathered [] h j w e = absurd (nothing_in w (j, e))
+all_gathered (v ∷ vs) h zero w e = let q = (and2 (bool_test v.is_gathered) (bool_test (are_gathered vs))).sound h in subst (λ (z : Client). z.is_gathered ≡ true) (some-injective v w e) q.0
+all_gathered (v ∷ vs) h (suc j) w e = let q = (and2 (bool_test v.is_gathered) (bool_test (are_gathered vs))).sound h in all_gathered vs q.1 j w e
 
-others_alone : (l : List Client) (i : ℕ) → others_spent l i ≡ true → (j : ℕ) (w : Client) → get_elem? l j ≡ some w → j ≢ i → w.spent ≡ true
+others_alone : (l : List Client) (i : ℕ) → others_gathered l i ≡ true → (j : ℕ) (w : Client) → get_elem? l j ≡ some w → j ≢ i → w.is_gathered ≡ true
 others_alone [] i h j w e n = absurd (nothing_in w (j, e))
 others_alone (v ∷ vs) zero h zero w e n = absurd (n refl)
-others_alone (v ∷ vs) zero h (suc j) w e n = all_spent vs h j w e
-others_alone (v ∷ vs) (suc i) h zero w e n = let q = (and2 (bool_test v.spent) (bool_test (others_spent vs i))).sound h in subst (λ (z : Client). z.spent ≡ true) (some-injective v w e) q.0
-others_alone (v ∷ vs) (suc i) h (suc j) w e n = let q = (and2 (bool_test v.spent) (bool_test (others_spent vs i))).sound h in others_alone vs i q.1 j w e (λ z. n (ap suc z))
+others_alone (v ∷ vs) zero h (suc j) w e n = all_gathered vs h j w e
+others_alone (v ∷ vs) (suc i) h zero w e n = let q = (and2 (bool_test v.is_gathered) (bool_test (others_gathered vs i))).sound h in subst (λ (z : Client). z.is_gathered ≡ true) (some-injective v w e) q.0
+others_alone (v ∷ vs) (suc i) h (suc j) w e n = let q = (and2 (bool_test v.is_gathered) (bool_test (others_gathered vs i))).sound h in others_alone vs i q.1 j w e (λ z. n (ap suc z))
 
 at_of : (l : List Client) (i : ℕ) → i < length l → get_elem? l i ≡ some (get_or l i gone)
 at_of [] i h = absurd (omega arith)
@@ -306,7 +306,7 @@ at_of (x ∷ l) (suc i) h = at_of l i (omega arith)
 
 pub out_test : (c : Core) (k : ℕ) → Decides (is_out c k) (IsOut c k)
 out_test c k = through (λ q. (q.0, at_of c.clients (k - 1) q.1, q.2)) (λ q. (q.0, in_range c.clients (k - 1) (client_of c k) q.1, q.2))
-    (and3 (lt_test 0 k) (lt_test (k - 1) (length c.clients)) (false_test (client_of c k).spent))
+    (and3 (lt_test 0 k) (lt_test (k - 1) (length c.clients)) (false_test (client_of c k).is_gathered))
 
 module _ (lawful : RecordLaw) (lk : ℕ → ℕ) where
   pub can_play : (e : Event) (c : Core) → Allowed lawful lk e c → CanPlay lawful lk e c
@@ -318,7 +318,7 @@ module _ (lawful : RecordLaw) (lk : ℕ → ℕ) where
   can_play (gathers k j) c h =
       (and5 (out_test c k) (out_test c j) (not_test (eq_test k j)) (empty_test (client_of c k).attempt.held) (empty_test (client_of c j).attempt.held)).sound h.0
   can_play (renews k last) c h =
-      let p = (and2 (and5 (out_test c k) (empty_test (client_of c k).attempt.held) (bool_test (others_spent c.clients (k - 1))) (le_test 1 last) (lt_test last VERSION_LIMIT)) (lt_test c.renewal MOST_RENEWALS)).sound h.0 in
+      let p = (and2 (and5 (out_test c k) (empty_test (client_of c k).attempt.held) (bool_test (others_gathered c.clients (k - 1))) (le_test 1 last) (lt_test last VERSION_LIMIT)) (lt_test c.renewal MOST_RENEWALS)).sound h.0 in
       (p.0.0, p.0.1, others_alone c.clients (k - 1) p.0.2, p.0.3, p.0.4, p.1)
 
 -- every record is lawful for the law that allows all

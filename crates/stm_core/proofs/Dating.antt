@@ -21,7 +21,7 @@ Mark v p = (IsReading v.attempt × (p ≡ v.attempt.began_at)) ⊎ (IsOpen v × 
 
 -- a record of this client is of an attempt that is over
 abbrev IsOver : Record → ℕ → Client → Type 0
-IsOver r y c = c.spent ≡ false → r.client ≡ suc y → (r.attempt ≤ c.attempt.number) × (r.attempt ≡ c.attempt.number → is_settled c.attempt.phase ≡ true)
+IsOver r y c = c.is_gathered ≡ false → r.client ≡ suc y → (r.attempt ≤ c.attempt.number) × (r.attempt ≡ c.attempt.number → is_settled c.attempt.phase ≡ true)
 
 -- a record beside the values of the clock before each event
 pub record IsStamped (time : ℕ → ℕ) (events : ℕ) (r : Record) : Type 0 where
@@ -45,13 +45,13 @@ pub record Dated (old : List Record) (clock events : ℕ) (cs : List Client) (h 
   pub every : (i : ℕ) (v : Client) (r : Record) → At cs i v → In r v.records → In r h
   pub only : (r : Record) → In r h → (i : ℕ) × (v : Client) × At cs i v × In r v.records
   pub known : (r : Record) → In r h → r.client ≤ length cs
-  pub numbered : (i : ℕ) (v : Client) (r : Record) → At cs i v → v.spent ≡ false → In r h → r.client ≡ suc i → (r.attempt ≤ v.attempt.number) × (r.attempt ≡ v.attempt.number → is_settled v.attempt.phase ≡ true)
+  pub numbered : (i : ℕ) (v : Client) (r : Record) → At cs i v → v.is_gathered ≡ false → In r h → r.client ≡ suc i → (r.attempt ≤ v.attempt.number) × (r.attempt ≡ v.attempt.number → is_settled v.attempt.phase ≡ true)
   -- the records of earlier renewals stand before all that
   pub old_past : (r : Record) → In r old → r.point < events
   pub old_before : (r x : Record) → In r old → In x h → r.point < x.point
   pub old_marked : (i : ℕ) (v : Client) (p : ℕ) (r : Record) → At cs i v → Mark v p → In r old → r.point < p
   pub old_known : (r : Record) → In r old → r.client ≤ length cs
-  pub old_numbered : (i : ℕ) (v : Client) (r : Record) → At cs i v → v.spent ≡ false → In r old → r.client ≡ suc i → (r.attempt ≤ v.attempt.number) × (r.attempt ≡ v.attempt.number → is_settled v.attempt.phase ≡ true)
+  pub old_numbered : (i : ℕ) (v : Client) (r : Record) → At cs i v → v.is_gathered ≡ false → In r old → r.client ≡ suc i → (r.attempt ≤ v.attempt.number) × (r.attempt ≡ v.attempt.number → is_settled v.attempt.phase ≡ true)
 
 -- the values of the clock with one more, after so many events
 pub later_on : (ℕ → ℕ) → ℕ → ℕ → ℕ → ℕ
@@ -121,7 +121,7 @@ ranked_by old clock events cs h d (x ∷ l) o f = (λ r i. pair r i, ranked_by o
 
 module _ (old : List Record) (clock events : ℕ) (cs : List Client) (h : List Record) (d : Dated old clock events cs h) (i : ℕ) (v w : Client) (at : At cs i v) where
   -- one event more, which decides nothing
-  module _ (clock' : ℕ) (up : clock ≤ clock') (records : w.records ≡ v.records) (spent : w.spent ≡ v.spent)
+  module _ (clock' : ℕ) (up : clock ≤ clock') (records : w.records ≡ v.records) (is_gathered : w.is_gathered ≡ v.is_gathered)
       (reading : IsReading w.attempt → (IsReading v.attempt × (w.attempt.began_at ≡ v.attempt.began_at) × (w.attempt.rv ≡ v.attempt.rv)) ⊎ ((w.attempt.began_at ≡ events) × (w.attempt.rv ≡ clock) × (clock' ≡ clock)))
       (ticking : IsOpen w → (IsOpen v × (w.attempt.ticked_at ≡ v.attempt.ticked_at) × (w.attempt.wv ≡ v.attempt.wv)) ⊎ ((w.attempt.ticked_at ≡ events) × (w.attempt.wv ≡ clock + 1) × (clock' ≡ clock + 1)))
       (number : (v.attempt.number < w.attempt.number) ⊎ ((w.attempt.number ≡ v.attempt.number) × (is_settled v.attempt.phase ≡ true → is_settled w.attempt.phase ≡ true))) where
@@ -181,19 +181,19 @@ module _ (old : List Record) (clock events : ℕ) (cs : List Client) (h : List R
       only = λ r m. let q = d.only r m in dite (ℕ_discrete q.0 i) (λ z. (i, w, set_here cs i v w at, rw records (subst (λ (c : Client). In r c.records) (same_at cs i q.1 v (subst (λ y. At cs y q.1) z q.2) at) q.3))) (λ z. (q.0, q.1, set_else cs i q.0 w q.1 z q.2, q.3));
       known = λ r m. rw (length-set cs i w) (d.known r m);
       numbered = λ j o r e s m k. who_set cs i w (IsOver r)
-          (λ s' k'. let q = d.numbered i v r at (sym spent ∙ s') m k' in ⊎_elim (λ l. (omega (arith, q.0), λ z. absurd (let a = q.0 in omega (arith, l)))) (λ l. (let a = q.0 in let b = l.0 in omega arith, λ z. l.1 (q.1 (z ∙ l.0)))) number)
+          (λ s' k'. let q = d.numbered i v r at (sym is_gathered ∙ s') m k' in ⊎_elim (λ l. (omega (arith, q.0), λ z. absurd (let a = q.0 in omega (arith, l)))) (λ l. (let a = q.0 in let b = l.0 in omega arith, λ z. l.1 (q.1 (z ∙ l.0)))) number)
           (λ y c f n s' k'. d.numbered y c r f s' m k') j o e s k;
       old_past = λ r m. (let p = d.old_past r m in omega arith);
       old_before = d.old_before;
       old_marked = λ j o p r e m k. who_set cs i w (λ y c. Mark c p → r.point < p) (λ m'. ⊎_elim (λ q. d.old_marked i v p r at q k) (λ q. (let z = d.old_past r k in omega arith)) (marks p m')) (λ y c f n m'. d.old_marked y c p r f m' k) j o e m;
       old_known = λ r m. rw (length-set cs i w) (d.old_known r m);
       old_numbered = λ j o r e s m k. who_set cs i w (IsOver r)
-          (λ s' k'. let q = d.old_numbered i v r at (sym spent ∙ s') m k' in ⊎_elim (λ l. (omega (arith, q.0), λ z. absurd (let a = q.0 in omega (arith, l)))) (λ l. (let a = q.0 in let b = l.0 in omega arith, λ z. l.1 (q.1 (z ∙ l.0)))) number)
+          (λ s' k'. let q = d.old_numbered i v r at (sym is_gathered ∙ s') m k' in ⊎_elim (λ l. (omega (arith, q.0), λ z. absurd (let a = q.0 in omega (arith, l)))) (λ l. (let a = q.0 in let b = l.0 in omega arith, λ z. l.1 (q.1 (z ∙ l.0)))) number)
           (λ y c f n s' k'. d.old_numbered y c r f s' m k') j o e s k;
     }
 
   -- a decision: the point step was before
-  module _ (r : Record) (mark : Mark v r.point) (records : w.records ≡ inserted r v.records) (spent : w.spent ≡ v.spent) (none : (p : ℕ) → Mark w p → ⊥) (stamp : IsStamped d.time events r) (who_is : r.client ≡ suc i) (attempt : r.attempt ≡ v.attempt.number) (number : w.attempt.number ≡ v.attempt.number) (settled : is_settled w.attempt.phase ≡ true) where
+  module _ (r : Record) (mark : Mark v r.point) (records : w.records ≡ inserted r v.records) (is_gathered : w.is_gathered ≡ v.is_gathered) (none : (p : ℕ) → Mark w p → ⊥) (stamp : IsStamped d.time events r) (who_is : r.client ≡ suc i) (attempt : r.attempt ≡ v.attempt.number) (number : w.attempt.number ≡ v.attempt.number) (settled : is_settled w.attempt.phase ≡ true) where
     pub date_decide : Dated old clock events (set cs i w) (placed r h)
     date_decide = record {
       time = d.time;
@@ -210,14 +210,14 @@ module _ (old : List Record) (clock events : ℕ) (cs : List Client) (h : List R
           (λ k. let q = d.only x k in dite (ℕ_discrete q.0 i) (λ z. (i, w, set_here cs i v w at, rw records (inserted_old r v.records x (subst (λ (c : Client). In x c.records) (same_at cs i q.1 v (subst (λ y. At cs y q.1) z q.2) at) q.3)))) (λ z. (q.0, q.1, set_else cs i q.0 w q.1 z q.2, q.3))) (in_placed r h x m);
       known = λ x m. rw (length-set cs i w) (⊎_elim (λ q. subst (λ (z : Record). z.client ≤ length cs) q (rw who_is (in_range cs i v at))) (λ q. d.known x q) (in_placed r h x m));
       numbered = λ j o x e s m k. who_set cs i w (IsOver x)
-          (λ s' k'. (⊎_elim (λ q. (let z : r.attempt ≡ x.attempt = ap (λ (y : Record). y.attempt) q in let l = number in let l' = attempt in omega arith)) (λ q. (let z = (d.numbered i v x at (sym spent ∙ s') q k').0 in let l = number in omega arith)) (in_placed r h x m), λ z. settled))
+          (λ s' k'. (⊎_elim (λ q. (let z : r.attempt ≡ x.attempt = ap (λ (y : Record). y.attempt) q in let l = number in let l' = attempt in omega arith)) (λ q. (let z = (d.numbered i v x at (sym is_gathered ∙ s') q k').0 in let l = number in omega arith)) (in_placed r h x m), λ z. settled))
           (λ y c f n s' k'. ⊎_elim (λ q. absurd (n (let z : r.client ≡ x.client = ap (λ (y : Record). y.client) q in let a = who_is in omega (arith, k')))) (λ q. d.numbered y c x f s' q k') (in_placed r h x m)) j o e s k;
       old_past = d.old_past;
       old_before = λ y x k m. ⊎_elim (λ e. subst (λ (z : Record). y.point < z.point) e (d.old_marked i v r.point y at mark k)) (λ q. d.old_before y x k q) (in_placed r h x m);
       old_marked = λ j o p y e m k. who_set cs i w (λ z c. Mark c p → y.point < p) (λ m'. absurd (none p m')) (λ z c f n m'. d.old_marked z c p y f m' k) j o e m;
       old_known = λ x m. rw (length-set cs i w) (d.old_known x m);
       old_numbered = λ j o x e s m k. who_set cs i w (IsOver x)
-          (λ s' k'. let q = d.old_numbered i v x at (sym spent ∙ s') m k' in (let a = q.0 in let l = number in omega arith, λ z. settled)) (λ y c f n s' k'. d.old_numbered y c x f s' m k') j o e s k;
+          (λ s' k'. let q = d.old_numbered i v x at (sym is_gathered ∙ s') m k' in (let a = q.0 in let l = number in omega arith, λ z. settled)) (λ y c f n s' k'. d.old_numbered y c x f s' m k') j o e s k;
     }
 
 module _ (old : List Record) (clock events : ℕ) (cs : List Client) (h : List Record) (d : Dated old clock events cs h) where
@@ -256,7 +256,7 @@ module _ (old : List Record) (clock events : ℕ) (cs : List Client) (h : List R
       who P new old i o e = ⊎_elim (λ p. old i o p) (λ p. subst (λ c. P i c) p.1 (new i p.0)) (last_at cs i o e)
 
   -- a client takes another's records
-  pub date_join : (i j : ℕ) (v w : Client) → At cs i v → At cs j w → i ≢ j → v.spent ≡ false → Dated old clock events (set (set cs i (taking v w)) j gone) h
+  pub date_join : (i j : ℕ) (v w : Client) → At cs i v → At cs j w → i ≢ j → v.is_gathered ≡ false → Dated old clock events (set (set cs i (taking v w)) j gone) h
   date_join i j v w at to ne live = record {
     time = d.time;
     grows = d.grows;

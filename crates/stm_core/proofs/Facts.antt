@@ -13,7 +13,7 @@ use Rattle.stm_core.specs.History.{Serial, image_after, image_at, all_records, I
 use Rattle.stm_core.proofs.Lists.{nothing_in, same_at, by_bool}
 use Rattle.stm_core.proofs.Orders.{rank_after}
 use Rattle.stm_core.proofs.Stories.{at_zero}
-use Rattle.stm_core.proofs.Histories.{IsTrue, Ranked, Ahead, serial, image_is, image_length, image_last, image_fits}
+use Rattle.stm_core.proofs.Histories.{IsInStory, Ranked, Ahead, serial, image_is, image_length, image_last, image_fits}
 use Rattle.stm_core.proofs.Merging.{Apart, in_all, all_in, all_ordered, all_sub, alone_all}
 use Rattle.stm_core.proofs.Sums.{two_of_sum, share_of}
 
@@ -25,7 +25,7 @@ module _ (lawful : RecordLaw) (lk : ℕ → ℕ) (c : Core) (h : Inv lawful lk c
   apart_of : Apart c.clients
   apart_of = record { each = λ i v e. (h.filed.filed i v e).ordered; once = h.filed.once }
 
-  true_of : (r : Record) (i : ℕ) (v : Client) → At c.clients i v → In r v.records → IsTrue c.opening h.story r
+  true_of : (r : Record) (i : ℕ) (v : Client) → At c.clients i v → In r v.records → IsInStory c.opening h.story r
   true_of r i v e m = let it = (h.filed.filed i v e).told r m in record { reads = λ a x n. (it.reads a x n, ((h.version.sound i v e).agrees (base r) a x (noted r m refl n)).0); writer = it.writer; reader = it.reader }
 
   -- what a list of all records in order needs to be serial
@@ -86,18 +86,18 @@ module _ (lawful : RecordLaw) (lk : ℕ → ℕ) (c : Core) (h : Inv lawful lk c
       even k = dite (ℕ_discrete (slice_index c.locks k) (2 * version_of (slice_index c.locks k))) (λ e. e)
           (λ n. let q = h.version.holder k (let z : slice_index c.locks k ≡ 2 * version_of (slice_index c.locks k) + 1 = omega arith in z) in absurd (nothing_in (k, version_of (slice_index c.locks k)) (subst (In (k, version_of (slice_index c.locks k))) (free q.0 q.1 q.2) q.3)))
 
-  pub grants_of_two : (i j : ℕ) (v w : Client) → i ≢ j → At c.clients i v → At c.clients j w → v.spent ≡ false → w.spent ≡ false → v.grants + w.grants + 1 ≤ 63
+  pub grants_of_two : (i j : ℕ) (v w : Client) → i ≢ j → At c.clients i v → At c.clients j w → v.is_gathered ≡ false → w.is_gathered ≡ false → v.grants + w.grants + 1 ≤ 63
   grants_of_two i j v w n e f un un' = let a = two_of_sum share c.clients i j v w n e f in let b = share_of v un in let b' = share_of w un' in let g = h.grants in omega arith
 
   -- a client with all grants is the only one out
-  pub others_spent : (i : ℕ) (v : Client) → At c.clients i v → v.spent ≡ false → v.grants ≡ 63 → (j : ℕ) (w : Client) → At c.clients j w → j ≢ i → w.spent ≡ true
-  others_spent i v e un all j w f n = by_bool w.spent (λ t. t) (λ t. absurd (let a = grants_of_two i j v w (λ z. n (sym z)) e f un t in omega arith))
+  pub others_gathered : (i : ℕ) (v : Client) → At c.clients i v → v.is_gathered ≡ false → v.grants ≡ 63 → (j : ℕ) (w : Client) → At c.clients j w → j ≢ i → w.is_gathered ≡ true
+  others_gathered i v e un all j w f n = by_bool w.is_gathered (λ t. t) (λ t. absurd (let a = grants_of_two i j v w (λ z. n (sym z)) e f un t in omega arith))
 
   -- and then its records are those of all, and the data words are what laying their writes over the opening image gives
-  pub alone : (i : ℕ) (v : Client) → At c.clients i v → IsFreeHanded v → ((j : ℕ) (w : Client) → At c.clients j w → j ≢ i → w.spent ≡ true) → (all_records c.clients ≡ v.records) × (c.cells ≡ image_after c.opening v.records)
-  alone i v e free spent =
-      let mine = alone_all c.clients i v e (h.filed.filed i v e).ordered (λ j w f n. ((h.filed.filed j w f).gone (spent j w f n)).0) in
-      (mine, cells_by (all_records c.clients) ahead (λ r m. in_all c.clients r m) (λ j w f. dite (ℕ_discrete j i) (λ z. ap (λ (y : Client). y.attempt.held) (same_at c.clients i w v (subst (λ n. At c.clients n w) z f) e) ∙ free.1) (λ n. ((h.filed.filed j w f).gone (spent j w f n)).1)) ∙ ap (image_after c.opening) mine)
+  pub alone : (i : ℕ) (v : Client) → At c.clients i v → IsFreeHanded v → ((j : ℕ) (w : Client) → At c.clients j w → j ≢ i → w.is_gathered ≡ true) → (all_records c.clients ≡ v.records) × (c.cells ≡ image_after c.opening v.records)
+  alone i v e free is_gathered =
+      let mine = alone_all c.clients i v e (h.filed.filed i v e).ordered (λ j w f n. ((h.filed.filed j w f).gone (is_gathered j w f n)).0) in
+      (mine, cells_by (all_records c.clients) ahead (λ r m. in_all c.clients r m) (λ j w f. dite (ℕ_discrete j i) (λ z. ap (λ (y : Client). y.attempt.held) (same_at c.clients i w v (subst (λ n. At c.clients n w) z f) e) ∙ free.1) (λ n. ((h.filed.filed j w f).gone (is_gathered j w f n)).1)) ∙ ap (image_after c.opening) mine)
 
-  pub alone_serial : (i : ℕ) (v : Client) → At c.clients i v → IsFreeHanded v → ((j : ℕ) (w : Client) → At c.clients j w → j ≢ i → w.spent ≡ true) → Serial c.opening v.records
-  alone_serial i v e free spent = subst (Serial c.opening) (alone i v e free spent).0 all_serial
+  pub alone_serial : (i : ℕ) (v : Client) → At c.clients i v → IsFreeHanded v → ((j : ℕ) (w : Client) → At c.clients j w → j ≢ i → w.is_gathered ≡ true) → Serial c.opening v.records
+  alone_serial i v e free is_gathered = subst (Serial c.opening) (alone i v e free is_gathered).0 all_serial

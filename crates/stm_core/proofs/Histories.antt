@@ -24,7 +24,7 @@ laid_length m [] = refl
 laid_length m (p ∷ ps) = laid_length (set m p.0 p.1) ps ∙ length-set m p.0 p.1
 
 -- one record beside the story of an image
-pub record IsTrue (image : List ℕ) (story : List (List (ℕ × ℕ))) (r : Record) : Type 0 where
+pub record IsInStory (image : List ℕ) (story : List (List (ℕ × ℕ))) (r : Record) : Type 0 where
   pub reads : (a x : ℕ) → In (a, x) r.reads → (a < length image) × (value_of image story (base r) a ≡ x)
   pub writer : r.writer ≡ true → (0 < r.version) × (get_elem? story (r.version - 1) ≡ some r.writes)
   pub reader : r.writer ≡ false → r.writes ≡ []
@@ -38,7 +38,7 @@ Ranked (x ∷ xs) = ((r : Record) → In r xs → (rank x ≤ rank r) × (x.writ
 pub record Ahead (image : List ℕ) (story : List (List (ℕ × ℕ))) (rs : List Record) (m : List ℕ) (n : ℕ) : Type 0 where
   pub size : length m ≡ length image
   pub now : (a : ℕ) → a < length image → slice_index m a ≡ value_of image story n a
-  pub each : (r : Record) → In r rs → IsTrue image story r
+  pub each : (r : Record) → In r rs → IsInStory image story r
   pub ranked : Ranked rs
   pub complete : (u : ℕ) (ws : List (ℕ × ℕ)) → get_elem? story u ≡ some ws → ws ≢ [] → n ≤ u → (r : Record) × In r rs × (r.writer ≡ true) × (r.version ≡ suc u)
   pub above : (r : Record) → In r rs → (n ≤ r.version) × (r.writer ≡ true → n < r.version)
@@ -58,7 +58,7 @@ module _ (image : List ℕ) (story : List (List (ℕ × ℕ))) where
       let z = f r.0 r.1 r.2 in (let e = w.2 in let e' = r.3 in omega arith)))
 
   module _ (r : Record) (rs : List Record) (m : List ℕ) (n : ℕ) (h : Ahead image story (r ∷ rs) m n) where
-    me : IsTrue image story r
+    me : IsInStory image story r
     me = h.each r (0, refl)
 
     later : (x : Record) → In x rs → (rank r ≤ rank x) × (r.writer ≡ true → x.writer ≡ true → r.version ≢ x.version)

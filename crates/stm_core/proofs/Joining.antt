@@ -115,7 +115,7 @@ module _ (lawful : RecordLaw) (size renewal : ℕ) (story : List (List (ℕ × �
 
   -- two clients' records come together
   module _ (clock : ℕ) (cs : List Client) (i j : ℕ) (v w new none : Client) (h : Filed lawful size renewal story clock cs) (at : At cs i v) (to : At cs j w) (ne : i ≢ j) (records : new.records ≡ merged v.records w.records)
-      (spent : new.spent ≡ false) (wv : new.attempt.wv ≡ v.attempt.wv) (writes : new.attempt.writes ≡ v.attempt.writes) (tag : new.attempt.tag ≡ v.attempt.tag) (phase : decided new ≡ decided v) (reads : new.attempt.reads ≡ v.attempt.reads) (none_held : none.attempt.held ≡ []) (none_wv : none.attempt.wv ≡ 0) (none_reads : none.attempt.reads ≡ []) (none_records : none.records ≡ []) (none_phase : decided none ≡ false) where
+      (is_gathered : new.is_gathered ≡ false) (wv : new.attempt.wv ≡ v.attempt.wv) (writes : new.attempt.writes ≡ v.attempt.writes) (tag : new.attempt.tag ≡ v.attempt.tag) (phase : decided new ≡ decided v) (reads : new.attempt.reads ≡ v.attempt.reads) (none_held : none.attempt.held ≡ []) (none_wv : none.attempt.wv ≡ 0) (none_reads : none.attempt.reads ≡ []) (none_records : none.records ≡ []) (none_phase : decided none ≡ false) where
     mine : IsFiled lawful size renewal story v
     mine = h.filed i v at
 
@@ -134,7 +134,7 @@ module _ (lawful : RecordLaw) (size renewal : ℕ) (story : List (List (ℕ × �
       writes = λ z. rw writes (mine.writes (subst (λ n. 0 < n) wv z));
       abides = λ o. rw (tag, reads, writes) (mine.abides (subst (λ n. 0 < n) wv o.0, sym phase ∙ o.1));
       commits = λ d. rw (wv, writes) (mine.commits (sym phase ∙ d));
-      gone = λ s. clash s spent;
+      gone = λ s. clash s is_gathered;
     }
 
     no_record : (r : Record) → In r none.records → ⊥
@@ -180,7 +180,7 @@ module _ (lawful : RecordLaw) (lk : ℕ → ℕ) (c : Core) (i : ℕ) (v : Clien
   me : IsSound lk (world c h.story) v
   me = h.version.sound i v at
 
-  share_gives : v.spent ≡ false → 0 < v.grants → share (giving v) + 1 ≡ share v
+  share_gives : v.is_gathered ≡ false → 0 < v.grants → share (giving v) + 1 ≡ share v
   share_gives e z = rw (share_of v e, share_of (giving v) e) (omega arith)
 
   -- a client that holds no lock splits one off

@@ -12,16 +12,16 @@ use Rattle.stm_core.proofs.Steps.{by_case}
 
 module _ (c : Core) (i : ℕ) (v : Client) (at : At c.clients i v) where
   -- the client in its place knows what the clock says now
-  pub turn_known : (clock' : ℕ) (w : Client) → w.spent ≡ false → w.floor ≡ clock' → IsKnown clock' (set c.clients i w)
+  pub turn_known : (clock' : ℕ) (w : Client) → w.is_gathered ≡ false → w.floor ≡ clock' → IsKnown clock' (set c.clients i w)
   turn_known clock' w out floor = record { place = i; knower = w; member = set_here c.clients i v w at; out = out; floor = floor }
 
-module _ (lk : ℕ → ℕ) (c : Core) (k : IsKnown c.clock c.clients) (i : ℕ) (v : Client) (at : At c.clients i v) (live : v.spent ≡ false) where
+module _ (lk : ℕ → ℕ) (c : Core) (k : IsKnown c.clock c.clients) (i : ℕ) (v : Client) (at : At c.clients i v) (live : v.is_gathered ≡ false) where
   -- its floor, where it is the one that knows
   pub its_floor : k.place ≡ i → v.floor ≡ c.clock
   its_floor e = ap (λ (x : Client). x.floor) (same_at c.clients i v k.knower at (subst (λ n. At c.clients n k.knower) e k.member)) ∙ k.floor
 
   -- the client in its place has its floor
-  stays : (w : Client) → w.spent ≡ v.spent → w.floor ≡ v.floor → IsKnown c.clock (set c.clients i w)
+  stays : (w : Client) → w.is_gathered ≡ v.is_gathered → w.floor ≡ v.floor → IsKnown c.clock (set c.clients i w)
   stays w out floor = dite (ℕ_discrete k.place i) (λ e. turn_known c i v at c.clock w (out ∙ live) (floor ∙ its_floor e))
       (λ n. record { place = k.place; knower = k.knower; member = set_else c.clients i k.place w k.knower n k.member; out = k.out; floor = k.floor })
 

@@ -12,7 +12,7 @@ use Rattle.stm_core.specs.Core.{Core, bounds_of, stepped, divided, gathered}
 use Rattle.stm_core.specs.Version.{At}
 use Rattle.stm_core.specs.Invariant.{Inv, now, Unmoved, IsLone, Lone, GoesOn}
 use Rattle.stm_core.proofs.Lists.{at_set, at_snoc, clash, nothing_in}
-use Rattle.stm_core.proofs.Facts.{grants_of_two, others_spent}
+use Rattle.stm_core.proofs.Facts.{grants_of_two, others_gathered}
 use Rattle.stm_core.proofs.Steps.{by_case, undecided_at, undecided_end}
 use Rattle.stm_core.proofs.Conditions.{CanAct, can_act}
 use Rattle.stm_core.specs.Guards.{Holds}
@@ -32,13 +32,13 @@ not_ended v e f = (let z : running ≡ ending = sym e ∙ f in cc)
 
 module _ (lawful : RecordLaw) (lk : ℕ → ℕ) (c : Core) (h : Inv lawful lk (now c)) (l : Lone lk c.clock c.locks c.clients) where
   -- beside the client of a lone attempt nobody is out
-  pub only_one : (i j : ℕ) (v o : Client) → At c.clients i v → At c.clients j o → v.spent ≡ false → o.attempt.lone ≡ true → j ≢ i → ⊥
+  pub only_one : (i j : ℕ) (v o : Client) → At c.clients i v → At c.clients j o → v.is_gathered ≡ false → o.attempt.lone ≡ true → j ≢ i → ⊥
   only_one i j v o at to live lone ne =
       let q = l j o to lone in
       let g = grants_of_two lawful lk (now c) h j i (shed c.renewal o) (shed c.renewal v) ne (at_map (shed c.renewal) c.clients j o to) (at_map (shed c.renewal) c.clients i v at) q.out live in
       let a = q.all in omega arith
 
-  module _ (i : ℕ) (v : Client) (at : At c.clients i v) (live : v.spent ≡ false) where
+  module _ (i : ℕ) (v : Client) (at : At c.clients i v) (live : v.is_gathered ≡ false) where
     turn_lone : (clock' : ℕ) (locks' : List ℕ) (w : Client) → (w.attempt.lone ≡ true → IsLone lk clock' locks' w) → Lone lk clock' locks' (set c.clients i w)
     turn_lone clock' locks' w mine j o e y = ⊎_elim (λ p. subst (IsLone lk clock' locks') p.1 (mine (subst (λ (z : Client). z.attempt.lone ≡ true) (sym p.1) y))) (λ p. absurd (only_one i j v o at p.1 live y p.0)) (at_set c.clients i j w o e)
 
@@ -106,7 +106,7 @@ module _ (lawful : RecordLaw) (lk : ℕ → ℕ) (c : Core) (h : Inv lawful lk (
     pub split_lone : Lone lk c.clock c.locks (divided i v c).clients
     split_lone j o e y = ⊎_elim (λ p. turn_lone c.clock c.locks (giving v) (λ z. clash z refl) j o p y) (λ p. clash y (ap (λ (z : Client). z.attempt.lone) (sym p))) (at_snoc (set c.clients i (giving v)) (fresh v) o j e)
 
-    pub gather_lone : (j : ℕ) (w : Client) → At c.clients j w → i ≢ j → w.spent ≡ false → Lone lk c.clock c.locks (gathered i v j w c).clients
+    pub gather_lone : (j : ℕ) (w : Client) → At c.clients j w → i ≢ j → w.is_gathered ≡ false → Lone lk c.clock c.locks (gathered i v j w c).clients
     gather_lone j w to ne live' n o e y = ⊎_elim (λ p. clash y (ap (λ (z : Client). z.attempt.lone) (sym p.1))) (λ p. turn_lone c.clock c.locks (taking v w) (λ z. absurd (only_one j i w v to at live' z ne)) n o p.1 y) (at_set (set c.clients i (taking v w)) j n gone o e)
 
   -- a lone attempt that is not decided
@@ -129,7 +129,7 @@ module _ (lawful : RecordLaw) (lk : ℕ → ℕ) (c : Core) (h : Inv lawful lk (
             let m : In (k, version_of (slice_index c.locks k)) p.0.attempt.held = subst (λ (z : Client). In (k, version_of (slice_index c.locks k)) z.attempt.held) (sym p.2) q.3 in
             dite (ℕ_discrete q.0 i)
             (λ e. inr (version_of (slice_index c.locks k), subst (λ (z : Client). In (k, version_of (slice_index c.locks k)) z.attempt.held) (some-injective p.0 v (sym p.1 ∙ subst (λ n'. At c.clients n' v) (sym e) at)) m))
-            (λ ne. let gone' = others_spent lawful lk (now c) h i (shed c.renewal v) (at_map (shed c.renewal) c.clients i v at) this.out this.all q.0 q.1 q.2 ne in
+            (λ ne. let gone' = others_gathered lawful lk (now c) h i (shed c.renewal v) (at_map (shed c.renewal) c.clients i v at) this.out this.all q.0 q.1 q.2 ne in
             absurd (nothing_in (k, version_of (slice_index c.locks k)) (subst (In (k, version_of (slice_index c.locks k))) ((h.filed.filed q.0 q.1 q.2).gone gone').1 q.3))))
 
         decides : (t : Stamp) (from : ℕ) (tag : List ℕ) (writes : List (ℕ × ℕ)) → CanAct lawful lk (bounds_of c) (tick from tag writes) v.attempt → c.clock ≡ from → decided (after t lk (tick from tag writes) c.clock v) ≡ true

@@ -12,7 +12,7 @@ use Rattle.stm_core.specs.Event.{decision, Action, begin, probe, fetch, check, l
 use Rattle.stm_core.specs.Core.{Core, bounds_of, found, stepped, divided, gathered, renewed, IsFreeHanded, Event, acts, splits, gathers, renews, client_of, Allowed, played, Leads, opened}
 use Rattle.stm_core.specs.Version.{At, IsOpen}
 use Rattle.stm_core.specs.Invariant.{now, Rule}
-use Rattle.stm_core.specs.Theorem.{IsHistory, is_settled, Stands, EveryListStands}
+use Rattle.stm_core.specs.Theorem.{IsHistory, is_settled, IsSerializable, EveryListIsSerializable}
 use Rattle.stm_core.specs.Guards.{stripe_of}
 use Rattle.stm_core.proofs.Lists.{at_set, set_here, same_at, by_bool, clash, nothing_in, only_one}
 use Rattle.stm_core.proofs.Steps.{undecided_at, by_case}
@@ -87,7 +87,7 @@ earlier_after _ old h = old
 abbrev pub IsDatedBy : List Record → List Record → Core → Type 0
 IsDatedBy old h c = Dated old c.clock c.events c.clients h
 
-module _ (lawful : RecordLaw) (lk : ℕ → ℕ) (old : List Record) (c : Core) (h : List Record) (d : Dated old c.clock c.events c.clients h) (i : ℕ) (v : Client) (at : At c.clients i v) (live : v.spent ≡ false) where
+module _ (lawful : RecordLaw) (lk : ℕ → ℕ) (old : List Record) (c : Core) (h : List Record) (d : Dated old c.clock c.events c.clients h) (i : ℕ) (v : Client) (at : At c.clients i v) (live : v.is_gathered ≡ false) where
   abbrev stamp : Stamp
   stamp = record { client = suc i; place = c.events; renewal = c.renewal }
 
@@ -95,9 +95,9 @@ module _ (lawful : RecordLaw) (lk : ℕ → ℕ) (old : List Record) (c : Core) 
   Next e = IsDatedBy old (filed (decision stamp e (found lk c e) v) h) (stepped stamp lk e i v c)
 
   -- a step that leaves read version, write version and their places
-  quiet : (w : Client) → w.records ≡ v.records → w.spent ≡ v.spent → (IsReading w.attempt → IsReading v.attempt × (w.attempt.began_at ≡ v.attempt.began_at) × (w.attempt.rv ≡ v.attempt.rv)) → (IsOpen w → IsOpen v × (w.attempt.ticked_at ≡ v.attempt.ticked_at) × (w.attempt.wv ≡ v.attempt.wv)) → w.attempt.number ≡ v.attempt.number → (is_settled v.attempt.phase ≡ true → is_settled w.attempt.phase ≡ true)
+  quiet : (w : Client) → w.records ≡ v.records → w.is_gathered ≡ v.is_gathered → (IsReading w.attempt → IsReading v.attempt × (w.attempt.began_at ≡ v.attempt.began_at) × (w.attempt.rv ≡ v.attempt.rv)) → (IsOpen w → IsOpen v × (w.attempt.ticked_at ≡ v.attempt.ticked_at) × (w.attempt.wv ≡ v.attempt.wv)) → w.attempt.number ≡ v.attempt.number → (is_settled v.attempt.phase ≡ true → is_settled w.attempt.phase ≡ true)
       → Dated old c.clock (c.events + 1) (set c.clients i w) h
-  quiet w records spent reading ticking attempt settled = date_step old c.clock c.events c.clients h d i v w at c.clock (le_refl _) records spent (λ r. inl (reading r)) (λ o. inl (ticking o)) (inr (attempt, settled))
+  quiet w records is_gathered reading ticking attempt settled = date_step old c.clock c.events c.clients h d i v w at c.clock (le_refl _) records is_gathered (λ r. inl (reading r)) (λ o. inl (ticking o)) (inr (attempt, settled))
 
   begin_dates : Next begin
   begin_dates = date_step old c.clock c.events c.clients h d i v (after stamp lk begin c.clock v) at c.clock (le_refl _) refl refl (λ r. inr (refl, refl, refl)) (λ o. absurd (let z = o.0 in omega arith)) (inl (omega arith))
@@ -126,8 +126,8 @@ module _ (lawful : RecordLaw) (lk : ℕ → ℕ) (old : List Record) (c : Core) 
       (λ e. let w : Client = stepping (locked k (word_before v.attempt.last) n) (failing v) in quiet w refl refl (λ r. absurd (not_running w refl r)) (λ o. absurd (closed may o.0)) refl (λ s. absurd (unsettled v may.0 s)))
 
   -- a decision right after a step of the same client
-  then_decided : (clock events : ℕ) (w : Client) (g : Dated old clock events (set c.clients i w) h) → IsOpen w → w.spent ≡ v.spent → Dated old clock events (set c.clients i (committed_by stamp w)) (placed (writer_record stamp w.attempt) h)
-  then_decided clock events w g open' spent =
+  then_decided : (clock events : ℕ) (w : Client) (g : Dated old clock events (set c.clients i w) h) → IsOpen w → w.is_gathered ≡ v.is_gathered → Dated old clock events (set c.clients i (committed_by stamp w)) (placed (writer_record stamp w.attempt) h)
+  then_decided clock events w g open' is_gathered =
       let here : At (set c.clients i w) i w = set_here c.clients i v w at in
       let q = (g.each i w here).ticking open' in
       subst (λ cs. Dated old clock events cs (placed (writer_record stamp w.attempt) h)) (set-set c.clients i w (committed_by stamp w))
@@ -244,7 +244,7 @@ module _ (lawful : RecordLaw) (lk : ℕ → ℕ) where
     at' = at_map (shed c.renewal) c.clients i v at
 
     is_gone : (j : ℕ) (o : Client) → At c.clients j o → j ≢ i → o ≡ gone
-    is_gone j o e n = b.rule.past.spent j o e (others j o e n)
+    is_gone j o e n = b.rule.past.are_gone j o e (others j o e n)
 
     abbrev d : Dated old c.clock c.events (now c).clients h
     d = b.dated
@@ -285,7 +285,7 @@ module _ (lawful : RecordLaw) (lk : ℕ → ℕ) where
       old_before = λ r x m k. absurd (nothing_in x k);
       old_marked = λ j o p r e m k. absurd (unmarked j o e p m);
       old_known = λ r m. rw same_length (⊎_elim (λ p. d.old_known r p) (λ p. d.known r p) (in_append old h r m));
-      old_numbered = λ j o r e s m k. who (λ n y. y.spent ≡ false → r.client ≡ suc n → (r.attempt ≤ y.attempt.number) × (r.attempt ≡ y.attempt.number → is_settled y.attempt.phase ≡ true))
+      old_numbered = λ j o r e s m k. who (λ n y. y.is_gathered ≡ false → r.client ≡ suc n → (r.attempt ≤ y.attempt.number) × (r.attempt ≡ y.attempt.number → is_settled y.attempt.phase ≡ true))
           (λ s' k'. (⊎_elim (λ p. (d.old_numbered i v' r at' free.0 p k').0) (λ p. (d.numbered i v' r at' free.0 p k').0) (in_append old h r m), λ z. refl)) (λ n s'. clash refl s') j o e s k;
     }
       where
@@ -485,7 +485,7 @@ ascends (x ∷ l) r = (λ y i. pair y (r.0 y i), ascends l r.1)
         (λ u. let b = rank_reader y u in (omega (arith, a, b, p.0), λ z. clash z u)))
 
 -- what holds of a core follows from the rule and its histories
-pub stands : (lawful : RecordLaw) (lk : ℕ → ℕ) (start : Core) (es : List Event) (c : Core) → Led lawful lk start es c → Stands lawful lk start es c
+pub stands : (lawful : RecordLaw) (lk : ℕ → ℕ) (start : Core) (es : List Event) (c : Core) → Led lawful lk start es c → IsSerializable lawful lk start es c
 stands lawful lk start es c l =
     let old = l.old in
     let h = l.new in
@@ -514,8 +514,8 @@ stands lawful lk start es c l =
       no_trace = λ i v r e s u m n z. ⊎_elim (λ p. clash ((d.old_numbered i (shed c.renewal v) r (at_map (shed c.renewal) c.clients i v e) s p n).1 z) u) (λ p. clash ((d.numbered i (shed c.renewal v) r (at_map (shed c.renewal) c.clients i v e) s p n).1 z) u) (in_append old h r m);
     }
 
-pub every_list_stands : (lawful : RecordLaw) → EveryListStands lawful
-every_list_stands lawful image last stripes es c leads =
+pub every_list_is_serializable : (lawful : RecordLaw) → EveryListIsSerializable lawful
+every_list_is_serializable lawful image last stripes es c leads =
     let lk = stripe_of stripes in
     let start = opened image last stripes in
     stands lawful lk start es c (led_all lawful lk es [] start start c (led_opening lawful lk image last stripes) leads)

@@ -32,16 +32,16 @@ pub may_shed : (lawful : RecordLaw) (lk : ℕ → ℕ) (c : Core) (e : Action) (
 may_shed lawful lk c begin v m = m
 may_shed lawful lk c _ v m = m
 
-after_spent : (t : Stamp) (lk : ℕ → ℕ) (e : Action) (n : ℕ) (v : Client) → (after t lk e n v).spent ≡ v.spent
-after_spent t lk (check a) n v = by_case (λ b. (stepping (checked a (word_before v.attempt.last) n) (cond b (read_too a (value_fetched v.attempt.last) v) (failing v))).spent ≡ v.spent) (eqb n (word_before v.attempt.last)) (λ _. refl) (λ _. refl)
-after_spent t lk (lock k) n v = by_case (λ b. (stepping (locked k (word_before v.attempt.last) n) (cond b (holding k (version_of n) v) (failing v))).spent ≡ v.spent) (eqb n (word_before v.attempt.last)) (λ _. refl) (λ _. refl)
-after_spent t lk (tick f g w) n v =
+after_gathered : (t : Stamp) (lk : ℕ → ℕ) (e : Action) (n : ℕ) (v : Client) → (after t lk e n v).is_gathered ≡ v.is_gathered
+after_gathered t lk (check a) n v = by_case (λ b. (stepping (checked a (word_before v.attempt.last) n) (cond b (read_too a (value_fetched v.attempt.last) v) (failing v))).is_gathered ≡ v.is_gathered) (eqb n (word_before v.attempt.last)) (λ _. refl) (λ _. refl)
+after_gathered t lk (lock k) n v = by_case (λ b. (stepping (locked k (word_before v.attempt.last) n) (cond b (holding k (version_of n) v) (failing v))).is_gathered ≡ v.is_gathered) (eqb n (word_before v.attempt.last)) (λ _. refl) (λ _. refl)
+after_gathered t lk (tick f g w) n v =
     let w0 : Client = versioned t (f + 1) g w v in
-    by_case (λ b. (stepping (ticked f n) (cond b (won t (f + 1) g w v) v)).spent ≡ v.spent) (eqb n f) (λ _. by_case (λ b. (stepping (ticked f n) (cond b (committed_by t w0) w0)).spent ≡ v.spent) (decides_at_once w0) (λ _. refl) (λ _. refl)) (λ _. refl)
-after_spent t lk (validate k) n v =
+    by_case (λ b. (stepping (ticked f n) (cond b (won t (f + 1) g w v) v)).is_gathered ≡ v.is_gathered) (eqb n f) (λ _. by_case (λ b. (stepping (ticked f n) (cond b (committed_by t w0) w0)).is_gathered ≡ v.is_gathered) (decides_at_once w0) (λ _. refl) (λ _. refl)) (λ _. refl)
+after_gathered t lk (validate k) n v =
     let w0 : Client = counting v in
-    by_case (λ b. (stepping (validated k n) (cond b (passing t v) (failing v))).spent ≡ v.spent) (passes k n v) (λ _. by_case (λ b. (stepping (validated k n) (cond b (committed_by t w0) w0)).spent ≡ v.spent) (eqb w0.attempt.passed (length v.attempt.reads)) (λ _. refl) (λ _. refl)) (λ _. refl)
-after_spent t lk _ n v = refl
+    by_case (λ b. (stepping (validated k n) (cond b (passing t v) (failing v))).is_gathered ≡ v.is_gathered) (passes k n v) (λ _. by_case (λ b. (stepping (validated k n) (cond b (committed_by t w0) w0)).is_gathered ≡ v.is_gathered) (eqb w0.attempt.passed (length v.attempt.reads)) (λ _. refl) (λ _. refl)) (λ _. refl)
+after_gathered t lk _ n v = refl
 
 cond_in : {A : Type 0} (P : A → Type 0) (b : Bool) (l : List A) → ((x : A) → In x l → P x) → (x : A) → In x (cond b l []) → P x
 cond_in P true l f x i = f x i
@@ -72,7 +72,7 @@ module _ (lawful : RecordLaw) (lk : ℕ → ℕ) (c : Core) (h : Rule lawful lk 
   pub own_of : (v : Client) → AllOf c.renewal (of_renewal c.renewal v.records)
   own_of v r m = (of_is c.renewal v.records r m).1
 
-  module _ (i : ℕ) (v : Client) (at : At c.clients i v) (live : v.spent ≡ false) where
+  module _ (i : ℕ) (v : Client) (at : At c.clients i v) (live : v.is_gathered ≡ false) where
     abbrev u : Client
     u = shed c.renewal v
 
@@ -86,7 +86,7 @@ module _ (lawful : RecordLaw) (lk : ℕ → ℕ) (c : Core) (h : Rule lawful lk 
     set_now : (w : Client) → AllOf c.renewal w.records → map (shed c.renewal) (set c.clients i (pad (pre i) w)) ≡ set (map (shed c.renewal) c.clients) i w
     set_now w f = map-set (shed c.renewal) c.clients i (pad (pre i) w) ∙ ap (λ z. set (map (shed c.renewal) c.clients) i z) (shed_pad c.renewal (pre i) w (pre_before i) f)
 
-    set_past : (w : Client) → AllOf c.renewal w.records → w.spent ≡ false → Past lawful c.first c.opening c.past c.renewal (set c.clients i (pad (pre i) w))
+    set_past : (w : Client) → AllOf c.renewal w.records → w.is_gathered ≡ false → Past lawful c.first c.opening c.past c.renewal (set c.clients i (pad (pre i) w))
     set_past w f s = record {
       serial = h.past.serial;
       leads = h.past.leads;
@@ -96,7 +96,7 @@ module _ (lawful : RecordLaw) (lk : ℕ → ℕ) (c : Core) (h : Rule lawful lk 
       keeper = h.past.keeper;
       member = rw (length-set c.clients i (pad (pre i) w)) h.past.member;
       kept = λ j o e. ⊎_elim (λ p. subst (λ (z : Client). z.records ≡ pre j ++ of_renewal c.renewal z.records) p.1 (subst (λ n. pre i ++ w.records ≡ pre n ++ of_renewal c.renewal (pre i ++ w.records)) (sym p.0) (ap (λ l. pre i ++ l) (sym (of_padded c.renewal (pre i) w.records (pre_before i) f))))) (λ p. h.past.kept j o p.1) (at_set c.clients i j (pad (pre i) w) o e);
-      spent = λ j o e y. ⊎_elim (λ p. clash y (sym (ap (λ (z : Client). z.spent) p.1) ∙ s)) (λ p. h.past.spent j o p.1 y) (at_set c.clients i j (pad (pre i) w) o e);
+      are_gone = λ j o e y. ⊎_elim (λ p. clash y (sym (ap (λ (z : Client). z.is_gathered) p.1) ∙ s)) (λ p. h.past.are_gone j o p.1 y) (at_set c.clients i j (pad (pre i) w) o e);
     }
 
     module _ (t : Stamp) (era : t.renewal ≡ c.renewal) (e : Action) (may : CanAct lawful lk (bounds_of c) e v.attempt) where
@@ -115,7 +115,7 @@ module _ (lawful : RecordLaw) (lk : ℕ → ℕ) (c : Core) (h : Rule lawful lk 
           let here : At (stepped t lk e i u (now c)).clients i w = rw (clients_stay t lk e i u (now c)) (set_here (now c).clients i u w at_now) in
           ((now_keeps.filed.filed i w here).told r m).present ∙ renewal_stays t lk e i u (now c)
 
-module _ (lawful : RecordLaw) (lk : ℕ → ℕ) (c : Core) (h : Rule lawful lk c) (i : ℕ) (v : Client) (at : At c.clients i v) (live : v.spent ≡ false) (t : Stamp) (era : t.renewal ≡ c.renewal) where
+module _ (lawful : RecordLaw) (lk : ℕ → ℕ) (c : Core) (h : Rule lawful lk c) (i : ℕ) (v : Client) (at : At c.clients i v) (live : v.is_gathered ≡ false) (t : Stamp) (era : t.renewal ≡ c.renewal) where
   abbrev v' : Client
   v' = shed c.renewal v
 
@@ -128,7 +128,7 @@ module _ (lawful : RecordLaw) (lk : ℕ → ℕ) (c : Core) (h : Rule lawful lk 
   step_past : (e : Action) → CanAct lawful lk (bounds_of c) e v.attempt → found lk (now c) e ≡ found lk c e → Past lawful c.first c.opening c.past c.renewal (set c.clients i (after t lk e (found lk c e) v))
   step_past e may same =
       subst (λ z. Past lawful c.first c.opening c.past c.renewal (set c.clients i z)) (sym (after_is lawful lk c h i v at live t era e may (found lk c e)))
-      (set_past lawful lk c h i v at live (after t lk e (found lk c e) v') (subst (λ n. AllOf c.renewal (after t lk e n v').records) same (after_of lawful lk c h i v at live t era e may)) (after_spent t lk e (found lk c e) v' ∙ live))
+      (set_past lawful lk c h i v at live (after t lk e (found lk c e) v') (subst (λ n. AllOf c.renewal (after t lk e n v').records) same (after_of lawful lk c h i v at live t era e may)) (after_gathered t lk e (found lk c e) v' ∙ live))
 
   pub now_stepped : (e : Action) → CanAct lawful lk (bounds_of c) e v.attempt → now (stepped t lk e i v c) ≡ stepped t lk e i v' (now c)
   now_stepped begin may = ap (with_clients (stepped t lk begin i v' (now c))) (step_clients begin may refl)

@@ -81,7 +81,7 @@ module _ (lawful : RecordLaw) (lk : ℕ → ℕ) (c : Core) (h : Rule lawful lk 
         member = rw (length-append (set c.clients i (giving v)) (fresh v ∷ []), length-set c.clients i (giving v)) (let m = h.past.member in omega arith);
         kept = λ j o e. ⊎_elim (λ p. ⊎_elim (λ q. subst (λ (y : Client). y.records ≡ pre lawful lk c h j ++ of_renewal c.renewal y.records) q.1 (subst (λ n. v.records ≡ pre lawful lk c h n ++ of_renewal c.renewal v.records) (sym q.0) (h.past.kept i v at))) (λ q. h.past.kept j o q.1) (at_set c.clients i j (giving v) o p))
             (λ p. subst (λ (y : Client). y.records ≡ pre lawful lk c h j ++ of_renewal c.renewal y.records) p.1 (rw (eqb_no j h.past.keeper (let m = h.past.member in let a = p.0 in let b = length-set c.clients i (giving v) in λ y. omega (arith, y))) refl)) (at_last (set c.clients i (giving v)) (fresh v) o j e);
-        spent = λ j o e y. ⊎_elim (λ p. ⊎_elim (λ q. clash y (sym (ap (λ (x : Client). x.spent) q.1) ∙ free.0)) (λ q. h.past.spent j o q.1 y) (at_set c.clients i j (giving v) o p)) (λ p. clash y (ap (λ (x : Client). x.spent) (sym p.1))) (at_last (set c.clients i (giving v)) (fresh v) o j e);
+        are_gone = λ j o e y. ⊎_elim (λ p. ⊎_elim (λ q. clash y (sym (ap (λ (x : Client). x.is_gathered) q.1) ∙ free.0)) (λ q. h.past.are_gone j o q.1 y) (at_set c.clients i j (giving v) o p)) (λ p. clash y (ap (λ (x : Client). x.is_gathered) (sym p.1))) (at_last (set c.clients i (giving v)) (fresh v) o j e);
       };
     }
 
@@ -115,7 +115,7 @@ module _ (lawful : RecordLaw) (lk : ℕ → ℕ) (c : Core) (h : Rule lawful lk 
     now_gathered = ap (λ cs. record (gathered i v' j w' (now c)) { clients = cs })
         (map-set (shed c.renewal) (set c.clients i (taking v w)) j gone ∙ ap (λ l. set l j gone) (map-set (shed c.renewal) c.clients i (taking v w) ∙ ap (λ y. set (map (shed c.renewal) c.clients) i y) (ap (λ l. record (taking v' w') { records = l }) joined_now)))
 
-    -- the clients with the gatherer's value and the other spent
+    -- the clients with the gatherer's value and the other gathered
     stands : (P : ℕ → Client → Type 0) → P i (taking v w) → P j gone → ((n : ℕ) (o : Client) → At c.clients n o → n ≢ i → n ≢ j → P n o) → (n : ℕ) (o : Client) → At (set (set c.clients i (taking v w)) j gone) n o → P n o
     stands P a b f n o e = ⊎_elim (λ p. subst (λ d. P n d) p.1 (subst (λ y. P y gone) (sym p.0) b)) (λ p. ⊎_elim (λ q. subst (λ d. P n d) q.1 (subst (λ y. P y (taking v w)) (sym q.0) a)) (λ q. f n o q.1 q.0 p.0) (at_set c.clients i n (taking v w) o p.1)) (at_set (set c.clients i (taking v w)) j n gone o e)
 
@@ -154,14 +154,14 @@ module _ (lawful : RecordLaw) (lk : ℕ → ℕ) (c : Core) (h : Rule lawful lk 
         keeper = keeper';
         member = rw (length-set (set c.clients i (taking v w)) j gone, length-set c.clients i (taking v w)) keeper_within;
         kept = stands (λ n o. o.records ≡ cond (eqb n keeper') c.past [] ++ of_renewal c.renewal o.records) (joined ∙ ap (λ l. cond (eqb i keeper') c.past [] ++ l) (sym joined_now)) (rw not_keeper refl) (λ n o e a b. rw (same_keeper n a b) (h.past.kept n o e));
-        spent = stands (λ n o. o.spent ≡ true → o ≡ gone) (λ y. clash y free.0) (λ y. refl) (λ n o e a b y. h.past.spent n o e y);
+        are_gone = stands (λ n o. o.is_gathered ≡ true → o ≡ gone) (λ y. clash y free.0) (λ y. refl) (λ n o e a b y. h.past.are_gone n o e y);
       };
     }
 
   -- the only client that is out renews the clock
   module _ (free : IsFreeHanded v) (others : IsAlone c i) (last : ℕ) where
     is_gone : (j : ℕ) (o : Client) → At c.clients j o → j ≢ i → o ≡ gone
-    is_gone j o e n = h.past.spent j o e (others j o e n)
+    is_gone j o e n = h.past.are_gone j o e (others j o e n)
 
     -- its records are all there are
     pub whole : v.records ≡ c.past ++ v'.records
@@ -181,8 +181,8 @@ module _ (lawful : RecordLaw) (lk : ℕ → ℕ) (c : Core) (h : Rule lawful lk 
         go true e k = k ∙ ap (λ b. cond b c.past [] ++ v'.records) e
         go false e k = k ∙ (ap (λ b. cond b c.past [] ++ v'.records) e ∙ ap (λ l. l ++ v'.records) (sym (none e)))
 
-    others' : (j : ℕ) (o : Client) → At (now c).clients j o → j ≢ i → o.spent ≡ true
-    others' j o e n = let q = at_unmap (shed c.renewal) c.clients j o e in sym (ap (λ (y : Client). y.spent) q.2) ∙ others j q.0 q.1 n
+    others' : (j : ℕ) (o : Client) → At (now c).clients j o → j ≢ i → o.is_gathered ≡ true
+    others' j o e n = let q = at_unmap (shed c.renewal) c.clients j o e in sym (ap (λ (y : Client). y.is_gathered) q.2) ∙ others j q.0 q.1 n
 
     pub past_lawful : (r : Record) → In r v.records → lawful r.tag r.reads r.writes
     past_lawful r m = ⊎_elim (λ p. h.past.abides r p) (λ p. ((h.inv.filed.filed i v' at').told r p).abides) (in_append c.past v'.records r (subst (In r) whole m))
@@ -259,7 +259,7 @@ module _ (lawful : RecordLaw) (lk : ℕ → ℕ) (c : Core) (h : Rule lawful lk 
             kept = λ n o e. ⊎_elim
                 (λ p. subst (λ (y : Client). y.records ≡ cond (eqb n i) v.records [] ++ of_renewal (c.renewal + 1) y.records) p.1 (rw (eqb_yes n i p.0, of_none (c.renewal + 1) v.records past_before) (sym (append-nil v.records))))
                 (λ p. subst (λ (y : Client). y.records ≡ cond (eqb n i) v.records [] ++ of_renewal (c.renewal + 1) y.records) (sym (is_gone n o p.1 p.0)) (rw (eqb_no n i p.0) refl)) (at_set c.clients i n (renewing v) o e);
-            spent = λ n o e y. ⊎_elim (λ p. clash y (sym (ap (λ (x : Client). x.spent) p.1))) (λ p. is_gone n o p.1 p.0) (at_set c.clients i n (renewing v) o e);
+            are_gone = λ n o e y. ⊎_elim (λ p. clash y (sym (ap (λ (x : Client). x.is_gathered) p.1))) (λ p. is_gone n o p.1 p.0) (at_set c.clients i n (renewing v) o e);
           };
         }
 
@@ -278,7 +278,7 @@ opening_rules lawful lk image last stripes = record {
     keeper = 0;
     member = omega arith;
     kept = λ i v e. subst (λ (y : Client). y.records ≡ cond (eqb i 0) [] [] ++ of_renewal 0 y.records) (only_one opener i v e) (none (eqb i 0));
-    spent = λ i v e y. clash y (ap (λ (x : Client). x.spent) (sym (only_one opener i v e)));
+    are_gone = λ i v e y. clash y (ap (λ (x : Client). x.is_gathered) (sym (only_one opener i v e)));
   };
 }
   where
@@ -300,7 +300,7 @@ module _ (lawful : RecordLaw) (lk : ℕ → ℕ) (first image : List ℕ) (renew
       let k = longer_keeps lk (world (opened image last stripes) []) [] v'' (nobody_yet lawful lk image last stripes) (ap (λ (y : Client). y.attempt.held) new) (ap (λ (y : Client). y.attempt.wv) new) (ap (λ (y : Client). y.attempt.reads) new) none (ap (λ (y : Client). decided y) new) (ap (λ (y : Client). y.attempt.rv) new) (let e : v.floor ≡ 0 = ap (λ (y : Client). y.floor) new in omega arith) (ap (λ (y : Client). y.attempt.last) new) in record {
         inv = record {
           bounded = zero-le;
-          grants = rw (sum_by-cons share v'' []) (let e : share v'' ≡ v.grants + 1 = share_of v'' (ap (λ (y : Client). y.spent) new) in omega (arith, all));
+          grants = rw (sum_by-cons share v'' []) (let e : share v'' ≡ v.grants + 1 = share_of v'' (ap (λ (y : Client). y.is_gathered) new) in omega (arith, all));
           story = [];
           version = k.version;
           books = k.books;
@@ -308,7 +308,7 @@ module _ (lawful : RecordLaw) (lk : ℕ → ℕ) (first image : List ℕ) (renew
           size = refl;
         };
         lone = λ i w e y. clash y (ap (λ (x : Client). x.attempt.lone) (sym (only_one v i w e)) ∙ ap (λ (x : Client). x.attempt.lone) new);
-        known = record { place = 0; knower = v; member = refl; out = ap (λ (x : Client). x.spent) new; floor = ap (λ (x : Client). x.floor) new };
+        known = record { place = 0; knower = v; member = refl; out = ap (λ (x : Client). x.is_gathered) new; floor = ap (λ (x : Client). x.floor) new };
         past = record {
           serial = serial;
           leads = leads;
@@ -318,7 +318,7 @@ module _ (lawful : RecordLaw) (lk : ℕ → ℕ) (first image : List ℕ) (renew
           keeper = 0;
           member = omega arith;
           kept = kept;
-          spent = λ i w e y. clash y (ap (λ (x : Client). x.spent) (sym (only_one v i w e)) ∙ ap (λ (x : Client). x.spent) new);
+          are_gone = λ i w e y. clash y (ap (λ (x : Client). x.is_gathered) (sym (only_one v i w e)) ∙ ap (λ (x : Client). x.is_gathered) new);
         };
       }
     where

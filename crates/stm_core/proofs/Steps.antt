@@ -53,7 +53,7 @@ module _ (lawful : RecordLaw) (lk : ℕ → ℕ) where
   pub heart_of : (c : Core) (h : Inv lawful lk c) → Heart lk (world c h.story) c.clients
   heart_of c h = record { version = h.version; books = h.books }
 
-  module _ (c : Core) (i : ℕ) (v : Client) (h : Inv lawful lk c) (at : At c.clients i v) (live : v.spent ≡ false) where
+  module _ (c : Core) (i : ℕ) (v : Client) (h : Inv lawful lk c) (at : At c.clients i v) (live : v.is_gathered ≡ false) where
     heart : Heart lk (world c h.story) c.clients
     heart = heart_of c h
 
@@ -67,8 +67,8 @@ module _ (lawful : RecordLaw) (lk : ℕ → ℕ) where
     it = h.filed.filed i v at
 
     -- a client without write version that is not decided
-    idle_files : (w : Client) → w.spent ≡ false → w.attempt.wv ≡ 0 → decided w ≡ false → w.records ≡ v.records → AllInside (length c.opening) w.attempt.reads → Filed lawful (length c.opening) c.renewal h.story c.clock (set c.clients i w)
-    idle_files w spent wv phase records reads = stay_keeps lawful (length c.opening) c.renewal h.story c.clock c.clients i v h.filed at w
+    idle_files : (w : Client) → w.is_gathered ≡ false → w.attempt.wv ≡ 0 → decided w ≡ false → w.records ≡ v.records → AllInside (length c.opening) w.attempt.reads → Filed lawful (length c.opening) c.renewal h.story c.clock (set c.clients i w)
+    idle_files w is_gathered wv phase records reads = stay_keeps lawful (length c.opening) c.renewal h.story c.clock c.clients i v h.filed at w
         record {
           ordered = rw records it.ordered;
           told = λ r m. it.told r (subst (In r) records m);
@@ -76,13 +76,13 @@ module _ (lawful : RecordLaw) (lk : ℕ → ℕ) where
           writes = λ z. absurd (omega (arith, wv));
           abides = λ o. absurd (let z = o.0 in omega (arith, wv));
           commits = λ d. clash d phase;
-          gone = λ s. clash s spent;
+          gone = λ s. clash s is_gathered;
         }
         (λ r m t. subst (In r) records m) (λ r m. rw records m) (λ o. absurd (let z = o.0 in omega (arith, wv)))
 
     -- a client whose versions, reads and writes stay
-    pub same_files : (w : Client) → w.spent ≡ false → w.attempt.wv ≡ v.attempt.wv → w.attempt.writes ≡ v.attempt.writes → w.attempt.tag ≡ v.attempt.tag → decided w ≡ decided v → w.records ≡ v.records → w.attempt.reads ≡ v.attempt.reads → Filed lawful (length c.opening) c.renewal h.story c.clock (set c.clients i w)
-    same_files w spent wv writes tag phase records reads = stay_keeps lawful (length c.opening) c.renewal h.story c.clock c.clients i v h.filed at w
+    pub same_files : (w : Client) → w.is_gathered ≡ false → w.attempt.wv ≡ v.attempt.wv → w.attempt.writes ≡ v.attempt.writes → w.attempt.tag ≡ v.attempt.tag → decided w ≡ decided v → w.records ≡ v.records → w.attempt.reads ≡ v.attempt.reads → Filed lawful (length c.opening) c.renewal h.story c.clock (set c.clients i w)
+    same_files w is_gathered wv writes tag phase records reads = stay_keeps lawful (length c.opening) c.renewal h.story c.clock c.clients i v h.filed at w
         record {
           ordered = rw records it.ordered;
           told = λ r m. it.told r (subst (In r) records m);
@@ -90,7 +90,7 @@ module _ (lawful : RecordLaw) (lk : ℕ → ℕ) where
           writes = λ z. rw writes (it.writes (subst (λ n. 0 < n) wv z));
           abides = λ o. rw (tag, reads, writes) (it.abides (subst (λ n. 0 < n) wv o.0, sym phase ∙ o.1));
           commits = λ d. rw (wv, writes) (it.commits (sym phase ∙ d));
-          gone = λ s. clash s spent;
+          gone = λ s. clash s is_gathered;
         }
         (λ r m t. subst (In r) records m) (λ r m. rw records m) (λ o. ((subst (λ n. 0 < n) wv o.0, sym phase ∙ o.1), wv))
 
@@ -271,12 +271,12 @@ module _ (lawful : RecordLaw) (lk : ℕ → ℕ) where
         on : (r : Record) → In r v.records → IsFiled lawful (length c.opening) c.renewal (h.story ++ [] ∷ []) v
         on r m = filed_on lawful (length c.opening) c.renewal h.story (h.story ++ [] ∷ []) v it (λ x n y z p. at_longer h.story [] x.writes (x.version - 1) p) (λ d p. at_longer h.story [] v.attempt.writes (v.attempt.wv - 1) p)
 
-  module _ (t : Stamp) (c : Core) (i : ℕ) (v : Client) (h : Inv lawful lk c) (at : At c.clients i v) (live : v.spent ≡ false) (era : t.renewal ≡ c.renewal) where
+  module _ (t : Stamp) (c : Core) (i : ℕ) (v : Client) (h : Inv lawful lk c) (at : At c.clients i v) (live : v.is_gathered ≡ false) (era : t.renewal ≡ c.renewal) where
     -- a decision right after another step of the same client
-    then_decided : (d : Core) (w : Client) → Inv lawful lk d → d.clients ≡ slice_set c.clients i w → d.renewal ≡ c.renewal → w.spent ≡ false → IsOpen w → ((a x : ℕ) → In (a, x) w.attempt.reads → Claims w (w.attempt.wv - 1) a x) → Inv lawful lk (record d { clients = slice_set c.clients i (committed_by t w) })
-    then_decided d w k clients same spent open' all =
+    then_decided : (d : Core) (w : Client) → Inv lawful lk d → d.clients ≡ slice_set c.clients i w → d.renewal ≡ c.renewal → w.is_gathered ≡ false → IsOpen w → ((a x : ℕ) → In (a, x) w.attempt.reads → Claims w (w.attempt.wv - 1) a x) → Inv lawful lk (record d { clients = slice_set c.clients i (committed_by t w) })
+    then_decided d w k clients same is_gathered open' all =
         let here : At d.clients i w = rw clients (set_here c.clients i v w at) in
-        subst (λ cs. Inv lawful lk (record d { clients = cs })) (ap (λ cs. slice_set cs i (committed_by t w)) clients ∙ set-set c.clients i w (committed_by t w)) (decide_inv d i w k here spent t (era ∙ sym same) open' all)
+        subst (λ cs. Inv lawful lk (record d { clients = cs })) (ap (λ cs. slice_set cs i (committed_by t w)) clients ∙ set-set c.clients i w (committed_by t w)) (decide_inv d i w k here is_gathered t (era ∙ sym same) open' all)
 
     at_once : (w : Client) → decides_at_once w ≡ true → w.attempt.rv < w.attempt.wv → (a x : ℕ) → In (a, x) w.attempt.reads → Claims w (w.attempt.wv - 1) a x
     at_once w e later a x m = by_bool (is_empty w.attempt.reads) (λ z. absurd (none w.attempt.reads z m)) (λ z. runs (let q : eqb w.attempt.wv (w.attempt.rv + 1) ≡ true = subst (λ b. (b || eqb w.attempt.wv (w.attempt.rv + 1)) ≡ true) z e in let s : w.attempt.wv ≡ w.attempt.rv + 1 = grind (arith, nat_tests) in omega arith) m)
@@ -334,5 +334,5 @@ module _ (lawful : RecordLaw) (lk : ℕ → ℕ) where
     act_keeps (finish tag) may = finish_inv c i v h at live t tag era may
 
   -- each step that is allowed keeps the invariant
-  pub step_keeps : (t : Stamp) (c : Core) (e : Action) (i : ℕ) (v : Client) → t.renewal ≡ c.renewal → Inv lawful lk c → At c.clients i v → (v.spent ≡ false) × CanAct lawful lk (bounds_of c) e v.attempt → Inv lawful lk (stepped t lk e i v c)
+  pub step_keeps : (t : Stamp) (c : Core) (e : Action) (i : ℕ) (v : Client) → t.renewal ≡ c.renewal → Inv lawful lk c → At c.clients i v → (v.is_gathered ≡ false) × CanAct lawful lk (bounds_of c) e v.attempt → Inv lawful lk (stepped t lk e i v c)
   step_keeps t c e i v era h at may = act_keeps t c i v h at may.0 era e may.1

@@ -27,5 +27,5 @@ two_of_sum f (x ∷ xs) zero (suc j) v w n e k = let h : f x ≡ f v = ap f (som
 two_of_sum f (x ∷ xs) (suc i) zero v w n e k = let h : f x ≡ f w = ap f (some-injective x w k) in let p = one_of_sum f xs i v e in rw (sum_by-cons f x xs) (omega arith)
 two_of_sum f (x ∷ xs) (suc i) (suc j) v w n e k = let p = two_of_sum f xs i j v w (λ q. n (ap suc q)) e k in rw (sum_by-cons f x xs) (omega arith)
 
-pub share_of : (v : Client) → v.spent ≡ false → share v ≡ v.grants + 1
+pub share_of : (v : Client) → v.is_gathered ≡ false → share v ≡ v.grants + 1
 share_of v e = ap (λ b. cond b 0 (v.grants + 1)) e

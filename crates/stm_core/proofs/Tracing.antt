@@ -189,7 +189,7 @@ module _ (lk : ℕ → ℕ) (start : Core) where
   pub record Trace (es : List Event) (c : Core) (h : List Record) : Type 0 where
     pub here : core_at lk start es (length es) ≡ c
     pub count : c.events ≡ length es
-    pub number : (i : ℕ) (v : Client) → At c.clients i v → v.spent ≡ false → begins (suc i) es (length es) ≡ v.attempt.number
+    pub number : (i : ℕ) (v : Client) → At c.clients i v → v.is_gathered ≡ false → begins (suc i) es (length es) ≡ v.attempt.number
     pub unborn : (i : ℕ) → length c.clients ≤ i → begins (suc i) es (length es) ≡ 0
     pub runs : (i : ℕ) (v : Client) → At c.clients i v → Runs es (suc i) v
     pub ticks : (i : ℕ) (v : Client) → At c.clients i v → Ticked es (suc i) v
@@ -252,7 +252,7 @@ module _ (lk : ℕ → ℕ) (start : Core) where
     -- with what the event does to the clients and to the records
     module _ (h' : List Record) (from : (r : Record) → In r h' → In r h ⊎ In r (made lk x c)) (old : (r : Record) → In r h → In r h') (new : (r : Record) → In r (made lk x c) → In r h') (many : length h' ≡ length h + length (made lk x c))
         (counts : (played lk x c).events ≡ c.events + 1)
-        (number' : (i : ℕ) (v : Client) → At (played lk x c).clients i v → v.spent ≡ false → begins (suc i) (es ++ x ∷ []) (length (es ++ x ∷ [])) ≡ v.attempt.number)
+        (number' : (i : ℕ) (v : Client) → At (played lk x c).clients i v → v.is_gathered ≡ false → begins (suc i) (es ++ x ∷ []) (length (es ++ x ∷ [])) ≡ v.attempt.number)
         (unborn' : (i : ℕ) → length (played lk x c).clients ≤ i → begins (suc i) (es ++ x ∷ []) (length (es ++ x ∷ [])) ≡ 0)
         (runs' : (i : ℕ) (v : Client) → At (played lk x c).clients i v → Runs (es ++ x ∷ []) (suc i) v)
         (ticks' : (i : ℕ) (v : Client) → At (played lk x c).clients i v → Ticked (es ++ x ∷ []) (suc i) v)
@@ -309,7 +309,7 @@ in_one x y l e i = ⊎_elim (λ p. p) (λ p. absurd (nothing_in y p)) (in_cons x
 not_in : {A X : Type 0} (y : A) (l : List A) → l ≡ [] → In y l → X
 not_in y l e i = absurd (nothing_in y (subst (In y) e i))
 
-module _ (lk : ℕ → ℕ) (start : Core) (es : List Event) (c : Core) (h : List Record) (d : Trace lk start es c h) (k : ℕ) (some' : 0 < k) (at : At c.clients (k - 1) (client_of c k)) (live : (client_of c k).spent ≡ false) where
+module _ (lk : ℕ → ℕ) (start : Core) (es : List Event) (c : Core) (h : List Record) (d : Trace lk start es c h) (k : ℕ) (some' : 0 < k) (at : At c.clients (k - 1) (client_of c k)) (live : (client_of c k).is_gathered ≡ false) where
   num : suc (k - 1) ≡ k
   num = omega arith
 
@@ -519,7 +519,7 @@ module _ (lawful : RecordLaw) (lk : ℕ → ℕ) (start : Core) (es : List Event
         let es2 : List Event = es ++ acts k e ∷ [] in
         let w : Client = then in
         trace_on lk start es c h d x h' from old new many refl
-        (λ j o a. who_set c.clients (k - 1) w (λ j o. o.spent ≡ false → begins (suc j) es2 (length es2) ≡ o.attempt.number) (λ s. subst (λ m. begins m es2 (length es2) ≡ w.attempt.number) (sym named) (count_now lk start es c h d k may.0.0 may.0.1 may.0.2 e w turn_it))
+        (λ j o a. who_set c.clients (k - 1) w (λ j o. o.is_gathered ≡ false → begins (suc j) es2 (length es2) ≡ o.attempt.number) (λ s. subst (λ m. begins m es2 (length es2) ≡ w.attempt.number) (sym named) (count_now lk start es c h d k may.0.0 may.0.1 may.0.2 e w turn_it))
         (λ j o a n s. unbegun lk start es c h d x (suc j) (other j n) ∙ d.number j o a s) j o a)
         (λ j l. let size : length (set c.clients (k - 1) w) ≡ length c.clients = length-set c.clients (k - 1) w in
         unbegun lk start es c h d x (suc j) (other j (let b = in_range c.clients (k - 1) (client_of c k) may.0.1 in let l' : length c.clients ≤ j = omega (arith, size, l) in λ z. (let y : j ≡ k - 1 = z in omega arith))) ∙ d.unborn j (omega (arith, size, l)))
@@ -533,11 +533,11 @@ module _ (lawful : RecordLaw) (lk : ℕ → ℕ) (start : Core) (es : List Event
 
   -- an event that is no step decides nothing
   module _ (x : Event) (no : is_act x ≡ false) (none : made lk x c ≡ []) (quiet : (k : ℕ) → is_begin_of k x ≡ false) (counts : (played lk x c).events ≡ c.events + 1)
-      (all : (j : ℕ) (o : Client) → At (played lk x c).clients j o → ((v : Client) × At c.clients j v × (o.spent ≡ false → v.spent ≡ false) × Rests v o) ⊎ ((length c.clients ≤ j) × (o.attempt.number ≡ 0) × (o.attempt.phase ≡ idle)) ⊎ ((o.spent ≡ true) × (o.attempt.phase ≡ idle)))
+      (all : (j : ℕ) (o : Client) → At (played lk x c).clients j o → ((v : Client) × At c.clients j v × (o.is_gathered ≡ false → v.is_gathered ≡ false) × Rests v o) ⊎ ((length c.clients ≤ j) × (o.attempt.number ≡ 0) × (o.attempt.phase ≡ idle)) ⊎ ((o.is_gathered ≡ true) × (o.attempt.phase ≡ idle)))
       (grows : length c.clients ≤ length (played lk x c).clients) where
-    -- what a client was before: the same, or not there, or it is spent now
+    -- what a client was before: the same, or not there, or it is gathered now
     abbrev Was : ℕ → Client → Type 0
-    Was j o = ((v : Client) × At c.clients j v × (o.spent ≡ false → v.spent ≡ false) × Rests v o) ⊎ ((length c.clients ≤ j) × (o.attempt.number ≡ 0) × (o.attempt.phase ≡ idle)) ⊎ ((o.spent ≡ true) × (o.attempt.phase ≡ idle))
+    Was j o = ((v : Client) × At c.clients j v × (o.is_gathered ≡ false → v.is_gathered ≡ false) × Rests v o) ⊎ ((length c.clients ≤ j) × (o.attempt.number ≡ 0) × (o.attempt.phase ≡ idle)) ⊎ ((o.is_gathered ≡ true) × (o.attempt.phase ≡ idle))
 
     idles : {X : Type 0} (o : Client) → o.attempt.phase ≡ idle → o.attempt.phase ≡ running → X
     idles o i r = ending_idle (sym i ∙ r)
@@ -552,7 +552,7 @@ module _ (lawful : RecordLaw) (lk : ℕ → ℕ) (start : Core) (es : List Event
         (λ j o a. runs' j o (all j o a)) (λ j o a. ticks' j o (all j o a)) (λ j o a. commits' j o (all j o a))
         (λ r i. not_in r (made lk x c) none i) (λ k a y is. clash (ap is_act is ∙ refl) no)
       where
-        number' : (j : ℕ) (o : Client) → o.spent ≡ false → Was j o → begins (suc j) es (length es) ≡ o.attempt.number
+        number' : (j : ℕ) (o : Client) → o.is_gathered ≡ false → Was j o → begins (suc j) es (length es) ≡ o.attempt.number
         number' j o s (inl p) = d.number j p.0 p.1 (p.2 s) ∙ sym p.3.number
         number' j o s (inr (inl p)) = d.unborn j p.0 ∙ sym p.1
         number' j o s (inr (inr p)) = clash p.0 s
@@ -577,7 +577,7 @@ module _ (lawful : RecordLaw) (lk : ℕ → ℕ) (start : Core) (es : List Event
       let v : Client = client_of c k in
       let size : length (set c.clients (k - 1) (giving v)) ≡ length c.clients = length-set c.clients (k - 1) (giving v) in
       other_trace (splits k) refl refl (λ j. refl) refl
-      (λ j o a. ⊎_elim (λ p. inl (who_set c.clients (k - 1) (giving v) (λ j o. (u : Client) × At c.clients j u × (o.spent ≡ false → u.spent ≡ false) × Rests u o) (v, may.0.1, (λ s. s), same v (giving v) refl refl refl refl refl refl refl refl) (λ j o b n. (o, b, (λ s. s), same o o refl refl refl refl refl refl refl refl)) j o p))
+      (λ j o a. ⊎_elim (λ p. inl (who_set c.clients (k - 1) (giving v) (λ j o. (u : Client) × At c.clients j u × (o.is_gathered ≡ false → u.is_gathered ≡ false) × Rests u o) (v, may.0.1, (λ s. s), same v (giving v) refl refl refl refl refl refl refl refl) (λ j o b n. (o, b, (λ s. s), same o o refl refl refl refl refl refl refl refl)) j o p))
       (λ p. inr (inl (let e = p.0 in omega (arith, size, e), sym (ap (λ (y : Client). y.attempt.number) p.1), sym (ap (λ (y : Client). y.attempt.phase) p.1)))) (last_at (set c.clients (k - 1) (giving v)) (fresh v) o j a))
       (let e = length-append (set c.clients (k - 1) (giving v)) (fresh v ∷ []) in omega (arith, size, e)) h' from old many
 
@@ -585,15 +585,15 @@ module _ (lawful : RecordLaw) (lk : ℕ → ℕ) (start : Core) (es : List Event
   gather_trace k l may h' from old many =
       let v : Client = taking (client_of c k) (client_of c l) in
       other_trace (gathers k l) refl refl (λ j. refl) refl
-      (λ j o a. who_set (set c.clients (k - 1) v) (l - 1) gone (λ j o. ((u : Client) × At c.clients j u × (o.spent ≡ false → u.spent ≡ false) × Rests u o) ⊎ ((length c.clients ≤ j) × (o.attempt.number ≡ 0) × (o.attempt.phase ≡ idle)) ⊎ ((o.spent ≡ true) × (o.attempt.phase ≡ idle))) (inr (inr (refl, refl)))
-      (λ j o b n. inl (who_set c.clients (k - 1) v (λ j o. (u : Client) × At c.clients j u × (o.spent ≡ false → u.spent ≡ false) × Rests u o) (client_of c k, may.0.1, (λ s. s), same (client_of c k) v refl refl refl refl refl refl refl refl) (λ j o b n. (o, b, (λ s. s), same o o refl refl refl refl refl refl refl refl)) j o b)) j o a)
+      (λ j o a. who_set (set c.clients (k - 1) v) (l - 1) gone (λ j o. ((u : Client) × At c.clients j u × (o.is_gathered ≡ false → u.is_gathered ≡ false) × Rests u o) ⊎ ((length c.clients ≤ j) × (o.attempt.number ≡ 0) × (o.attempt.phase ≡ idle)) ⊎ ((o.is_gathered ≡ true) × (o.attempt.phase ≡ idle))) (inr (inr (refl, refl)))
+      (λ j o b n. inl (who_set c.clients (k - 1) v (λ j o. (u : Client) × At c.clients j u × (o.is_gathered ≡ false → u.is_gathered ≡ false) × Rests u o) (client_of c k, may.0.1, (λ s. s), same (client_of c k) v refl refl refl refl refl refl refl refl) (λ j o b n. (o, b, (λ s. s), same o o refl refl refl refl refl refl refl refl)) j o b)) j o a)
       (let a = length-set (set c.clients (k - 1) v) (l - 1) gone in let b = length-set c.clients (k - 1) v in omega (arith, a, b)) h' from old many
 
   pub renew_trace : (k last : ℕ) → CanPlay lawful lk (renews k last) c → (h' : List Record) → ((r : Record) → In r h' → In r h) → ((r : Record) → In r h → In r h') → length h' ≡ length h → Trace lk start (es ++ renews k last ∷ []) (played lk (renews k last) c) h'
   renew_trace k last may h' from old many =
       let v : Client = client_of c k in
       other_trace (renews k last) refl refl (λ j. refl) refl
-      (λ j o a. inl (who_set c.clients (k - 1) (renewing v) (λ j o. (u : Client) × At c.clients j u × (o.spent ≡ false → u.spent ≡ false) × Rests u o)
+      (λ j o a. inl (who_set c.clients (k - 1) (renewing v) (λ j o. (u : Client) × At c.clients j u × (o.is_gathered ≡ false → u.is_gathered ≡ false) × Rests u o)
       (v, may.0.1, (λ s. may.0.2), record { number = refl; runs = λ r. ending_idle r; ticked = λ r z. ending_idle r; commits = λ z. (let q : false ≡ true = z in absurd cc) }) (λ j o b n. (o, b, (λ s. s), same o o refl refl refl refl refl refl refl refl)) j o a))
       (let a = length-set c.clients (k - 1) (renewing v) in omega (arith, a)) h' from old many
 

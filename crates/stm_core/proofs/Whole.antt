@@ -14,7 +14,7 @@ use Rattle.stm_core.specs.Invariant.{now, Sorted, Rule}
 use Rattle.stm_core.proofs.Lists.{nothing_in, by_bool, clash, in_snoc}
 use Rattle.stm_core.proofs.Orders.{in_cons, in_inserted, in_merged, before_asym, behind}
 use Rattle.stm_core.proofs.Merging.{sub_left, sub_last}
-use Rattle.stm_core.proofs.Facts.{all_serial, all_lawful, all_shared, others_spent}
+use Rattle.stm_core.proofs.Facts.{all_serial, all_lawful, all_shared, others_gathered}
 use Rattle.stm_core.proofs.Eras.{AllOf, AllBefore, in_append, of_is, not_before, merged_padded, merged_late}
 use Rattle.stm_core.proofs.Lones.{at_map}
 use Rattle.stm_core.proofs.Knowing.{its_floor}
@@ -122,14 +122,14 @@ module _ (lawful : RecordLaw) (lk : ℕ → ℕ) (c : Core) (h : Rule lawful lk 
   closes i v at free others = (past_serial lawful lk c h i v at free others 0, past_leads lawful lk c h i v at free others 0, past_lawful lawful lk c h i v at free others 0)
 
   -- a client with all grants is the only one out
-  pub all_grants : (i : ℕ) (v : Client) → At c.clients i v → v.spent ≡ false → v.grants ≡ 63 → IsAlone c i
-  all_grants i v at live all j w to ne = others_spent lawful lk (now c) h.inv i (shed c.renewal v) (at_map (shed c.renewal) c.clients i v at) live all j (shed c.renewal w) (at_map (shed c.renewal) c.clients j w to) ne
+  pub all_grants : (i : ℕ) (v : Client) → At c.clients i v → v.is_gathered ≡ false → v.grants ≡ 63 → IsAlone c i
+  all_grants i v at live all j w to ne = others_gathered lawful lk (now c) h.inv i (shed c.renewal v) (at_map (shed c.renewal) c.clients i v at) live all j (shed c.renewal w) (at_map (shed c.renewal) c.clients j w to) ne
 
   -- so the clock is its floor
   pub knows : (i : ℕ) (v : Client) → At c.clients i v → v.grants ≡ 63 → c.clock ≡ v.floor
   knows i v at all =
       let k = h.known in
-      let live : v.spent ≡ false = by_bool v.spent (λ y. absurd (let e : v.grants ≡ 0 = ap (λ (x : Client). x.grants) (h.past.spent i v at y) in omega arith)) (λ n. n) in
+      let live : v.is_gathered ≡ false = by_bool v.is_gathered (λ y. absurd (let e : v.grants ≡ 0 = ap (λ (x : Client). x.grants) (h.past.are_gone i v at y) in omega arith)) (λ n. n) in
       dite (ℕ_discrete k.place i) (λ e. sym (its_floor lk c k i v at live e)) (λ n. clash (all_grants i v at live all k.place k.knower k.member n) k.out)
 
 -- a client's records stay sorted through its steps, and where two clients' come together

@@ -88,7 +88,7 @@ pub record Client : Type 0 where
   -- how many more clients it may split off
   pub grants : ℕ
   -- it was gathered, and is no client any more
-  pub spent : Bool
+  pub is_gathered : Bool
   -- a version that the clock has reached: what the last begin found or the last won tick made, or
   -- what was handed on. The next begin finds at least this
   pub floor : ℕ

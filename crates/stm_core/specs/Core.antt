@@ -103,7 +103,7 @@ pub data Event : Type 0 where
 
 -- it is out, and holds no lock
 abbrev pub IsFreeHanded : Client → Type 0
-IsFreeHanded v = (v.spent ≡ false) × (v.attempt.held ≡ [])
+IsFreeHanded v = (v.is_gathered ≡ false) × (v.attempt.held ≡ [])
 
 -- the value of the client with this number
 abbrev pub client_of : Core → ℕ → Client
@@ -113,20 +113,20 @@ client_of c k = get_or c.clients (k - 1) gone
 abbrev pub stamp_of : Core → ℕ → Stamp
 stamp_of c k = record { client = k; place = c.events; renewal = c.renewal }
 
--- whether this number was given to a client, and that client is not spent
+-- whether this number was given to a client, and that client is not gathered
 abbrev pub is_out : Core → ℕ → Bool
-is_out c k = nat_lt 0 k && nat_lt (k - 1) (length c.clients) && not (client_of c k).spent
+is_out c k = nat_lt 0 k && nat_lt (k - 1) (length c.clients) && not (client_of c k).is_gathered
 
 -- whether each of these clients was gathered
-abbrev pub are_spent : List Client → Bool
-are_spent [] = true
-are_spent (v ∷ vs) = v.spent && are_spent vs
+abbrev pub are_gathered : List Client → Bool
+are_gathered [] = true
+are_gathered (v ∷ vs) = v.is_gathered && are_gathered vs
 
--- every client but the one at a place is spent
-abbrev pub others_spent : List Client → ℕ → Bool
-others_spent [] i = true
-others_spent (v ∷ vs) zero = are_spent vs
-others_spent (v ∷ vs) (suc i) = v.spent && others_spent vs i
+-- every client but the one at a place is gathered
+abbrev pub others_gathered : List Client → ℕ → Bool
+others_gathered [] i = true
+others_gathered (v ∷ vs) zero = are_gathered vs
+others_gathered (v ∷ vs) (suc i) = v.is_gathered && others_gathered vs i
 
 -- whether an event may happen, but for what the law asks of records
 abbrev pub may_play : (ℕ → ℕ) → Event → Core → Bool
@@ -137,7 +137,7 @@ may_play lk (gathers k j) c =
     is_out c k && is_out c j && not (k == j) && is_empty (client_of c k).attempt.held
     && is_empty (client_of c j).attempt.held
 may_play lk (renews k last) c =
-    is_out c k && is_empty (client_of c k).attempt.held && others_spent c.clients (k - 1)
+    is_out c k && is_empty (client_of c k).attempt.held && others_gathered c.clients (k - 1)
     && nat_le 1 last && nat_lt last VERSION_LIMIT && nat_lt c.renewal MOST_RENEWALS
 
 module _ (lawful : RecordLaw) where

@@ -239,7 +239,7 @@ giving c = record c {
 abbrev pub opener : Client
 opener = record {
   grants = MOST_GRANTS;
-  spent = false;
+  is_gathered = false;
   floor = 0;
   records = [];
   attempt = idle_attempt;
@@ -269,4 +269,4 @@ renewing c = record opener {
 
 -- a client that was gathered
 abbrev pub gone : Client
-gone = record opener { grants = 0; spent = true }
+gone = record opener { grants = 0; is_gathered = true }

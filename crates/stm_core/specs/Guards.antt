@@ -73,7 +73,7 @@ module _ (lk : ℕ → ℕ) where
   are_stored k stored writes =
       list_all (λ p. not (lk p.0 == k) || list_any (λ n. n == p.0) stored) writes
 
-  -- whether an attempt of a client that is not spent may make a step, or the next one begin
+  -- whether an attempt of a client that is not gathered may make a step, or the next one begin
   abbrev pub may_act : Bounds → Action → Attempt → Bool
   may_act b begin t = is_empty t.held
   may_act b (probe k) t = is_reading t && nat_lt k b.stripes
@@ -109,4 +109,4 @@ module _ (lawful : RecordLaw) where
 
   -- the client was not gathered, and its attempt may make this step
   abbrev pub May : (ℕ → ℕ) → Bounds → Action → Client → Type 0
-  May lk b e c = (c.spent ≡ false) × MayAct lk b e c.attempt
+  May lk b e c = (c.is_gathered ≡ false) × MayAct lk b e c.attempt

@@ -20,9 +20,9 @@ world c story = record {
   wrote = wrote_in story;
 }
 
--- what a client counts: its grants and itself, nothing once it is spent
+-- what a client counts: its grants and itself, nothing once it is gathered
 abbrev pub share : Client → ℕ
-share v = cond v.spent 0 (v.grants + 1)
+share v = cond v.is_gathered 0 (v.grants + 1)
 
 -- the version invariant within one renewal, of a core that has no records of earlier ones. The law
 -- says which records are lawful, lk which lock an address has
@@ -53,7 +53,7 @@ Unmoved lk locks _ = Unit {0}
 -- a client whose last attempt was lone, beside the clock and the lock words
 pub record IsLone (lk : ℕ → ℕ) (clock : ℕ) (locks : List ℕ) (v : Client) : Type 0 where
   -- it is out with all grants, so no other is out
-  pub out : v.spent ≡ false
+  pub out : v.is_gathered ≡ false
   pub all : v.grants ≡ MOST_GRANTS
   -- undecided, it has no write version, and the clock is its read version, from which it will tick
   pub still : decided v ≡ false
@@ -71,7 +71,7 @@ pub record IsKnown (clock : ℕ) (cs : List Client) : Type 0 where
   pub place : ℕ
   pub knower : Client
   pub member : At cs place knower
-  pub out : knower.spent ≡ false
+  pub out : knower.is_gathered ≡ false
   pub floor : knower.floor ≡ clock
 
 -- none stands before one that comes earlier
@@ -95,7 +95,7 @@ pub record Past (lawful : RecordLaw) (first opening : List ℕ) (past : List Rec
   pub kept : (i : ℕ) (v : Client) → At cs i v
       → v.records ≡ cond (eqb i keeper) past [] ++ of_renewal renewal v.records
   -- a client that was gathered has nothing left
-  pub spent : (i : ℕ) (v : Client) → At cs i v → v.spent ≡ true → v ≡ gone
+  pub are_gone : (i : ℕ) (v : Client) → At cs i v → v.is_gathered ≡ true → v ≡ gone
 
 -- the whole rule: the invariant of the present renewal, lone attempts, the clock, and the records
 -- of earlier renewals

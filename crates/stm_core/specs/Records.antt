@@ -77,8 +77,8 @@ module _ (lawful : RecordLaw) (size renewal : ℕ) (story : List (List (ℕ × �
         → AllInside size v.attempt.writes × (is_map v.attempt.writes ≡ true)
     pub abides : IsOpen v → lawful v.attempt.tag v.attempt.reads v.attempt.writes
     pub commits : decided v ≡ true → get_elem? story (v.attempt.wv - 1) ≡ some v.attempt.writes
-    -- spent, it holds and records nothing
-    pub gone : v.spent ≡ true → (v.records ≡ []) × (v.attempt.held ≡ [])
+    -- gathered, it holds and records nothing
+    pub gone : v.is_gathered ≡ true → (v.records ≡ []) × (v.attempt.held ≡ [])
 
   -- the records of all clients beside the story
   pub record Filed (clock : ℕ) (cs : List Client) : Type 0 where

@@ -28,7 +28,7 @@ pub record IsHistory (c : Core) (rs : List Record) : Type 0 where
   pub only : (r : Record) → In r rs → (i : ℕ) × (v : Client) × At c.clients i v × In r v.records
 
 -- what holds of a core that a list of events leads to from a first one
-pub record Stands
+pub record IsSerializable
     (lawful : RecordLaw) (lk : ℕ → ℕ) (start : Core) (events : List Event) (c : Core) : Type 0 where
   -- the version invariant, over all renewals
   pub rule : Rule lawful lk c
@@ -59,7 +59,7 @@ pub record Stands
   pub words : ((i : ℕ) (v : Client) → At c.clients i v → v.attempt.held ≡ [])
       → c.cells ≡ image_after start.first (earlier ++ present)
   -- an attempt that is not settled is in no history, and so in no image
-  pub no_trace : (i : ℕ) (v : Client) (r : Record) → At c.clients i v → v.spent ≡ false
+  pub no_trace : (i : ℕ) (v : Client) (r : Record) → At c.clients i v → v.is_gathered ≡ false
       → is_settled v.attempt.phase ≡ false → In r (earlier ++ present) → r.client ≡ suc i
       → r.attempt ≢ v.attempt.number
 
@@ -70,7 +70,8 @@ Reaches lawful image last stripes events c =
 
 -- every list of allowed events, in any interleaving of any number of clients, leads to a core of
 -- which all this holds
-abbrev pub EveryListStands : RecordLaw → Type 0
-EveryListStands lawful = (image : List ℕ) (last stripes : ℕ) (events : List Event) (c : Core)
+abbrev pub EveryListIsSerializable : RecordLaw → Type 0
+EveryListIsSerializable lawful =
+    (image : List ℕ) (last stripes : ℕ) (events : List Event) (c : Core)
     → Reaches lawful image last stripes events c
-    → Stands lawful (stripe_of stripes) (opened image last stripes) events c
+    → IsSerializable lawful (stripe_of stripes) (opened image last stripes) events c

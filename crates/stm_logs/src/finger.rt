@@ -1,6 +1,6 @@
 //! The fingers of a write log: where a walk through a long log may start. A finger is a guess, and
 //! is looked at before it is followed.
-ghost use Rattle.std.specs.Prelude.{◌≡◌, ℕ, ◌+◌, ◌<◌, ◌≤◌, IsTrue, length};
+ghost use Rattle.std.specs.Prelude.{◌≡◌, ℕ, ◌+◌, ◌<◌, ◌≤◌, length, true};
 ghost use Rattle.stm_logs.specs.declared.nodes.TheConstants.{MAX_PLACES};
 ghost use Rattle.stm_logs.specs.Order.{rank_of, HasLock, IsChained, IsBelow, OnlyFingers};
 
@@ -139,7 +139,7 @@ fn finger_of<A: Allocator>(nodes: &Nodes<A>, range: Range) -> usize
 pub(crate) fn shows<A: Allocator>(nodes: &Nodes<A>, lock: u32) -> bool
     requires room { nodes.now.count < length nodes.now.list }
     requires limit { length nodes.now.list ≤ MAX_PLACES }
-    ensures { IsTrue result → HasLock nodes.now.list nodes.now.count lock }
+    ensures { result ≡ true → HasLock nodes.now.list nodes.now.count lock }
 {
     let finger = finger_of(nodes, range_of(lock));
     finger != 0 && nodes.get(finger).lock == lock
@@ -223,7 +223,7 @@ fn is_between<A: Allocator>(nodes: &Nodes<A>, near: usize, finger: usize, rank: 
     requires room { nodes.now.count < length nodes.now.list }
     requires near { near ≤ nodes.now.count }
     requires finger { (0 < finger) × (finger ≤ nodes.now.count) }
-    ensures { IsTrue result → IsBelow nodes.now.list nodes.now.count rank finger }
+    ensures { result ≡ true → IsBelow nodes.now.list nodes.now.count rank finger }
 {
     let found = node_rank(nodes.get(finger));
     found < rank && (near == 0 || node_rank(nodes.get(near)) < found)

@@ -1,5 +1,5 @@
 //! A row of places in one raw block: all raw pointers of the product stand in this file.
-ghost use Rattle.std.specs.Prelude.{◌≡◌, ℕ, ◌^◌, ◌<◌, Bool, true, false, IsTrue, List, length, IfOk, slice_index_or, slice_set};
+ghost use Rattle.std.specs.Prelude.{◌≡◌, ℕ, ◌^◌, ◌<◌, Bool, true, false, List, length, IfOk, slice_index_or, slice_set};
 ghost use Rattle.core.specs.Mem.Slots.Ownership.{Filled, owned, lent, leased};
 ghost use Rattle.core.specs.Allocator.{FitsBlock};
 
@@ -56,7 +56,7 @@ impl<T> Row<T> {
     /// The value at place `i`.
     #[inline]
     pub(crate) fn get(&self, i: usize) -> &T
-        requires { (i < self.now.len) × IsTrue (slice_index_or self.now.filled i false) }
+        requires { (i < self.now.len) × (slice_index_or self.now.filled i false ≡ true) }
         ensures { result.now ≡ slice_index_or self.now.items i result.now }
     {
         unsafe { &*self.ptr.add(i) }

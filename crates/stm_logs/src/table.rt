@@ -1,5 +1,5 @@
 //! The written words of a log with their locks and values, in one block of nodes with its index.
-ghost use Rattle.std.specs.Prelude.{◌≡◌, ◌≢◌, ◌↔◌, ℕ, ◌+◌, ◌*◌, ◌<◌, ◌≤◌, true, false, IsTrue, None, Some, Ok, length, IsOk, IfOk};
+ghost use Rattle.std.specs.Prelude.{◌≡◌, ◌≢◌, ◌↔◌, ℕ, ◌+◌, ◌*◌, ◌<◌, ◌≤◌, true, false, None, Some, Ok, length, IsOk, IfOk};
 ghost use Rattle.std.specs.FinMap.{get, len};
 ghost use Rattle.stm_logs.specs.Nodes.{Block, at};
 ghost use Rattle.stm_logs.specs.Index.{HasNone, Answers};
@@ -90,7 +90,7 @@ impl<A: Allocator + Copy> Table<A> {
     /// Whether a word has this lock.
     #[inline]
     pub(crate) fn has_lock(&self, lock: u32) -> bool
-        ensures { IsTrue result ↔ ((a : ℕ) × (get self.now.locks a ≡ Some lock)) }
+        ensures { (result ≡ true) ↔ ((a : ℕ) × (get self.now.locks a ≡ Some lock)) }
     {
         if is_long(&self.nodes) && shows(&self.nodes, lock) {
             return true;

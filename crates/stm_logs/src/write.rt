@@ -1,5 +1,5 @@
 //! The write log: the addresses that a transaction has written, with their values and locks.
-ghost use Rattle.std.specs.Prelude.{◌≡◌, ◌≢◌, ◌↔◌, ℕ, ◌%◌, ◌<◌, ◌≤◌, IsTrue, IsOk, None, Some, length, slice_index, IfOk};
+ghost use Rattle.std.specs.Prelude.{◌≡◌, ◌≢◌, ◌↔◌, ℕ, ◌%◌, ◌<◌, ◌≤◌, IsOk, None, Some, length, slice_index, IfOk, true};
 ghost use Rattle.std.specs.FinMap.{get, len};
 ghost use Rattle.stm_logs.specs.Refusals.{Becomes};
 ghost use Rattle.stm_logs.specs.Held.{with_word};
@@ -117,7 +117,7 @@ impl<A: Allocator + Copy> WriteLog<A> {
     /// Whether an address with this lock was put.
     #[inline]
     pub fn has_lock(&self, lock: u32) -> bool
-        ensures { IsTrue result ↔ ((a : ℕ) × (get self.now.locks a ≡ Some lock)) }
+        ensures { (result ≡ true) ↔ ((a : ℕ) × (get self.now.locks a ≡ Some lock)) }
     {
         match &self.table {
             Some(table) => table.has_lock(lock),
@@ -130,7 +130,7 @@ impl<A: Allocator + Copy> WriteLog<A> {
     #[inline]
     pub fn holds(&self, addr: Addr, lock: u32) -> bool
         requires { (l : ℕ) → get self.now.locks addr.0 ≡ Some l → l ≡ lock }
-        ensures { IsTrue result ↔ ((a : ℕ) × (get self.now.locks a ≡ Some lock)) }
+        ensures { (result ≡ true) ↔ ((a : ℕ) × (get self.now.locks a ≡ Some lock)) }
     {
         self.same_addresses();
         self.get(addr).is_some() || self.has_lock(lock)

@@ -13,7 +13,7 @@ use Rattle.stm_core.proofs.Whole.{closes, all_grants, knows, own_sorted}
 use Rattle.stm_region.specs.Shown.{Opened, RegionShown, opened_with}
 use Rattle.stm_core.specs.Guards.{stripe_of}
 use Rattle.stm_region.specs.Layout.{padding, first_cell}
-use Rattle.stm_region.specs.Rule.{listed, Holds}
+use Rattle.stm_region.specs.Rule.{listed, IsCoreState}
 use Rattle.stm_region.specs.Closed.{Ends}
 use Rattle.stm_region.specs.Refused.{MayRenew}
 use Rattle.stm_region.specs.Traced.{IsTraced}
@@ -39,7 +39,7 @@ laid_out image stripes =
     rw e (ap (λ xs. 0 ∷ xs) (zeros 15 (stripes + padding stripes) image ∙ ap (λ xs. replicate 15 0 ++ xs) (zeros stripes (padding stripes) image)))
 
 module _ (fits : List ℕ → Type 0) (lawful : RecordLaw) where
-  opens : {S : Type 0} (image : List ℕ) (last stripes : ℕ) → fits image → last < 2 ^ 62 → 0 < stripes → Holds {S = S} fits lawful record { image = image; last = last; stripes = stripes; first = image; renewal = 0; start = opener } (opening (replicate (first_cell stripes) 0 ++ image) [] opener)
+  opens : {S : Type 0} (image : List ℕ) (last stripes : ℕ) → fits image → last < 2 ^ 62 → 0 < stripes → IsCoreState {S = S} fits lawful record { image = image; last = last; stripes = stripes; first = image; renewal = 0; start = opener } (opening (replicate (first_cell stripes) 0 ++ image) [] opener)
   opens image last stripes f top one = record {
     core = opened image last stripes;
     gap = replicate 15 0;
@@ -62,10 +62,10 @@ module _ (fits : List ℕ → Type 0) (lawful : RecordLaw) where
 
   -- a table of these words meets the rule at its opening
   pub opens_on : {S : Type 0} (image words : List ℕ) (last stripes : ℕ) → fits image → last < 2 ^ 62 → 0 < stripes → words ≡ replicate (first_cell stripes) 0 ++ image
-      → Holds {S = S} fits lawful record { image = drop (first_cell stripes) words; last = last; stripes = stripes; first = drop (first_cell stripes) words; renewal = 0; start = opener } (opening words [] opener)
+      → IsCoreState {S = S} fits lawful record { image = drop (first_cell stripes) words; last = last; stripes = stripes; first = drop (first_cell stripes) words; renewal = 0; start = opener } (opening words [] opener)
   opens_on {S} image words last stripes f top one e =
-      subst (λ ws. Holds {S = S} fits lawful record { image = drop (first_cell stripes) ws; last = last; stripes = stripes; first = drop (first_cell stripes) ws; renewal = 0; start = opener } (opening ws [] opener)) (sym e)
-      (subst (λ ys. Holds {S = S} fits lawful record { image = ys; last = last; stripes = stripes; first = ys; renewal = 0; start = opener } (opening (replicate (first_cell stripes) 0 ++ image) [] opener)) (sym (image_behind image stripes)) (opens image last stripes f top one))
+      subst (λ ws. IsCoreState {S = S} fits lawful record { image = drop (first_cell stripes) ws; last = last; stripes = stripes; first = drop (first_cell stripes) ws; renewal = 0; start = opener } (opening ws [] opener)) (sym e)
+      (subst (λ ys. IsCoreState {S = S} fits lawful record { image = ys; last = last; stripes = stripes; first = ys; renewal = 0; start = opener } (opening (replicate (first_cell stripes) 0 ++ image) [] opener)) (sym (image_behind image stripes)) (opens image last stripes f top one))
 
 -- the data words, from their place on
 cells_behind : (gap pad : List ℕ) (c : Core) (s : ℕ) → length gap ≡ 15 → length c.locks ≡ s → length pad ≡ padding s → drop (first_cell s) (listed gap pad c) ≡ c.cells
@@ -79,7 +79,7 @@ cells_behind gap pad c s g l p =
 
 module _ (fits : List ℕ → Type 0) (lawful : RecordLaw) (r : RegionShown) where
   -- a state that meets the rule, in which the client is the only one out
-  ends : {S : Type 0} (id : ℕ) (v : Client) → IsFreeHanded v → v.grants ≡ 63 → (s : State S Client) → Holds fits lawful (opened_with r) s → get_elem? s.views id ≡ some v → Ends lawful r v (drop (first_cell r.stripes) s.words) (slice_index s.words 0)
+  ends : {S : Type 0} (id : ℕ) (v : Client) → IsFreeHanded v → v.grants ≡ 63 → (s : State S Client) → IsCoreState fits lawful (opened_with r) s → get_elem? s.views id ≡ some v → Ends lawful r v (drop (first_cell r.stripes) s.words) (slice_index s.words 0)
   ends id v free all s h at =
       let c : Core = h.core in
       let at' : get_elem? c.clients id ≡ some v = subst (λ vs. get_elem? vs id ≡ some v) h.views at in
@@ -107,19 +107,19 @@ module _ (fits : List ℕ → Type 0) (lawful : RecordLaw) (r : RegionShown) whe
         newest = sym cells ∙ (sym known.1 ∙ ap (λ image. image_after image v.records) h.first);
       }
 
-  pub ends_with : {S : Type 0} (key : Opened) → key ≡ opened_with r → (id : ℕ) (u v : Client) → u ≡ v → IsFreeHanded v → v.grants ≡ 63 → (ws : List ℕ) (xs : List S) → Final (Seen (Holds fits lawful key) id u) ws xs
+  pub ends_with : {S : Type 0} (key : Opened) → key ≡ opened_with r → (id : ℕ) (u v : Client) → u ≡ v → IsFreeHanded v → v.grants ≡ 63 → (ws : List ℕ) (xs : List S) → Final (Seen (IsCoreState fits lawful key) id u) ws xs
       → (words : List ℕ) (clock : ℕ) → words ≡ drop (first_cell r.stripes) ws → clock ≡ slice_index ws 0 → Ends lawful r v words clock
   ends_with {S} key e id u v q free all ws xs f words clock is now =
       rw (is, now) (subst (λ ys. Ends lawful r v (drop (first_cell r.stripes) ys) (slice_index ys 0)) f.2
-      (ends id v free all f.0 (subst (λ k. Holds {S = S} fits lawful k f.0) e f.1.0) (subst (λ w. get_elem? f.0.views id ≡ some w) q f.1.1)))
+      (ends id v free all f.0 (subst (λ k. IsCoreState {S = S} fits lawful k f.0) e f.1.0) (subst (λ w. get_elem? f.0.views id ≡ some w) q f.1.1)))
 
   -- the first image of such a table fits
-  pub fits_with : {S : Type 0} (key : Opened) → key ≡ opened_with r → (id : ℕ) (u : Client) (ws : List ℕ) (xs : List S) → Final (Seen (Holds fits lawful key) id u) ws xs → fits r.first
+  pub fits_with : {S : Type 0} (key : Opened) → key ≡ opened_with r → (id : ℕ) (u : Client) (ws : List ℕ) (xs : List S) → Final (Seen (IsCoreState fits lawful key) id u) ws xs → fits r.first
   fits_with key e id u ws xs f = subst (λ (k : Opened). fits k.first) e f.1.0.fitting
 
 -- what a region ended with, opened anew, meets the rule of the next renewal
 pub reopens : {S : Type 0} (fits : List ℕ → Type 0) (lawful : RecordLaw) (r : RegionShown) (v : Client) (words : List ℕ) (version last : ℕ) → Ends lawful r v words version → IsFreeHanded v → MayRenew r.renewal last v.grants → fits r.first → 0 < r.stripes
-    → Holds {S = S} fits lawful record { image = words; last = last; stripes = r.stripes; first = r.first; renewal = r.renewal + 1; start = renewing v } (opening (replicate (first_cell r.stripes) 0 ++ words) [] (renewing v))
+    → IsCoreState {S = S} fits lawful record { image = words; last = last; stripes = r.stripes; first = r.first; renewal = r.renewal + 1; start = renewing v } (opening (replicate (first_cell r.stripes) 0 ++ words) [] (renewing v))
 reopens {S} fits lawful r v words version last h free may f one = record {
   core = begun_on r.first words (r.renewal + 1) last r.stripes (renewing v);
   gap = replicate 15 0;
@@ -145,7 +145,7 @@ reopens {S} fits lawful r v words version last h free may f one = record {
 
 -- and so does a table of these words
 pub renews_on : {S : Type 0} (fits : List ℕ → Type 0) (lawful : RecordLaw) (r : RegionShown) (v : Client) (words laid : List ℕ) (version last : ℕ) → Ends lawful r v words version → IsFreeHanded v → MayRenew r.renewal last v.grants → fits r.first → 0 < r.stripes
-    → laid ≡ replicate (first_cell r.stripes) 0 ++ words → Holds {S = S} fits lawful record { image = drop (first_cell r.stripes) laid; last = last; stripes = r.stripes; first = r.first; renewal = r.renewal + 1; start = renewing v } (opening laid [] (renewing v))
+    → laid ≡ replicate (first_cell r.stripes) 0 ++ words → IsCoreState {S = S} fits lawful record { image = drop (first_cell r.stripes) laid; last = last; stripes = r.stripes; first = r.first; renewal = r.renewal + 1; start = renewing v } (opening laid [] (renewing v))
 renews_on {S} fits lawful r v words laid version last h free may f one e =
-    subst (λ ws. Holds {S = S} fits lawful record { image = drop (first_cell r.stripes) ws; last = last; stripes = r.stripes; first = r.first; renewal = r.renewal + 1; start = renewing v } (opening ws [] (renewing v))) (sym e)
-    (subst (λ ys. Holds {S = S} fits lawful record { image = ys; last = last; stripes = r.stripes; first = r.first; renewal = r.renewal + 1; start = renewing v } (opening (replicate (first_cell r.stripes) 0 ++ words) [] (renewing v))) (sym (image_behind words r.stripes)) (reopens fits lawful r v words version last h free may f one))
+    subst (λ ws. IsCoreState {S = S} fits lawful record { image = drop (first_cell r.stripes) ws; last = last; stripes = r.stripes; first = r.first; renewal = r.renewal + 1; start = renewing v } (opening ws [] (renewing v))) (sym e)
+    (subst (λ ys. IsCoreState {S = S} fits lawful record { image = ys; last = last; stripes = r.stripes; first = r.first; renewal = r.renewal + 1; start = renewing v } (opening (replicate (first_cell r.stripes) 0 ++ words) [] (renewing v))) (sym (image_behind words r.stripes)) (reopens fits lawful r v words version last h free may f one))

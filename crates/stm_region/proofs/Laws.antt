@@ -11,16 +11,16 @@ use Rattle.stm_core.specs.History.{Serial, Sub, all_records, image_at}
 use Rattle.stm_core.specs.Invariant.{now}
 use Rattle.stm_core.proofs.Facts.{one_version}
 use Rattle.stm_core.proofs.Lones.{at_map}
-use Rattle.stm_core.proofs.Playing.{every_list_stands}
+use Rattle.stm_core.proofs.Playing.{every_list_is_serializable}
 use Rattle.stm_core.proofs.Whole.{whole_serial, whole_lawful, whole_shared, own_sorted}
 use Rattle.stm_region.specs.Shown.{Opened, joined}
 use Rattle.stm_core.specs.Guards.{stripe_of}
 use Rattle.stm_region.specs.Traced.{Mirrors}
-use Rattle.stm_region.specs.Rule.{Holds, listed}
+use Rattle.stm_region.specs.Rule.{IsCoreState, listed}
 use Rattle.stm_region.specs.Running.{IsListed}
 use Rattle.stm_region.proofs.Moves.{joined_all}
 
-module _ (fits : List ℕ → Type 0) (lawful : RecordLaw) (o : Opened) (s : State (Unit {0}) Client) (h : Holds fits lawful o s) where
+module _ (fits : List ℕ → Type 0) (lawful : RecordLaw) (o : Opened) (s : State (Unit {0}) Client) (h : IsCoreState fits lawful o s) where
   pub serial : Serial o.first (all_records s.views)
   serial = subst (λ cs. Serial o.first (all_records cs)) (sym h.views) (subst (λ image. Serial image (all_records h.core.clients)) h.first (whole_serial lawful (stripe_of o.stripes) h.core h.rule))
 
@@ -35,13 +35,13 @@ module _ (fits : List ℕ → Type 0) (lawful : RecordLaw) (o : Opened) (s : Sta
       (subst (λ n. Agrees (image_at o.image v.attempt.rv (all_records (map (shed n) h.core.clients))) v.attempt.reads) h.renewal
       (subst (λ image. Agrees (image_at image v.attempt.rv (all_records (now h.core).clients)) v.attempt.reads) h.opening (one_version lawful (stripe_of o.stripes) (now h.core) h.rule.inv i (shed h.core.renewal v) (at_map (shed h.core.renewal) h.core.clients i v (subst (λ cs. get_elem? cs i ≡ some v) h.views e)))))
 
-  pub takes_all : (i j : ℕ) (v w : Client) → i ≢ j → get_elem? s.views i ≡ some v → get_elem? s.views j ≡ some w → v.spent ≡ false → w.spent ≡ false → joined v w ≡ taking v w
+  pub takes_all : (i j : ℕ) (v w : Client) → i ≢ j → get_elem? s.views i ≡ some v → get_elem? s.views j ≡ some w → v.is_gathered ≡ false → w.is_gathered ≡ false → joined v w ≡ taking v w
   takes_all i j v w ne e f un un' = joined_all lawful (stripe_of o.stripes) h.core h.rule i j v w ne (subst (λ cs. get_elem? cs i ≡ some v) h.views e) (subst (λ cs. get_elem? cs j ≡ some w) h.views f) un un'
 
   pub is_listed : IsListed lawful o s
   is_listed =
       let t = h.traced in
-      let stands = every_list_stands lawful o.first t.last o.stripes t.events t.core t.leads in record {
+      let stands = every_list_is_serializable lawful o.first t.last o.stripes t.events t.core t.leads in record {
         last = t.last;
         events = t.events;
         core = t.core;

@@ -6,7 +6,7 @@ use Rattle.std.proofs.lemmas.Bool.Decides.{nat_tests}
 use Rattle.stm_core.specs.Client.{Attempt, Client, Record, Stamp, checked, locked, ticked, validated, version_of, word_before, value_fetched, writes_to, before, inserted, merged, RecordLaw}
 use Rattle.stm_core.specs.Event.{Action, begin, check, lock, tick, validate, finish, Bounds, committed_by, stepping, failing, read_too, holding, versioned, decides_at_once, won, passes, passing, after, giving, fresh, taking, renewing, gone, opener, writer_record, reader_record, with_ticks, marking, counting}
 use Rattle.stm_core.specs.Guards.{may_act, IsLawful}
-use Rattle.stm_core.specs.Core.{Core, found, left, stepped, are_spent, others_spent}
+use Rattle.stm_core.specs.Core.{Core, found, left, stepped, are_gathered, others_gathered}
 use Rattle.stm_core.proofs.Steps.{by_case}
 use Rattle.stm_core.proofs.Lists.{at_set, set_here, set_else, in_range, only_one, clash, by_bool, at_longer}
 use Rattle.stm_core.proofs.Renewing.{at_last, at_below}
@@ -111,19 +111,19 @@ pub shadow_taking : (v w v' w' : Client) → IsShadow v w → IsShadow v' w' →
 shadow_taking v w v' w' s s' = ((λ i. taking (s.0 i) (s'.0 i)), merged_mirrors v.records w.records v'.records w'.records s.1 s'.1)
 
 -- and no step spends a client
-pub after_spent : (t : Stamp) (lk : ℕ → ℕ) (e : Action) (n : ℕ) (v : Client) → (after t lk e n v).spent ≡ v.spent
-after_spent t lk (check a) n v = by_case (λ b. (stepping (checked a (word_before v.attempt.last) n) (cond b (read_too a (value_fetched v.attempt.last) v) (failing v))).spent ≡ v.spent) (eqb n (word_before v.attempt.last)) (λ _. refl) (λ _. refl)
-after_spent t lk (lock k) n v = by_case (λ b. (stepping (locked k (word_before v.attempt.last) n) (cond b (holding k (version_of n) v) (failing v))).spent ≡ v.spent) (eqb n (word_before v.attempt.last)) (λ _. refl) (λ _. refl)
-after_spent t lk (tick f g w) n v =
+pub after_gathered : (t : Stamp) (lk : ℕ → ℕ) (e : Action) (n : ℕ) (v : Client) → (after t lk e n v).is_gathered ≡ v.is_gathered
+after_gathered t lk (check a) n v = by_case (λ b. (stepping (checked a (word_before v.attempt.last) n) (cond b (read_too a (value_fetched v.attempt.last) v) (failing v))).is_gathered ≡ v.is_gathered) (eqb n (word_before v.attempt.last)) (λ _. refl) (λ _. refl)
+after_gathered t lk (lock k) n v = by_case (λ b. (stepping (locked k (word_before v.attempt.last) n) (cond b (holding k (version_of n) v) (failing v))).is_gathered ≡ v.is_gathered) (eqb n (word_before v.attempt.last)) (λ _. refl) (λ _. refl)
+after_gathered t lk (tick f g w) n v =
     let w0 : Client = versioned t (f + 1) g w v in
-    by_case (λ b. (stepping (ticked f n) (cond b (won t (f + 1) g w v) v)).spent ≡ v.spent) (eqb n f) (λ _. by_case (λ b. (stepping (ticked f n) (cond b (committed_by t w0) w0)).spent ≡ v.spent) (decides_at_once w0) (λ _. refl) (λ _. refl)) (λ _. refl)
-after_spent t lk (validate k) n v =
+    by_case (λ b. (stepping (ticked f n) (cond b (won t (f + 1) g w v) v)).is_gathered ≡ v.is_gathered) (eqb n f) (λ _. by_case (λ b. (stepping (ticked f n) (cond b (committed_by t w0) w0)).is_gathered ≡ v.is_gathered) (decides_at_once w0) (λ _. refl) (λ _. refl)) (λ _. refl)
+after_gathered t lk (validate k) n v =
     let w0 : Client = counting v in
-    by_case (λ b. (stepping (validated k n) (cond b (passing t v) (failing v))).spent ≡ v.spent) (passes k n v) (λ _. by_case (λ b. (stepping (validated k n) (cond b (committed_by t w0) w0)).spent ≡ v.spent) (eqb w0.attempt.passed (length v.attempt.reads)) (λ _. refl) (λ _. refl)) (λ _. refl)
-after_spent t lk _ n v = refl
+    by_case (λ b. (stepping (validated k n) (cond b (passing t v) (failing v))).is_gathered ≡ v.is_gathered) (passes k n v) (λ _. by_case (λ b. (stepping (validated k n) (cond b (committed_by t w0) w0)).is_gathered ≡ v.is_gathered) (eqb w0.attempt.passed (length v.attempt.reads)) (λ _. refl) (λ _. refl)) (λ _. refl)
+after_gathered t lk _ n v = refl
 
 -- the clients of a region beside those of the list
-pub mirrors_set : (vs ws : List Client) (m : Mirrors vs ws) (i : ℕ) (v v' w w' : Client) → get_elem? vs i ≡ some v → get_elem? ws (m.number i) ≡ some w → IsShadow v' w' → (w'.spent ≡ true → w' ≡ gone) → Mirrors (set vs i v') (set ws (m.number i) w')
+pub mirrors_set : (vs ws : List Client) (m : Mirrors vs ws) (i : ℕ) (v v' w w' : Client) → get_elem? vs i ≡ some v → get_elem? ws (m.number i) ≡ some w → IsShadow v' w' → (w'.is_gathered ≡ true → w' ≡ gone) → Mirrors (set vs i v') (set ws (m.number i) w')
 mirrors_set vs ws m i v v' w w' at to s left = record {
   number = m.number;
   each = λ j o e. ⊎_elim
@@ -133,10 +133,10 @@ mirrors_set vs ws m i v v' w w' at to s left = record {
   others = λ j x e. let size : length (set vs i v') ≡ length vs = length-set vs i v' in ⊎_elim
       (λ p. inr (i, (let l = in_range vs i v at in omega (arith, size, l)), sym p.0))
       (λ p. ⊎_elim (λ z. inl z) (λ q. inr (q.0, (let l = q.1 in omega (arith, size, l)), q.2)) (m.others j x p.1)) (at_set ws (m.number i) j w' x e);
-  spent = λ j x e z. ⊎_elim (λ p. sym p.1 ∙ left (ap (λ (y : Client). y.spent) p.1 ∙ z)) (λ p. m.spent j x p.1 z) (at_set ws (m.number i) j w' x e);
+  are_gone = λ j x e z. ⊎_elim (λ p. sym p.1 ∙ left (ap (λ (y : Client). y.is_gathered) p.1 ∙ z)) (λ p. m.are_gone j x p.1 z) (at_set ws (m.number i) j w' x e);
 }
 
-pub mirrors_both : (vs ws : List Client) (m : Mirrors vs ws) (i j : ℕ) (v v' w w' x x' y y' : Client) → j ≢ i → get_elem? vs i ≡ some v → get_elem? ws (m.number i) ≡ some w → IsShadow v' w' → (w'.spent ≡ true → w' ≡ gone) → get_elem? vs j ≡ some x → get_elem? ws (m.number j) ≡ some y → IsShadow x' y' → (y'.spent ≡ true → y' ≡ gone)
+pub mirrors_both : (vs ws : List Client) (m : Mirrors vs ws) (i j : ℕ) (v v' w w' x x' y y' : Client) → j ≢ i → get_elem? vs i ≡ some v → get_elem? ws (m.number i) ≡ some w → IsShadow v' w' → (w'.is_gathered ≡ true → w' ≡ gone) → get_elem? vs j ≡ some x → get_elem? ws (m.number j) ≡ some y → IsShadow x' y' → (y'.is_gathered ≡ true → y' ≡ gone)
     → Mirrors (set (set vs i v') j x') (set (set ws (m.number i) w') (m.number j) y')
 unfolding mirrors_set
 mirrors_both vs ws m i j v v' w w' x x' y y' ne at to s left at' to' s' left' =
@@ -144,7 +144,7 @@ mirrors_both vs ws m i j v v' w w' x x' y y' ne at to s left at' to' s' left' =
     mirrors_set (set vs i v') (set ws (m.number i) w') first j x x' y y' (set_else vs i j v' x ne at')
     (set_else ws (m.number i) (m.number j) w' y (λ z. ne (m.apart j i (in_range vs j x at') (in_range vs i v at) z)) to') s' left'
 
-pub mirrors_longer : (vs ws : List Client) → Mirrors vs ws → (v w : Client) → IsShadow v w → w.spent ≡ false → Mirrors (vs ++ v ∷ []) (ws ++ w ∷ [])
+pub mirrors_longer : (vs ws : List Client) → Mirrors vs ws → (v w : Client) → IsShadow v w → w.is_gathered ≡ false → Mirrors (vs ++ v ∷ []) (ws ++ w ∷ [])
 mirrors_longer vs ws m v w s live = record {
   number = number';
   each = λ i o e. ⊎_elim
@@ -154,7 +154,7 @@ mirrors_longer vs ws m v w s live = record {
   others = λ j x e. ⊎_elim
       (λ p. ⊎_elim (λ z. inl z) (λ q. inr (q.0, (let a = size in let l = q.1 in omega (arith, a, l)), old q.0 q.1 ∙ q.2)) (m.others j x p))
       (λ p. inr (length vs, (let a = size in omega (arith, a)), new (length vs) (Rattle.std.proofs.Common.le_refl _) ∙ sym p.0)) (at_last ws w x j e);
-  spent = λ j x e z. ⊎_elim (λ p. m.spent j x p z) (λ p. clash (ap (λ (y : Client). y.spent) p.1 ∙ z) live) (at_last ws w x j e);
+  are_gone = λ j x e z. ⊎_elim (λ p. m.are_gone j x p z) (λ p. clash (ap (λ (y : Client). y.is_gathered) p.1 ∙ z) live) (at_last ws w x j e);
 }
   where
     number' : ℕ → ℕ
@@ -191,7 +191,7 @@ mirrors_opening = record {
   each = λ i v e. let z : opener ≡ v = only_one opener i v e in (v, e, subst (λ x. IsShadow x x) z (refl, none));
   apart = λ i j l l' e. e;
   others = λ j w e. inr (j, in_range (opener ∷ []) j w e, refl);
-  spent = λ j w e z. let q : opener ≡ w = only_one opener j w e in clash (ap (λ (y : Client). y.spent) q ∙ z) refl;
+  are_gone = λ j w e z. let q : opener ≡ w = only_one opener j w e in clash (ap (λ (y : Client). y.is_gathered) q ∙ z) refl;
 }
 
 -- after a renewal one client is out
@@ -201,7 +201,7 @@ mirrors_renewed ws j v w at s alone = record {
   each = λ i o e. let z : renewing v ≡ o = only_one (renewing v) i o e in (renewing w, set_here ws j w (renewing w) at, subst (λ x. IsShadow x (renewing w)) z (shadow_renewing v w s));
   apart = λ i k l l' e. omega (arith, l, l');
   others = λ k x e. ⊎_elim (λ p. inr (0, omega arith, sym p.0)) (λ p. inl (alone k x p.1 p.0)) (at_set ws j k (renewing w) x e);
-  spent = λ k x e z. ⊎_elim (λ p. clash (ap (λ (y : Client). y.spent) p.1 ∙ z) refl) (λ p. alone k x p.1 p.0) (at_set ws j k (renewing w) x e);
+  are_gone = λ k x e z. ⊎_elim (λ p. clash (ap (λ (y : Client). y.is_gathered) p.1 ∙ z) refl) (λ p. alone k x p.1 p.0) (at_set ws j k (renewing w) x e);
 }
 
 -- a step looks at nothing that a region does not keep
@@ -230,14 +230,14 @@ pub both_true : (a b : Bool) → a ≡ true → b ≡ true → (a && b) ≡ true
 both_true true b p q = q
 both_true false b p q = p
 
-pub others_are : (l : List Client) (i : ℕ) → ((j : ℕ) (w : Client) → get_elem? l j ≡ some w → j ≢ i → w.spent ≡ true) → others_spent l i ≡ true
+pub others_are : (l : List Client) (i : ℕ) → ((j : ℕ) (w : Client) → get_elem? l j ≡ some w → j ≢ i → w.is_gathered ≡ true) → others_gathered l i ≡ true
 others_are [] i f = refl
 others_are (x ∷ l) zero f = all l (λ j w e. f (suc j) w e (λ z. omega arith))
   where
-    all : (l : List Client) → ((j : ℕ) (w : Client) → get_elem? l j ≡ some w → w.spent ≡ true) → are_spent l ≡ true
+    all : (l : List Client) → ((j : ℕ) (w : Client) → get_elem? l j ≡ some w → w.is_gathered ≡ true) → are_gathered l ≡ true
     all [] g = refl
-    all (y ∷ l) g = both_true y.spent (are_spent l) (g 0 y refl) (all l (λ j w e. g (suc j) w e))
-others_are (x ∷ l) (suc i) f = both_true x.spent (others_spent l i) (f 0 x refl (λ z. omega arith)) (others_are l i (λ j w e n. f (suc j) w e (λ z. n (omega arith))))
+    all (y ∷ l) g = both_true y.is_gathered (are_gathered l) (g 0 y refl) (all l (λ j w e. g (suc j) w e))
+others_are (x ∷ l) (suc i) f = both_true x.is_gathered (others_gathered l i) (f 0 x refl (λ z. omega arith)) (others_are l i (λ j w e n. f (suc j) w e (λ z. n (omega arith))))
 
 pub value_there : (l : List Client) (i : ℕ) (w : Client) → get_elem? l i ≡ some w → get_or l i gone ≡ w
 value_there [] i w e = absurd (some-ne-none w (sym e))

@@ -16,7 +16,7 @@ use Rattle.stm_core.specs.History.{Serial, SomeFits, all_records}
 use Rattle.stm_core.specs.Invariant.{now, Rule}
 use Rattle.stm_core.proofs.Eras.{in_append, of_is}
 use Rattle.stm_core.proofs.Lones.{at_map, goes_on}
-use Rattle.stm_core.specs.Guards.{Holds as Holding, MayAct, May, stripe_of}
+use Rattle.stm_core.specs.Guards.{Holds, MayAct, May, stripe_of}
 use Rattle.stm_core.proofs.Conditions.{can_act}
 use Rattle.stm_core.proofs.Renewals.{step_rules}
 use Rattle.stm_core.proofs.Renewing.{split_rules, gather_rules}
@@ -25,9 +25,9 @@ use Rattle.stm_core.proofs.Histories.{image_fits}
 use Rattle.stm_core.proofs.Facts.{some_fits, grants_of_two, ahead, all_lawful, one_version}
 use Rattle.stm_region.specs.Shown.{Opened, RegionShown, joined, opened_with, bounds, unplaced}
 use Rattle.stm_region.specs.Layout.{place, first_cell, InRange, IsLaid, IsStore}
-use Rattle.stm_region.specs.Told.{IsLockWord, IsVersion, StandsOn, IsRightAfter, IsOfOneVersionAt, DecidesAt, Told, acting, IsEarlier, AreEarlier}
+use Rattle.stm_region.specs.Findings.{IsLockWord, IsVersion, StandsOn, IsRightAfter, IsOfOneVersionAt, DecidesAt, Tells, acting, IsEarlier, AreEarlier}
 use Rattle.stm_region.specs.Traced.{IsTraced}
-use Rattle.stm_region.specs.Rule.{Holds}
+use Rattle.stm_region.specs.Rule.{IsCoreState}
 use Rattle.stm_region.proofs.Tracing.{step_traced, step_listed, split_traced, gather_traced}
 use Rattle.stm_region.proofs.Deciding.{Makes, tick_makes, validate_makes, finish_makes}
 use Rattle.stm_region.proofs.Places.{Stays, stays, found_there, left_there, in_table}
@@ -77,7 +77,7 @@ pub record Matches (o : Opened) (c : Core) : Type 0 where
   pub locks : length c.locks ≡ o.stripes
 
 -- the bound on the grants takes none away
-pub joined_all : (lawful : RecordLaw) (l : ℕ → ℕ) (c : Core) → Rule lawful l c → (i j : ℕ) (v w : Client) → i ≢ j → get_elem? c.clients i ≡ some v → get_elem? c.clients j ≡ some w → v.spent ≡ false → w.spent ≡ false → joined v w ≡ taking v w
+pub joined_all : (lawful : RecordLaw) (l : ℕ → ℕ) (c : Core) → Rule lawful l c → (i j : ℕ) (v w : Client) → i ≢ j → get_elem? c.clients i ≡ some v → get_elem? c.clients j ≡ some w → v.is_gathered ≡ false → w.is_gathered ≡ false → joined v w ≡ taking v w
 joined_all lawful l c inv i j v w ne at to un un' =
     let n = grants_of_two lawful l (now c) inv.inv i j (shed c.renewal v) (shed c.renewal w) ne (at_map (shed c.renewal) c.clients i v at) (at_map (shed c.renewal) c.clients j w to) un un' in
     let e : min (v.grants + w.grants + 1) 63 ≡ v.grants + w.grants + 1 = omega arith in λ k. record (taking v w) { grants = e k }
@@ -198,7 +198,7 @@ module _ (fits : List ℕ → Type 0) (lawful : RecordLaw) (law : Keeping fits l
 
   -- what a step tells, of the core before it and of the one after it
   told_of : (c d : Core) → Matches o c → Matches o d → length r.opening ≡ r.size → r.last < 2 ^ 62 → fits r.first → Rule lawful lk c → Rule lawful lk d → (i : ℕ) (v : Client) (e : Action) → get_elem? c.clients i ≡ some v
-      → get_elem? d.clients i ≡ some (after (unplaced r.renewal) lk e (found lk c e) v) → IsRightAfter lawful r e (found lk c e) v i d → MayAct lawful lk (bounds_of c) e v.attempt → Told fits lawful r e (found lk c e) v (after (unplaced r.renewal) lk e (found lk c e) v)
+      → get_elem? d.clients i ≡ some (after (unplaced r.renewal) lk e (found lk c e) v) → IsRightAfter lawful r e (found lk c e) v i d → MayAct lawful lk (bounds_of c) e v.attempt → Tells fits lawful r e (found lk c e) v (after (unplaced r.renewal) lk e (found lk c e) v)
   told_of c d m m' z top f h h' i v begin was at g may = (clock c m top h, (h.inv.version.sound i (shed c.renewal v) (at_map (shed c.renewal) c.clients i v was)).floor, opening_stands c m z f h, subst (λ n. AreEarlier n c.clock v.records) m.renewal (earlier lawful lk c h i v was), λ all. knows lawful lk c h i v was all)
   told_of c d m m' z top f h h' i v (probe k) was at g may = (lock_word c m top h k, λ y. (goes_on lawful lk c h.inv h.lone i v was y.0 y.1).probes k)
   told_of c d m m' z top f h h' i v (check a) was at g may = (lock_word c m top h (lk a), stands_of d m' z f h' i (after (unplaced r.renewal) lk (check a) (found lk c (check a)) v) at, (λ y. (goes_on lawful lk c h.inv h.lone i v was y.0 y.1).checks a may), version_of_reads d m' z f h' i (after (unplaced r.renewal) lk (check a) (found lk c (check a)) v) at (check a) (found lk c (check a)) v g)
@@ -221,7 +221,7 @@ module _ (fits : List ℕ → Type 0) (lawful : RecordLaw) (law : Keeping fits l
   in_clients (x ∷ xs) (suc i) v w e = in_clients xs i v w e
 
   -- a held lock word less 1 is the free word of its old version
-  less_one : (c : Core) (id k : ℕ) (v : Client) → Rule lawful lk c → get_elem? c.clients id ≡ some v → Holding v.attempt.held k → slice_index c.locks k < 18446744073709551616
+  less_one : (c : Core) (id k : ℕ) (v : Client) → Rule lawful lk c → get_elem? c.clients id ≡ some v → Holds v.attempt.held k → slice_index c.locks k < 18446744073709551616
       → (slice_index c.locks k + (18446744073709551616 - 1)) % 18446744073709551616 ≡ 2 * old_version v.attempt.held k
   less_one c id k v inv at w lt =
       let e = (inv.inv.books.booked id (shed c.renewal v) (at_map (shed c.renewal) c.clients id v at)).listed k (old_version v.attempt.held k) (old_there v.attempt.held k w.0 w.1) in
@@ -231,7 +231,7 @@ module _ (fits : List ℕ → Type 0) (lawful : RecordLaw) (law : Keeping fits l
 
   module _ {S : Type 0} where
     abbrev Kept : State S Client → Type 0
-    Kept s = Holds fits lawful o s
+    Kept s = IsCoreState fits lawful o s
 
     pub matches : (s : State S Client) (h : Kept s) → Matches o h.core
     matches s h = record { last = h.last; opening = h.opening; first = h.first; renewal = h.renewal; locks = h.locks }
@@ -240,7 +240,7 @@ module _ (fits : List ℕ → Type 0) (lawful : RecordLaw) (law : Keeping fits l
     acts_allowed : (slots id : ℕ) (me : Me S Client) (e : Action) (word : ℕ) (f : ℕ → ℕ) (told : ℕ → Me S Client → Type 0)
         → length r.opening ≡ r.size → word ≡ place r.stripes e → InRange r.stripes r.size e → May lawful lk (bounds r) e me.0
         → ((c : Core) → Rule lawful lk c → get_elem? c.clients id ≡ some me.0 → found lk c e < 18446744073709551616 → f (found lk c e) ≡ left e (found lk c e) me.0)
-        → ((n : ℕ) → Told fits lawful r e n me.0 (after (unplaced r.renewal) lk e n me.0) → told n (after (unplaced r.renewal) lk e n me.0, me.1))
+        → ((n : ℕ) → Tells fits lawful r e n me.0 (after (unplaced r.renewal) lk e n me.0) → told n (after (unplaced r.renewal) lk e n me.0, me.1))
         → Allows Kept slots id me word f told
     acts_allowed slots id me e word f told z is range may does tells s h len at lt =
         let v : Client = me.0 in
@@ -285,39 +285,39 @@ module _ (fits : List ℕ → Type 0) (lawful : RecordLaw) (law : Keeping fits l
     acts_in : (words : ℕ) (key : Opened) → Runs words key r → (slots id : ℕ) (me : Me S Client) (e : Action) (word : ℕ) (f : ℕ → ℕ) (told : ℕ → Me S Client → Type 0)
         → word ≡ place r.stripes e → InRange r.stripes r.size e → May lawful lk (bounds r) e me.0
         → ((c : Core) → Rule lawful lk c → get_elem? c.clients id ≡ some me.0 → found lk c e < 18446744073709551616 → f (found lk c e) ≡ left e (found lk c e) me.0)
-        → ((n : ℕ) → Told fits lawful r e n me.0 (after (unplaced r.renewal) lk e n me.0) → told n (after (unplaced r.renewal) lk e n me.0, me.1))
-        → (word < words) × Allows (Holds fits lawful key) slots id me word f told
+        → ((n : ℕ) → Tells fits lawful r e n me.0 (after (unplaced r.renewal) lk e n me.0) → told n (after (unplaced r.renewal) lk e n me.0, me.1))
+        → (word < words) × Allows (IsCoreState fits lawful key) slots id me word f told
     acts_in words key run slots id me e word f told is range may does tells = (
       subst (λ n. n < words) (sym is) (in_table r.stripes r.size words e run.total run.some range),
-      subst (λ k. Allows (Holds fits lawful k) slots id me word f told) (sym run.key_is) (acts_allowed slots id me e word f told run.size is range may does tells),
+      subst (λ k. Allows (IsCoreState fits lawful k) slots id me word f told) (sym run.key_is) (acts_allowed slots id me e word f told run.size is range may does tells),
     )
 
     -- a load or an exchange
     pub acts_here : (words : ℕ) (key : Opened) → Runs words key r → (t : RegionShown) → t ≡ r → (slots id : ℕ) (me : Me S Client) (e : Action) (word : ℕ) (f : ℕ → ℕ)
         → word ≡ place r.stripes e → InRange r.stripes r.size e → May lawful lk (bounds r) e me.0 → ((n : ℕ) → left e n me.0 ≡ f n)
-        → (word < words) × Allows (Holds fits lawful key) slots id me word f (acting fits lawful t e (step 0 0 0 0 none) me)
-    acts_here words key run t q slots id me e word f is range may does = subst (λ x. (word < words) × Allows (Holds fits lawful key) slots id me word f (acting fits lawful x e (step 0 0 0 0 none) me)) (sym q)
+        → (word < words) × Allows (IsCoreState fits lawful key) slots id me word f (acting fits lawful t e (step 0 0 0 0 none) me)
+    acts_here words key run t q slots id me e word f is range may does = subst (λ x. (word < words) × Allows (IsCoreState fits lawful key) slots id me word f (acting fits lawful x e (step 0 0 0 0 none) me)) (sym q)
         (acts_in words key run slots id me e word f (acting fits lawful r e (step 0 0 0 0 none) me) is range may (λ c i a l. sym (does (found lk c e))) (λ n t. (refl, t)))
 
     -- a store, whose effect does not depend on the word found
-    stored : (me : Me S Client) (e : Action) → IsStore e → (n new : ℕ) → Told fits lawful r e n me.0 (after (unplaced r.renewal) lk e n me.0) → acting fits lawful r e (step 0 0 0 0 none) me new (after (unplaced r.renewal) lk e n me.0, me.1)
+    stored : (me : Me S Client) (e : Action) → IsStore e → (n new : ℕ) → Tells fits lawful r e n me.0 (after (unplaced r.renewal) lk e n me.0) → acting fits lawful r e (step 0 0 0 0 none) me new (after (unplaced r.renewal) lk e n me.0, me.1)
     stored me (put a x) s n new t = (refl, tt)
     stored me (release k) s n new t = (refl, tt)
     stored me _ s n new t = absurd s
 
     pub stores_here : (words : ℕ) (key : Opened) → Runs words key r → (t : RegionShown) → t ≡ r → (slots id : ℕ) (me : Me S Client) (e : Action) (word new : ℕ)
         → word ≡ place r.stripes e → InRange r.stripes r.size e → May lawful lk (bounds r) e me.0 → IsStore e → ((n : ℕ) → left e n me.0 ≡ new)
-        → (word < words) × Allows (Holds fits lawful key) slots id me word (λ _. new) (λ _. acting fits lawful t e (step 0 0 0 0 none) me new)
+        → (word < words) × Allows (IsCoreState fits lawful key) slots id me word (λ _. new) (λ _. acting fits lawful t e (step 0 0 0 0 none) me new)
     stores_here words key run t q slots id me e word new is range may s does =
-        subst (λ x. (word < words) × Allows (Holds fits lawful key) slots id me word (λ _. new) (λ _. acting fits lawful x e (step 0 0 0 0 none) me new)) (sym q)
+        subst (λ x. (word < words) × Allows (IsCoreState fits lawful key) slots id me word (λ _. new) (λ _. acting fits lawful x e (step 0 0 0 0 none) me new)) (sym q)
         (acts_in words key run slots id me e word (λ _. new) (λ _. acting fits lawful r e (step 0 0 0 0 none) me new) is range may (λ c i a l. sym (does (found lk c e))) (λ n t. stored me e s n new t))
 
     pub subtracts_here : (words : ℕ) (key : Opened) → Runs words key r → (t : RegionShown) → t ≡ r → (slots id : ℕ) (me : Me S Client) (e : Action) (k word : ℕ)
         → e ≡ give_back k → word ≡ 16 + k → k < r.stripes → May lawful lk (bounds r) (give_back k) me.0
-        → (word < words) × Allows (Holds fits lawful key) slots id me word (λ n. (n + (18446744073709551616 - 1)) % 18446744073709551616) (acting fits lawful t e (step 0 0 0 0 none) me)
+        → (word < words) × Allows (IsCoreState fits lawful key) slots id me word (λ n. (n + (18446744073709551616 - 1)) % 18446744073709551616) (acting fits lawful t e (step 0 0 0 0 none) me)
     subtracts_here words key run t q slots id me e k word gives is range may =
-        subst (λ x. (word < words) × Allows (Holds fits lawful key) slots id me word (λ n. (n + (18446744073709551616 - 1)) % 18446744073709551616) (acting fits lawful t x (step 0 0 0 0 none) me)) (sym gives)
-        (subst (λ x. (word < words) × Allows (Holds fits lawful key) slots id me word (λ n. (n + (18446744073709551616 - 1)) % 18446744073709551616) (acting fits lawful x (give_back k) (step 0 0 0 0 none) me)) (sym q)
+        subst (λ x. (word < words) × Allows (IsCoreState fits lawful key) slots id me word (λ n. (n + (18446744073709551616 - 1)) % 18446744073709551616) (acting fits lawful t x (step 0 0 0 0 none) me)) (sym gives)
+        (subst (λ x. (word < words) × Allows (IsCoreState fits lawful key) slots id me word (λ n. (n + (18446744073709551616 - 1)) % 18446744073709551616) (acting fits lawful x (give_back k) (step 0 0 0 0 none) me)) (sym q)
         (acts_in words key run slots id me (give_back k) word (λ n. (n + (18446744073709551616 - 1)) % 18446744073709551616) (acting fits lawful r (give_back k) (step 0 0 0 0 none) me) is range may
         (λ c i a l. less_one c id k me.0 i a (can_act lk lawful (bounds r) me.0.attempt (give_back k) may.1).1 l) (λ n t. (refl, t))))
 
@@ -344,8 +344,8 @@ module _ (fits : List ℕ → Type 0) (lawful : RecordLaw) (law : Keeping fits l
           some = h.some;
         }
 
-    pub splits_here : (words : ℕ) (key : Opened) → Runs words key r → (id : ℕ) (v : Client) → IsFreeHanded v → 0 < v.grants → (0 < words) × Splits (Holds {S = S} fits lawful key) id v (giving v) (fresh v)
-    splits_here words key run id v free gr = (let t = run.total in omega arith, subst (λ k. Splits (Holds {S = S} fits lawful k) id v (giving v) (fresh v)) (sym run.key_is) (split_allowed id v free gr))
+    pub splits_here : (words : ℕ) (key : Opened) → Runs words key r → (id : ℕ) (v : Client) → IsFreeHanded v → 0 < v.grants → (0 < words) × Splits (IsCoreState {S = S} fits lawful key) id v (giving v) (fresh v)
+    splits_here words key run id v free gr = (let t = run.total in omega arith, subst (λ k. Splits (IsCoreState {S = S} fits lawful k) id v (giving v) (fresh v)) (sym run.key_is) (split_allowed id v free gr))
 
     -- a client takes in another
     join_allowed : (id : ℕ) (v : Client) (other : ℕ) (w : Client) → IsFreeHanded v → IsFreeHanded w → Joins Kept id v other w (joined v w) gone
@@ -373,6 +373,6 @@ module _ (fits : List ℕ → Type 0) (lawful : RecordLaw) (law : Keeping fits l
           some = h.some;
         }
 
-    pub joins_here : (words : ℕ) (key : Opened) → Runs words key r → (id : ℕ) (v : Client) (other : ℕ) (w : Client) → IsFreeHanded v → IsFreeHanded w → (0 < words) × Joins (Holds {S = S} fits lawful key) id v other w (joined v w) gone
+    pub joins_here : (words : ℕ) (key : Opened) → Runs words key r → (id : ℕ) (v : Client) (other : ℕ) (w : Client) → IsFreeHanded v → IsFreeHanded w → (0 < words) × Joins (IsCoreState {S = S} fits lawful key) id v other w (joined v w) gone
     joins_here words key run id v other w free free' =
-        (let t = run.total in omega arith, subst (λ k. Joins (Holds {S = S} fits lawful k) id v other w (joined v w) gone) (sym run.key_is) (join_allowed id v other w free free'))
+        (let t = run.total in omega arith, subst (λ k. Joins (IsCoreState {S = S} fits lawful k) id v other w (joined v w) gone) (sym run.key_is) (join_allowed id v other w free free'))

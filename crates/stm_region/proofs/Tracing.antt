@@ -9,13 +9,13 @@ use Rattle.stm_core.specs.declared.limits.TheConstants.{MOST_RENEWALS}
 use Rattle.stm_core.specs.Client.{Client, Stamp, RecordLaw}
 use Rattle.stm_core.specs.Event.{Action, after, giving, fresh, taking, renewing, gone, opener}
 use Rattle.stm_core.specs.Guards.{may_act, IsLawful, May, stripe_of}
-use Rattle.stm_core.specs.Core.{Core, bounds_of, found, stepped, divided, gathered, renewed, IsFreeHanded, Event, acts, splits, gathers, renews, stamp_of, client_of, is_out, others_spent, Allowed, played, Leads, opened, begun_on}
+use Rattle.stm_core.specs.Core.{Core, bounds_of, found, stepped, divided, gathered, renewed, IsFreeHanded, Event, acts, splits, gathers, renews, stamp_of, client_of, is_out, others_gathered, Allowed, played, Leads, opened, begun_on}
 use Rattle.stm_core.proofs.Conditions.{IsOut, IsAlone, out_test, and3, and5, not_test, eq_test, empty_test, lt_test, le_test}
 use Rattle.stm_core.proofs.Lists.{in_range, same_at, clash}
 use Rattle.stm_core.proofs.Renewing.{at_below}
 use Rattle.stm_region.specs.Shown.{Opened, unplaced}
 use Rattle.stm_region.specs.Traced.{unplaced_attempt, unplaced_client, IsShadow, Mirrors, IsTraced}
-use Rattle.stm_region.proofs.Mirroring.{shadow_after, shadow_giving, shadow_fresh, shadow_taking, after_spent, mirrors_set, mirrors_both, mirrors_longer, mirrors_opening, mirrors_renewed, may_shadow, lawful_shadow, found_same, WordsAfter, words_same, both_true, others_are, value_there}
+use Rattle.stm_region.proofs.Mirroring.{shadow_after, shadow_giving, shadow_fresh, shadow_taking, after_gathered, mirrors_set, mirrors_both, mirrors_longer, mirrors_opening, mirrors_renewed, may_shadow, lawful_shadow, found_same, WordsAfter, words_same, both_true, others_are, value_there}
 
 pub leads_more : (lawful : RecordLaw) (lk : ℕ → ℕ) (es : List Event) (e : Event) (c d : Core) → Leads lawful lk c es d → Allowed lawful lk e d → Leads lawful lk c (es ++ e ∷ []) (played lk e d)
 leads_more lawful lk [] e c d same may = subst (λ x. Leads lawful lk x (e ∷ []) (played lk e d)) (sym same) (may, refl)
@@ -49,8 +49,8 @@ module _ (lawful : RecordLaw) (o : Opened) (c : Core) (t : IsTraced lawful o c) 
     is_there : get_elem? t.core.clients (suc (t.clients.number id) - 1) ≡ some (client_of t.core (suc (t.clients.number id)))
     is_there = subst (λ n. get_elem? t.core.clients n ≡ some (client_of t.core (suc (t.clients.number id)))) (sym one_less) (there ∙ ap some (sym value))
 
-    out : v.spent ≡ false → IsOut t.core (suc (t.clients.number id))
-    out live = (omega arith, is_there, ap (λ (x : Client). x.spent) value ∙ (sym (ap (λ (x : Client). x.spent) shadow.0) ∙ live))
+    out : v.is_gathered ≡ false → IsOut t.core (suc (t.clients.number id))
+    out live = (omega arith, is_there, ap (λ (x : Client). x.is_gathered) value ∙ (sym (ap (λ (x : Client). x.is_gathered) shadow.0) ∙ live))
 
     holds_none : v.attempt.held ≡ [] → (client_of t.core (suc (t.clients.number id))).attempt.held ≡ []
     holds_none e = ap (λ (x : Client). x.attempt.held) value ∙ (sym (ap (λ (x : Client). x.attempt.held) shadow.0) ∙ e)
@@ -88,7 +88,7 @@ module _ (lawful : RecordLaw) (o : Opened) (c : Core) (t : IsTraced lawful o c) 
         mirrors = subst (λ m. Mirrors (set c.clients id (after u lk e (found lk c e) v)) (set t.core.clients m (after s lk e (found lk t.core e) (client_of t.core (suc (t.clients.number id)))))) (sym one_less)
             (subst (λ f. Mirrors (set c.clients id (after u lk e (found lk c e) v)) (set t.core.clients (t.clients.number id) (after s lk e f (client_of t.core (suc (t.clients.number id)))))) same_found
             (subst (λ x. Mirrors (set c.clients id (after u lk e (found lk c e) v)) (set t.core.clients (t.clients.number id) (after s lk e (found lk c e) x))) (sym value)
-            (mirrors_set c.clients t.core.clients t.clients id v _ _ _ at there (shadow_after s lk (found lk c e) v _ shadow n era' e) (λ z. clash z (after_spent s lk e (found lk c e) _ ∙ (sym (ap (λ (x : Client). x.spent) shadow.0) ∙ may.0))))))
+            (mirrors_set c.clients t.core.clients t.clients id v _ _ _ at there (shadow_after s lk (found lk c e) v _ shadow n era' e) (λ z. clash z (after_gathered s lk e (found lk c e) _ ∙ (sym (ap (λ (x : Client). x.is_gathered) shadow.0) ∙ may.0))))))
 
         pub step_traced : IsTraced lawful o (stepped (unplaced n) (stripe_of o.stripes) e id v c)
         step_traced = record {
@@ -118,7 +118,7 @@ module _ (lawful : RecordLaw) (o : Opened) (c : Core) (t : IsTraced lawful o c) 
               ((and3 (out_test t.core k) (empty_test w.attempt.held) (lt_test 0 w.grants)).complete (out free.0, holds_none free.1, subst (λ n. 0 < n) grants some'), tt);
           same = (λ i. record (t.same i) { clients = (divided id v c).clients; events = c.events + 1; past = c.past });
           clients = mirrors_longer (set c.clients id (giving v)) (set t.core.clients (k - 1) (giving w))
-              (subst (λ m. Mirrors (set c.clients id (giving v)) (set t.core.clients m (giving w))) (sym one_less) (mirrors_set c.clients t.core.clients t.clients id v (giving v) _ (giving w) at there (shadow_giving v w s) (λ z. clash z (sym (ap (λ (x : Client). x.spent) s.0) ∙ free.0)))) (fresh v) (fresh w) (shadow_fresh v w s) refl;
+              (subst (λ m. Mirrors (set c.clients id (giving v)) (set t.core.clients m (giving w))) (sym one_less) (mirrors_set c.clients t.core.clients t.clients id v (giving v) _ (giving w) at there (shadow_giving v w s) (λ z. clash z (sym (ap (λ (x : Client). x.is_gathered) s.0) ∙ free.0)))) (fresh v) (fresh w) (shadow_fresh v w s) refl;
         }
 
     -- a renewal
@@ -133,8 +133,8 @@ module _ (lawful : RecordLaw) (o : Opened) (c : Core) (t : IsTraced lawful o c) 
         let z = t.clients.each q.0 p.0 p.1 in
         let same' : z.0 ≡ x = same_at t.core.clients m z.0 x (subst (λ i. get_elem? t.core.clients i ≡ some z.0) q.2 z.1) e in
         dite (ℕ_discrete q.0 id) (λ h. absurd (ne (sym q.2 ∙ ap t.clients.number h)))
-        (λ h. t.clients.spent m x e (sym (ap (λ (i : Client). i.spent) same') ∙ (sym (ap (λ (i : Client). i.spent) z.2.0) ∙ alone q.0 p.0 p.1 h)))) (t.clients.others m x e)) in
-        let spent : others_spent t.core.clients (k - 1) ≡ true = subst (λ m. others_spent t.core.clients m ≡ true) (sym one_less) (others_are t.core.clients (t.clients.number id) (λ m x e ne. ap (λ (y : Client). y.spent) (only m x e ne))) in
+        (λ h. t.clients.are_gone m x e (sym (ap (λ (i : Client). i.is_gathered) same') ∙ (sym (ap (λ (i : Client). i.is_gathered) z.2.0) ∙ alone q.0 p.0 p.1 h)))) (t.clients.others m x e)) in
+        let is_gathered : others_gathered t.core.clients (k - 1) ≡ true = subst (λ m. others_gathered t.core.clients m ≡ true) (sym one_less) (others_are t.core.clients (t.clients.number id) (λ m x e ne. ap (λ (y : Client). y.is_gathered) (only m x e ne))) in
         let era : t.core.renewal ≡ o.renewal = sym (ap (λ (x : Core). x.renewal) t.same) ∙ renewal in
         let few' : t.core.renewal < MOST_RENEWALS = subst (λ n. n < MOST_RENEWALS) (sym era) few in
         record {
@@ -142,7 +142,7 @@ module _ (lawful : RecordLaw) (o : Opened) (c : Core) (t : IsTraced lawful o c) 
           events = t.events ++ renews k last ∷ [];
           core = renewed (k - 1) last w t.core;
           leads = leads_more lawful lk t.events (renews k last) (opened o.first t.last o.stripes) t.core t.leads
-              (both_true _ _ (both_true _ _ (both_true _ _ (both_true _ _ (both_true _ _ ((out_test t.core k).complete (out free.0)) ((empty_test w.attempt.held).complete (holds_none free.1))) spent) ((le_test 1 last).complete low)) ((lt_test last VERSION_LIMIT).complete high)) ((lt_test t.core.renewal MOST_RENEWALS).complete few'), tt);
+              (both_true _ _ (both_true _ _ (both_true _ _ (both_true _ _ (both_true _ _ ((out_test t.core k).complete (out free.0)) ((empty_test w.attempt.held).complete (holds_none free.1))) is_gathered) ((le_test 1 last).complete low)) ((lt_test last VERSION_LIMIT).complete high)) ((lt_test t.core.renewal MOST_RENEWALS).complete few'), tt);
           same = (λ i. record {
             first = (sym first ∙ ap (λ (x : Core). x.first) t.same) i;
             past = v.records;
@@ -169,7 +169,7 @@ module _ (lawful : RecordLaw) (o : Opened) (c : Core) (t : IsTraced lawful o c) 
       let s' : IsShadow x y = subst (IsShadow x) (sym (value other x to)) (shadow other x to) in
       let apart : t.clients.number id ≢ t.clients.number other = (λ z. ne (t.clients.apart id other (in_range c.clients id v at) (in_range c.clients other x to) z)) in
       let both' : Mirrors (set (set c.clients id (taking v x)) other gone) (set (set t.core.clients (t.clients.number id) (taking w y)) (t.clients.number other) gone) =
-      mirrors_both c.clients t.core.clients t.clients id other v (taking v x) _ (taking w y) x gone _ gone (λ z. ne (sym z)) at (there id v at) (shadow_taking v w x y s s') (λ z. clash z (sym (ap (λ (y : Client). y.spent) s.0) ∙ free.0)) to (there other x to) (refl, Rattle.stm_region.specs.Traced.none) (λ z. refl) in
+      mirrors_both c.clients t.core.clients t.clients id other v (taking v x) _ (taking w y) x gone _ gone (λ z. ne (sym z)) at (there id v at) (shadow_taking v w x y s s') (λ z. clash z (sym (ap (λ (y : Client). y.is_gathered) s.0) ∙ free.0)) to (there other x to) (refl, Rattle.stm_region.specs.Traced.none) (λ z. refl) in
       record {
         last = t.last;
         events = t.events ++ gathers k l ∷ [];

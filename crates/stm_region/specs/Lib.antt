@@ -1,6 +1,6 @@
 pub mod Shown
 pub mod Layout
-pub mod Told
+pub mod Findings
 pub mod Traced
 pub mod Rule
 pub mod Running

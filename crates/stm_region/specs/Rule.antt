@@ -19,7 +19,7 @@ abbrev pub listed : List ℕ → List ℕ → Core → List ℕ
 listed gap pad c = c.clock ∷ (gap ++ (c.locks ++ (pad ++ c.cells)))
 
 -- the table's words and all clients' values are a core state that meets the version invariant
-pub record Holds {S : Type 0} (fits : List ℕ → Type 0) (lawful : RecordLaw) (o : Opened)
+pub record IsCoreState {S : Type 0} (fits : List ℕ → Type 0) (lawful : RecordLaw) (o : Opened)
     (s : State S Client) : Type 0 where
   pub core : Core
   pub gap : List ℕ
@@ -44,7 +44,8 @@ pub record Holds {S : Type 0} (fits : List ℕ → Type 0) (lawful : RecordLaw) 
 -- threads
 abbrev pub Always : (List ℕ → Type 0) → RecordLaw →
     (Opened → State (Unit {0}) Client → Type 0) → Type 0
-Always fits lawful P = (o : Opened) (s : State (Unit {0}) Client) → Holds fits lawful o s → P o s
+Always fits lawful P = (o : Opened) (s : State (Unit {0}) Client) → IsCoreState fits lawful o s
+    → P o s
 
 -- P holds of each client's value
 abbrev pub OfEach : State (Unit {0}) Client → (Client → Type 0) → Type 0

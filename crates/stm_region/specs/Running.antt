@@ -7,7 +7,7 @@ use Rattle.atomic_table.specs.Table.{State}
 use Rattle.stm_core.specs.Client.{Client, RecordLaw}
 use Rattle.stm_core.specs.Core.{Core, Event, opened}
 use Rattle.stm_core.specs.Invariant.{Sorted}
-use Rattle.stm_core.specs.Theorem.{Reaches, Stands}
+use Rattle.stm_core.specs.Theorem.{Reaches, IsSerializable}
 use Rattle.stm_region.specs.Shown.{Opened}
 use Rattle.stm_core.specs.Guards.{stripe_of}
 use Rattle.stm_region.specs.Layout.{padding}
@@ -25,7 +25,8 @@ pub record IsListed (lawful : RecordLaw) (o : Opened) (s : State (Unit {0}) Clie
   -- each is allowed where it stands, and they lead from the first opening to the core
   pub leads : Reaches lawful o.first last o.stripes events core
   -- all that the core theorem says, of this list and this core
-  pub stands : Stands lawful (stripe_of o.stripes) (opened o.first last o.stripes) events core
+  pub stands
+      : IsSerializable lawful (stripe_of o.stripes) (opened o.first last o.stripes) events core
   -- the table has the core's words: the clock, the lock words and the data words
   pub gap : List ℕ
   pub pad : List ℕ

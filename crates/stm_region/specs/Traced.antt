@@ -45,8 +45,8 @@ pub record Mirrors (vs ws : List Client) : Type 0 where
   -- any other was gathered before a renewal, and has nothing left
   pub others : (j : ℕ) (w : Client) → get_elem? ws j ≡ some w
       → (w ≡ gone) ⊎ ((i : ℕ) × (i < length vs) × (number i ≡ j))
-  -- as has every client that is spent
-  pub spent : (j : ℕ) (w : Client) → get_elem? ws j ≡ some w → w.spent ≡ true → w ≡ gone
+  -- as has every client that is gathered
+  pub are_gone : (j : ℕ) (w : Client) → get_elem? ws j ≡ some w → w.is_gathered ≡ true → w ≡ gone
 
 -- a list of allowed events, with each renewal as an event, leads from the first opening to a core
 -- with the same words and the same clients, and so on, as this one of a region

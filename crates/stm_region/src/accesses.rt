@@ -7,7 +7,7 @@ ghost use Rattle.stm_core.specs.Event.{Action, lock as locks, tick as ticks, giv
 ghost use Rattle.stm_logs.specs.Log.{log_pairs};
 ghost use Rattle.stm_region.specs.Shown.{MayStep, value_after};
 ghost use Rattle.stm_region.specs.Layout.{place, InRange, Exchanges, Stores};
-ghost use Rattle.stm_region.specs.Told.{Told};
+ghost use Rattle.stm_region.specs.Findings.{Tells};
 
 use crate::layout::{CLOCK, FIRST_LOCK};
 use crate::moving::{Acting, Acts};
@@ -36,7 +36,7 @@ impl<L: Law, A: Allocator> Region<L, A> {
         ensures table { seat.new.table_id ≡ seat.old.table_id }
         ensures me { seat.new.me
             ≡ (value_after self.now T.action result seat.old.me.0, seat.old.me.1) }
-        ensures told { Told L.fits L.lawful self.now T.action result seat.old.me.0 seat.new.me.0 }
+        ensures told { Tells L.fits L.lawful self.now T.action result seat.old.me.0 seat.new.me.0 }
     {
         let _ = number;
         self.table.shared.load::<Acts<L, T>>(seat, word)
@@ -61,7 +61,7 @@ impl<L: Law, A: Allocator> Region<L, A> {
         ensures table { seat.new.table_id ≡ seat.old.table_id }
         ensures me { seat.new.me
             ≡ (value_after self.now T.action result seat.old.me.0, seat.old.me.1) }
-        ensures told { Told L.fits L.lawful self.now T.action result seat.old.me.0 seat.new.me.0 }
+        ensures told { Tells L.fits L.lawful self.now T.action result seat.old.me.0 seat.new.me.0 }
     {
         let _ = number;
         self.table
@@ -130,7 +130,7 @@ impl<L: Law, A: Allocator> Region<L, A> {
         ensures table { seat.new.table_id ≡ seat.old.table_id }
         ensures me { seat.new.me
             ≡ (value_after self.now S.action result seat.old.me.0, seat.old.me.1) }
-        ensures told { Told L.fits L.lawful self.now S.action result seat.old.me.0 seat.new.me.0 }
+        ensures told { Tells L.fits L.lawful self.now S.action result seat.old.me.0 seat.new.me.0 }
     {
         let _ = tag;
         let _ = writes;
@@ -147,7 +147,7 @@ impl<L: Law, A: Allocator> Region<L, A> {
         ensures table { seat.new.table_id ≡ seat.old.table_id }
         ensures me { seat.new.me
             ≡ (value_after self.now S.action result seat.old.me.0, seat.old.me.1) }
-        ensures told { Told L.fits L.lawful self.now S.action result seat.old.me.0 seat.new.me.0 }
+        ensures told { Tells L.fits L.lawful self.now S.action result seat.old.me.0 seat.new.me.0 }
     {
         let _ = tag;
         self.load_as::<S>(seat, CLOCK, 0)

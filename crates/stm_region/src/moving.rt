@@ -3,7 +3,7 @@
 
 ghost use Rattle.stm_core.specs.Event.{Action, begin, giving, fresh, gone};
 ghost use Rattle.stm_region.specs.Shown.{RegionShown, joined, nowhere};
-ghost use Rattle.stm_region.specs.Told.{acting};
+ghost use Rattle.stm_region.specs.Findings.{acting};
 
 use crate::view::View;
 use atomic_table::{Join, Play, Split};

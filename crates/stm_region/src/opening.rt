@@ -1,6 +1,6 @@
 //! What a region's table is opened with, and its rule.
 
-ghost use Rattle.stm_region.specs.Rule.{Holds};
+ghost use Rattle.stm_region.specs.Rule.{IsCoreState};
 
 use crate::view::View;
 use atomic_table::{Seat, TableRule};
@@ -49,7 +49,7 @@ pub struct RegionRule<L> {
 }
 
 impl<L: Law, A: Allocator> TableRule<(), View, Opening<A>> for RegionRule<L> {
-    ghost holds = { λ o s. Holds L.fits L.lawful o s };
+    ghost holds = { λ o s. IsCoreState L.fits L.lawful o s };
 
     ghost first = { λ o. o.start };
 }

@@ -41,5 +41,5 @@ pub fn reads_are_of_one_version<L: Law>()
 /// are, so the bound in `joined` is never met.
 pub fn gathering_keeps_all_grants<L: Law>()
     ensures { Always L.fits L.lawful (λ o s. OfEachTwo s (λ v w.
-        v.spent ≡ false → w.spent ≡ false → joined v w ≡ taking v w)) }
+        v.is_gathered ≡ false → w.is_gathered ≡ false → joined v w ≡ taking v w)) }
 {}

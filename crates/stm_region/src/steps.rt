@@ -5,7 +5,7 @@ ghost use Rattle.stm_core.specs.Event.{begin as begins, probe as probes, fetch a
 ghost use Rattle.stm_logs.specs.Log.{log_pairs};
 ghost use Rattle.stm_region.specs.Shown.{Exchanged, IsAllowed, acted};
 ghost use Rattle.stm_region.specs.declared.limits.TheConstants.{MOST_GRANTS};
-ghost use Rattle.stm_region.specs.Told.{IsLockWord, IsLoneOpen, StandsOn, IsOfOneVersion, IsOfOneVersionAt, AreEarlier, Decides, DecidesAt};
+ghost use Rattle.stm_region.specs.Findings.{IsLockWord, IsLoneOpen, StandsOn, IsOfOneVersion, IsOfOneVersionAt, AreEarlier, Decides, DecidesAt};
 ghost use Rattle.std.specs.Prelude.{◌⊎◌};
 ghost use Rattle.stm_core.specs.Client.{version_of, IsFree};
 ghost use Rattle.stm_core.specs.Guards.{Holds, stripe_of};

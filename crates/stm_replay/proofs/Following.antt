@@ -8,7 +8,7 @@ use Rattle.stm_words.specs.Image.{In}
 use Rattle.stm_core.specs.Client.{shed, Client, Record, Stamp, checked, locked, ticked, validated, version_of, word_before, value_fetched, writes_to, old_version, is_committed}
 use Rattle.stm_core.specs.Event.{decision, Action, begin, check, lock, tick, validate, release, give_back, committed_by, stepping, failing, read_too, holding, versioned, decides_at_once, won, passes, passing, after, giving, fresh, taking, renewing, gone, with_ticks, marking, counting}
 use Rattle.stm_core.specs.History.{ByPoint}
-use Rattle.stm_core.specs.Core.{stamp_of, Core, bounds_of, found, left, written, Event, acts, splits, gathers, renews, Allowed, client_of, played, Leads, opened, is_out, are_spent, others_spent, may_play}
+use Rattle.stm_core.specs.Core.{stamp_of, Core, bounds_of, found, left, written, Event, acts, splits, gathers, renews, Allowed, client_of, played, Leads, opened, is_out, are_gathered, others_gathered, may_play}
 use Rattle.stm_core.specs.Theorem.{free_law, IsHistory}
 use Rattle.stm_core.specs.Invariant.{Inv, now, Rule}
 use Rattle.stm_replay.specs.Seat.{blank, seat_after}
@@ -18,7 +18,7 @@ use Rattle.stm_replay.specs.Follows.{IsOrderOf, IsReached, FollowsCore, RunningF
 use Rattle.stm_core.proofs.Lists.{clash, nothing_in, by_bool}
 use Rattle.stm_core.proofs.Steps.{by_case, word_inside}
 use Rattle.stm_core.proofs.Held.{old_in}
-use Rattle.stm_core.proofs.Playing.{filed, earlier_after, history_after, Beside, event_beside, opening_beside, is_history, every_list_stands}
+use Rattle.stm_core.proofs.Playing.{filed, earlier_after, history_after, Beside, event_beside, opening_beside, is_history, every_list_is_serializable}
 use Rattle.stm_core.proofs.Dating.{placed, placed_in}
 use Rattle.stm_replay.proofs.Placing.{order_of, as_kept, decision_shown, entered_order, one_history}
 use Rattle.stm_core.proofs.Facts.{grants_of_two}
@@ -137,14 +137,14 @@ may_shown lk (splits k) c = rw (out_shown c k, client_shown c k) refl
 may_shown lk (gathers k j) c = rw (out_shown c k, out_shown c j, client_shown c k, client_shown c j) refl
 may_shown lk (renews k last) c = rw (out_shown c k, client_shown c k, others_shown c.clients (k - 1)) refl
   where
-    are_shown : (l : List Client) → are_spent (map blank l) ≡ are_spent l
+    are_shown : (l : List Client) → are_gathered (map blank l) ≡ are_gathered l
     are_shown [] = refl
-    are_shown (v ∷ vs) = ap (λ b. v.spent && b) (are_shown vs)
+    are_shown (v ∷ vs) = ap (λ b. v.is_gathered && b) (are_shown vs)
 
-    others_shown : (l : List Client) (i : ℕ) → others_spent (map blank l) i ≡ others_spent l i
+    others_shown : (l : List Client) (i : ℕ) → others_gathered (map blank l) i ≡ others_gathered l i
     others_shown [] i = refl
     others_shown (v ∷ vs) zero = are_shown vs
-    others_shown (v ∷ vs) (suc i) = ap (λ b. v.spent && b) (others_shown vs i)
+    others_shown (v ∷ vs) (suc i) = ap (λ b. v.is_gathered && b) (others_shown vs i)
 
 number_shown : (e : Event) (c : Core) → has_number e (shown c) ≡ has_number e c
 number_shown (splits k) c = rw (map_length c.clients) refl
@@ -313,6 +313,6 @@ shown_now c = ap (λ l. record (shown c) { clients = l }) (go c.clients)
 pub reached_sane : (s : Running) → IsReached s → IsSane s.core
 reached_sane s r =
     let n : length r.core.locks ≡ r.stripes = leads_stays (stripe_of r.stripes) r.events (opened r.image r.last r.stripes) r.core r.leads ∙ replicated r.stripes in
-    let k : Rule free_law (stripes_of r.core) r.core = subst (λ m. Rule free_law (stripe_of m) r.core) (sym n) (every_list_stands free_law r.image r.last r.stripes r.events r.core r.leads).rule in
+    let k : Rule free_law (stripes_of r.core) r.core = subst (λ m. Rule free_law (stripe_of m) r.core) (sym n) (every_list_is_serializable free_law r.image r.last r.stripes r.events r.core r.leads).rule in
     let low : r.core.last < 2 ^ 62 = leads_small (stripe_of r.stripes) r.events (opened r.image r.last r.stripes) r.core r.leads r.versions in
     subst IsSane (sym (reached_follows s r).shows) (subst IsSane (shown_now r.core) (sane_shown (now r.core) k.inv low (rw n r.locks)))

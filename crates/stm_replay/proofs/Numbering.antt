@@ -5,7 +5,7 @@ use Rattle.std.proofs.Math.ListN.{get_or-map}
 use Rattle.std.proofs.lemmas.Bool.Decides.{nat_tests}
 use Rattle.stm_core.specs.Client.{Client, Record, Stamp, checked, locked, ticked, validated, version_of, word_before, value_fetched, writes_to, before, inserted, merged, RecordLaw}
 use Rattle.stm_core.specs.Event.{Action, begin, check, lock, tick, validate, finish, Bounds, committed_by, stepping, failing, read_too, holding, versioned, decides_at_once, won, passes, passing, after, giving, fresh, taking, renewing, gone, writer_record, reader_record, with_ticks, marking, counting}
-use Rattle.stm_core.specs.Core.{Core, bounds_of, found, left, written, stepped, divided, gathered, renewed, Event, acts, splits, gathers, renews, Allowed, client_of, played, Leads, opened, is_out, are_spent, others_spent, may_play}
+use Rattle.stm_core.specs.Core.{Core, bounds_of, found, left, written, stepped, divided, gathered, renewed, Event, acts, splits, gathers, renews, Allowed, client_of, played, Leads, opened, is_out, are_gathered, others_gathered, may_play}
 use Rattle.stm_core.specs.Version.{At}
 use Rattle.stm_core.specs.Theorem.{free_law}
 use Rattle.stm_replay.specs.Numbered.{AllowedWithNumbers, SameButTags, numbered_action, numbered_event, numbered_record, numbered_client, numbered_core}
@@ -127,14 +127,14 @@ module _ (number : List ℕ → ℕ) where
     may_numbered (gathers k j) c = rw (out_numbered c k, out_numbered c j, client_numbered c k, client_numbered c j) refl
     may_numbered (renews k last) c = rw (out_numbered c k, client_numbered c k, others_numbered c.clients (k - 1)) refl
       where
-        are_numbered : (l : List Client) → are_spent (map (numbered_client number) l) ≡ are_spent l
+        are_numbered : (l : List Client) → are_gathered (map (numbered_client number) l) ≡ are_gathered l
         are_numbered [] = refl
-        are_numbered (v ∷ vs) = ap (λ b. v.spent && b) (are_numbered vs)
+        are_numbered (v ∷ vs) = ap (λ b. v.is_gathered && b) (are_numbered vs)
 
-        others_numbered : (l : List Client) (i : ℕ) → others_spent (map (numbered_client number) l) i ≡ others_spent l i
+        others_numbered : (l : List Client) (i : ℕ) → others_gathered (map (numbered_client number) l) i ≡ others_gathered l i
         others_numbered [] i = refl
         others_numbered (v ∷ vs) zero = are_numbered vs
-        others_numbered (v ∷ vs) (suc i) = ap (λ b. v.spent && b) (others_numbered vs i)
+        others_numbered (v ∷ vs) (suc i) = ap (λ b. v.is_gathered && b) (others_numbered vs i)
 
     event_played : (e : Event) (c : Core) → Allowed lawful lk e c → numbered_core number (played lk e c) ≡ played lk (numbered_event number e) (numbered_core number c)
     event_played (acts k e) c h =

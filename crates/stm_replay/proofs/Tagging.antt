@@ -9,7 +9,7 @@ use Rattle.stm_core.specs.Core.{Core, Event, acts, Allowed, played, Leads, opene
 use Rattle.stm_core.specs.Version.{At}
 use Rattle.stm_core.specs.Invariant.{Rule}
 use Rattle.stm_core.specs.History.{Serial, ByPoint}
-use Rattle.stm_core.specs.Theorem.{free_law, IsHistory, Stands}
+use Rattle.stm_core.specs.Theorem.{free_law, IsHistory, IsSerializable}
 use Rattle.stm_core.specs.Guards.{stripe_of}
 use Rattle.stm_replay.specs.Seat.{tag_number}
 use Rattle.stm_replay.specs.Numbered.{numbered_event, numbered_record, numbered_client, numbered_core, tags_of, TellsApart, EveryListHasNumbers, IsLegal, LegalHistories}
@@ -19,7 +19,7 @@ use Rattle.stm_core.proofs.Eras.{in_append}
 use Rattle.stm_core.proofs.Lones.{at_map, at_unmap}
 use Rattle.stm_core.proofs.Renewals.{pre}
 use Rattle.stm_core.proofs.Renewing.{opening_rules}
-use Rattle.stm_core.proofs.Playing.{event_keeps, every_list_stands}
+use Rattle.stm_core.proofs.Playing.{event_keeps, every_list_is_serializable}
 use Rattle.stm_core.proofs.Steps.{by_case}
 use Rattle.stm_replay.proofs.Numbering.{allowed_with_numbers}
 use Rattle.stm_core.proofs.Conditions.{can_play}
@@ -162,6 +162,6 @@ legal_histories lawful image last stripes es c h =
     let number = place_of tags in
     let lk = stripe_of stripes in
     let k : Rule (tagged lawful tags) lk c = kept (tagged lawful tags) lk es (opened image last stripes) c (opening_rules (tagged lawful tags) lk image last stripes) (leads_tagged lawful tags lk es (opened image last stripes) c (λ t i. i) h) in
-    let s : Stands free_law lk (opened image last stripes) (map (numbered_event number) es) (numbered_core number c) = every_list_stands free_law image last stripes (map (numbered_event number) es) (numbered_core number c) (allowed_with_numbers lawful number image last stripes es c h) in
+    let s : IsSerializable free_law lk (opened image last stripes) (map (numbered_event number) es) (numbered_core number c) = every_list_is_serializable free_law image last stripes (map (numbered_event number) es) (numbered_core number c) (allowed_with_numbers lawful number image last stripes es c h) in
     let q = legal lawful image tags number (tells_apart tags) lk c k (s.earlier ++ s.present) s.is_history s.serial in
     (q.0, q.1, λ other. history_forth other c q.0 q.1.is_history)

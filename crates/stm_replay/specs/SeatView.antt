@@ -37,7 +37,7 @@ tag_of (Some n) = n ∷ []
 abbrev pub client_of_seat : {A : Type 0} → Inside A → client.Client
 client_of_seat s = record {
   grants = s.grants;
-  spent = s.spent;
+  is_gathered = s.is_gathered;
   floor = 0;
   records = [];
   attempt = record idle_attempt {

@@ -6,7 +6,7 @@ ghost use Rattle.stm_replay.specs.Seat.{blank, seat_after, tag_number};
 ghost use Rattle.stm_core.specs.Client.{word_before, value_fetched, found_by, is_committed, old_version};
 ghost use Rattle.stm_core.specs.Guards.{is_reading, has_probed, has_found_free, has_fetched, may_act, stripe_of};
 ghost use Rattle.stm_core.specs.Event.{is_empty, passes, begin, probe, fetch, check, lock, tick, validate, put, release, give_back, finish, giving, taking, renewing, opener, fresh, gone, forgetting};
-ghost use Rattle.stm_core.specs.Core.{are_spent, others_spent};
+ghost use Rattle.stm_core.specs.Core.{are_gathered, others_gathered};
 ghost use Rattle.stm_core.specs.declared.limits.TheConstants.{MOST_GRANTS, MOST_TICKS};
 ghost use Rattle.stm_words.specs.declared.version.TheConstants.{VERSION_LIMIT};
 
@@ -46,7 +46,7 @@ pub(crate) enum Step {
 #[derive(Drop)]
 pub(crate) struct Seat<A: Allocator + Copy> {
     grants: u32,
-    spent: bool,
+    is_gathered: bool,
     phase: Phase,
     rv: u64,
     reads: Vec<(u32, u64), A>,
@@ -264,7 +264,7 @@ impl<A: Allocator + Copy> Seat<A> {
     {
         Seat {
             grants,
-            spent: false,
+            is_gathered: false,
             phase: Phase::Idle,
             rv: 0,
             reads: Vec::new(alloc),
@@ -318,7 +318,7 @@ impl<A: Allocator + Copy> Seat<A> {
         ensures { self.new ≡ gone }
     {
         *self = Seat::with_grants(alloc, 0);
-        self.spent = true;
+        self.is_gathered = true;
     }
 
     /// The word of the probe that the last step stands on.
@@ -537,9 +537,9 @@ impl<A: Allocator + Copy> Seat<A> {
 
     /// Whether it is still out.
     pub(crate) fn is_out(&self) -> bool
-        ensures { result ≡ not self.now.spent }
+        ensures { result ≡ not self.now.is_gathered }
     {
-        !self.spent
+        !self.is_gathered
     }
 
     /// Whether it holds no lock.
@@ -620,26 +620,26 @@ impl<A: Allocator + Copy> Seat<A> {
     }
 }
 
-/// Whether every client but the one at a place is spent.
-pub(crate) fn others_spent<A: Allocator + Copy>(seats: &[Seat<A>], place: usize) -> bool
-    ensures { result ≡ others_spent seats.now place }
+/// Whether every client but the one at a place is gathered.
+pub(crate) fn others_gathered<A: Allocator + Copy>(seats: &[Seat<A>], place: usize) -> bool
+    ensures { result ≡ others_gathered seats.now place }
 {
     match seats {
         [] => true,
         [first, rest @ ..] => if place == 0 {
-            are_spent(rest)
+            are_gathered(rest)
         } else {
-            first.spent && others_spent(rest, place - 1)
+            first.is_gathered && others_gathered(rest, place - 1)
         },
     }
 }
 
-/// Whether every client is spent.
-fn are_spent<A: Allocator + Copy>(seats: &[Seat<A>]) -> bool
-    ensures { result ≡ are_spent seats.now }
+/// Whether every client is gathered.
+fn are_gathered<A: Allocator + Copy>(seats: &[Seat<A>]) -> bool
+    ensures { result ≡ are_gathered seats.now }
 {
     match seats {
         [] => true,
-        [first, rest @ ..] => first.spent && are_spent(rest),
+        [first, rest @ ..] => first.is_gathered && are_gathered(rest),
     }
 }

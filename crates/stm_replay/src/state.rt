@@ -2,7 +2,7 @@
 //! what it makes of one.
 
 ghost use Rattle.std.specs.Prelude.{◌≡◌, ◌≢◌, ℕ, ◌<◌, ◌≤◌, ◌+◌, ◌-◌, ◌*◌, ◌^◌, ◌&&◌, cond, eqb, true, length, slice_index, OnOk, OnErr, IfOk, List, [], ◌∷◌};
-ghost use Rattle.stm_core.specs.Core.{client_of, is_out, others_spent, bounds_of, splits, gathers, renews};
+ghost use Rattle.stm_core.specs.Core.{client_of, is_out, others_gathered, bounds_of, splits, gathers, renews};
 ghost use Rattle.stm_core.specs.Event.{begin, probe, fetch, check, lock, tick, validate, put, release, give_back, finish, is_empty};
 ghost use Rattle.stm_core.specs.Client.{old_version, word_before, IsFree};
 ghost use Rattle.stm_replay.specs.Played.{event_of};
@@ -14,7 +14,7 @@ use crate::event::{Entry, Event, Writes};
 use crate::limits::MOST_CLIENTS;
 use crate::order::Order;
 use crate::pairs::free_lock;
-use crate::seat::{Seat, others_spent};
+use crate::seat::{Seat, others_gathered};
 use std::alloc::{AllocError, Allocator};
 use std::marker::Model;
 use stm_core::MOST_RENEWALS;
@@ -438,11 +438,11 @@ impl<A: Allocator + Copy> State<A> {
         ensures { result
             ≡ (is_out self.now.core client
             && is_empty (client_of self.now.core client).attempt.held
-            && others_spent self.now.core.clients (client - 1)) }
+            && others_gathered self.now.core.clients (client - 1)) }
     {
         self.is_out(client)
             && self.seat(client).holds_none()
-            && others_spent(&self.seats, client as usize - 1)
+            && others_gathered(&self.seats, client as usize - 1)
     }
 
     /// Whether a client may renew the clock.

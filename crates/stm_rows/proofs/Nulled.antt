@@ -3,7 +3,7 @@ use Rattle.std.proofs.Common.{◌≡◌, ◌≢◌, inl, inr, ℕ, ◌+◌, ◌*
 use Rattle.std.proofs.lemmas.Bool.Decides.{nat_tests}
 use Rattle.std.proofs.lemmas.List.{get_or-replicate}
 use Rattle.stm_words.specs.Seen.{same_or}
-use Rattle.stm_words.specs.View.{View, Stands, Kept, Loaded}
+use Rattle.stm_words.specs.View.{View, RestsOn, Kept, Loaded}
 use Rattle.tx_alloc.specs.Steps.{mem, stood}
 use Rattle.tx_alloc.specs.Pool.{IsPool, HasPool, NoneFree, Taken}
 use Rattle.tx_alloc.specs.Rows.{Rows, times, put_row}
@@ -13,14 +13,14 @@ use Rattle.tx_list.specs.Lists as list
 use Rattle.tx_tree.specs.Table.{IsTable, Table, HasTable, IsFresh, Inserted}
 use Rattle.tx_tree.proofs.TableFrame.{table_empty}
 use Rattle.vac_records.proofs.TableRows.{table_one}
-use Rattle.stm_rows.specs.Laws.{Fits, Holds, HasNulls}
+use Rattle.stm_rows.specs.Laws.{Fits, HoldsUnder, HasNulls}
 
 -- a memory of 96 words with such images
 pub record Nulls (s : View) : Type 0 where
   pub size : s.size ≡ 96
-  pub under : (image : List ℕ) → Stands s image → HasNulls (mem s image) (length image)
+  pub under : (image : List ℕ) → RestsOn s image → HasNulls (mem s image) (length image)
 
-pub nulls_held : (s : View) → Holds HasNulls 96 s → Nulls s
+pub nulls_held : (s : View) → HoldsUnder HasNulls 96 s → Nulls s
 nulls_held s h = record { size = h.size_is; under = λ image i. h.under image i.sees }
 
 -- no block is free, and all ten are taken
@@ -87,7 +87,7 @@ only key b a h =
 -- the word that leads to a list is 0
 pub record NullHead (s : View) : Type 0 where
   pub size : s.size ≡ 96
-  pub under : (image : List ℕ) → Stands s image → mem s image 5 ≡ 0
+  pub under : (image : List ℕ) → RestsOn s image → mem s image 5 ≡ 0
 
 pub head_inserted : (s s' : View) (key : ℕ) → Nulls s → IsFresh s 3 key 16 → Inserted s s' 3 key 16 → NullHead s'
 head_inserted s s' key h fresh p = record {

@@ -15,13 +15,13 @@ use Rattle.vac_records.specs.Items.{IsNode}
 use Rattle.vac_records.specs.Bookings.{place_key}
 use Rattle.vac_records.specs.Customers.{CustomerMade, CanBook, IsLoose, IsBooked, Booked, CanExtend, BookingChanged, CanBill}
 use Rattle.vac_records.proofs.Links.{list_kept}
-use Rattle.stm_rows.specs.Laws.{Holds}
+use Rattle.stm_rows.specs.Laws.{HoldsUnder}
 use Rattle.stm_rows.specs.Records.{IsSized, HasNoBooking, HasOneBooking}
 
-pub customer_held : (s : View) → Holds (λ m n. IsSized m n) 96 s → IsNode s 24
+pub customer_held : (s : View) → HoldsUnder (λ m n. IsSized m n) 96 s → IsNode s 24
 customer_held s h = record { inside = omega (arith, h.size_is); small = omega (arith, h.size_is) }
 
-pub customer_made : (s s' : View) (key : ℕ) → Holds (λ m n. IsSized m n) 96 s → CustomerMade s s' 24 key → HasNoBooking s'
+pub customer_made : (s s' : View) (key : ℕ) → HoldsUnder (λ m n. IsSized m n) 96 s → CustomerMade s s' 24 key → HasNoBooking s'
 customer_made s s' key h c = record {
   size = c.kept.size ∙ h.size_is;
   long = λ image i. h.under image (c.kept.seen image i);

@@ -8,7 +8,7 @@ use Rattle.stm_attempt.specs.Leading.{IsLocal, Carries, KeepsFitting}
 use Rattle.stm_attempt.proofs.Leading.{records_lead}
 use Rattle.tx_alloc.specs.Pool.{IsPool, IsEmptyHeap, HasPool, NoneFree, Taken, fresh_lists}
 use Rattle.tx_alloc.proofs.Moves.{pool_within}
-use Rattle.stm_rows.specs.Laws.{Fits, Holds, IsHeapOfTen}
+use Rattle.stm_rows.specs.Laws.{Fits, HoldsUnder, IsHeapOfTen}
 
 pub heap_local : IsLocal IsHeapOfTen
 heap_local m m' n same h = record {
@@ -21,7 +21,7 @@ heap_local m m' n same h = record {
   };
 }
 
-pub heap_pool : (s : View) → Holds IsHeapOfTen 96 s → HasPool s
+pub heap_pool : (s : View) → HoldsUnder IsHeapOfTen 96 s → HasPool s
 heap_pool s h = record { small = omega (arith, h.size_is); under = λ image i. (h.under image i.sees).pool }
 
 -- either answer of a call of take

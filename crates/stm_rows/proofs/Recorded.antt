@@ -7,10 +7,10 @@ use Rattle.vac_model.specs.declared.items.Item.{Item}
 use Rattle.vac_model.specs.Step.{added}
 use Rattle.vac_records.specs.Items.{IsNode, HasRoom, HasFree, CanMake, CanCancel, ItemMade, ItemChanged, UnitsAdded}
 use Rattle.vac_records.proofs.Counting.{more_item, priced_item}
-use Rattle.stm_rows.specs.Laws.{Holds}
+use Rattle.stm_rows.specs.Laws.{HoldsUnder}
 use Rattle.stm_rows.specs.Records.{IsSized, HasItem}
 
-pub node_held : (s : View) → Holds (λ m n. IsSized m n) 96 s → IsNode s 16
+pub node_held : (s : View) → HoldsUnder (λ m n. IsSized m n) 96 s → IsNode s 16
 node_held s h = record { inside = omega (arith, h.size_is); small = omega (arith, h.size_is) }
 
 node_kept : (s s' : View) (node : ℕ) → IsNode s node → Kept s s' → IsNode s' node

@@ -5,7 +5,7 @@ use Rattle.stm_words.specs.Plain.{flat_view}
 use Rattle.tx_tree.specs.Table.{IsTable, HasTable, Found, FoundAt, NextFound, IsFresh, Inserted, Removed}
 use Rattle.tx_tree.proofs.Counting.{has_table, after_reads, after_put, after_cut, fresh_read, none_yet}
 use Rattle.tx_tree.proofs.TableFrame.{table_empty}
-use Rattle.stm_rows.specs.Laws.{Fits, Holds, IsTableOfTen, HoldsTable, IsTableless}
+use Rattle.stm_rows.specs.Laws.{Fits, HoldsUnder, IsTableOfTen, HoldsTable, IsTableless}
 
 -- a key that was not found
 pub not_found : (s s' : View) (key : ℕ) (found : Option ℕ) → found ≡ None → MatchOption found (Found s s' 3 key 0) (λ b. FoundAt s s' 3 key b) → Found s s' 3 key 0
@@ -44,7 +44,7 @@ table_flat xs ys e h = rw e (record {
 })
 
 -- an attempt that begins
-pub table_held : (s : View) → Holds (λ m n. IsTableOfTen 0 m n) 96 s → HoldsTable s 0
+pub table_held : (s : View) → HoldsUnder (λ m n. IsTableOfTen 0 m n) 96 s → HoldsTable s 0
 table_held s h = record {
   entries = record {
     size = h.size_is ∙ omega arith;

@@ -11,7 +11,7 @@ abbrev pub Fits : Property → List ℕ → Type 0
 Fits P image = P (words_of image) (length image)
 
 -- a memory of so many words of which it holds under each image that there may be
-pub record Holds (P : Property) (size : ℕ) (s : View) : Type 0 where
+pub record HoldsUnder (P : Property) (size : ℕ) (s : View) : Type 0 where
   pub size_is : s.size ≡ size
   pub under : (image : List ℕ) → Sees s image → P (mem s image) (length image)
 

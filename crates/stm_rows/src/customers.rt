@@ -1,7 +1,7 @@
 //! Customers and their bookings over plain memory and over a region.
 ghost use Rattle.std.specs.Prelude.{◌≡◌, IfOk};
 ghost use Rattle.stm_core.specs.Core.{IsFreeHanded};
-ghost use Rattle.stm_rows.specs.Laws.{Holds};
+ghost use Rattle.stm_rows.specs.Laws.{HoldsUnder};
 ghost use Rattle.stm_rows.specs.Records.{IsSized, HasOneBooking, flight_key};
 
 use crate::records::SizeLaw;
@@ -25,7 +25,7 @@ const FLIGHT: u32 = 7;
 
 /// A customer who books three units at 50.
 fn make_customer<M: TxMem>(memory: &mut M) -> Result<(), M::Stop>
-    requires sized { Holds (λ m n. IsSized m n) 96 (M.view memory.old) }
+    requires sized { HoldsUnder (λ m n. IsSized m n) 96 (M.view memory.old) }
     ensures origin { M.origin memory.new ≡ M.origin memory.old }
     ensures booking { IfOk result (λ _. HasOneBooking (M.view memory.new) flight_key 3 150) }
 {
@@ -79,7 +79,7 @@ struct Answers {
 }
 
 fn change_customer<M: TxMem>(memory: &mut M) -> Result<Answers, M::Stop>
-    requires sized { Holds (λ m n. IsSized m n) 96 (M.view memory.old) }
+    requires sized { HoldsUnder (λ m n. IsSized m n) 96 (M.view memory.old) }
     ensures origin { M.origin memory.new ≡ M.origin memory.old }
 {
     make_customer(memory)?;

@@ -15,21 +15,21 @@ type Answer = Result<Version, Stop>;
 
 /// Keeps the points that it is told.
 #[derive(Drop)]
-struct Told {
+struct Points {
     points: [Option<Point>; 6],
     told: usize,
 }
 
-impl Told {
-    fn new() -> Told {
-        Told {
+impl Points {
+    fn new() -> Points {
+        Points {
             points: [None; 6],
             told: 0,
         }
     }
 }
 
-impl Gate for Told {
+impl Gate for Points {
     fn at(&mut self, point: Point) {
         if self.told < 6 {
             self.points[self.told] = Some(point);
@@ -49,9 +49,9 @@ const ALL_POINTS: [Option<Point>; 5] = [
 #[test]
 fn gates_are_told_each_point(rt: HostRuntime) -> Result<(), Fail> {
     let alloc = rt.alloc();
-    let mut writing = Told::new();
-    let mut reading = Told::new();
-    let mut validating = Told::new();
+    let mut writing = Points::new();
+    let mut reading = Points::new();
+    let mut validating = Points::new();
     let answers = {
         let (region, mut a) = Region::<FreeLaw>::new(alloc, &[0; 32], 100, 4)?;
         let mut b = split(&rt, &region, &mut a);
@@ -158,7 +158,7 @@ fn newer(rt: &impl Abort) -> Stop {
 #[test]
 fn no_decision_is_told_after_a_refused_validation(rt: HostRuntime) -> Result<(), Fail> {
     let alloc = rt.alloc();
-    let mut told = Told::new();
+    let mut told = Points::new();
     let (answers, ten) = {
         let (region, mut a) = Region::<FreeLaw>::new(alloc, &[0; 32], 100, 32)?;
         let mut b = split(&rt, &region, &mut a);
@@ -193,7 +193,7 @@ fn no_decision_is_told_after_a_refused_validation(rt: HostRuntime) -> Result<(),
 #[test]
 fn nothing_is_told_where_a_read_was_stopped(rt: HostRuntime) -> Result<(), Fail> {
     let alloc = rt.alloc();
-    let mut told = Told::new();
+    let mut told = Points::new();
     let (answers, ten) = {
         let (region, mut a) = Region::<FreeLaw>::new(alloc, &[0; 32], 100, 32)?;
         let mut b = split(&rt, &region, &mut a);
@@ -221,7 +221,7 @@ fn nothing_is_told_where_a_read_was_stopped(rt: HostRuntime) -> Result<(), Fail>
 #[test]
 fn no_tick_is_told_where_the_clock_is_spent(rt: HostRuntime) -> Result<(), Fail> {
     let alloc = rt.alloc();
-    let mut told = Told::new();
+    let mut told = Points::new();
     let answers = {
         let (region, mut a) = Region::<FreeLaw>::new(alloc, &[0; 32], 1, 32)?;
         let mut b = split(&rt, &region, &mut a);

@@ -3,7 +3,7 @@ ghost use Rattle.std.specs.Prelude.{◌≡◌, IfOk};
 ghost use Rattle.stm_core.specs.Core.{IsFreeHanded};
 ghost use Rattle.stm_attempt.specs.Leading.{Carries};
 ghost use Rattle.tx_alloc.specs.Pool.{HasPool};
-ghost use Rattle.stm_rows.specs.Laws.{Holds, IsHeapOfTen};
+ghost use Rattle.stm_rows.specs.Laws.{HoldsUnder, IsHeapOfTen};
 
 use crate::same::{close, holds, same, split, version};
 use crate::words::{has_words, place_of};
@@ -40,7 +40,7 @@ fn heap_region(alloc: Global) -> Result<(Region<HeapLaw>, Client<HeapLaw>), Fail
 }
 
 fn take_block<M: TxMem>(memory: &mut M, start: FreeList) -> Result<Option<Block>, M::Stop>
-    requires heap { Holds IsHeapOfTen 96 (M.view memory.old) }
+    requires heap { HoldsUnder IsHeapOfTen 96 (M.view memory.old) }
     ensures origin { M.origin memory.new ≡ M.origin memory.old }
     ensures heap { IfOk result (λ _.
         Carries IsHeapOfTen IsHeapOfTen (M.view memory.old) (M.view memory.new)) }

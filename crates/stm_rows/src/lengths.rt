@@ -1,7 +1,7 @@
 //! Free blocks, a table and a list over a region whose law does not say how many words there are.
 ghost use Rattle.std.specs.Prelude.{◌≡◌, IfOk, replicate};
 ghost use Rattle.stm_core.specs.Core.{IsFreeHanded};
-ghost use Rattle.stm_rows.specs.Laws.{Holds, HasNulls};
+ghost use Rattle.stm_rows.specs.Laws.{HoldsUnder, HasNulls};
 
 use crate::same::same;
 use crate::words::has_words;
@@ -36,7 +36,7 @@ const HEAD: Addr = Addr(5);
 /// Looks for a free block, of which there is none, and hangs one block into the table and one into
 /// the list.
 fn take_and_hang<M: TxMem>(memory: &mut M) -> Result<Option<Block>, M::Stop>
-    requires nulls { Holds HasNulls 96 (M.view memory.old) }
+    requires nulls { HoldsUnder HasNulls 96 (M.view memory.old) }
     ensures origin { M.origin memory.new ≡ M.origin memory.old }
 {
     let taken = take(memory, FreeList::new(0))?;

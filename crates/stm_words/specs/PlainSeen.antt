@@ -4,7 +4,7 @@ use Rattle.std.specs.FinMap.{get, insert, empty, get-empty, same_map, nat_cmp-Is
 use Rattle.std.specs.Ordering.{nat_cmp}
 use Rattle.std.proofs.lemmas.Cmp.{nat_cmp_total}
 use Rattle.std.proofs.lemmas.Bool.{cases_lt}
-use Rattle.stm_words.specs.View.{Stands, HasRead}
+use Rattle.stm_words.specs.View.{RestsOn, HasRead}
 use Rattle.stm_words.specs.Plain.{numbered, flat_view}
 use Rattle.stm_words.specs.Seen.{same_or, get_here, get_other}
 
@@ -37,7 +37,7 @@ get_at xs a l = rw zero-add at (get_in xs 0 a l)
 some_not_none : {A : Type 0} (o : Option A) (x : A) → o ≡ Some x → o ≡ None → ⊥
 some_not_none o x p q = cc
 
-pub flat_seen : (xs : List ℕ) → (image : List ℕ) × Stands (flat_view xs) image
+pub flat_seen : (xs : List ℕ) → (image : List ℕ) × RestsOn (flat_view xs) image
 flat_seen xs = (
   xs,
   record {

@@ -8,7 +8,7 @@ use Rattle.std.proofs.lemmas.Bool.Decides.{nat_tests}
 use Rattle.std.proofs.lemmas.Grind.{not_there}
 use Rattle.std.proofs.Math.Logic.{∥∥₁_map}
 use Rattle.stm_words.specs.Image.{Has}
-use Rattle.stm_words.specs.View.{View, Words, Sees, Stands, Kept, SameFrame, HasRead, IsWrite, memory, Loaded, Stored}
+use Rattle.stm_words.specs.View.{View, Words, Sees, RestsOn, Kept, SameFrame, HasRead, IsWrite, memory, Loaded, Stored}
 
 pub same_or : (j i : ℕ) → (j ≡ i) ⊎ (j ≢ i)
 same_or j i = elim (cases_lt j i) [
@@ -104,7 +104,7 @@ some_le a b w f =
       | inr le ↦ le
     ]
 
-pub seen_before : (s s' : View) → Kept s s' → ∥ ((image : List ℕ) × Stands s' image) ∥₁ →
-    ∥ ((image : List ℕ) × Stands s image) ∥₁
+pub seen_before : (s s' : View) → Kept s s' → ∥ ((image : List ℕ) × RestsOn s' image) ∥₁ →
+    ∥ ((image : List ℕ) × RestsOn s image) ∥₁
 seen_before s s' k w =
     ∥∥₁_map w (λ x. (x.0, record { size = x.1.size ∙ k.size; sees = k.seen x.0 x.1.sees }))

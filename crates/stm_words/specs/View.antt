@@ -29,7 +29,7 @@ pub record Sees (s : View) (image : List ℕ) : Type 0 where
   pub agrees : (address value : ℕ) → get s.reads address ≡ Some value → Has image address value
 
 -- an image of the memory's size on which it may stand
-pub record Stands (s : View) (image : List ℕ) : Type 0 where
+pub record RestsOn (s : View) (image : List ℕ) : Type 0 where
   pub size : length image ≡ s.size
   pub sees : Sees s image
 

@@ -2,7 +2,7 @@
 
 ghost use Rattle.std.specs.Prelude.{◌≡◌, ℕ, ◌<◌, List, IfOk, IfErr, MatchResult};
 ghost use Rattle.std.specs.FinMap.{insert};
-ghost use Rattle.stm_words.specs.View.{View, Stands, SameFrame, HasRead, Loaded, Stored};
+ghost use Rattle.stm_words.specs.View.{View, RestsOn, SameFrame, HasRead, Loaded, Stored};
 
 /// The number of a data word.
 #[derive(Clone, Copy, Debug, PartialEq, Eq, PartialOrd, Ord)]
@@ -40,7 +40,7 @@ pub trait TxRead {
             (λ _. (view self.new).reads ≡ (view self.old).reads) }
         ensures stopped { IfErr result (λ stop. stopped_for self.new stop) };
 
-    ghost seen: { (s : Self) → ∥ ((image : List ℕ) × Stands (view s) image) ∥₁ };
+    ghost seen: { (s : Self) → ∥ ((image : List ℕ) × RestsOn (view s) image) ∥₁ };
 }
 
 /// A memory whose words are read and written in a transaction.

@@ -1,6 +1,6 @@
 -- A memory with one list, whose head is word 5, and a block for each of 120 keys.
 use Rattle.std.specs.Prelude.{◌≡◌, ℕ, ◌+◌, ◌-◌, ◌*◌, ◌/◌, ◌%◌, ◌<◌, List, cond, nat_eq, nat_lt, length, slice_index}
-use Rattle.stm_words.specs.View.{View, Stands}
+use Rattle.stm_words.specs.View.{View, RestsOn}
 use Rattle.tx_alloc.specs.Steps.{mem}
 use Rattle.tx_alloc.specs.Pool.{block_place}
 use Rattle.tx_list.specs.declared.key.Key.{Key}
@@ -35,4 +35,4 @@ pub record IsStocked (m : ℕ → ℕ) (n : ℕ) : Type 0 where
 -- under each image of its size the memory has the blocks with their keys, and a list
 pub record HasStock (s : View) : Type 0 where
   pub size : s.size ≡ 976
-  pub under : (image : List ℕ) → Stands s image → IsStocked (mem s image) (length image)
+  pub under : (image : List ℕ) → RestsOn s image → IsStocked (mem s image) (length image)

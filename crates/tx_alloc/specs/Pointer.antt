@@ -1,6 +1,6 @@
 -- Pointers: the place of a block's first word, or 0 for none.
 use Rattle.std.specs.Prelude.{◌≢◌, ℕ, ◌+◌, ◌<◌, ◌≤◌, ◌^◌, List, length, Option, Some, None}
-use Rattle.stm_words.specs.View.{View, Stands}
+use Rattle.stm_words.specs.View.{View, RestsOn}
 use Rattle.tx_alloc.specs.Pool.{IsBlock}
 use Rattle.tx_alloc.specs.Steps.{mem}
 use Rattle.tx_alloc.specs.declared.place.TheConstants.{FIRST_BLOCK, BLOCK_WORDS}
@@ -19,5 +19,5 @@ IsWithin s (Some b) = (FIRST_BLOCK ≤ b) × (b + BLOCK_WORDS ≤ s.size)
 pub record Leads (s : View) (link : ℕ) : Type 0 where
   pub small : s.size ≤ 2 ^ 32
   pub room : link < s.size
-  pub under : (image : List ℕ) → Stands s image → mem s image link ≢ 0 →
+  pub under : (image : List ℕ) → RestsOn s image → mem s image link ≢ 0 →
       IsBlock (length image) (mem s image link)

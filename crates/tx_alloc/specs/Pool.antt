@@ -1,6 +1,6 @@
 -- The blocks of a memory: free ones in eight lists, and taken ones.
 use Rattle.std.specs.Prelude.{◌≡◌, ◌≢◌, ℕ, ◌+◌, ◌*◌, ◌%◌, ◌<◌, ◌≤◌, ◌^◌, List, [], ◌∷◌, cond, nat_eq, nat_lt, length, slice_index, zero, suc}
-use Rattle.stm_words.specs.View.{View, Sees, Stands, Kept, IsWrite}
+use Rattle.stm_words.specs.View.{View, Sees, RestsOn, Kept, IsWrite}
 use Rattle.tx_alloc.specs.Steps.{mem}
 use Rattle.tx_alloc.specs.declared.place.TheConstants.{LISTS, FIRST_HEAD, FIRST_BLOCK, BLOCK_WORDS}
 
@@ -58,7 +58,7 @@ pub record SomePool (m : ℕ → ℕ) (n : ℕ) : Type 0 where
 -- fit 32 bits.
 pub record HasPool (s : View) : Type 0 where
   pub small : s.size ≤ 2 ^ 32
-  pub under : (image : List ℕ) → Stands s image → SomePool (mem s image) (length image)
+  pub under : (image : List ℕ) → RestsOn s image → SomePool (mem s image) (length image)
 
 -- only reads were made, and no list has a block
 pub record NoneFree (s s' : View) : Type 0 where
@@ -105,7 +105,7 @@ pub record SomeUsed (m : ℕ → ℕ) (n b : ℕ) : Type 0 where
 -- under each image of the memory's size that there may be b is taken. Addresses fit 32 bits.
 pub record HasUsed (s : View) (b : ℕ) : Type 0 where
   pub small : s.size ≤ 2 ^ 32
-  pub under : (image : List ℕ) → Stands s image → SomeUsed (mem s image) (length image) b
+  pub under : (image : List ℕ) → RestsOn s image → SomeUsed (mem s image) (length image) b
 
 -- b became the first block of the list start, and nothing but its first word and the list's head
 -- was written

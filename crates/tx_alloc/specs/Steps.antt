@@ -1,6 +1,6 @@
 -- Steps of a memory, one after the other.
 use Rattle.std.proofs.Common.{◌≡◌, ℕ, List, refl, ◌∙◌}
-use Rattle.stm_words.specs.View.{View, Sees, Stands, Kept, Loaded, Stored, IsWrite}
+use Rattle.stm_words.specs.View.{View, Sees, RestsOn, Kept, Loaded, Stored, IsWrite}
 pub use Rattle.stm_words.specs.View.{mem}
 
 pub kept_none : (s : View) → Kept s s
@@ -13,7 +13,7 @@ kept_both s s' s'' h k = record {
 }
 
 -- an image of the memory's size on which it may stand is one on which it may have stood before
-pub stood : {s s' : View} → Kept s s' → (image : List ℕ) → Stands s' image → Stands s image
+pub stood : {s s' : View} → Kept s s' → (image : List ℕ) → RestsOn s' image → RestsOn s image
 stood k image i = record { size = i.size ∙ k.size; sees = k.seen image i.sees }
 
 -- the answer of a load, spoken of the memory at the start, since when only reads were made

@@ -3,7 +3,7 @@ use Rattle.std.proofs.Common.{◌≡◌, ◌≢◌, ◌⊎◌, inl, inr, ℕ, �
 use Rattle.std.proofs.lemmas.Bool.Decides.{nat_tests}
 use Rattle.std.proofs.lemmas.Bool.{cases_lt}
 use Rattle.stm_words.specs.Seen.{some_le, same_or}
-use Rattle.stm_words.specs.View.{View, Stands, Loaded, Stored, IsWrite}
+use Rattle.stm_words.specs.View.{View, RestsOn, Loaded, Stored, IsWrite}
 use Rattle.tx_alloc.specs.Pointer.{pointer, IsWithin}
 use Rattle.tx_alloc.specs.Rows.{Rows, times, put_row, cut_row, block_at, Relinks}
 use Rattle.tx_alloc.specs.Steps.{mem, kept_none, kept_both, write_at_start}
@@ -106,9 +106,9 @@ hung_after s s1 s2 head key b spot is_key k w = record {
 }
 
 -- a block that has room for eight words can be written
-pub fresh_in : (s : View) (head : ℕ) (key : Key) (b : ℕ) → HasList s head → IsFresh s head key b → ∥ ((image : List ℕ) × Stands s image) ∥₁ → Inside s b
+pub fresh_in : (s : View) (head : ℕ) (key : Key) (b : ℕ) → HasList s head → IsFresh s head key b → ∥ ((image : List ℕ) × RestsOn s image) ∥₁ → Inside s b
 fresh_in s head key b has f ws =
-    let fresh : (w : (image : List ℕ) × Stands s image) → (rs : Rows) × Fresh (mem s w.0) (length w.0) head rs key b = λ w.
+    let fresh : (w : (image : List ℕ) × RestsOn s image) → (rs : Rows) × Fresh (mem s w.0) (length w.0) head rs key b = λ w.
     let t = has.under w.0 w.1 in (t.entries, f.under w.0 t.entries w.1 t.is) in
     let room : b + 8 ≤ s.size = some_le (b + 8) s.size ws (λ w. omega (arith, (fresh w).1.block.1.0, w.1.size)) in
     record {

@@ -2,7 +2,7 @@
 use Rattle.std.proofs.Common.{◌≡◌, ◌≢◌, inl, inr, ℕ, ◌+◌, ◌<◌, ◌≤◌, ◌^◌, List, [], ◌∷◌, length, Some, sym, ap, ◌∙◌, subst, arith}
 use Rattle.std.proofs.lemmas.Bool.Decides.{nat_tests}
 use Rattle.stm_words.specs.Seen.{some_le, same_or}
-use Rattle.stm_words.specs.View.{View, Stands, Loaded}
+use Rattle.stm_words.specs.View.{View, RestsOn, Loaded}
 use Rattle.tx_alloc.specs.Pool.{IsBlock}
 use Rattle.tx_alloc.specs.Rows.{Rows, times}
 use Rattle.tx_alloc.specs.Steps.{mem, stood}
@@ -19,9 +19,9 @@ pub record Inside (s : View) (p : ℕ) : Type 0 where
   pub room : p + 8 ≤ s.size
   pub small : p + 8 ≤ 2 ^ 32
 
-pub followed_in : (s s' : View) (link p : ℕ) → Leads s link → Loaded s s' link p → p ≢ 0 → ∥ ((image : List ℕ) × Stands s' image) ∥₁ → Inside s' p
+pub followed_in : (s s' : View) (link p : ℕ) → Leads s link → Loaded s s' link p → p ≢ 0 → ∥ ((image : List ℕ) × RestsOn s' image) ∥₁ → Inside s' p
 followed_in s s' link p has l ne ws =
-    let block : (w : (image : List ℕ) × Stands s' image) → IsBlock (length w.0) p = λ w.
+    let block : (w : (image : List ℕ) × RestsOn s' image) → IsBlock (length w.0) p = λ w.
     let at = l.answer w.0 w.1.sees in
     subst (λ (x : ℕ). IsBlock (length w.0) x) at (has.under w.0 (stood l.kept w.0 w.1) (λ z. ne (sym at ∙ z))) in
     let room : p + 8 ≤ s'.size = some_le (p + 8) s'.size ws (λ w. omega (arith, (block w).1.0, w.1.size)) in
@@ -31,7 +31,7 @@ followed_in s s' link p has l ne ws =
       small = omega (arith, room, l.kept.size, has.small);
     }
 
-pub followed_some : (s s' : View) (link p : ℕ) → Leads s link → Loaded s s' link p → p ≢ 0 → ∥ ((image : List ℕ) × Stands s' image) ∥₁ → Followed s s' link (Some p)
+pub followed_some : (s s' : View) (link p : ℕ) → Leads s link → Loaded s s' link p → p ≢ 0 → ∥ ((image : List ℕ) × RestsOn s' image) ∥₁ → Followed s s' link (Some p)
 followed_some s s' link p has l ne ws = let i = followed_in s s' link p has l ne ws in record {
   kept = l.kept;
   writes = l.writes;
@@ -86,9 +86,9 @@ behind_block m n p lo b ((k, a) ∷ rs) (r, h) i ne =
       | inr other ↦ behind_block m n (m (a + 3)) (k + 1) b rs h (grind (arith, nat_tests)) ne
     ]
 
-pub booking_in : (s : View) (b : ℕ) → HasBooking s b → ∥ ((image : List ℕ) × Stands s image) ∥₁ → Inside s b
+pub booking_in : (s : View) (b : ℕ) → HasBooking s b → ∥ ((image : List ℕ) × RestsOn s image) ∥₁ → Inside s b
 booking_in s b has ws =
-    let block : (w : (image : List ℕ) × Stands s image) → IsBlock (length w.0) b = λ w.
+    let block : (w : (image : List ℕ) × RestsOn s image) → IsBlock (length w.0) b = λ w.
     let t = has.under w.0 w.1 in
     list_block (mem s w.0) (length w.0) t.start b t.entries t.list t.has in
     let room : b + 8 ≤ s.size = some_le (b + 8) s.size ws (λ w. omega (arith, (block w).1.0, w.1.size)) in
@@ -98,7 +98,7 @@ booking_in s b has ws =
       small = omega (arith, room, has.small);
     }
 
-pub next_leads : (s : View) (b : ℕ) → HasBooking s b → ∥ ((image : List ℕ) × Stands s image) ∥₁ → Leads s (b + 3)
+pub next_leads : (s : View) (b : ℕ) → HasBooking s b → ∥ ((image : List ℕ) × RestsOn s image) ∥₁ → Leads s (b + 3)
 next_leads s b has ws = record {
   small = has.small;
   room = let i = booking_in s b has ws in omega (arith, i.room);

@@ -3,7 +3,7 @@ use Rattle.std.proofs.Common.{◌≡◌, ◌≢◌, ℕ, ◌+◌, ◌<◌, ◌�
 use Rattle.std.specs.declared.cmp.Ordering.{Ordering}
 use Rattle.std.specs.declared.cmp.Ordering.TheVariants.{Less, Equal, Greater}
 use Rattle.stm_words.specs.Seen.{some_le}
-use Rattle.stm_words.specs.View.{View, Sees, Stands, Kept, Loaded}
+use Rattle.stm_words.specs.View.{View, Sees, RestsOn, Kept, Loaded}
 use Rattle.tx_alloc.specs.Pool.{IsBlock}
 use Rattle.tx_alloc.specs.Rows.{Rows}
 use Rattle.tx_alloc.specs.Steps.{mem, kept_none, kept_both, stood, at_start}
@@ -34,9 +34,9 @@ seek_start s head key has = record {
 }
 
 -- what was read at the link is a block
-pub seek_in : (s0 s s' : View) (head key link low p : ℕ) → Seeking s0 s head key link low → HasList s0 head → Loaded s s' link p → p ≢ 0 → ∥ ((image : List ℕ) × Stands s' image) ∥₁ → Inside s' p
+pub seek_in : (s0 s s' : View) (head key link low p : ℕ) → Seeking s0 s head key link low → HasList s0 head → Loaded s s' link p → p ≢ 0 → ∥ ((image : List ℕ) × RestsOn s' image) ∥₁ → Inside s' p
 seek_in s0 s s' head key link low p k has l ne ws =
-    let block : (w : (image : List ℕ) × Stands s' image) → IsBlock (length w.0) p = λ w.
+    let block : (w : (image : List ℕ) × RestsOn s' image) → IsBlock (length w.0) p = λ w.
     let seen = stood l.kept w.0 w.1 in
     let t = has.under w.0 (stood k.kept w.0 seen) in
     (trail_opened (mem s0 w.0) (length w.0) head link low key p t.entries (k.trail w.0 t.entries seen.sees t.is) (at_start s0 s s' link p k.writes l w.0 w.1.sees) ne).block in
@@ -63,7 +63,7 @@ seek_at s0 s s1 s2 head key link low p order k l r ne image rs seen h =
     record { at = at; small = o.id; above = o.low; is = is }
 
 -- a block that is passed has a lower key
-pub seek_below : (s0 s s1 s2 : View) (head : ℕ) (key : Key) (link low p : ℕ) (order : Ordering) → Seeking s0 s head (code_of key) link low → HasList s0 head → Loaded s s1 link p → Compared s1 s2 p key order → p ≢ 0 → order ≡ Less → ∥ ((image : List ℕ) × Stands s2 image) ∥₁ → low + 1 ≤ code_of key
+pub seek_below : (s0 s s1 s2 : View) (head : ℕ) (key : Key) (link low p : ℕ) (order : Ordering) → Seeking s0 s head (code_of key) link low → HasList s0 head → Loaded s s1 link p → Compared s1 s2 p key order → p ≢ 0 → order ≡ Less → ∥ ((image : List ℕ) × RestsOn s2 image) ∥₁ → low + 1 ≤ code_of key
 seek_below s0 s s1 s2 head key link low p order k has l r ne less ws =
     some_le (low + 1) (code_of key) ws (λ w.
     let t = has.under w.0 (stood k.kept w.0 (stood l.kept w.0 (stood r.kept w.0 w.1))) in

@@ -1,6 +1,6 @@
 -- What the calls on a list of bookings need, and what they do.
 use Rattle.std.specs.Prelude.{◌≡◌, ◌⊎◌, ℕ, ◌+◌, ◌<◌, ◌≤◌, ◌^◌, List, length, Option, None}
-use Rattle.stm_words.specs.View.{View, Sees, Stands, Kept}
+use Rattle.stm_words.specs.View.{View, Sees, RestsOn, Kept}
 use Rattle.tx_alloc.specs.declared.place.TheConstants.{BLOCK_WORDS}
 use Rattle.tx_alloc.specs.Pointer.{pointer, IsWithin}
 use Rattle.tx_alloc.specs.Pool.{IsBlock}
@@ -29,7 +29,7 @@ pub record SomeList (m : ℕ → ℕ) (n head : ℕ) : Type 0 where
 pub record HasList (s : View) (head : ℕ) : Type 0 where
   pub small : s.size ≤ 2 ^ 32
   pub room : head < s.size
-  pub under : (image : List ℕ) → Stands s image → SomeList (mem s image) (length image) head
+  pub under : (image : List ℕ) → RestsOn s image → SomeList (mem s image) (length image) head
 
 -- only reads were made, and the answer is the block at the key
 pub record Found (s s' : View) (head key : ℕ) (found : Option ℕ) : Type 0 where
@@ -58,7 +58,7 @@ pub record SomeBooking (m : ℕ → ℕ) (n b : ℕ) : Type 0 where
 -- bits.
 pub record HasBooking (s : View) (b : ℕ) : Type 0 where
   pub small : s.size ≤ 2 ^ 32
-  pub under : (image : List ℕ) → Stands s image → SomeBooking (mem s image) (length image) b
+  pub under : (image : List ℕ) → RestsOn s image → SomeBooking (mem s image) (length image) b
 
 -- only reads were made, and the answer is the block behind b in each list that has b
 pub record Next (s s' : View) (b : ℕ) (found : Option ℕ) : Type 0 where
@@ -80,7 +80,7 @@ pub record Fresh (m : ℕ → ℕ) (n head : ℕ) (rs : Rows) (key : Key) (b : �
 
 -- this is so under each image of the memory's size, of each list that head leads to
 pub record IsFresh (s : View) (head : ℕ) (key : Key) (b : ℕ) : Type 0 where
-  pub under : (image : List ℕ) (rs : Rows) → Stands s image →
+  pub under : (image : List ℕ) (rs : Rows) → RestsOn s image →
       IsListAt (mem s image) (length image) head rs →
       Fresh (mem s image) (length image) head rs key b
 

@@ -1,7 +1,7 @@
 -- An insertion: the block is hung where the search ended, and the tree is settled.
 use Rattle.std.proofs.Common.{◌≡◌, ◌≢◌, inl, inr, ℕ, ◌+◌, ◌<◌, ◌≤◌, true, List, ◌∷◌, ◌++◌, length, slice_index, refl, sym, ap, ◌∙◌, subst, arith, append_assoc}
 use Rattle.stm_words.specs.Seen.{same_or, some_le}
-use Rattle.stm_words.specs.View.{View, Sees, Stands, Kept, Stored, IsWrite}
+use Rattle.stm_words.specs.View.{View, Sees, RestsOn, Kept, Stored, IsWrite}
 use Rattle.tx_alloc.specs.Pool.{with_block}
 use Rattle.tx_alloc.specs.Steps.{mem, kept_both, stood, write_at_start}
 use Rattle.tx_alloc.specs.Rows.{Rows, times, put_row, block_at, Relinks, AllBelow, IsFrom}
@@ -140,13 +140,13 @@ inserted s s5 s6 root key b xs d h f = record {
       (touches_both (mem s image) (mem s5 image) (mem s6 image) root (with_block (λ x. times x rs) b) a.touches e'.touches);
 }
 
-pub fresh_room : (s s1 : View) (root key b : ℕ) → Kept s s1 → HasTable s root → IsFresh s root key b → ∥ ((image : List ℕ) × Stands s1 image) ∥₁ → b + 8 ≤ s.size
+pub fresh_room : (s s1 : View) (root key b : ℕ) → Kept s s1 → HasTable s root → IsFresh s root key b → ∥ ((image : List ℕ) × RestsOn s1 image) ∥₁ → b + 8 ≤ s.size
 fresh_room s s1 root key b k table fresh ws = some_le (b + 8) s.size ws (λ w.
     let i = stood k w.0 w.1 in
     let t = table.under w.0 i in
     omega (arith, (fresh.under w.0 t.entries i t.is).block.1.0, w.1.size, k.size))
 
-pub sought_room : (s s1 : View) (root key p : ℕ) (xs : List ℕ) (d : ℕ) → HasTable s root → Sought s s1 root key xs d p → ∥ ((image : List ℕ) × Stands s1 image) ∥₁ → slice_index xs d + 1 ≤ s.size
+pub sought_room : (s s1 : View) (root key p : ℕ) (xs : List ℕ) (d : ℕ) → HasTable s root → Sought s s1 root key xs d p → ∥ ((image : List ℕ) × RestsOn s1 image) ∥₁ → slice_index xs d + 1 ≤ s.size
 sought_room s s1 root key p xs d table so ws = some_le (slice_index xs d + 1) s.size ws (λ w.
     let k = so.seeking.kept in
     let t = table.under w.0 (stood k w.0 w.1) in

@@ -1,7 +1,7 @@
 -- A tree that lacks a black node, over every memory that there may be.
 use Rattle.std.proofs.Common.{◌≡◌, ◌≢◌, inl, inr, ℕ, ◌+◌, ◌-◌, ◌%◌, ◌<◌, ◌≤◌, Bool, true, false, not, cond, List, length, slice_index, refl, sym, ap, ◌∙◌, subst, arith, append_assoc}
 use Rattle.stm_words.specs.Seen.{some_le}
-use Rattle.stm_words.specs.View.{View, Sees, Stands, Kept, Loaded, Stored, IsWrite}
+use Rattle.stm_words.specs.View.{View, Sees, RestsOn, Kept, Loaded, Stored, IsWrite}
 use Rattle.tx_alloc.specs.Pool.{IsBlock}
 use Rattle.tx_alloc.specs.Steps.{mem, kept_none, kept_both, stood, at_start, write_at_start}
 use Rattle.tx_alloc.specs.Rows.{Rows}
@@ -63,9 +63,9 @@ rooms_at m n link p q side room a =
       high = omega (arith, a.at.side_is);
     }
 
-pub lift_rooms : (s : View) (link p q side : ℕ) → HasLift s link p q side → ∥ ((image : List ℕ) × Stands s image) ∥₁ → LiftRooms s.size link p q side
+pub lift_rooms : (s : View) (link p q side : ℕ) → HasLift s link p q side → ∥ ((image : List ℕ) × RestsOn s image) ∥₁ → LiftRooms s.size link p q side
 lift_rooms s link p q side h ws =
-    let f : (w : (image : List ℕ) × Stands s image) → LiftRooms s.size link p q side = λ w. rw w.1.size at (rooms_at (mem s w.0) (length w.0) link p q side (omega (arith, h.room, w.1.size)) (h.under w.0 w.1)) in
+    let f : (w : (image : List ℕ) × RestsOn s image) → LiftRooms s.size link p q side = λ w. rw w.1.size at (rooms_at (mem s w.0) (length w.0) link p q side (omega (arith, h.room, w.1.size)) (h.under w.0 w.1)) in
     record {
       link_in = some_le _ _ ws (λ w. (f w).link_in);
       node = some_le _ _ ws (λ w. (f w).node);
@@ -75,7 +75,7 @@ lift_rooms s link p q side h ws =
       high = some_le _ _ ws (λ w. (f w).high);
     }
 
-pub leads_outer : (s : View) (link p q side : ℕ) → HasLift s link p q side → ∥ ((image : List ℕ) × Stands s image) ∥₁ → Leads s (q + (3 - side))
+pub leads_outer : (s : View) (link p q side : ℕ) → HasLift s link p q side → ∥ ((image : List ℕ) × RestsOn s image) ∥₁ → Leads s (q + (3 - side))
 leads_outer s link p q side h ws =
     let r = lift_rooms s link p q side h ws in
     record {
@@ -88,7 +88,7 @@ leads_outer s link p q side h ws =
           subst (λ (x : ℕ). IsBlock (length image) x) (sym e) (pointer (mem s image) (length image) (mem s image (q + off (not a.right))) b.outer b.on_outer (λ z. ne (e ∙ z)));
     }
 
-pub leads_inner : (s : View) (link p q side : ℕ) → HasLift s link p q side → ∥ ((image : List ℕ) × Stands s image) ∥₁ → Leads s (q + side)
+pub leads_inner : (s : View) (link p q side : ℕ) → HasLift s link p q side → ∥ ((image : List ℕ) × RestsOn s image) ∥₁ → Leads s (q + side)
 leads_inner s link p q side h ws =
     let r = lift_rooms s link p q side h ws in
     record {
@@ -447,7 +447,7 @@ mend_top s0 s xs d0 d t z = record {
 }
 
 -- after the red node came up, the word on the other side leads to its inner child
-pub raised_leads : (s s1 s2 s3 : View) (xs : List ℕ) (d q : ℕ) (red : Bool) → HasShort s xs d → 1 ≤ d → Reached s s1 (slice_index xs d - slice_index xs d % 8 + (3 - slice_index xs d % 8)) q → Coloured s1 s2 q red → red ≡ true → Raising s2 s3 (slice_index xs (d - 1)) (slice_index xs d - slice_index xs d % 8) q (3 - (slice_index xs d % 8)) 0 1 → ∥ ((image : List ℕ) × Stands s3 image) ∥₁ → Leads s3 (slice_index xs d - slice_index xs d % 8 + (3 - slice_index xs d % 8))
+pub raised_leads : (s s1 s2 s3 : View) (xs : List ℕ) (d q : ℕ) (red : Bool) → HasShort s xs d → 1 ≤ d → Reached s s1 (slice_index xs d - slice_index xs d % 8 + (3 - slice_index xs d % 8)) q → Coloured s1 s2 q red → red ≡ true → Raising s2 s3 (slice_index xs (d - 1)) (slice_index xs d - slice_index xs d % 8) q (3 - (slice_index xs d % 8)) 0 1 → ∥ ((image : List ℕ) × RestsOn s3 image) ∥₁ → Leads s3 (slice_index xs d - slice_index xs d % 8 + (3 - slice_index xs d % 8))
 raised_leads s s1 s2 s3 xs d q red h one r c e rise ws =
     let room : slice_index xs d - slice_index xs d % 8 + (3 - slice_index xs d % 8) + 1 ≤ s3.size = some_le _ _ ws (λ w.
     let i2 = stood rise.kept w.0 w.1 in let i1 = stood c.kept w.0 i2 in let i0 = stood r.loaded.kept w.0 i1 in

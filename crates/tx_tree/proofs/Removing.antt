@@ -1,7 +1,7 @@
 -- A removal: a node with one side at most goes, and the tree is mended.
 use Rattle.std.proofs.Common.{◌≡◌, ◌≢◌, inl, inr, ℕ, ◌+◌, ◌≤◌, Bool, true, false, List, length, slice_index, refl, sym, ap, ◌∙◌, arith, rules}
 use Rattle.stm_words.specs.Seen.{some_le}
-use Rattle.stm_words.specs.View.{View, Stands, Stored, IsWrite}
+use Rattle.stm_words.specs.View.{View, RestsOn, Stored, IsWrite}
 use Rattle.tx_alloc.specs.Pool.{IsBlock}
 use Rattle.tx_alloc.specs.Steps.{mem, kept_both, stood, write_at_start}
 use Rattle.tx_tree.specs.Tree.{Tree, leaf, node, join, rows, blacks, is_red, EvenAt}
@@ -49,7 +49,7 @@ loose_short m n root total xs d p w t h a never = record {
   short = record { even = a.even; way = a.way; apart = a.apart; fits = a.fits; black = not_red m n p t (loose_hangs m n root total xs d p w t h a) never };
 }
 
-pub loose_room : (s : View) (xs : List ℕ) (d p : ℕ) → HasLoose s xs d p → p ≢ 0 → ∥ ((image : List ℕ) × Stands s image) ∥₁ → p + 8 ≤ s.size
+pub loose_room : (s : View) (xs : List ℕ) (d p : ℕ) → HasLoose s xs d p → p ≢ 0 → ∥ ((image : List ℕ) × RestsOn s image) ∥₁ → p + 8 ≤ s.size
 loose_room s xs d p h ne ws = some_le (p + 8) s.size ws (λ w.
     let a = h.under w.0 w.1 in
     omega (arith, (pointer (mem s w.0) (length w.0) p a.tree (loose_hangs (mem s w.0) (length w.0) a.root a.total xs d p a.way a.tree a.blacks a.at) ne).1.0, w.1.size))
@@ -145,18 +145,18 @@ unlinked_red s s1 s2 xs d b p red c e w = record {
       red_after (mem s image) (mem s2 image) (length image) root total xs d b p way right col k t h a ((join_colour (mem s image) (length image) root total way right col leaf k b t a.zip).0 (c.is_one e image i1)) g;
 }
 
-pub last_block : (s : View) (xs : List ℕ) (d b p : ℕ) → HasLast s xs d b p → (image : List ℕ) → Stands s image → IsBlock (length image) b
+pub last_block : (s : View) (xs : List ℕ) (d b p : ℕ) → HasLast s xs d b p → (image : List ℕ) → RestsOn s image → IsBlock (length image) b
 last_block s xs d b p h image i =
     let a = h.under image i in
     (at_join (mem s image) (length image) a.root a.total a.way a.right a.colour leaf a.key b a.tree a.at.zip).block
 
-pub last_room : (s : View) (xs : List ℕ) (d b p : ℕ) → HasLast s xs d b p → ∥ ((image : List ℕ) × Stands s image) ∥₁ → (16 ≤ b) × (b + 8 ≤ s.size)
+pub last_room : (s : View) (xs : List ℕ) (d b p : ℕ) → HasLast s xs d b p → ∥ ((image : List ℕ) × RestsOn s image) ∥₁ → (16 ≤ b) × (b + 8 ≤ s.size)
 last_room s xs d b p h ws = (
   some_le 16 b ws (λ w. omega (arith, (last_block s xs d b p h w.0 w.1).1.1)),
   some_le (b + 8) s.size ws (λ w. omega (arith, (last_block s xs d b p h w.0 w.1).1.0, w.1.size)),
 )
 
-pub last_link : (s : View) (xs : List ℕ) (d b p : ℕ) → HasLast s xs d b p → ∥ ((image : List ℕ) × Stands s image) ∥₁ → slice_index xs d + 1 ≤ s.size
+pub last_link : (s : View) (xs : List ℕ) (d b p : ℕ) → HasLast s xs d b p → ∥ ((image : List ℕ) × RestsOn s image) ∥₁ → slice_index xs d + 1 ≤ s.size
 last_link s xs d b p h ws = some_le (slice_index xs d + 1) s.size ws (λ w.
     let a = h.under w.0 w.1 in
     let at = at_link xs a.root d a.way a.at.path a.at.deep in

@@ -4,7 +4,7 @@ use Rattle.std.proofs.lemmas.Bool.{cases_lt}
 use Rattle.std.proofs.Math.Pow.{pow_mono}
 use Rattle.std.proofs.Math.Nat.{mul-le-mul}
 use Rattle.stm_words.specs.Seen.{some_le}
-use Rattle.stm_words.specs.View.{View, Words, Stands, Loaded, memory}
+use Rattle.stm_words.specs.View.{View, Words, RestsOn, Loaded, memory}
 use Rattle.tx_alloc.specs.Pool.{IsBlock}
 use Rattle.tx_alloc.specs.Steps.{mem, kept_none, kept_both, stood, at_start}
 use Rattle.tx_alloc.specs.Rows.{Rows, times, AllBelow, IsFrom}
@@ -154,7 +154,7 @@ link_room m n root key xs d rs h room =
       | inr i ↦ (let b = way_block m n root i.block h.way h.zip.way i.there in omega (arith, at, i.is, i.high, b.1.0))
     ]
 
-pub seek_leads : (s0 s : View) (root key : ℕ) (xs : List ℕ) (d : ℕ) → HasTable s0 root → Seeking s0 s root key xs d → ∥ ((image : List ℕ) × Stands s image) ∥₁ → Leads s (slice_index xs d)
+pub seek_leads : (s0 s : View) (root key : ℕ) (xs : List ℕ) (d : ℕ) → HasTable s0 root → Seeking s0 s root key xs d → ∥ ((image : List ℕ) × RestsOn s image) ∥₁ → Leads s (slice_index xs d)
 seek_leads s0 s root key xs d table k ws = record {
   small = omega (arith, table.small, k.kept.size);
   room = (
@@ -171,7 +171,7 @@ seek_leads s0 s root key xs d table k ws = record {
       subst (λ (x : ℕ). IsBlock (length image) x) (sym same) (pointer (mem s0 image) (length image) (mem s0 image (link_of root p.way)) p.tree p.zip.tree (λ z. ne (same ∙ z)));
 }
 
-pub seek_low : (s0 s s1 : View) (root key : ℕ) (xs : List ℕ) (d p : ℕ) → HasTable s0 root → Seeking s0 s root key xs d → Reached s s1 (slice_index xs d) p → p ≢ 0 → ∥ ((image : List ℕ) × Stands s1 image) ∥₁ → d + 1 ≤ 36
+pub seek_low : (s0 s s1 : View) (root key : ℕ) (xs : List ℕ) (d p : ℕ) → HasTable s0 root → Seeking s0 s root key xs d → Reached s s1 (slice_index xs d) p → p ≢ 0 → ∥ ((image : List ℕ) × RestsOn s1 image) ∥₁ → d + 1 ≤ 36
 seek_low s0 s s1 root key xs d p table k r ne ws = some_le (d + 1) 36 ws (λ w.
     let i = stood r.loaded.kept w.0 w.1 in
     let t = table.under w.0 (stood k.kept w.0 i) in

@@ -1,7 +1,7 @@
 -- An insertion over every memory that there may be.
 use Rattle.std.proofs.Common.{◌≡◌, ◌≢◌, ℕ, ◌+◌, ◌-◌, ◌%◌, ◌<◌, ◌≤◌, Bool, true, false, List, length, slice_index, refl, sym, ap, ◌∙◌, arith}
 use Rattle.stm_words.specs.Seen.{some_le}
-use Rattle.stm_words.specs.View.{View, Sees, Stands, Kept, Stored, IsWrite}
+use Rattle.stm_words.specs.View.{View, Sees, RestsOn, Kept, Stored, IsWrite}
 use Rattle.tx_alloc.specs.Steps.{mem, kept_none, kept_both, stood, at_start, write_at_start}
 use Rattle.tx_tree.specs.Tree.{Tree, node, rows}
 use Rattle.tx_tree.specs.Way.{Way, plug}
@@ -56,11 +56,11 @@ raised_way s xs d b h = record {
       record { root = a.root; total = a.total; way = a.way; tree = node true a.left (a.key, b) a.right; zip = a.at.zip; path = a.at.path; deep = a.at.deep };
 }
 
-pub raised_room : (s : View) (xs : List ℕ) (d b : ℕ) → HasRaised s xs d b → ∥ ((image : List ℕ) × Stands s image) ∥₁ → b + 8 ≤ s.size
+pub raised_room : (s : View) (xs : List ℕ) (d b : ℕ) → HasRaised s xs d b → ∥ ((image : List ℕ) × RestsOn s image) ∥₁ → b + 8 ≤ s.size
 raised_room s xs d b h ws = some_le (b + 8) s.size ws (λ w. omega (arith, (h.under w.0 w.1).at.zip.tree.0.block.1.0, w.1.size))
 
 -- the node above is black
-pub settled_black : (s0 s s1 : View) (xs : List ℕ) (d0 b0 d b : ℕ) (red : Bool) → HasRaised s0 xs d0 b0 → Settling s0 s xs d0 b0 d b → 1 ≤ d → Coloured s s1 (slice_index xs d - slice_index xs d % 8) red → red ≡ false → ∥ ((image : List ℕ) × Stands s image) ∥₁ → Settled s0 s1 xs d0 b0
+pub settled_black : (s0 s s1 : View) (xs : List ℕ) (d0 b0 d b : ℕ) (red : Bool) → HasRaised s0 xs d0 b0 → Settling s0 s xs d0 b0 d b → 1 ≤ d → Coloured s s1 (slice_index xs d - slice_index xs d % 8) red → red ≡ false → ∥ ((image : List ℕ) × RestsOn s image) ∥₁ → Settled s0 s1 xs d0 b0
 settled_black s0 s s1 xs d0 b0 d b red has t one c e ws =
     let n = way_node s xs d (raised_way s xs d b (raised_now s0 s xs d0 b0 d b has t)) one ws in
     record {

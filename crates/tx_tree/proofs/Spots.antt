@@ -2,7 +2,7 @@
 use Rattle.std.proofs.Common.{◌≡◌, ◌≢◌, inl, inr, ℕ, ◌+◌, ◌<◌, ◌≤◌, Bool, true, false, cond, List, [], ◌∷◌, ◌++◌, Option, Some, None, nat_lt, MatchOption, length, refl, sym, ap, ◌∙◌, subst, arith, append_assoc}
 use Rattle.std.proofs.lemmas.Bool.Decides.{nat_tests}
 use Rattle.stm_words.specs.Seen.{some_le}
-use Rattle.stm_words.specs.View.{View, Words, Sees, Stands, Kept, Loaded, memory}
+use Rattle.stm_words.specs.View.{View, Words, Sees, RestsOn, Kept, Loaded, memory}
 use Rattle.tx_alloc.specs.Pool.{IsBlock}
 use Rattle.tx_alloc.specs.Steps.{mem, kept_none, kept_both, stood, at_start}
 use Rattle.tx_alloc.specs.Rows.{Rows, times, block_at, AllBelow, IsFrom}
@@ -161,7 +161,7 @@ descent_start s root lo key has = record {
   spot = λ image rs i t. spot_start (mem s image) (length image) root lo key rs has.low t;
 }
 
-pub descent_leads : (s0 s : View) (root lo key link d : ℕ) (next : Option (ℕ × ℕ)) → HasTable s0 root → Descending s0 s root lo key link d next → ∥ ((image : List ℕ) × Stands s image) ∥₁ → Leads s link
+pub descent_leads : (s0 s : View) (root lo key link d : ℕ) (next : Option (ℕ × ℕ)) → HasTable s0 root → Descending s0 s root lo key link d next → ∥ ((image : List ℕ) × RestsOn s image) ∥₁ → Leads s link
 descent_leads s0 s root lo key link d next table k ws = record {
   small = omega (arith, table.small, k.kept.size);
   room = (

@@ -1,6 +1,6 @@
 -- A table with the number of its entries, as a caller knows it.
 use Rattle.std.specs.Prelude.{◌≡◌, ℕ, ◌+◌, ◌*◌, ◌<◌, ◌≤◌, List, length}
-use Rattle.stm_words.specs.View.{View, Stands}
+use Rattle.stm_words.specs.View.{View, RestsOn}
 use Rattle.tx_alloc.specs.Steps.{mem}
 use Rattle.tx_alloc.specs.Pool.{heap_words}
 use Rattle.tx_alloc.specs.declared.place.TheConstants.{FIRST_BLOCK, MOST_BLOCKS}
@@ -20,5 +20,5 @@ pub record HasEntries (s : View) (root blocks count : ℕ) : Type 0 where
   pub small : blocks ≤ MOST_BLOCKS
   pub low : root < FIRST_BLOCK
   pub few : count ≤ MOST_BLOCKS
-  pub under : (image : List ℕ) → Stands s image →
+  pub under : (image : List ℕ) → RestsOn s image →
       SomeEntries (mem s image) (length image) root count

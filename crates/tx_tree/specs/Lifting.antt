@@ -1,6 +1,6 @@
 -- What the steps say that mend a tree with too few black nodes.
 use Rattle.std.specs.Prelude.{◌≡◌, ℕ, ◌+◌, ◌-◌, ◌≤◌, ◌^◌, List, length, Bool, true, false, not}
-use Rattle.stm_words.specs.View.{View, Sees, Stands, Kept}
+use Rattle.stm_words.specs.View.{View, Sees, RestsOn, Kept}
 use Rattle.tx_alloc.specs.Steps.{mem}
 use Rattle.tx_alloc.specs.Rows.{Rows}
 use Rattle.tx_alloc.specs.declared.place.TheConstants.{FIRST_BLOCK}
@@ -37,7 +37,7 @@ pub record SomeLift (m : ℕ → ℕ) (n link p q side : ℕ) : Type 0 where
 pub record HasLift (s : View) (link p q side : ℕ) : Type 0 where
   pub small : s.size ≤ 2 ^ 32
   pub room : FIRST_BLOCK ≤ s.size
-  pub under : (image : List ℕ) → Stands s image →
+  pub under : (image : List ℕ) → RestsOn s image →
       SomeLift (mem s image) (length image) link p q side
 
 -- the tree at the end of this way lacks a black node

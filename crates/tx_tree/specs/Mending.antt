@@ -1,6 +1,6 @@
 -- What the steps that mend a tree say.
 use Rattle.std.specs.Prelude.{◌≡◌, ◌≢◌, ℕ, ◌+◌, ◌-◌, ◌%◌, ◌<◌, ◌≤◌, ◌^◌, List, length, slice_index, true, false}
-use Rattle.stm_words.specs.View.{View, Sees, Stands, Kept, IsWrite}
+use Rattle.stm_words.specs.View.{View, Sees, RestsOn, Kept, IsWrite}
 use Rattle.tx_alloc.specs.Steps.{mem}
 use Rattle.tx_alloc.specs.Rows.{Rows}
 use Rattle.tx_alloc.specs.declared.place.TheConstants.{FIRST_BLOCK, BLOCK_WORDS}
@@ -47,7 +47,7 @@ pub record HasWay (s : View) (xs : List ℕ) (d : ℕ) : Type 0 where
   pub room : FIRST_BLOCK ≤ s.size
   pub size : length xs ≡ LEVELS
   pub deep : d < LEVELS
-  pub under : (image : List ℕ) → Stands s image → WayAt (mem s image) (length image) xs d
+  pub under : (image : List ℕ) → RestsOn s image → WayAt (mem s image) (length image) xs d
 
 -- the whole tree is as it should be, and has these rows; nothing but linking words was written
 pub record Ends (m m' : ℕ → ℕ) (n root : ℕ) (total : ℕ → ℕ) (rs : Rows) : Type 0 where
@@ -84,7 +84,7 @@ pub record HasRaised (s : View) (xs : List ℕ) (d b : ℕ) : Type 0 where
   pub room : FIRST_BLOCK ≤ s.size
   pub size : length xs ≡ LEVELS
   pub deep : d < LEVELS
-  pub under : (image : List ℕ) → Stands s image → SomeRaised (mem s image) (length image) xs d b
+  pub under : (image : List ℕ) → RestsOn s image → SomeRaised (mem s image) (length image) xs d b
 
 -- under each image the tree with that red node became as it should be, with the same rows
 pub record Settled (s s' : View) (xs : List ℕ) (d b : ℕ) : Type 0 where
@@ -129,7 +129,7 @@ pub record HasShort (s : View) (xs : List ℕ) (d : ℕ) : Type 0 where
   pub room : FIRST_BLOCK ≤ s.size
   pub size : length xs ≡ LEVELS
   pub deep : d < LEVELS
-  pub under : (image : List ℕ) → Stands s image → SomeShort (mem s image) (length image) xs d
+  pub under : (image : List ℕ) → RestsOn s image → SomeShort (mem s image) (length image) xs d
 
 -- under each image the tree with that lack became as it should be, with the same rows
 pub record Mended (s s' : View) (xs : List ℕ) (d : ℕ) : Type 0 where

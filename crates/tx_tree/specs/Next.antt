@@ -1,6 +1,6 @@
 -- What the steps say that put the least node of the right side in the place of a node that goes.
 use Rattle.std.specs.Prelude.{◌≡◌, ◌≢◌, ℕ, ◌+◌, ◌<◌, ◌≤◌, ◌^◌, List, length, Bool, false, ◌++◌}
-use Rattle.stm_words.specs.View.{View, Sees, Stands, Kept, IsWrite}
+use Rattle.stm_words.specs.View.{View, Sees, RestsOn, Kept, IsWrite}
 use Rattle.tx_alloc.specs.Steps.{mem}
 use Rattle.tx_alloc.specs.Rows.{Rows}
 use Rattle.tx_alloc.specs.declared.place.TheConstants.{FIRST_BLOCK}
@@ -61,7 +61,7 @@ pub record HasBoth (s : View) (xs : List ℕ) (d b : ℕ) : Type 0 where
   pub room : FIRST_BLOCK ≤ s.size
   pub size : length xs ≡ LEVELS
   pub deep : d < LEVELS
-  pub under : (image : List ℕ) → Stands s image → SomeBoth (mem s image) (length image) xs d b
+  pub under : (image : List ℕ) → RestsOn s image → SomeBoth (mem s image) (length image) xs d b
 
 -- the whole tree is as it should be, without the block b
 pub record GoneEnds (m m' : ℕ → ℕ) (n root : ℕ) (total : ℕ → ℕ) (b : ℕ) (rs : Rows) : Type 0 where

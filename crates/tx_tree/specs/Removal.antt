@@ -1,6 +1,6 @@
 -- What the steps of a removal say.
 use Rattle.std.specs.Prelude.{◌≡◌, ℕ, ◌+◌, ◌<◌, ◌≤◌, ◌^◌, List, length, slice_index, Bool, false, not}
-use Rattle.stm_words.specs.View.{View, Sees, Stands, Kept}
+use Rattle.stm_words.specs.View.{View, Sees, RestsOn, Kept}
 use Rattle.tx_alloc.specs.Steps.{mem}
 use Rattle.tx_alloc.specs.declared.place.TheConstants.{FIRST_BLOCK}
 use Rattle.tx_tree.specs.declared.path.TheConstants.{LEVELS}
@@ -39,7 +39,7 @@ pub record HasLoose (s : View) (xs : List ℕ) (d p : ℕ) : Type 0 where
   pub room : FIRST_BLOCK ≤ s.size
   pub size : length xs ≡ LEVELS
   pub deep : d < LEVELS
-  pub under : (image : List ℕ) → Stands s image → SomeLoose (mem s image) (length image) xs d p
+  pub under : (image : List ℕ) → RestsOn s image → SomeLoose (mem s image) (length image) xs d p
 
 -- under each image the tree with that lack became as it should be, with the same rows
 pub record Lightened (s s' : View) (xs : List ℕ) (d p : ℕ) : Type 0 where
@@ -76,7 +76,7 @@ pub record HasLast (s : View) (xs : List ℕ) (d b p : ℕ) : Type 0 where
   pub room : FIRST_BLOCK ≤ s.size
   pub size : length xs ≡ LEVELS
   pub deep : d < LEVELS
-  pub under : (image : List ℕ) → Stands s image → SomeLast (mem s image) (length image) xs d b p
+  pub under : (image : List ℕ) → RestsOn s image → SomeLast (mem s image) (length image) xs d b p
 
 -- under each image b left its tree, which is as it should be and has all other rows
 pub record Unlinked (s s' : View) (xs : List ℕ) (d b p : ℕ) : Type 0 where

@@ -1,6 +1,6 @@
 -- A table by key. What stands above uses the lemmas on IsTable alone, and not its fields.
 use Rattle.std.specs.Prelude.{◌≡◌, ◌≢◌, ℕ, ◌+◌, ◌<◌, ◌≤◌, ◌^◌, List, [], ◌∷◌, length, false, cond, nat_lt, zero, suc, MatchOption, Option, Some, None}
-use Rattle.stm_words.specs.View.{View, Sees, Stands, Kept}
+use Rattle.stm_words.specs.View.{View, Sees, RestsOn, Kept}
 use Rattle.tx_alloc.specs.Pool.{IsBlock}
 use Rattle.tx_alloc.specs.declared.place.TheConstants.{FIRST_BLOCK, BLOCK_WORDS, MOST_BLOCKS}
 use Rattle.tx_alloc.specs.Steps.{mem}
@@ -42,7 +42,7 @@ pub record HasTable (s : View) (root : ℕ) : Type 0 where
   pub small : s.size ≤ 2 ^ 32
   pub room : FIRST_BLOCK ≤ s.size
   pub low : root < FIRST_BLOCK
-  pub under : (image : List ℕ) → Stands s image → SomeTable (mem s image) (length image) root
+  pub under : (image : List ℕ) → RestsOn s image → SomeTable (mem s image) (length image) root
 
 -- the words of a block at b are words of a memory of n words, and of no head or root
 abbrev pub IsInside : ℕ → ℕ → Type 0
@@ -86,7 +86,7 @@ pub record Fresh (m : ℕ → ℕ) (n : ℕ) (rs : Rows) (key b : ℕ) : Type 0 
 
 -- this is so under each image of the memory's size, of each table that root leads to
 pub record IsFresh (s : View) (root key b : ℕ) : Type 0 where
-  pub under : (image : List ℕ) (rs : Rows) → Stands s image →
+  pub under : (image : List ℕ) (rs : Rows) → RestsOn s image →
       Table (mem s image) (length image) root rs → Fresh (mem s image) (length image) rs key b
 
 -- the block, which was fresh, came into the table under its key

@@ -161,11 +161,11 @@ abbrev pub whole : List ℕ → ℕ → ℕ → Look → Seen → Result (Tree �
 whole words blocks root look s0 = walk_tree (slice_index words) (length words) look (suc blocks) root 1 s0
 
 -- where the walk stands
-abbrev pub Stands : List ℕ → ℕ → ℕ → Look → Seen → Turn → List Frame → ℕ → ℕ → Seen → Rows → Type 0
-Stands words blocks root look s0 (Down at) fs levels from s rs = (from ≡ least (slice_index words) fs)
+abbrev pub StopsAt : List ℕ → ℕ → ℕ → Look → Seen → Turn → List Frame → ℕ → ℕ → Seen → Rows → Type 0
+StopsAt words blocks root look s0 (Down at) fs levels from s rs = (from ≡ least (slice_index words) fs)
     × (unwind (slice_index words) (length words) look fs levels (walk_tree (slice_index words) (length words) look levels at (least (slice_index words) fs) s) ≡ whole words blocks root look s0)
     × (rs ≡ rows_above (slice_index words) fs)
-Stands words blocks root look s0 (Up side) fs levels from s rs = (t : Tree) × (IsSide side t × (from ≡ above (least (slice_index words) fs) (rows t))
+StopsAt words blocks root look s0 (Up side) fs levels from s rs = (t : Tree) × (IsSide side t × (from ≡ above (least (slice_index words) fs) (rows t))
     × (unwind (slice_index words) (length words) look fs levels (Ok (t, s)) ≡ whole words blocks root look s0)
     × (rs ≡ rows_above (slice_index words) fs ++ rows t))
 
@@ -180,7 +180,7 @@ pub record TreeRest (words : List ℕ) (blocks root : ℕ) (look : Look) (s0 : S
   pub once : Once frames done seen.blocks
   pub many : nodes ≡ length done
   pub noted : Noted table (slice_index words) notes0 notes done seen.lists
-  pub stands : Stands words blocks root look s0 turn frames levels from seen done
+  pub stands : StopsAt words blocks root look s0 turn frames levels from seen done
 
 -- what holds whatever was reached
 abbrev pub TurnIn : ℕ → ℕ → ℕ → Turn → Type 0
@@ -291,7 +291,7 @@ module _ (words : List ℕ) (marks0 : List Bool) (notes0 : Notes) (table : Table
     few = omega (arith, h.few, fewer);
     rest = λ tables ix s0 s. let r = h.rest tables ix s0 s in go (look_of (slice_index words) (length words) tables (suc (length marks0)) table) s0 r r.levels r.count r.stands;
   } where
-    go : (look : Look) (s0 : Seen) (r : Rest look s0 marks notes path (Down at) from nodes) (levels : ℕ) → levels + length r.frames ≡ suc (length marks0) → Stands words (length marks0) root look s0 (Down at) r.frames levels from r.seen r.done
+    go : (look : Look) (s0 : Seen) (r : Rest look s0 marks notes path (Down at) from nodes) (levels : ℕ) → levels + length r.frames ≡ suc (length marks0) → StopsAt words (length marks0) root look s0 (Down at) r.frames levels from r.seen r.done
         → Rest look s0 marks' notes path (Up side) from nodes
     go look s0 r zero c k = absurd (omega (arith, c, path_length path r.frames r.path_is, h.size))
     go look s0 r (suc l) c k =
@@ -323,7 +323,7 @@ module _ (words : List ℕ) (marks0 : List Bool) (notes0 : Notes) (table : Table
     few = omega (arith, h.few, fewer, lefts_append path (Left p));
     rest = λ tables ix s0 s. let r = h.rest tables ix s0 s in go (look_of (slice_index words) (length words) tables (suc (length marks0)) table) s0 r r.levels r.count r.stands;
   } where
-    go : (look : Look) (s0 : Seen) (r : Rest look s0 marks notes path (Down at) from nodes) (levels : ℕ) → levels + length r.frames ≡ suc (length marks0) → Stands words (length marks0) root look s0 (Down at) r.frames levels from r.seen r.done
+    go : (look : Look) (s0 : Seen) (r : Rest look s0 marks notes path (Down at) from nodes) (levels : ℕ) → levels + length r.frames ≡ suc (length marks0) → StopsAt words (length marks0) root look s0 (Down at) r.frames levels from r.seen r.done
         → Rest look s0 marks' notes (path ++ (Left p ∷ [])) (Down (p + 1)) from nodes
     go look s0 r zero c k = absurd (omega (arith, c, path_length path r.frames r.path_is, h.size))
     go look s0 r (suc l) c k =
@@ -346,7 +346,7 @@ module _ (words : List ℕ) (marks0 : List Bool) (notes0 : Notes) (table : Table
       → Followed words marks marks' at (Err flaw) → Flawed flaw
   goes_flaw marks marks' notes path at from nodes flaw h few f tables ix s0 s = let r = h.rest tables ix s0 s in go (look_of (slice_index words) (length words) tables (suc (length marks0)) table) r r.levels r.count r.stands
     where
-      go : (look : Look) (r : Rest look s0 marks notes path (Down at) from nodes) (levels : ℕ) → levels + length r.frames ≡ suc (length marks0) → Stands words (length marks0) root look s0 (Down at) r.frames levels from r.seen r.done
+      go : (look : Look) (r : Rest look s0 marks notes path (Down at) from nodes) (levels : ℕ) → levels + length r.frames ≡ suc (length marks0) → StopsAt words (length marks0) root look s0 (Down at) r.frames levels from r.seen r.done
           → walk_table (slice_index words) (length words) look (suc (length marks0)) root s0 ≡ Err flaw
       go look r zero c k = absurd (omega (arith, c, path_length path r.frames r.path_is, h.size))
       go look r (suc l) c k = table_flaw words (length marks0) root look s0 flaw (down_flaw (slice_index words) (length words) look r.frames l at r.seen (whole words (length marks0) root look s0) flaw (f r.seen.blocks r.are) k.1)
@@ -355,7 +355,7 @@ module _ (words : List ℕ) (marks0 : List Bool) (notes0 : Notes) (table : Table
   pub goes_out : (marks : List Bool) (notes : Notes) (path : List Step) (at from nodes : ℕ) → Goes marks notes path (Down at) from nodes → length marks < length path → Flawed (Shared at)
   goes_out marks notes path at from nodes h many tables ix s0 s = let r = h.rest tables ix s0 s in go (look_of (slice_index words) (length words) tables (suc (length marks0)) table) r r.levels r.count r.stands
     where
-      go : (look : Look) (r : Rest look s0 marks notes path (Down at) from nodes) (levels : ℕ) → levels + length r.frames ≡ suc (length marks0) → Stands words (length marks0) root look s0 (Down at) r.frames levels from r.seen r.done
+      go : (look : Look) (r : Rest look s0 marks notes path (Down at) from nodes) (levels : ℕ) → levels + length r.frames ≡ suc (length marks0) → StopsAt words (length marks0) root look s0 (Down at) r.frames levels from r.seen r.done
           → walk_table (slice_index words) (length words) look (suc (length marks0)) root s0 ≡ Err (Shared at)
       go look r zero c k = table_flaw words (length marks0) root look s0 (Shared at) (down_out (slice_index words) (length words) look r.frames at r.seen (whole words (length marks0) root look s0) k.1)
       go look r (suc l) c k = absurd (omega (arith, c, path_length path r.frames r.path_is, h.size))
@@ -381,7 +381,7 @@ module _ (words : List ℕ) (marks0 : List Bool) (notes0 : Notes) (table : Table
   left_rest : (look : Look) (s0 : Seen) (marks : List Bool) (notes : Notes) (path : List Step) (p from nodes : ℕ) (side : Side) → Rest look s0 marks notes (path ++ (Left p ∷ [])) (Up side) from nodes → LeftRest look s0 marks notes path p from nodes side
   left_rest look s0 marks notes path p from nodes side r = go r.frames r.path_is r.count r.once r.stands
     where
-      go : (fs : List Frame) → IsPath (path ++ (Left p ∷ [])) fs → r.levels + length fs ≡ suc (length marks0) → Once fs r.done r.seen.blocks → Stands words (length marks0) root look s0 (Up side) fs r.levels from r.seen r.done → LeftRest look s0 marks notes path p from nodes side
+      go : (fs : List Frame) → IsPath (path ++ (Left p ∷ [])) fs → r.levels + length fs ≡ suc (length marks0) → Once fs r.done r.seen.blocks → StopsAt words (length marks0) root look s0 (Up side) fs r.levels from r.seen r.done → LeftRest look s0 marks notes path p from nodes side
       go [] e c o k = absurd (no_end path (Left p) e)
       go (in_left q ∷ fs) e c o k =
           let same = last_same path e.0 (Left p) e.1.0 e.1.1.0 in
@@ -500,7 +500,7 @@ module _ (words : List ℕ) (marks0 : List Bool) (notes0 : Notes) (table : Table
       → RightRest look s0 marks notes path p from nodes left right
   right_rest look s0 marks notes path p from nodes left right r = go r.frames r.path_is r.count r.once r.stands
     where
-      go : (fs : List Frame) → IsPath (path ++ (Right p left ∷ [])) fs → r.levels + length fs ≡ suc (length marks0) → Once fs r.done r.seen.blocks → Stands words (length marks0) root look s0 (Up right) fs r.levels from r.seen r.done → RightRest look s0 marks notes path p from nodes left right
+      go : (fs : List Frame) → IsPath (path ++ (Right p left ∷ [])) fs → r.levels + length fs ≡ suc (length marks0) → Once fs r.done r.seen.blocks → StopsAt words (length marks0) root look s0 (Up right) fs r.levels from r.seen r.done → RightRest look s0 marks notes path p from nodes left right
       go [] e c o k = absurd (no_end path (Right p left) e)
       go (in_left q ∷ fs) e c o k = let same = last_same path e.0 (Right p left) e.1.0 e.1.1.0 in absurd (subst (λ (z : Step). IsStep z (in_left q)) (sym same.1) e.1.1.1)
       go (in_right q l ∷ fs) e c o k =
@@ -586,7 +586,7 @@ module _ (words : List ℕ) (marks0 : List Bool) (notes0 : Notes) (table : Table
   all_done : (look : Look) (s0 : Seen) (marks : List Bool) (notes : Notes) (from nodes : ℕ) (side : Side) → Rest look s0 marks notes [] (Up side) from nodes → AllDone look s0 marks notes side nodes
   all_done look s0 marks notes from nodes side r = go r.frames r.path_is r.stands
     where
-      go : (fs : List Frame) → IsPath [] fs → Stands words (length marks0) root look s0 (Up side) fs r.levels from r.seen r.done → AllDone look s0 marks notes side nodes
+      go : (fs : List Frame) → IsPath [] fs → StopsAt words (length marks0) root look s0 (Up side) fs r.levels from r.seen r.done → AllDone look s0 marks notes side nodes
       go [] e k = record {
         t = k.0;
         seen = r.seen;

@@ -52,7 +52,7 @@ one_behind (x ∷ xs) ys = of_first x (one_behind xs ys)
 
 -- the record stands in the midst, and this holds of the others
 abbrev Midst : Record → List Record → (List Record → Type 0) → Type 0
-Midst r all Holds = (first : List Record) × (more : List Record) × (all ≡ first ++ r ∷ more) × Holds (first ++ more)
+Midst r all P = (first : List Record) × (more : List Record) × (all ≡ first ++ r ∷ more) × P (first ++ more)
 
 nothing_before : (first more : List Record) (r : Record) → [] ≡ first ++ r ∷ more → ⊥
 nothing_before [] more r e = cc
@@ -138,11 +138,11 @@ no_records (x ∷ es) rs h e = absurd (no_entries x es (sym e))
 no_records [] (r ∷ rs) h e = elim h [ ]
 
 none_left : (lists : List (List Entry)) (records : List (List Record)) (all : List Record) → EachOfRecords lists records → ((place : ℕ) → get_or lists place [] ≡ []) → Joined records all → all ≡ []
-none_left [] [] all none spent h = h
-none_left (xs ∷ lists) (rs ∷ records) all (both k ks) spent h =
-    empty_both h.1 (no_records xs rs k (spent 0)) (none_left lists records h.0 ks (λ place. spent (suc place)) h.2)
-none_left [] (rs ∷ records) all ks spent h = elim ks [ ]
-none_left (xs ∷ lists) [] all ks spent h = elim ks [ ]
+none_left [] [] all none bare h = h
+none_left (xs ∷ lists) (rs ∷ records) all (both k ks) bare h =
+    empty_both h.1 (no_records xs rs k (bare 0)) (none_left lists records h.0 ks (λ place. bare (suc place)) h.2)
+none_left [] (rs ∷ records) all ks bare h = elim ks [ ]
+none_left (xs ∷ lists) [] all ks bare h = elim ks [ ]
 
 calls_of : (lists : List (List Entry)) (all : List Entry) (records : List (List Record)) (history : List Record) → Interleaves lists all → EachOfRecords lists records → Joined records history → AreCallsOf (map (λ e. e.note) all) history
 calls_of lists [] records history h pairs once = none_left lists records history pairs h once

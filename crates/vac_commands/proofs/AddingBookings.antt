@@ -3,7 +3,7 @@ use Rattle.std.proofs.Common.{◌≡◌, inl, inr, ℕ, ◌+◌, ◌<◌, ◌≤
 use Rattle.std.proofs.lemmas.Bool.Decides.{nat_tests}
 use Rattle.std.specs.FinMap.{get, insert}
 use Rattle.stm_words.specs.Seen.{same_or}
-use Rattle.stm_words.specs.View.{View, Sees, Stands}
+use Rattle.stm_words.specs.View.{View, Sees, RestsOn}
 use Rattle.vac_model.specs.declared.items.Kind.{Kind}
 use Rattle.vac_model.specs.declared.items.Item.{Item}
 use Rattle.vac_model.specs.declared.items.Booking.{Booking}
@@ -28,7 +28,7 @@ use Rattle.vac_records.specs.Bookings.{place_in, place_key, booking_in}
 use Rattle.vac_records.specs.Customers.{head_of, IsLoose, IsBooked, BookedAt}
 use Rattle.vac_records.specs.Heap.{used_in, count_in}
 use Rattle.vac_records.specs.Represents.{Represents, IsState}
-use Rattle.vac_records.specs.Holds.{HoldsState}
+use Rattle.vac_records.specs.InMemory.{HoldsState}
 use Rattle.vac_records.specs.Laws.{Stays, IsItemAt, IsCustomerAt, ListGrown}
 use Rattle.vac_records.specs.Steps.{kept_both, stood}
 use Rattle.vac_records.proofs.Items.{item_replaced}
@@ -237,7 +237,7 @@ module _ (s : View) (customer owner : ℕ) (kind : Kind) (id item num : ℕ) (of
 
       pub can_make : HoldsState s → CustomerIsAt s customer owner → ItemIsAt s kind id item → HasSpot s owner (kind, id) spot → id < 2 ^ 32 → CanMakeOf s2 item num offer.free
       can_make held c f q small =
-          let at : (image : List ℕ) (state : State) → Stands s image → (h : IsState (mem s image) (length image) state) → AtSpot customer owner kind id item spot (mem s image) (length image) state h = λ image state i h.
+          let at : (image : List ℕ) (state : State) → RestsOn s image → (h : IsState (mem s image) (length image) state) → AtSpot customer owner kind id item spot (mem s image) (length image) state h = λ image state i h.
           record { here = here_at s customer owner kind id item c f small image state i h; at = q.at image state i h } in
           record {
             free_is = λ image i.

@@ -13,7 +13,7 @@ use Rattle.vac_model.proofs.Bounds.{bill_small}
 use Rattle.vac_records.specs.Items.{mem}
 use Rattle.vac_records.specs.Bookings.{place_in, booking_in}
 use Rattle.vac_records.specs.Represents.{IsState, bookings_in}
-use Rattle.vac_records.specs.Holds.{HoldsState, OnlyRead}
+use Rattle.vac_records.specs.InMemory.{HoldsState, OnlyRead}
 use Rattle.vac_records.specs.Customers.{HasBill, CanBill, Billed}
 use Rattle.vac_records.specs.Laws.{IsCustomerAt}
 use Rattle.vac_records.proofs.Bridges.{list_there, bill_there}

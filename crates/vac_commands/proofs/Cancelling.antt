@@ -1,7 +1,7 @@
 -- A booking leaves its list, its units are given back to the item, and its block is free.
 use Rattle.std.proofs.Common.{◌≡◌, ◌≢◌, ℕ, ◌+◌, ◌<◌, ◌≤◌, ◌^◌, List, [], ◌∷◌, length, Option, Some, None, refl, sym, ap, ◌∙◌, arith}
 use Rattle.std.specs.FinMap.{get, remove}
-use Rattle.stm_words.specs.View.{View, Sees, Stands}
+use Rattle.stm_words.specs.View.{View, Sees, RestsOn}
 use Rattle.vac_model.specs.declared.items.Kind.{Kind}
 use Rattle.vac_model.specs.declared.items.Item.{Item}
 use Rattle.vac_model.specs.declared.commands.Command.TheVariants as command
@@ -20,7 +20,7 @@ use Rattle.vac_records.specs.Bookings.{place_key, booking_in}
 use Rattle.vac_records.specs.Customers.{IsUnbooking, UnbookedAt}
 use Rattle.vac_records.specs.Heap.{used_in, count_in}
 use Rattle.vac_records.specs.Represents.{Represents, IsState}
-use Rattle.vac_records.specs.Holds.{HoldsState}
+use Rattle.vac_records.specs.InMemory.{HoldsState}
 use Rattle.vac_records.specs.Laws.{Stays, ListCut, IsItemAt}
 use Rattle.vac_records.specs.Steps.{kept_both, stood}
 use Rattle.vac_records.proofs.Shifts.{kind_small}
@@ -130,7 +130,7 @@ module _ (s s1 : View) (customer owner : ℕ) (kind : Kind) (id item : ℕ) (spo
         record { list = r.list.list; relinks = r.relinks }
 
     module _ (held : HoldsState s) (c : CustomerIsAt s customer owner) (f : ItemIsAt s kind id item) (q : HasSpot s owner (kind, id) spot) (small : id < 2 ^ 32) where
-      at_size : (image : List ℕ) (state : State) → Stands s image → (h : IsState (mem s image) (length image) state) → AtSpot customer owner kind id item spot (mem s image) (length image) state h
+      at_size : (image : List ℕ) (state : State) → RestsOn s image → (h : IsState (mem s image) (length image) state) → AtSpot customer owner kind id item spot (mem s image) (length image) state h
       at_size image state i h = record { here = here_at s customer owner kind id item c f small image state i h; at = q.at image state i h }
 
       pub can_cancel : CanCancel s1 item units

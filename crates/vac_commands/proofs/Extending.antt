@@ -4,7 +4,7 @@ use Rattle.std.proofs.lemmas.Bool.Decides.{nat_tests}
 use Rattle.std.proofs.Math.Nat.{mul-le-mul_left}
 use Rattle.std.specs.FinMap.{get, insert}
 use Rattle.stm_words.specs.Seen.{some_le}
-use Rattle.stm_words.specs.View.{View, Sees, Stands, Loaded}
+use Rattle.stm_words.specs.View.{View, Sees, RestsOn, Loaded}
 use Rattle.vac_model.specs.declared.items.Kind.{Kind}
 use Rattle.vac_model.specs.declared.items.Item.{Item}
 use Rattle.vac_model.specs.declared.items.Booking.{Booking}
@@ -19,7 +19,7 @@ use Rattle.vac_records.specs.Items.{mem, item_in, IsItemNow, CanMakeOf, ItemChan
 use Rattle.vac_records.specs.Bookings.{booking_in}
 use Rattle.vac_records.specs.Customers.{IsBookingNow, CanExtend, BookingChanged}
 use Rattle.vac_records.specs.Represents.{IsState}
-use Rattle.vac_records.specs.Holds.{HoldsState}
+use Rattle.vac_records.specs.InMemory.{HoldsState}
 use Rattle.vac_records.specs.Laws.{Stays, IsItemAt}
 use Rattle.vac_records.specs.Steps.{kept_both, stood}
 use Rattle.vac_records.proofs.Items.{item_replaced}
@@ -33,7 +33,7 @@ use Rattle.vac_commands.proofs.Owners.{here_at, owned, at_owner, at_item, its_it
 use Rattle.vac_commands.proofs.Cancelling.{item_stays, item_words}
 
 -- an item that is offered has a price in its range
-pub price_small : (s : View) (kind : Kind) (id item num : ℕ) (offer : Offer) → HoldsState s → ItemIsAt s kind id item → IsOffered s item num offer → ∥ ((image : List ℕ) × Stands s image) ∥₁ → offer.price ≤ 1000000
+pub price_small : (s : View) (kind : Kind) (id item num : ℕ) (offer : Offer) → HoldsState s → ItemIsAt s kind id item → IsOffered s item num offer → ∥ ((image : List ℕ) × RestsOn s image) ∥₁ → offer.price ≤ 1000000
 price_small s kind id item num offer held f o ws = some_le offer.price 1000000 ws (λ w.
     let t = held.under w.0 w.1 in
     let r = t.1.small.balanced.items kind id (item_in (mem s w.0) item) (item_stood s kind id item f w.0 t.0 w.1 t.1) in
@@ -117,17 +117,17 @@ module _ (s : View) (customer owner : ℕ) (kind : Kind) (id item num : ℕ) (of
         num (enough_at image (l.kept.seen image i)) (omega (arith, over, l.answer image i)))
 
     module _ (held : HoldsState s) (c : CustomerIsAt s customer owner) (f : ItemIsAt s kind id item) (g : HasBookingAt s owner (kind, id) b) (small : id < 2 ^ 32) where
-      at_size : (image : List ℕ) (state : State) → Stands s image → (h : IsState (mem s image) (length image) state) → AtBooking customer owner kind id item b (mem s image) (length image) state h
+      at_size : (image : List ℕ) (state : State) → RestsOn s image → (h : IsState (mem s image) (length image) state) → AtBooking customer owner kind id item b (mem s image) (length image) state h
       at_size image state i h = record { here = here_at s customer owner kind id item c f small image state i h; is = g.at image state i h }
 
-      range_at : (image : List ℕ) → (i : Stands s1 image) → IsBooking ((held.under image (stood l.kept image i)).0) kind id (booking_in (mem s image) b)
+      range_at : (image : List ℕ) → (i : RestsOn s1 image) → IsBooking ((held.under image (stood l.kept image i)).0) kind id (booking_in (mem s image) b)
       range_at image i =
           let i0 = stood l.kept image i in
           let t = held.under image i0 in
           let p = at_size image t.0 i0 t.1 in
           its_range (mem s image) (length image) t.0 t.1 customer owner kind id item b p.here p.is b_some
 
-      pub units_small : ∥ ((image : List ℕ) × Stands s1 image) ∥₁ → v ≤ 10000
+      pub units_small : ∥ ((image : List ℕ) × RestsOn s1 image) ∥₁ → v ≤ 10000
       units_small ws = some_le v 10000 ws (λ w. omega (arith, (range_at w.0 w.1).few_units, l.answer w.0 w.1.sees))
 
       pub can_extend : num < 2 ^ 32 → offer.price ≤ 1000000 → CanExtend s1 b num offer.price

@@ -1,7 +1,7 @@
 -- Memories that hold a state: what reads leave, what the calls on blocks, tables and lists ask for,
 -- and how a command's outcome is shown.
 use Rattle.std.proofs.Common.{◌≡◌, ℕ, ◌+◌, ◌<◌, List, [], length, Some, None, true, refl, sym, ap, ◌∙◌, subst, arith}
-use Rattle.stm_words.specs.View.{View, Words, Sees, Stands, Kept, memory}
+use Rattle.stm_words.specs.View.{View, Words, Sees, RestsOn, Kept, memory}
 use Rattle.vac_model.specs.declared.items.Kind.{Kind}
 use Rattle.vac_model.specs.declared.commands.Command.{Command}
 use Rattle.vac_model.specs.declared.replies.Reply.{Reply}
@@ -15,7 +15,7 @@ use Rattle.tx_tree.specs.Table.{HasTable}
 use Rattle.vac_records.specs.Items.{mem, item_in, IsNode}
 use Rattle.vac_records.specs.Steps.{kept_both, stood}
 use Rattle.vac_records.specs.Represents.{Represents, IsState}
-use Rattle.vac_records.specs.Holds.{HoldsState, OnlyRead}
+use Rattle.vac_records.specs.InMemory.{HoldsState, OnlyRead}
 use Rattle.vac_records.specs.Laws.{HasBookings}
 use Rattle.vac_records.proofs.Shifts.{kind_small}
 use Rattle.vac_records.proofs.Items.{item_found, item_missing}
@@ -120,7 +120,7 @@ item_is s kind id b at image state i h =
     item_found (mem s image) (length image) [] state h.represents kind id b (record { at = at.at image state i h; some = at.some })
 
 -- the same of an item that was found before
-pub item_stood : (s : View) (kind : Kind) (id b : ℕ) → ItemIsAt s kind id b → (image : List ℕ) (state : State) → Stands s image → IsState (mem s image) (length image) state → item_of state kind id ≡ Some (item_in (mem s image) b)
+pub item_stood : (s : View) (kind : Kind) (id b : ℕ) → ItemIsAt s kind id b → (image : List ℕ) (state : State) → RestsOn s image → IsState (mem s image) (length image) state → item_of state kind id ≡ Some (item_in (mem s image) b)
 item_stood s kind id b at image state i h =
     item_found (mem s image) (length image) [] state h.represents kind id b (record { at = at.at image state i h; some = at.some })
 
@@ -233,7 +233,7 @@ customers_stay_reads s s' r = record {
 
 -- what was found stands in its block after a change that lets it stay
 pub item_at_stays : (s s' : View) (kind : Kind) (id b : ℕ) → HoldsState s → Kept s s' →
-    ((image : List ℕ) (state state' : State) → Stands s' image → (h : IsState (mem s image) (length image) state) → (h' : IsState (mem s' image) (length image) state') → item_block h' kind id ≡ item_block h kind id) →
+    ((image : List ℕ) (state state' : State) → RestsOn s' image → (h : IsState (mem s image) (length image) state) → (h' : IsState (mem s' image) (length image) state') → item_block h' kind id ≡ item_block h kind id) →
     ItemIsAt s kind id b → ItemIsAt s' kind id b
 item_at_stays s s' kind id b held k stay at = record {
   some = at.some;
@@ -245,7 +245,7 @@ item_at_stays s s' kind id b held k stay at = record {
 }
 
 pub customer_at_stays : (s s' : View) (id c : ℕ) → HoldsState s → Kept s s' →
-    ((image : List ℕ) (state state' : State) → Stands s' image → (h : IsState (mem s image) (length image) state) → (h' : IsState (mem s' image) (length image) state') → customer_block h' id ≡ customer_block h id) →
+    ((image : List ℕ) (state state' : State) → RestsOn s' image → (h : IsState (mem s image) (length image) state) → (h' : IsState (mem s' image) (length image) state') → customer_block h' id ≡ customer_block h id) →
     CustomerIsAt s id c → CustomerIsAt s' id c
 customer_at_stays s s' id c held k stay at = record {
   some = at.some;

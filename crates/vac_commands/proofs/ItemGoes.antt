@@ -9,7 +9,7 @@ use Rattle.tx_tree.specs.Table.{Table, Found, Removed}
 use Rattle.vac_records.specs.Items.{mem}
 use Rattle.vac_records.specs.Steps.{kept_both, stood}
 use Rattle.vac_records.specs.Represents.{Represents, IsState}
-use Rattle.vac_records.specs.Holds.{HoldsState}
+use Rattle.vac_records.specs.InMemory.{HoldsState}
 use Rattle.vac_records.proofs.Bridges.{hand_there, table_there}
 use Rattle.vac_records.proofs.Hands.{block_given}
 use Rattle.vac_records.proofs.Items.{item_removed}

@@ -1,7 +1,7 @@
 -- Units are taken away from an item, and one with no unit left is removed.
-use Rattle.std.proofs.Common.{◌≡◌, ◌≢◌, ℕ, ◌+◌, ◌-◌, ◌<◌, ◌≤◌, List, [], length, Some, true, false, IsTrue, nat_eq, nat_lt, refl, sym, ap, ◌∙◌, arith}
+use Rattle.std.proofs.Common.{◌≡◌, ◌≢◌, ℕ, ◌+◌, ◌-◌, ◌<◌, ◌≤◌, List, [], length, Some, true, false, nat_eq, nat_lt, refl, sym, ap, ◌∙◌, arith}
 use Rattle.std.proofs.lemmas.Bool.Decides.{nat_tests}
-use Rattle.stm_words.specs.View.{View, Sees, Stands, Loaded}
+use Rattle.stm_words.specs.View.{View, Sees, RestsOn, Loaded}
 use Rattle.stm_words.specs.Seen.{some_le}
 use Rattle.vac_model.specs.declared.items.Kind.{Kind}
 use Rattle.vac_model.specs.declared.items.Kind.TheVariants.{Flight}
@@ -13,7 +13,7 @@ use Rattle.vac_model.specs.Ranges.{is_command}
 use Rattle.vac_model.specs.State.{State, item_of, with_item, without_item}
 use Rattle.vac_model.specs.Step.{step, deleted}
 use Rattle.vac_records.specs.Items.{mem, item_in, HasFree, ItemChanged}
-use Rattle.vac_records.specs.Holds.{HoldsState, OnlyRead}
+use Rattle.vac_records.specs.InMemory.{HoldsState, OnlyRead}
 use Rattle.vac_records.proofs.Items.{item_replaced}
 use Rattle.vac_commands.specs.Entries.{LacksItem, HasItemAt}
 use Rattle.vac_commands.specs.Ran.{Ran, ItemGone}
@@ -96,7 +96,7 @@ read_twice s s1 s2 s3 a c v t reads l k = read_both s s2 s3 (read_both s s1 s2 r
 pub at_after : (s1 s2 s3 : View) (kind : Kind) (id b a c v t : ℕ) → HasItemAt s1 kind id b → Loaded s1 s2 a v → Loaded s2 s3 c t → HasItemAt s3 kind id b
 at_after s1 s2 s3 kind id b a c v t at l k = item_at_on s1 s3 kind id b (read_both s1 s2 s3 (read_by s1 s2 a v l) (read_by s2 s3 c t k)) at
 
-pub delete_less : (s s1 s2 s3 s4 : View) (kind : Kind) (id b num v t : ℕ) → IsTrue (is_command (command.Delete kind id num)) → OnlyRead s s1 → HasItemAt s1 kind id b → Loaded s1 s2 (b + 5) v → Loaded s2 s3 (b + 6) t → num ≤ v → num < t →
+pub delete_less : (s s1 s2 s3 s4 : View) (kind : Kind) (id b num v t : ℕ) → is_command (command.Delete kind id num) ≡ true → OnlyRead s s1 → HasItemAt s1 kind id b → Loaded s1 s2 (b + 5) v → Loaded s2 s3 (b + 6) t → num ≤ v → num < t →
     ItemChanged s3 s4 b (λ item. deleted item num) → (num ≡ 0 → s4.writes ≡ s3.writes) → Ran s s4 (command.Delete kind id num) reply.Done
 delete_less s s1 s2 s3 s4 kind id b num v t range reads at l k free less w none =
     let at3 = at_after s1 s2 s3 kind id b (b + 5) (b + 6) v t at l k in
@@ -118,7 +118,7 @@ delete_less s s1 s2 s3 s4 kind id b num v t range reads at l k free less w none 
     })
 
 -- an item that is there has units
-pub total_some : (s1 s2 s3 : View) (kind : Kind) (id b c v t : ℕ) → HoldsState s3 → HasItemAt s1 kind id b → Loaded s1 s2 c v → Loaded s2 s3 (b + 6) t → ∥ ((image : List ℕ) × Stands s3 image) ∥₁ → 1 ≤ t
+pub total_some : (s1 s2 s3 : View) (kind : Kind) (id b c v t : ℕ) → HoldsState s3 → HasItemAt s1 kind id b → Loaded s1 s2 c v → Loaded s2 s3 (b + 6) t → ∥ ((image : List ℕ) × RestsOn s3 image) ∥₁ → 1 ≤ t
 total_some s1 s2 s3 kind id b c v t held at l k ws = some_le 1 t ws (λ w.
     let i = w.1.sees in
     let h = held.under w.0 w.1 in
@@ -126,7 +126,7 @@ total_some s1 s2 s3 kind id b c v t held at l k ws = some_le 1 t ws (λ w.
     let is : mem s3 w.0 (b + 6) ≡ t = loaded_on s2 s3 s3 (b + 6) t k (read_none s3) w.0 i in
     omega (arith, (item_sound s3 kind id b at3 w.0 h.0 i h.1).some_units, is))
 
-pub delete_last : (s s1 s2 s3 s4 : View) (kind : Kind) (id b num v t : ℕ) → IsTrue (is_command (command.Delete kind id num)) → OnlyRead s s1 → HasItemAt s1 kind id b → Loaded s1 s2 (b + 5) v → Loaded s2 s3 (b + 6) t → num ≤ v → t ≤ num →
+pub delete_last : (s s1 s2 s3 s4 : View) (kind : Kind) (id b num v t : ℕ) → is_command (command.Delete kind id num) ≡ true → OnlyRead s s1 → HasItemAt s1 kind id b → Loaded s1 s2 (b + 5) v → Loaded s2 s3 (b + 6) t → num ≤ v → t ≤ num →
     1 ≤ t → ItemGone s3 s4 kind id → Ran s s4 (command.Delete kind id num) reply.Done
 delete_last s s1 s2 s3 s4 kind id b num v t range reads at l k free all some w =
     let at3 = at_after s1 s2 s3 kind id b (b + 5) (b + 6) v t at l k in

@@ -1,8 +1,8 @@
 -- Units are added to an item that is there, and its price is replaced where one is given.
-use Rattle.std.proofs.Common.{◌≡◌, ◌≢◌, ◌⊎◌, inl, inr, ℕ, ◌+◌, ◌<◌, ◌≤◌, ◌^◌, List, [], length, Option, Some, None, true, false, IsTrue, nat_lt, unwrap_or, refl, sym, ap, ◌∙◌, arith}
+use Rattle.std.proofs.Common.{◌≡◌, ◌≢◌, ◌⊎◌, inl, inr, ℕ, ◌+◌, ◌<◌, ◌≤◌, ◌^◌, List, [], length, Option, Some, None, true, false, nat_lt, unwrap_or, refl, sym, ap, ◌∙◌, arith}
 use Rattle.std.proofs.lemmas.Bool.Decides.{nat_tests}
 use Rattle.stm_words.specs.Seen.{some_le}
-use Rattle.stm_words.specs.View.{View, Sees, Stands, Loaded, Stored}
+use Rattle.stm_words.specs.View.{View, Sees, RestsOn, Loaded, Stored}
 use Rattle.vac_model.specs.declared.items.Kind.{Kind}
 use Rattle.vac_model.specs.declared.items.Item.{Item}
 use Rattle.vac_model.specs.declared.commands.Command.TheVariants as command
@@ -15,7 +15,7 @@ use Rattle.vac_model.specs.Balanced.{IsItem}
 use Rattle.vac_records.specs.Items.{mem, item_in, HasRoom, HasMore, UnitsAdded}
 use Rattle.vac_records.specs.Steps.{kept_both, stood}
 use Rattle.vac_records.specs.Represents.{IsState}
-use Rattle.vac_records.specs.Holds.{HoldsState}
+use Rattle.vac_records.specs.InMemory.{HoldsState}
 use Rattle.vac_records.proofs.Items.{item_replaced}
 use Rattle.vac_commands.specs.Entries.{HasItemAt}
 use Rattle.vac_commands.specs.ItemSteps.{PriceGiven}
@@ -27,7 +27,7 @@ use Rattle.vac_commands.proofs.ItemReads.{read_by}
 pub item_sound : (s : View) (kind : Kind) (id b : ℕ) → HasItemAt s kind id b → (image : List ℕ) (state : State) → Sees s image → IsState (mem s image) (length image) state → IsItem state kind id (item_in (mem s image) b)
 item_sound s kind id b at image state i h = h.small.balanced.items kind id (item_in (mem s image) b) (item_is s kind id b at image state i h)
 
-pub total_small : (s s1 : View) (kind : Kind) (id b v : ℕ) → HoldsState s → HasItemAt s kind id b → Loaded s s1 (b + 6) v → ∥ ((image : List ℕ) × Stands s1 image) ∥₁ → v ≤ 1000000000
+pub total_small : (s s1 : View) (kind : Kind) (id b v : ℕ) → HoldsState s → HasItemAt s kind id b → Loaded s s1 (b + 6) v → ∥ ((image : List ℕ) × RestsOn s1 image) ∥₁ → v ≤ 1000000000
 total_small s s1 kind id b v held at l ws = some_le v 1000000000 ws (λ w.
     let i = stood l.kept w.0 w.1 in
     let h = held.under w.0 i in
@@ -51,7 +51,7 @@ past_limit s s1 kind id b num v price at l over = ran_reads s s1 (command.Add ki
 -- both counts have room for the units
 pub more_room : (s s1 : View) (kind : Kind) (id b num v : ℕ) → HoldsState s → HasItemAt s kind id b → num < 2 ^ 32 → Loaded s s1 (b + 6) v → HasRoom s1 b num
 more_room s s1 kind id b num v held at few l =
-    let sound : (image : List ℕ) → Stands s1 image → (mem s image (b + 5) ≤ 1000000000) × (mem s image (b + 6) ≤ 1000000000) = λ image i.
+    let sound : (image : List ℕ) → RestsOn s1 image → (mem s image (b + 5) ≤ 1000000000) × (mem s image (b + 6) ≤ 1000000000) = λ image i.
     let i0 = stood l.kept image i in
     let h = held.under image i0 in
     let f = item_sound s kind id b at image h.0 i0.sees h.1 in
@@ -77,7 +77,7 @@ more_others m m1 m2 b num w others x far = elim far [
   | inr above ↦ others x (omega arith) ∙ w.others x (omega arith) (omega arith)
 ]
 
-pub more_done : (s s1 s2 s3 : View) (kind : Kind) (id b num v : ℕ) (price : Option ℕ) → HasItemAt s kind id b → IsTrue (is_command (command.Add kind id num price)) → Loaded s s1 (b + 6) v → v + num ≤ 1000000000 →
+pub more_done : (s s1 s2 s3 : View) (kind : Kind) (id b num v : ℕ) (price : Option ℕ) → HasItemAt s kind id b → is_command (command.Add kind id num price) ≡ true → Loaded s s1 (b + 6) v → v + num ≤ 1000000000 →
     UnitsAdded s1 s2 b num → (num ≡ 0 → s2.writes ≡ s1.writes) → PriceGiven s2 s3 b price → (price ≡ None → s3.writes ≡ s2.writes) → Ran s s3 (command.Add kind id num price) reply.Done
 more_done s s1 s2 s3 kind id b num v price at range l le u none p same = record {
   kept = kept_both s s2 s3 (kept_both s s1 s2 l.kept u.kept) p.kept;

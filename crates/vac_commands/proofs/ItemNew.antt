@@ -1,5 +1,5 @@
 -- An item that is missing is made, in a block that was free.
-use Rattle.std.proofs.Common.{◌≡◌, ◌≢◌, inl, inr, ℕ, ◌+◌, ◌<◌, List, [], ◌∷◌, length, Some, None, true, false, IsTrue, nat_eq, refl, sym, ap, ◌∙◌, subst, arith}
+use Rattle.std.proofs.Common.{◌≡◌, ◌≢◌, inl, inr, ℕ, ◌+◌, ◌<◌, List, [], ◌∷◌, length, Some, None, true, false, nat_eq, refl, sym, ap, ◌∙◌, subst, arith}
 use Rattle.std.proofs.lemmas.Bool.Decides.{nat_tests}
 use Rattle.stm_words.specs.View.{View, Sees}
 use Rattle.vac_model.specs.declared.items.Kind.{Kind}
@@ -18,7 +18,7 @@ use Rattle.vac_records.specs.Steps.{kept_both, stood}
 use Rattle.vac_records.specs.Heap.{used_in, count_in}
 use Rattle.vac_records.specs.Represents.{Represents, IsState}
 use Rattle.vac_records.specs.Laws.{Stays}
-use Rattle.vac_records.specs.Holds.{HoldsState}
+use Rattle.vac_records.specs.InMemory.{HoldsState}
 use Rattle.vac_records.proofs.Bridges.{pool_there, table_there}
 use Rattle.vac_records.proofs.Hands.{block_taken, block_written}
 use Rattle.vac_records.proofs.Items.{item_inserted}
@@ -136,7 +136,7 @@ fresh_in_hand s s1 s2 kind id num p start b root e held l t w = record {
 new_numbers : (m m' : ℕ → ℕ) (b id num p : ℕ) → IsNewItem m m' b id num p → item_in m' b ≡ new_item num p
 new_numbers m m' b id num p w = λ i. record { used = w.used_is i; free = w.free_is i; total = w.total_is i; price = w.price_is i }
 
-pub new_done : (s s1 s2 s3 : View) (kind : Kind) (id num p start b root : ℕ) → root ≡ 1 + kind_number kind → LacksItem s kind id → IsTrue (is_command (command.Add kind id num (Some p))) → num ≢ 0 →
+pub new_done : (s s1 s2 s3 : View) (kind : Kind) (id num p start b root : ℕ) → root ≡ 1 + kind_number kind → LacksItem s kind id → is_command (command.Add kind id num (Some p)) ≡ true → num ≢ 0 →
     Taken s s1 start b → ItemMade s1 s2 b id num p → Inserted s2 s3 root id b → Ran s s3 (command.Add kind id num (Some p)) reply.Done
 new_done s s1 s2 s3 kind id num p start b root e l range nz t w v = record {
   kept = kept_both s s2 s3 (kept_both s s1 s2 t.kept w.kept) v.kept;

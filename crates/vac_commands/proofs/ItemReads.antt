@@ -6,7 +6,7 @@ use Rattle.vac_model.specs.declared.commands.Command.TheVariants as command
 use Rattle.vac_model.specs.declared.replies.Reply.TheVariants as reply
 use Rattle.vac_model.specs.Step.{answered}
 use Rattle.vac_records.specs.Items.{mem}
-use Rattle.vac_records.specs.Holds.{OnlyRead}
+use Rattle.vac_records.specs.InMemory.{OnlyRead}
 use Rattle.vac_commands.specs.Entries.{LacksItem, HasItemAt}
 use Rattle.vac_commands.specs.Ran.{Asked}
 use Rattle.vac_commands.proofs.Held.{read_none, item_is, item_none, asked_reads, asked_after}

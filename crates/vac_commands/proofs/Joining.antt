@@ -2,7 +2,7 @@
 use Rattle.std.proofs.Common.{◌≡◌, inl, inr, ℕ, ◌<◌, ◌≤◌, List, [], ◌∷◌, length, Some, None, true, false, cond, nat_eq, refl, ap, ◌∙◌, arith}
 use Rattle.std.proofs.lemmas.Bool.Decides.{nat_tests}
 use Rattle.std.specs.FinMap.{empty}
-use Rattle.stm_words.specs.View.{View, Sees, Stands}
+use Rattle.stm_words.specs.View.{View, Sees, RestsOn}
 use Rattle.stm_words.specs.Seen.{some_le}
 use Rattle.vac_model.specs.declared.commands.Command.TheVariants as command
 use Rattle.vac_model.specs.declared.commands.Why.TheVariants.{Full, Exists}
@@ -18,7 +18,7 @@ use Rattle.vac_records.specs.Items.{mem, IsNode}
 use Rattle.vac_records.specs.Customers.{CustomerMade}
 use Rattle.vac_records.specs.Heap.{used_in, count_in}
 use Rattle.vac_records.specs.Represents.{IsState}
-use Rattle.vac_records.specs.Holds.{HoldsState, OnlyRead}
+use Rattle.vac_records.specs.InMemory.{HoldsState, OnlyRead}
 use Rattle.vac_records.specs.Laws.{Stays, StaysBut}
 use Rattle.vac_records.specs.Steps.{kept_both, stood}
 use Rattle.vac_records.proofs.Bridges.{pool_there, table_there}
@@ -190,7 +190,7 @@ module _ (s s1 s2 : View) (id start b : ℕ) (t : Taken s s1 start b) (w : Custo
         let e : nat_eq id id ≡ true = grind (arith, nat_tests) in
         at_put rs id b id ∙ ap (λ z. cond {A = ℕ} z b (block_at rs id)) e
 
-    pub seated_at : HoldsState s → ∥ ((image : List ℕ) × Stands s3 image) ∥₁ → HasSeat s s3 id b
+    pub seated_at : HoldsState s → ∥ ((image : List ℕ) × RestsOn s3 image) ∥₁ → HasSeat s s3 id b
     seated_at has ws =
         let low : 16 ≤ b = some_le 16 b ws (λ x.
         let i1 = stood w.kept x.0 (stood v.kept x.0 x.1) in

@@ -3,7 +3,7 @@ use Rattle.std.proofs.Common.{◌≡◌, ◌≢◌, ℕ, ◌+◌, ◌-◌, ◌<�
 use Rattle.std.specs.Prelude.{IsSome}
 use Rattle.std.proofs.lemmas.Grind.{not_there}
 use Rattle.std.specs.FinMap.{entries, remove, len, len-entries}
-use Rattle.stm_words.specs.View.{View, Words, Sees, Stands, Loaded, memory}
+use Rattle.stm_words.specs.View.{View, Words, Sees, RestsOn, Loaded, memory}
 use Rattle.stm_words.specs.Seen.{some_le}
 use Rattle.vac_model.specs.declared.items.Booking.{Booking}
 use Rattle.vac_model.specs.declared.commands.Command.TheVariants as command
@@ -29,7 +29,7 @@ use Rattle.vac_records.specs.Items.{mem, item_in}
 use Rattle.vac_records.specs.Bookings.{place_in, place_key, booking_in}
 use Rattle.vac_records.specs.Customers.{head_of}
 use Rattle.vac_records.specs.Represents.{IsState, bookings_in}
-use Rattle.vac_records.specs.Holds.{HoldsState, OnlyRead}
+use Rattle.vac_records.specs.InMemory.{HoldsState, OnlyRead}
 use Rattle.vac_records.specs.Steps.{kept_none, kept_both, stood}
 use Rattle.vac_records.proofs.Booked.{kind_back}
 use Rattle.vac_records.proofs.Bridges.{list_there}
@@ -47,7 +47,7 @@ use Rattle.vac_commands.proofs.Dropping.{first_found, cancelled, cancel_is, stil
 
 -- the id of a booking in a list
 pub id_small : (s s1 s2 : View) (b k v : ℕ) → HasBooking s b → Loaded s s1 (b + 0) k → Loaded s1 s2 (b + 1) v →
-    ∥ ((image : List ℕ) × Stands s2 image) ∥₁ → v < 2 ^ 32
+    ∥ ((image : List ℕ) × RestsOn s2 image) ∥₁ → v < 2 ^ 32
 id_small s s1 s2 b k v has l1 l2 ws = some_lt v (2 ^ 32) ws (λ w.
     let i1 = stood l2.kept w.0 w.1 in
     let t = has.under w.0 (stood l1.kept w.0 i1) in
@@ -111,7 +111,7 @@ module _ (s s1 s2 : View) (id c b : ℕ) (place : Place) (read : PlaceRead s s1 
   place_is image i = read.is image (r.kept.seen image i)
 
   module _ (held : HoldsState s) (first : StartsAt s id c b) where
-    pub item_not_missing : LacksItem s2 place.0 place.1 → ∥ ((image : List ℕ) × Stands s2 image) ∥₁ → ⊥
+    pub item_not_missing : LacksItem s2 place.0 place.1 → ∥ ((image : List ℕ) × RestsOn s2 image) ∥₁ → ⊥
     item_not_missing lacks ws = not_there ws (λ w.
         let image = w.0 in
         let i0 = stood read.kept image (stood r.kept image w.1) in
@@ -121,18 +121,18 @@ module _ (s s1 s2 : View) (id c b : ℕ) (place : Place) (read : PlaceRead s s1 
         not_some (item_of t.0 place.0 place.1) (item_none s2 place.0 place.1 lacks image t.0 w.1.sees h2)
         (item_there t.0 id place t.1.small.balanced f))
 
-    ids : (item : ℕ) → HasItemAt s2 place.0 place.1 item → (image : List ℕ) → Stands s2 image → is_id place.1 ≡ true
+    ids : (item : ℕ) → HasItemAt s2 place.0 place.1 item → (image : List ℕ) → RestsOn s2 image → is_id place.1 ≡ true
     ids item at image w =
         let t = held.under image (stood read.kept image (stood r.kept image w)) in
         let h2 = state_on s s2 image t.0 (r.writes ∙ read.writes) t.1 in
         let there = item_is s2 place.0 place.1 item at image t.0 w.sees h2 in
         (t.1.small.balanced.items place.0 place.1 (item_in (mem s2 image) item) there).id_range
 
-    pub id_fits : (item : ℕ) → HasItemAt s2 place.0 place.1 item → ∥ ((image : List ℕ) × Stands s2 image) ∥₁ → place.1 < 2 ^ 32
+    pub id_fits : (item : ℕ) → HasItemAt s2 place.0 place.1 item → ∥ ((image : List ℕ) × RestsOn s2 image) ∥₁ → place.1 < 2 ^ 32
     id_fits item at ws = some_lt place.1 (2 ^ 32) ws (λ w. id_high place.1 (ids item at w.0 w.1))
 
     pub cancel_range : (item : ℕ) → is_command (command.DropCustomer id) ≡ true →
-        HasItemAt s2 place.0 place.1 item → ∥ ((image : List ℕ) × Stands s2 image) ∥₁ →
+        HasItemAt s2 place.0 place.1 item → ∥ ((image : List ℕ) × RestsOn s2 image) ∥₁ →
         is_command (command.Cancel id place.0 place.1) ≡ true
     cancel_range item range at ws =
         let low : 1 ≤ place.1 = some_le 1 place.1 ws (λ w. id_low place.1 (ids item at w.0 w.1)) in

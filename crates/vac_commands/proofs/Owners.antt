@@ -1,7 +1,7 @@
 -- The customer and the item of a command on bookings.
 use Rattle.std.proofs.Common.{◌≡◌, ◌≢◌, ℕ, ◌<◌, ◌^◌, List, [], length, Option, Some, None, sym, ap, ◌∙◌, subst, arith}
 use Rattle.std.specs.FinMap.{get}
-use Rattle.stm_words.specs.View.{View, Words, Sees, Stands, memory}
+use Rattle.stm_words.specs.View.{View, Words, Sees, RestsOn, memory}
 use Rattle.vac_model.specs.declared.items.Kind.{Kind}
 use Rattle.vac_model.specs.State.{State, Place, item_of}
 use Rattle.tx_alloc.specs.Pointer.{pointer, IsWithin}
@@ -14,7 +14,7 @@ use Rattle.vac_records.specs.Items.{mem, item_in}
 use Rattle.vac_records.specs.Bookings.{place_key, booking_in}
 use Rattle.vac_records.specs.Customers.{head_of}
 use Rattle.vac_records.specs.Represents.{IsState}
-use Rattle.vac_records.specs.Holds.{HoldsState, OnlyRead}
+use Rattle.vac_records.specs.InMemory.{HoldsState, OnlyRead}
 use Rattle.vac_records.specs.Laws.{HasBookings, IsCustomerAt, IsItemAt}
 use Rattle.vac_records.proofs.Keyed.{row_at, row_times}
 use Rattle.vac_records.proofs.Shifts.{in_table, in_list}
@@ -39,7 +39,7 @@ here s customer owner kind id item c f small image state i h = record {
 
 -- the same of images of the memory's size
 pub here_at : (s : View) (customer owner : ℕ) (kind : Kind) (id item : ℕ) → CustomerIsAt s customer owner → ItemIsAt s kind id item → id < 2 ^ 32 →
-    (image : List ℕ) (state : State) → Stands s image → (h : IsState (mem s image) (length image) state) → Here h customer owner kind id item
+    (image : List ℕ) (state : State) → RestsOn s image → (h : IsState (mem s image) (length image) state) → Here h customer owner kind id item
 here_at s customer owner kind id item c f small image state i h = record {
   owner_is = c.at image state i h;
   owner_some = c.some;

@@ -8,7 +8,7 @@ use Rattle.vac_model.specs.declared.commands.Why.TheVariants.{NoCustomer, NoItem
 use Rattle.vac_model.specs.declared.replies.Reply.TheVariants as reply
 use Rattle.vac_model.specs.State.{State, Bookings, item_of, bookings_of}
 use Rattle.vac_model.specs.Step.{step, refused}
-use Rattle.vac_records.specs.Holds.{OnlyRead}
+use Rattle.vac_records.specs.InMemory.{OnlyRead}
 use Rattle.vac_commands.specs.Entries.{LacksItem, LacksCustomer, HasCustomerAt}
 use Rattle.vac_commands.specs.Ran.{Ran}
 use Rattle.vac_commands.proofs.Held.{state_on, item_none, customer_is, customer_none, ran_reads, read_both}

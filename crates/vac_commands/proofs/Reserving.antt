@@ -1,5 +1,5 @@
 -- Whether an item has so many units, and at which price.
-use Rattle.std.proofs.Common.{◌≡◌, ℕ, ◌+◌, ◌<◌, ◌≤◌, ◌^◌, length, Some, true, nat_lt, IsTrue, refl, sym, ap, ◌∙◌, arith}
+use Rattle.std.proofs.Common.{◌≡◌, ℕ, ◌+◌, ◌<◌, ◌≤◌, ◌^◌, length, Some, true, nat_lt, refl, sym, ap, ◌∙◌, arith}
 use Rattle.std.proofs.lemmas.Bool.Decides.{nat_tests}
 use Rattle.stm_words.specs.View.{View, Loaded}
 use Rattle.vac_model.specs.declared.items.Kind.{Kind}
@@ -18,7 +18,7 @@ use Rattle.tx_list.specs.declared.search.Spot.{Spot}
 use Rattle.vac_records.specs.Items.{mem, item_in}
 use Rattle.vac_records.specs.Bookings.{place_key}
 use Rattle.vac_records.specs.Customers.{head_of}
-use Rattle.vac_records.specs.Holds.{OnlyRead}
+use Rattle.vac_records.specs.InMemory.{OnlyRead}
 use Rattle.vac_commands.specs.Entries.{HasItemAt, HasCustomerAt}
 use Rattle.vac_commands.specs.BookingSteps.{AtBlocks, AtBooking, AtSpot, IsOffered, Serves}
 use Rattle.vac_commands.proofs.Held.{read_none, read_both}
@@ -62,12 +62,12 @@ reserved_none s s2 s3 s4 customer owner kind id item spot c r reads f v =
     (λ image state i h e. record { here = e; at = spot_at s s2 s3 customer owner kind id item spot reads f image state (v.kept.seen image i) h e })
 
 -- the customer and the item were found
-pub served_found : (s s' : View) (customer owner : ℕ) (kind : Kind) (id item : ℕ) (c : Command) (r : Reply) → IsTrue (is_command c) → HasCustomerAt s customer owner → HasItemAt s kind id item → id < 2 ^ 32 → Serves s s' c r (AtBlocks customer owner kind id item) → RanInPlace s s' c r
+pub served_found : (s s' : View) (customer owner : ℕ) (kind : Kind) (id item : ℕ) (c : Command) (r : Reply) → is_command c ≡ true → HasCustomerAt s customer owner → HasItemAt s kind id item → id < 2 ^ 32 → Serves s s' c r (AtBlocks customer owner kind id item) → RanInPlace s s' c r
 served_found s s' customer owner kind id item c r range at f small v =
     in_place s s' c r (AtBlocks customer owner kind id item) range v (λ image state i h. here s customer owner kind id item at f small image state (v.kept.seen image i) h)
 
 -- and so was the booking's spot
-pub cancelled_found : (s s1 s' : View) (customer owner : ℕ) (kind : Kind) (id item : ℕ) (spot : Spot) (r : Reply) → IsTrue (is_command (command.Cancel customer kind id)) → HasCustomerAt s customer owner → HasItemAt s kind id item → id < 2 ^ 32 →
+pub cancelled_found : (s s1 s' : View) (customer owner : ℕ) (kind : Kind) (id item : ℕ) (spot : Spot) (r : Reply) → is_command (command.Cancel customer kind id) ≡ true → HasCustomerAt s customer owner → HasItemAt s kind id item → id < 2 ^ 32 →
     Sought s s1 (head_of owner) (place_key (kind, id)) spot → Serves s1 s' (command.Cancel customer kind id) r (AtSpot customer owner kind id item spot) → RanInPlace s s' (command.Cancel customer kind id) r
 cancelled_found s s1 s' customer owner kind id item spot r range at f small k v =
     let c = command.Cancel customer kind id in

@@ -1,5 +1,5 @@
 -- From what a command does to the memory under one image to what it does under all of them.
-use Rattle.std.proofs.Common.{◌≡◌, ℕ, ◌<◌, List, [], length, IsTrue, refl, sym, ap, ◌∙◌, subst, arith}
+use Rattle.std.proofs.Common.{◌≡◌, ℕ, ◌<◌, List, [], length, refl, sym, ap, ◌∙◌, subst, arith, true}
 use Rattle.stm_words.specs.View.{View, Sees, Words, memory}
 use Rattle.vac_model.specs.declared.items.Kind.{Kind}
 use Rattle.vac_model.specs.declared.commands.Command.{Command}
@@ -10,7 +10,7 @@ use Rattle.vac_model.specs.Step.{step}
 use Rattle.tx_alloc.specs.Rows.{Rows, block_at}
 use Rattle.vac_records.specs.Items.{mem}
 use Rattle.vac_records.specs.Represents.{Represents, IsState}
-use Rattle.vac_records.specs.Holds.{OnlyRead}
+use Rattle.vac_records.specs.InMemory.{OnlyRead}
 use Rattle.vac_records.specs.Laws.{Stays}
 use Rattle.vac_records.specs.Steps.{kept_both}
 use Rattle.vac_records.proofs.Shifts.{kind_small}
@@ -43,11 +43,11 @@ customer_lands m m' n s t c r h h' l id =
     let four : 3 < 4 = omega arith in
     ap (λ (rs : Rows). block_at rs id) (tables_stay m m' n s t c r h h' l 3 four)
 
-pub outcome_lands : (m m' : ℕ → ℕ) (n : ℕ) (s : State) (c : Command) (r : Reply) (h : IsState m n s) → IsTrue (is_command c) → Lands h m' c r → IsOutcome m' n (step s c) r
+pub outcome_lands : (m m' : ℕ → ℕ) (n : ℕ) (s : State) (c : Command) (r : Reply) (h : IsState m n s) → is_command c ≡ true → Lands h m' c r → IsOutcome m' n (step s c) r
 outcome_lands m m' n s c r h range l = outcome_of m m' n s l.state c r h range l.is l.stays.after
 
 -- P holds under every image
-pub in_place : (s s' : View) (c : Command) (r : Reply) (P : (m : ℕ → ℕ) (n : ℕ) (state : State) → IsState m n state → Type 0) → IsTrue (is_command c) → Serves s s' c r P →
+pub in_place : (s s' : View) (c : Command) (r : Reply) (P : (m : ℕ → ℕ) (n : ℕ) (state : State) → IsState m n state → Type 0) → is_command c ≡ true → Serves s s' c r P →
     ((image : List ℕ) (state : State) → Sees s' image → (h : IsState (mem s image) (length image) state) → P (mem s image) (length image) state h) → RanInPlace s s' c r
 in_place s s' c r P range v all = record {
   ran = record {

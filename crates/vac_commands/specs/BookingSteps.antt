@@ -1,6 +1,6 @@
 -- What a command on bookings needs and does, where its customer and its item were found before.
 use Rattle.std.specs.Prelude.{◌≡◌, ◌≢◌, ℕ, ◌+◌, ◌<◌, ◌≤◌, ◌^◌, List, [], length}
-use Rattle.stm_words.specs.View.{View, Sees, Stands, Kept}
+use Rattle.stm_words.specs.View.{View, Sees, RestsOn, Kept}
 use Rattle.vac_model.specs.declared.commands.Command.{Command}
 use Rattle.vac_model.specs.declared.items.Kind.{Kind}
 use Rattle.vac_model.specs.declared.replies.Reply.{Reply}
@@ -54,14 +54,14 @@ pub record AtSpot (customer owner : ℕ) (kind : Kind) (id item : ℕ) (spot : S
 -- owner
 pub record HasBookingAt (s : View) (owner : ℕ) (place : Place) (b : ℕ) : Type 0 where
   pub inside : IsInside s.size b
-  pub at : (image : List ℕ) (state : State) → Stands s image →
+  pub at : (image : List ℕ) (state : State) → RestsOn s image →
       (h : IsState (mem s image) (length image) state) → booking_block h owner place ≡ b
 
 -- under each image of the memory's size this is the booking's spot in the list of that customer
 pub record HasSpot (s : View) (owner : ℕ) (place : Place) (spot : Spot) : Type 0 where
   pub room : spot.link.0 < s.size
   pub within : IsWithin s spot.entry
-  pub at : (image : List ℕ) (state : State) → Stands s image →
+  pub at : (image : List ℕ) (state : State) → RestsOn s image →
       (h : IsState (mem s image) (length image) state) →
       SpotAt (mem s image) (head_of owner) (place_key place) spot (h.represents.parts.lists owner)
 

@@ -1,7 +1,7 @@
 -- What the steps of commands on customers need and do.
 use Rattle.std.specs.Prelude.{◌≡◌, ◌≢◌, ℕ, ◌-◌, ◌≤◌, List, ◌∷◌, length, Some}
 use Rattle.std.specs.FinMap.{empty, entries, len}
-use Rattle.stm_words.specs.View.{View, Sees, Stands, Kept}
+use Rattle.stm_words.specs.View.{View, Sees, RestsOn, Kept}
 use Rattle.vac_model.specs.declared.commands.Command.{Command}
 use Rattle.vac_model.specs.declared.items.Booking.{Booking}
 use Rattle.vac_model.specs.declared.items.Kind.{Kind}
@@ -44,7 +44,7 @@ pub record HasSeat (s s' : View) (id c : ℕ) : Type 0 where
 
 -- under each image of the memory's size the customer is there and has no bookings
 pub record HasNoBookings (s : View) (id : ℕ) : Type 0 where
-  pub none : (image : List ℕ) (state : State) → Stands s image →
+  pub none : (image : List ℕ) (state : State) → RestsOn s image →
       IsState (mem s image) (length image) state → bookings_of state id ≡ Some empty
 
 -- the customer has bookings, and the first one is in block b
@@ -59,8 +59,8 @@ pub record HasFirst (m : ℕ → ℕ) (n : ℕ) (s : State) (id b : ℕ) : Type 
 -- and c leads there
 pub record StartsAt (s : View) (id c b : ℕ) : Type 0 where
   pub inside : IsInside s.size b
-  pub leads : (image : List ℕ) → Stands s image → mem s image (head_of c) ≡ b
-  pub under : (image : List ℕ) (state : State) → Stands s image →
+  pub leads : (image : List ℕ) → RestsOn s image → mem s image (head_of c) ≡ b
+  pub under : (image : List ℕ) (state : State) → RestsOn s image →
       IsState (mem s image) (length image) state →
       HasFirst (mem s image) (length image) state id b
 

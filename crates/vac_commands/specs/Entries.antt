@@ -1,6 +1,6 @@
 -- Where the entries of the state stand that a memory holds.
 use Rattle.std.specs.Prelude.{◌≡◌, ◌≢◌, ℕ, List, length}
-use Rattle.stm_words.specs.View.{View, Sees, Stands}
+use Rattle.stm_words.specs.View.{View, Sees, RestsOn}
 use Rattle.vac_model.specs.declared.items.Kind.{Kind}
 use Rattle.vac_model.specs.State.{State, kind_number}
 use Rattle.tx_alloc.specs.Rows.{block_at}
@@ -49,19 +49,19 @@ pub record HasCustomerAt (s : View) (id c : ℕ) : Type 0 where
 pub record ItemIsAt (s : View) (kind : Kind) (id b : ℕ) : Type 0 where
   pub some : b ≢ 0
   pub inside : IsInside s.size b
-  pub at : (image : List ℕ) (state : State) → Stands s image →
+  pub at : (image : List ℕ) (state : State) → RestsOn s image →
       (h : IsState (mem s image) (length image) state) → item_block h kind id ≡ b
 
 -- c is the customer's block
 pub record CustomerIsAt (s : View) (id c : ℕ) : Type 0 where
   pub some : c ≢ 0
   pub inside : IsInside s.size c
-  pub at : (image : List ℕ) (state : State) → Stands s image →
+  pub at : (image : List ℕ) (state : State) → RestsOn s image →
       (h : IsState (mem s image) (length image) state) → customer_block h id ≡ c
 
 -- the customer is missing
 pub record CustomerIsMissing (s : View) (id : ℕ) : Type 0 where
-  pub none : (image : List ℕ) (state : State) → Stands s image →
+  pub none : (image : List ℕ) (state : State) → RestsOn s image →
       (h : IsState (mem s image) (length image) state) → customer_block h id ≡ 0
 
 -- under each image the items stand in the same blocks as before

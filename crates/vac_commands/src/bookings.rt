@@ -1,8 +1,8 @@
 //! Commands on bookings.
 
-ghost use Rattle.std.specs.Prelude.{◌≡◌, IfOk, IsTrue, None};
+ghost use Rattle.std.specs.Prelude.{◌≡◌, IfOk, None, true};
 ghost use Rattle.vac_model.specs.Ranges.{is_command};
-ghost use Rattle.vac_records.specs.Holds.{HoldsState};
+ghost use Rattle.vac_records.specs.InMemory.{HoldsState};
 ghost use Rattle.vac_commands.specs.Entries.{ItemIsAt, CustomerIsAt};
 ghost use Rattle.vac_commands.specs.Ran.{Ran};
 ghost use Rattle.vac_commands.specs.BookingSteps.{AtBlocks, AtBooking, AtSpot, HasBookingAt, HasSpot, IsOffered, Serves};
@@ -38,7 +38,7 @@ pub fn reserve<M: TxMem>(
     start: FreeList,
 ) -> Result<Reply, M::Stop>
     requires state { HoldsState (M.view memory.old) }
-    requires range { IsTrue (is_command (Command.Reserve customer kind id num)) }
+    requires range { is_command (Command.Reserve customer kind id num) ≡ true }
     ensures origin { M.origin memory.new ≡ M.origin memory.old }
     ensures answer { IfOk result (λ reply. Ran (M.view memory.old) (M.view memory.new)
         (Command.Reserve customer kind id num) reply) }
@@ -66,7 +66,7 @@ pub fn reserve_at<M: TxMem>(
     requires state { HoldsState (M.view memory.old) }
     requires customer { CustomerIsAt (M.view memory.old) customer owner }
     requires item { ItemIsAt (M.view memory.old) kind id item }
-    requires range { IsTrue (is_command (Command.Reserve customer kind id num)) }
+    requires range { is_command (Command.Reserve customer kind id num) ≡ true }
     ensures origin { M.origin memory.new ≡ M.origin memory.old }
     ensures answer { IfOk result (λ reply. Serves (M.view memory.old) (M.view memory.new)
         (Command.Reserve customer kind id num) reply
@@ -107,7 +107,7 @@ fn extend_booking<M: TxMem>(
     requires item { ItemIsAt (M.view memory.old) kind id item }
     requires offered { IsOffered (M.view memory.old) item num offer }
     requires booking { HasBookingAt (M.view memory.old) owner (kind, id) booking }
-    requires range { IsTrue (is_command (Command.Reserve customer kind id num)) }
+    requires range { is_command (Command.Reserve customer kind id num) ≡ true }
     ensures origin { M.origin memory.new ≡ M.origin memory.old }
     ensures answer { IfOk result (λ reply. Serves (M.view memory.old) (M.view memory.new)
         (Command.Reserve customer kind id num) reply
@@ -141,7 +141,7 @@ fn add_booking<M: TxMem>(
     requires offered { IsOffered (M.view memory.old) item num offer }
     requires missing { spot.entry ≡ None }
     requires spot { HasSpot (M.view memory.old) owner (kind, id) spot }
-    requires range { IsTrue (is_command (Command.Reserve customer kind id num)) }
+    requires range { is_command (Command.Reserve customer kind id num) ≡ true }
     ensures origin { M.origin memory.new ≡ M.origin memory.old }
     ensures answer { IfOk result (λ reply. Serves (M.view memory.old) (M.view memory.new)
         (Command.Reserve customer kind id num) reply
@@ -165,7 +165,7 @@ pub fn cancel<M: TxMem>(
     start: FreeList,
 ) -> Result<Reply, M::Stop>
     requires state { HoldsState (M.view memory.old) }
-    requires range { IsTrue (is_command (Command.Cancel customer kind id)) }
+    requires range { is_command (Command.Cancel customer kind id) ≡ true }
     ensures origin { M.origin memory.new ≡ M.origin memory.old }
     ensures answer { IfOk result (λ reply. Ran (M.view memory.old) (M.view memory.new)
         (Command.Cancel customer kind id) reply) }
@@ -196,7 +196,7 @@ pub(crate) fn cancel_at<M: TxMem>(
     requires customer { CustomerIsAt (M.view memory.old) customer owner }
     requires item { ItemIsAt (M.view memory.old) kind id item }
     requires spot { HasSpot (M.view memory.old) owner (kind, id) spot }
-    requires range { IsTrue (is_command (Command.Cancel customer kind id)) }
+    requires range { is_command (Command.Cancel customer kind id) ≡ true }
     ensures origin { M.origin memory.new ≡ M.origin memory.old }
     ensures answer { IfOk result (λ reply. Serves (M.view memory.old) (M.view memory.new)
         (Command.Cancel customer kind id) reply

@@ -1,10 +1,10 @@
 //! Commands on customers.
 
-ghost use Rattle.std.specs.Prelude.{◌≡◌, ◌+◌, ◌≤◌, IfOk, IfErr, IsTrue, MatchOption, Some};
+ghost use Rattle.std.specs.Prelude.{◌≡◌, ◌+◌, ◌≤◌, IfOk, IfErr, MatchOption, Some, true};
 ghost use Rattle.vac_model.specs.Ranges.{is_command};
 ghost use Rattle.tx_list.specs.Lists.{HasBooking};
 ghost use Rattle.vac_model.specs.Coded.{kind_of_number};
-ghost use Rattle.vac_records.specs.Holds.{HoldsState};
+ghost use Rattle.vac_records.specs.InMemory.{HoldsState};
 ghost use Rattle.vac_commands.specs.Entries.{CustomerIsAt, CustomerIsMissing};
 ghost use Rattle.vac_commands.specs.CustomerSteps.{RanOn, ItemsStayOn, HasSeat, HasNoBookings, StartsAt, PlaceRead, OneGivenBack, GivenBack};
 ghost use Rattle.vac_commands.specs.Ran.{Ran, Asked, CustomerGone, joining};
@@ -22,7 +22,7 @@ use vac_records::{CUSTOMERS, init_customer, place};
 /// on.
 pub fn new_customer<M: TxMem>(memory: &mut M, id: u32, start: FreeList) -> Result<Reply, M::Stop>
     requires state { HoldsState (M.view memory.old) }
-    requires range { IsTrue (is_command (Command.NewCustomer id)) }
+    requires range { is_command (Command.NewCustomer id) ≡ true }
     ensures origin { M.origin memory.new ≡ M.origin memory.old }
     ensures answer { IfOk result (λ reply. Ran (M.view memory.old) (M.view memory.new)
         (Command.NewCustomer id) reply) }
@@ -47,7 +47,7 @@ pub fn add_customer<M: TxMem>(
 ) -> Result<Option<Block>, M::Stop>
     requires state { HoldsState (M.view memory.old) }
     requires missing { CustomerIsMissing (M.view memory.old) id }
-    requires range { IsTrue (is_command (Command.NewCustomer id)) }
+    requires range { is_command (Command.NewCustomer id) ≡ true }
     ensures origin { M.origin memory.new ≡ M.origin memory.old }
     ensures answer { IfOk result (λ added. RanOn (M.view memory.old) (M.view memory.new)
         id 0 (Command.NewCustomer id) (joining added)) }
@@ -98,7 +98,7 @@ pub fn bill_at<M: TxRead>(memory: &mut M, id: u32, customer: Block) -> Result<u6
 /// first of free list `start`.
 pub fn drop_customer<M: TxMem>(memory: &mut M, id: u32, start: FreeList) -> Result<Reply, M::Stop>
     requires state { HoldsState (M.view memory.old) }
-    requires range { IsTrue (is_command (Command.DropCustomer id)) }
+    requires range { is_command (Command.DropCustomer id) ≡ true }
     ensures origin { M.origin memory.new ≡ M.origin memory.old }
     ensures answer { IfOk result (λ reply. Ran (M.view memory.old) (M.view memory.new)
         (Command.DropCustomer id) reply) }
@@ -121,7 +121,7 @@ pub fn drop_customer_at<M: TxMem>(
 ) -> Result<(), M::Stop>
     requires state { HoldsState (M.view memory.old) }
     requires customer { CustomerIsAt (M.view memory.old) id customer }
-    requires range { IsTrue (is_command (Command.DropCustomer id)) }
+    requires range { is_command (Command.DropCustomer id) ≡ true }
     ensures origin { M.origin memory.new ≡ M.origin memory.old }
     ensures answer { IfOk result (λ _. RanOn (M.view memory.old) (M.view memory.new)
         id customer (Command.DropCustomer id) Reply.Done) }
@@ -141,7 +141,7 @@ fn give_bookings_back<M: TxMem>(
 ) -> Result<(), M::Stop>
     requires state { HoldsState (M.view memory.old) }
     requires customer { CustomerIsAt (M.view memory.old) id customer }
-    requires range { IsTrue (is_command (Command.DropCustomer id)) }
+    requires range { is_command (Command.DropCustomer id) ≡ true }
     ensures origin { M.origin memory.new ≡ M.origin memory.old }
     ensures answer { IfOk result (λ _. GivenBack (M.view memory.old) (M.view memory.new)
         id customer 0) }
@@ -168,7 +168,7 @@ fn cancel_first<M: TxMem>(
     requires state { HoldsState (M.view memory.old) }
     requires customer { CustomerIsAt (M.view memory.old) id customer }
     requires first { StartsAt (M.view memory.old) id customer booking }
-    requires range { IsTrue (is_command (Command.DropCustomer id)) }
+    requires range { is_command (Command.DropCustomer id) ≡ true }
     ensures origin { M.origin memory.new ≡ M.origin memory.old }
     ensures answer { IfOk result (λ _. OneGivenBack (M.view memory.old) (M.view memory.new)
         id customer booking) }

@@ -1,7 +1,7 @@
 //! Finding entries in the tables.
 
 ghost use Rattle.std.specs.Prelude.{◌≡◌, IfOk, IfErr, MatchOption};
-ghost use Rattle.vac_records.specs.Holds.{HoldsState, OnlyRead};
+ghost use Rattle.vac_records.specs.InMemory.{HoldsState, OnlyRead};
 ghost use Rattle.vac_commands.specs.Entries.{LacksItem, HasItemAt, LacksCustomer, HasCustomerAt};
 
 use stm_words::TxRead;

@@ -1,9 +1,9 @@
 //! Commands on items.
 
-ghost use Rattle.std.specs.Prelude.{◌≡◌, IfOk, IfErr, IsTrue, None};
+ghost use Rattle.std.specs.Prelude.{◌≡◌, IfOk, IfErr, None, true};
 ghost use Rattle.vac_model.specs.Ranges.{is_command};
 ghost use Rattle.vac_model.specs.Step.{deleted};
-ghost use Rattle.vac_records.specs.Holds.{HoldsState};
+ghost use Rattle.vac_records.specs.InMemory.{HoldsState};
 ghost use Rattle.vac_records.specs.Items.{IsNode, HasRoom, HasFree, UnitsAdded, ItemChanged};
 ghost use Rattle.vac_commands.specs.Entries.{LacksItem, HasItem, HasItemAt};
 ghost use Rattle.vac_commands.specs.ItemSteps.{PriceGiven};
@@ -63,7 +63,7 @@ fn add_new<M: TxMem>(
 ) -> Result<Reply, M::Stop>
     requires state { HoldsState (M.view memory.old) }
     requires missing { LacksItem (M.view memory.old) kind id }
-    requires range { IsTrue (is_command (Command.Add kind id num price)) }
+    requires range { is_command (Command.Add kind id num price) ≡ true }
     ensures origin { M.origin memory.new ≡ M.origin memory.old }
     ensures answer { IfOk result (λ reply. Ran (M.view memory.old) (M.view memory.new)
         (Command.Add kind id num price) reply) }
@@ -128,7 +128,7 @@ fn add_more<M: TxMem>(
 ) -> Result<Reply, M::Stop>
     requires state { HoldsState (M.view memory.old) }
     requires item { HasItemAt (M.view memory.old) kind id item }
-    requires range { IsTrue (is_command (Command.Add kind id num price)) }
+    requires range { is_command (Command.Add kind id num price) ≡ true }
     ensures origin { M.origin memory.new ≡ M.origin memory.old }
     ensures answer { IfOk result (λ reply. Ran (M.view memory.old) (M.view memory.new)
         (Command.Add kind id num price) reply) }
@@ -153,7 +153,7 @@ pub fn add<M: TxMem>(
     start: FreeList,
 ) -> Result<Reply, M::Stop>
     requires state { HoldsState (M.view memory.old) }
-    requires range { IsTrue (is_command (Command.Add kind id num price)) }
+    requires range { is_command (Command.Add kind id num price) ≡ true }
     ensures origin { M.origin memory.new ≡ M.origin memory.old }
     ensures answer { IfOk result (λ reply. Ran (M.view memory.old) (M.view memory.new)
         (Command.Add kind id num price) reply) }
@@ -212,7 +212,7 @@ pub fn delete<M: TxMem>(
     start: FreeList,
 ) -> Result<Reply, M::Stop>
     requires state { HoldsState (M.view memory.old) }
-    requires range { IsTrue (is_command (Command.Delete kind id num)) }
+    requires range { is_command (Command.Delete kind id num) ≡ true }
     ensures origin { M.origin memory.new ≡ M.origin memory.old }
     ensures answer { IfOk result (λ reply. Ran (M.view memory.old) (M.view memory.new)
         (Command.Delete kind id num) reply) }

@@ -10,7 +10,7 @@ use Rattle.vac_judge.specs.declared.verdict.Verdict.{Verdict}
 use Rattle.vac_judge.specs.Call.{Call}
 use Rattle.vac_judge.specs.Order.{breaks_client, breaks_time, wrong_of}
 use Rattle.vac_judge.specs.Verdict.{judged}
-use Rattle.vac_plain.specs.Holds.{IsStateOf}
+use Rattle.vac_plain.specs.PlainState.{IsStateOf}
 use Rattle.vac_judge.specs.Follows.{Keeps}
 use Rattle.std.specs.Prelude.{true, false}
 

@@ -8,7 +8,7 @@ use Rattle.stm_core.specs.Event.{begin, finish}
 use Rattle.stm_core.proofs.Lists.{by_bool}
 use Rattle.stm_logs.specs.Log.{LogValue}
 use Rattle.stm_region.specs.Shown.{RegionShown, ClientShown, acted}
-use Rattle.stm_region.specs.Told.{IsEarlier, AreEarlier}
+use Rattle.stm_region.specs.Findings.{IsEarlier, AreEarlier}
 use Rattle.stm_attempt.specs.Begun.{still}
 use Rattle.stm_attempt.specs.Committing.{HasCommitted, HasStopped, IsCommitVersion, commit_record}
 use Rattle.stm_attempt.proofs.Named.{apart, same_attempt}

@@ -55,12 +55,12 @@ whole region v h all =
     let k = h.decided.decides in
     let then : Client = h.decided.then in
     let same = sym h.decided.same in
-    let out : then.spent ≡ false = ap (λ (c : Client). c.spent) same ∙ h.out in
+    let out : then.is_gathered ≡ false = ap (λ (c : Client). c.is_gathered) same ∙ h.out in
     let grants : then.grants ≡ v.grants = ap (λ (c : Client). c.grants) same in
     let records : then.records ≡ v.records = ap (λ (c : Client). c.records) same in
     let alone = all_grants law (stripe_of region.stripes) k.core k.rule k.number then k.member out (grants ∙ all) in
     let sorted = own_sorted law (stripe_of region.stripes) k.core k.rule k.number then k.member in
-    let mine = all_of_one k.core.clients k.number then k.member sorted (λ j w t n. ap (λ (c : Client). c.records) (k.rule.past.spent j w t (alone j w t n))) in
+    let mine = all_of_one k.core.clients k.number then k.member sorted (λ j w t n. ap (λ (c : Client). c.records) (k.rule.past.are_gone j w t (alone j w t n))) in
     (h.last, subst (λ (rs : List Record). IsHistory region rs h.last) (mine ∙ records) h.legal)
 
 -- a record's tag says its task and its reply

@@ -1,5 +1,5 @@
 -- A task that was run over a running transaction makes a lawful record.
-use Rattle.std.proofs.Common.{◌≡◌, ℕ, ◌<◌, ◌≤◌, Bool, true, false, eqb, ◌&&◌, ◌==◌, is_none, List, [], ◌∷◌, Option, Some, None, IsTrue, unwrap_or, length, slice_index, refl, sym, ap, ◌∙◌, subst, arith}
+use Rattle.std.proofs.Common.{◌≡◌, ℕ, ◌<◌, ◌≤◌, Bool, true, false, eqb, ◌&&◌, ◌==◌, is_none, List, [], ◌∷◌, Option, Some, None, unwrap_or, length, slice_index, refl, sym, ap, ◌∙◌, subst, arith}
 use Rattle.std.proofs.lemmas.Bool.Decides.{nat_tests}
 use Rattle.std.specs.FinMap.{FinMap, empty, entries, get-empty, len-entries, len-empty}
 use Rattle.std.specs.Ordering.{nat_cmp}
@@ -17,7 +17,7 @@ use Rattle.vac_model.specs.Run.{run}
 use Rattle.vac_model.specs.Ranges.{is_task}
 use Rattle.vac_model.specs.Code.{code}
 use Rattle.vac_records.specs.Represents.{IsState}
-use Rattle.vac_records.specs.Holds.{HoldsState}
+use Rattle.vac_records.specs.InMemory.{HoldsState}
 use Rattle.vac_records.proofs.Single.{same_words}
 use Rattle.vac_model.specs.declared.commands.Command.{Command}
 use Rattle.vac_model.specs.declared.commands.Command.TheVariants as command
@@ -74,7 +74,7 @@ holds_begun in_use region region' v w u same h e =
 pub no_pairs : log_pairs empty_log ≡ []
 no_pairs = no_entries (entries (empty {K = ℕ} {X = ℕ} {R = nat_cmp})) (sym (len-entries (empty {K = ℕ} {X = ℕ} {R = nat_cmp})) ∙ len-empty nat_cmp ℕ)
 
-lawful_in : (region region' : RegionShown) (v v' : Client) (w w' : LogValue) (t : Task) (r : Reply) → w ≡ empty_log → IsTrue (is_task t) →
+lawful_in : (region region' : RegionShown) (v v' : Client) (w w' : LogValue) (t : Task) (r : Reply) → w ≡ empty_log → is_task t ≡ true →
     RanTask (memory_of true region (λ (image : List ℕ). IsFitting image) v w) (memory_of true region' (λ (image : List ℕ). IsFitting image) v' w') t r → IsLawful (code t r) v'.attempt.reads (log_pairs w')
 lawful_in region region' v v' w w' t r e range ran = record {
   task = t;
@@ -93,7 +93,7 @@ lawful_in region region' v v' w w' t r e range ran = record {
       record { state = subst (λ (n : ℕ). IsState (words_of (laid image (log_pairs w'))) n (run s t).0) (sym long) after; reply_is = o.reply_is };
 }
 
-pub lawful : (in_use in_use' : Bool) (region region' : RegionShown) (c c' l l' : ℕ) (v v' : ClientShown) (w w' : LogValue) (t : Task) (r : Reply) → in_use ≡ true → w ≡ empty_log → IsTrue (is_task t) →
+pub lawful : (in_use in_use' : Bool) (region region' : RegionShown) (c c' l l' : ℕ) (v v' : ClientShown) (w w' : LogValue) (t : Task) (r : Reply) → in_use ≡ true → w ≡ empty_log → is_task t ≡ true →
     origin_of in_use' region' c' l' v' ≡ origin_of in_use region c l v →
     RanTask (memory_of in_use region (λ (image : List ℕ). IsFitting image) v.value w) (memory_of in_use' region' (λ (image : List ℕ). IsFitting image) v'.value w') t r → IsLawful (code t r) v'.value.attempt.reads (log_pairs w')
 lawful true true region region' c c' l l' v v' w w' t r u e range o ran = lawful_in region region' v.value v'.value w w' t r e range ran
@@ -101,7 +101,7 @@ lawful true false region region' c c' l l' v v' w w' t r u e range o ran = absur
 lawful false in_use' region region' c c' l l' v v' w w' t r u e range o ran = absurd (let n = u in cc)
 
 -- the same of a task that only read
-pub lawful_read : (in_use in_use' : Bool) (region region' : RegionShown) (c c' l l' : ℕ) (v v' : ClientShown) (t : Task) (r : Reply) → in_use ≡ true → IsTrue (is_task t) →
+pub lawful_read : (in_use in_use' : Bool) (region region' : RegionShown) (c c' l l' : ℕ) (v v' : ClientShown) (t : Task) (r : Reply) → in_use ≡ true → is_task t ≡ true →
     origin_of in_use' region' c' l' v' ≡ origin_of in_use region c l v →
     RanTask (memory_of in_use region (λ (image : List ℕ). IsFitting image) v.value empty_log) (memory_of in_use' region' (λ (image : List ℕ). IsFitting image) v'.value empty_log) t r → IsLawful (code t r) v'.value.attempt.reads []
 lawful_read in_use in_use' region region' c c' l l' v v' t r u range o ran =

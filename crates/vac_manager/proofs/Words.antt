@@ -10,7 +10,7 @@ use Rattle.stm_words.specs.PlainSeen.{get_at, get_behind}
 use Rattle.vac_model.specs.declared.replies.Report.{Report}
 use Rattle.vac_model.specs.State.{State, report}
 use Rattle.vac_records.specs.Items.{mem}
-use Rattle.vac_records.specs.Holds.{HoldsState}
+use Rattle.vac_records.specs.InMemory.{HoldsState}
 use Rattle.vac_report.specs.Reported.{Reported}
 use Rattle.vac_manager.specs.Law.{Shows, IsFitting, words_of}
 

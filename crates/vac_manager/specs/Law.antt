@@ -1,6 +1,6 @@
 -- The law of the manager's records: which images it may stand on, and which records may be made on
 -- them.
-use Rattle.std.specs.Prelude.{◌≡◌, ℕ, List, length, slice_index, IsTrue}
+use Rattle.std.specs.Prelude.{◌≡◌, ℕ, List, length, slice_index, true}
 use Rattle.stm_words.specs.Image.{Agrees, laid}
 use Rattle.vac_model.specs.declared.tasks.Task.{Task}
 use Rattle.vac_model.specs.declared.replies.Reply.{Reply}
@@ -30,7 +30,7 @@ pub record IsFitting (image : List ℕ) : Type 0 where
 pub record IsLawful (tag : List ℕ) (reads writes : List (ℕ × ℕ)) : Type 0 where
   pub task : Task
   pub reply : Reply
-  pub range : IsTrue (is_task task)
+  pub range : is_task task ≡ true
   pub told : tag ≡ code task reply
   pub runs : (image : List ℕ) (s : State) → Shows image s → Agrees image reads →
       IsOutcome (words_of (laid image writes)) (length (laid image writes)) (run s task) reply

@@ -1,5 +1,5 @@
 -- Histories of tasks: when a list of records is what running tasks one after the other gives.
-use Rattle.std.specs.Prelude.{◌≡◌, ℕ, ◌-◌, ◌/◌, List, [], ◌∷◌, ◌++◌, IsTrue, true, false}
+use Rattle.std.specs.Prelude.{◌≡◌, ℕ, ◌-◌, ◌/◌, List, [], ◌∷◌, ◌++◌, true, false}
 use Rattle.stm_words.specs.Image.{In}
 use Rattle.stm_core.specs.Client.{Client, Record}
 use Rattle.stm_core.specs.History.{Sub, Serial, image_after, all_records}
@@ -18,7 +18,7 @@ use Rattle.vac_manager.specs.Law.{Shows, IsFitting, IsLawful}
 pub record Runs (r : Record) (s s' : State) : Type 0 where
   pub task : Task
   pub reply : Reply
-  pub range : IsTrue (is_task task)
+  pub range : is_task task ≡ true
   pub told : r.tag ≡ code task reply
   pub runs : run s task ≡ (s', reply)
   pub steady : r.writes ≡ [] → s' ≡ s
@@ -68,7 +68,7 @@ pub record WasLegal (region : RegionShown) (v : Client) : Type 0 where
   pub earlier : List Record
   pub newest : v.records ≡ earlier ++ (made ∷ [])
   pub decided : WasDecided IsFitting IsLawful region made v
-  pub out : v.spent ≡ false
+  pub out : v.is_gathered ≡ false
   pub last : State
   pub legal : IsHistory region (all_records decided.decides.core.clients) last
   pub among : Sub v.records (all_records decided.decides.core.clients)

@@ -1,6 +1,6 @@
 //! One task by as many attempts as it takes.
 
-ghost use Rattle.std.specs.Prelude.{◌≡◌, ◌≤◌, IfOk, IfErr, IsOk, IsTrue, false};
+ghost use Rattle.std.specs.Prelude.{◌≡◌, ◌≤◌, IfOk, IfErr, IsOk, false, true};
 ghost use Rattle.stm_core.specs.Core.{IsFreeHanded};
 ghost use Rattle.vac_model.specs.declared.limits.TheConstants.{MOST_TRIES};
 ghost use Rattle.vac_model.specs.Ranges.{is_task};
@@ -32,8 +32,8 @@ fn try_reading<G: Gate>(
     requires free_handed { IsFreeHanded client.old.value }
     requires opened { IsOpened region.now }
     requires unplaced { IsUnplaced client.old.value }
-    requires range { IsTrue (is_task task.now) }
-    requires reads { IsTrue (reading.only_reads task.now) }
+    requires range { is_task task.now ≡ true }
+    requires reads { reading.only_reads task.now ≡ true }
     ensures own { client.new.table ≡ client.old.table }
     ensures free_handed { IsFreeHanded client.new.value }
     ensures unplaced { IsUnplaced client.new.value }
@@ -84,7 +84,7 @@ fn try_writing<G: Gate>(
     requires free_handed { IsFreeHanded client.old.value }
     requires opened { IsOpened region.now }
     requires unplaced { IsUnplaced client.old.value }
-    requires range { IsTrue (is_task task.now) }
+    requires range { is_task task.now ≡ true }
     requires writes { reading.only_reads task.now ≡ false }
     ensures own { client.new.table ≡ client.old.table }
     ensures free_handed { IsFreeHanded client.new.value }
@@ -142,7 +142,7 @@ fn try_once<G: Gate>(
     requires free_handed { IsFreeHanded client.old.value }
     requires opened { IsOpened region.now }
     requires unplaced { IsUnplaced client.old.value }
-    requires range { IsTrue (is_task task.now) }
+    requires range { is_task task.now ≡ true }
     ensures own { client.new.table ≡ client.old.table }
     ensures free_handed { IsFreeHanded client.new.value }
     ensures unplaced { IsUnplaced client.new.value }
@@ -183,7 +183,7 @@ pub(crate) fn run_in_attempts<G: Gate>(
     requires free_handed { IsFreeHanded client.old.value }
     requires opened { IsOpened region.now }
     requires unplaced { IsUnplaced client.old.value }
-    requires range { IsTrue (is_task task.now) }
+    requires range { is_task task.now ≡ true }
     requires some { 1 ≤ tries }
     requires few { tries ≤ MOST_TRIES }
     requires none { traced.old.effort ≡ nothing_done }

@@ -1,6 +1,6 @@
 -- What a trip chooses was asked for.
 use Rattle.std.proofs.Common.{◌≡◌, ℕ, true, false, List, [], ◌∷◌}
-use Rattle.std.specs.Prelude.{Option, Some, None, IfSome, IsTrue, fold, nat_lt, ◌==◌, if◌then◌else◌}
+use Rattle.std.specs.Prelude.{◌≡◌, Option, Some, None, IfSome, fold, nat_lt, ◌==◌, if◌then◌else◌, true}
 use Rattle.std.specs.List.{list_all}
 use Rattle.vac_model.specs.declared.items.Kind.{Kind}
 use Rattle.vac_model.specs.Amounts.{is_id}
@@ -11,7 +11,7 @@ use Rattle.vac_model.proofs.Ids.{both_true}
 
 -- a choice with an id
 abbrev pub HasId : Option Choice → Type 0
-HasId o = IfSome o (λ c. IsTrue (is_id c.0))
+HasId o = IfSome o (λ c. is_id c.0 ≡ true)
 
 dearer_id : (best : Option Choice) (id : ℕ) (price : Option ℕ) → HasId best → is_id id ≡ true → HasId (dearer best id price)
 dearer_id best id None h e = h

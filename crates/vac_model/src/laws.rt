@@ -1,6 +1,6 @@
 //! Laws of commands and tasks. Each is the contract of a function that does nothing.
 
-ghost use Rattle.std.specs.Prelude.{◌≡◌, ℕ, ◌≤◌, ◌++◌, ◌∷◌, [], IsTrue, Option, Some, None, replicate};
+ghost use Rattle.std.specs.Prelude.{◌≡◌, ℕ, ◌≤◌, ◌++◌, ◌∷◌, [], Option, Some, None, replicate, true};
 ghost use Rattle.std.specs.Option.{option_map};
 ghost use Rattle.std.specs.FinMap.{get};
 ghost use Rattle.vac_model.specs.declared.items.Kind.{Kind};
@@ -28,11 +28,11 @@ ghost use Rattle.vac_model.specs.Laws.{NeedsEntry, IsOne, IsBilled};
 /// balanced, and within its capacity.
 pub fn states_stay_balanced()
     ensures empty { (n : ℕ) → IsBalanced (empty_state n) }
-    ensures balanced { (s : State) (t : Task) → IsBalanced s → IsTrue (is_task t)
+    ensures balanced { (s : State) (t : Task) → IsBalanced s → is_task t ≡ true
         → IsBalanced (run s t).0 }
-    ensures capacity { (s : State) (t : Task) → IsBalanced s → IsTrue (is_task t)
+    ensures capacity { (s : State) (t : Task) → IsBalanced s → is_task t ≡ true
         → (run s t).0.capacity ≡ s.capacity }
-    ensures size { (s : State) (t : Task) → IsBalanced s → IsTrue (is_task t)
+    ensures size { (s : State) (t : Task) → IsBalanced s → is_task t ≡ true
         → size (run s t).0 ≤ s.capacity }
 {}
 

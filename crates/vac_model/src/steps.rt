@@ -1,6 +1,6 @@
 //! What each command does to the tables, and when it is refused.
 
-ghost use Rattle.std.specs.Prelude.{◌≡◌, ◌≤◌, IsTrue, IsSome, IfOk, OnOk, OnErr};
+ghost use Rattle.std.specs.Prelude.{◌≡◌, ◌≤◌, IsSome, IfOk, OnOk, OnErr, true};
 ghost use Rattle.std.specs.Option.{option_copied, option_map};
 ghost use Rattle.std.specs.FinMap as map;
 ghost use Rattle.vac_model.specs.declared.limits.TheConstants.{MOST_UNITS_AT_ONCE};
@@ -274,7 +274,7 @@ impl Tables {
 
     pub(crate) fn step(&mut self, command: &Command) -> Result<Reply, AllocError>
         requires small { IsSmall self.old }
-        requires in_range { IsTrue (is_command command.now) }
+        requires in_range { is_command command.now ≡ true }
         ensures ok { IfOk result (λ reply. rules.step self.old command.now ≡ (self.new, reply)) }
         ensures stays_small { OnOk result (IsSmall self.new) }
     {
@@ -284,7 +284,7 @@ impl Tables {
 
     fn outcome(&mut self, command: &Command) -> Result<Reply, AllocError>
         requires small { IsSmall self.old }
-        requires in_range { IsTrue (is_command command.now) }
+        requires in_range { is_command command.now ≡ true }
         ensures ok { IfOk result (λ reply. rules.step self.old command.now ≡ (self.new, reply)) }
     {
         match *command {

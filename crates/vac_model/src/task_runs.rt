@@ -1,6 +1,6 @@
 //! What each task does to the tables.
 
-ghost use Rattle.std.specs.Prelude.{◌≡◌, ◌≤◌, ◌==◌, ◌&&◌, IsTrue, IfOk, OnOk, IfSome, length};
+ghost use Rattle.std.specs.Prelude.{◌≡◌, ◌≤◌, ◌==◌, ◌&&◌, IfOk, OnOk, IfSome, length, true};
 ghost use Rattle.std.specs.List.{list_all};
 ghost use Rattle.vac_model.specs.Amounts as amounts;
 ghost use Rattle.vac_model.specs.Ranges.{is_command, is_change, is_task};
@@ -83,8 +83,8 @@ impl Tables {
         choice: Option<(u32, u64)>,
     ) -> Result<Option<Pick>, AllocError>
         requires small { IsSmall self.old }
-        requires customer { IsTrue (amounts.is_id customer) }
-        requires choice { IfSome choice (λ c. IsTrue (amounts.is_id c.0)) }
+        requires customer { amounts.is_id customer ≡ true }
+        requires choice { IfSome choice (λ c. amounts.is_id c.0 ≡ true) }
         ensures ok { IfOk result
             (λ pick. tasks.reserve_choice self.old customer kind choice ≡ (self.new, pick)) }
         ensures stays_small { OnOk result (IsSmall self.new) }
@@ -110,10 +110,10 @@ impl Tables {
         room: Option<(u32, u64)>,
     ) -> Result<Reply, AllocError>
         requires small { IsSmall self.old }
-        requires customer { IsTrue (amounts.is_id customer) }
-        requires car { IfSome car (λ c. IsTrue (amounts.is_id c.0)) }
-        requires flight { IfSome flight (λ c. IsTrue (amounts.is_id c.0)) }
-        requires room { IfSome room (λ c. IsTrue (amounts.is_id c.0)) }
+        requires customer { amounts.is_id customer ≡ true }
+        requires car { IfSome car (λ c. amounts.is_id c.0 ≡ true) }
+        requires flight { IfSome flight (λ c. amounts.is_id c.0 ≡ true) }
+        requires room { IfSome room (λ c. amounts.is_id c.0 ≡ true) }
         ensures ok { IfOk result
             (λ reply. tasks.book_choices self.old customer car flight room ≡ (self.new, reply)) }
         ensures stays_small { OnOk result (IsSmall self.new) }
@@ -131,8 +131,8 @@ impl Tables {
 
     fn trip(&mut self, customer: u32, asks: &[(Kind, u32)]) -> Result<Reply, AllocError>
         requires small { IsSmall self.old }
-        requires customer { IsTrue (amounts.is_id customer) }
-        requires asks { IsTrue (list_all (λ ask. amounts.is_id ask.1) asks.now) }
+        requires customer { amounts.is_id customer ≡ true }
+        requires asks { list_all (λ ask. amounts.is_id ask.1) asks.now ≡ true }
         ensures ok { IfOk result
             (λ reply. tasks.trip self.old customer asks.now ≡ (self.new, reply)) }
         ensures stays_small { OnOk result (IsSmall self.new) }
@@ -151,7 +151,7 @@ impl Tables {
 
     fn leave(&mut self, customer: u32) -> Result<Reply, AllocError>
         requires small { IsSmall self.old }
-        requires customer { IsTrue (amounts.is_id customer) }
+        requires customer { amounts.is_id customer ≡ true }
         ensures ok { IfOk result (λ reply. tasks.leave self.old customer ≡ (self.new, reply)) }
         ensures stays_small { OnOk result (IsSmall self.new) }
     {
@@ -165,7 +165,7 @@ impl Tables {
     fn update(&mut self, changes: &[Command]) -> Result<Reply, AllocError>
         requires small { IsSmall self.old }
         requires short { length changes.now ≤ MOST_PARTS }
-        requires changes { IsTrue (list_all (λ c. is_change c && is_command c) changes.now) }
+        requires changes { list_all (λ c. is_change c && is_command c) changes.now ≡ true }
         ensures ok { IfOk result (λ reply. tasks.update self.old changes.now ≡ (self.new, reply)) }
         ensures stays_small { OnOk result (IsSmall self.new) }
     {
@@ -183,7 +183,7 @@ impl Tables {
     /// Does a task that can be asked for.
     pub(crate) fn run(&mut self, task: &Task) -> Result<Reply, AllocError>
         requires small { IsSmall self.old }
-        requires in_range { IsTrue (is_task task.now) }
+        requires in_range { is_task task.now ≡ true }
         ensures ok { IfOk result (λ reply. tasks.run self.old task.now ≡ (self.new, reply)) }
         ensures stays_small { OnOk result (IsSmall self.new) }
     {

@@ -18,8 +18,8 @@ use Rattle.vac_records.proofs.Fresh.{fresh_state}
 use Rattle.vac_commands.specs.Ran.{IsOutcome}
 use Rattle.vac_tasks.specs.RanTask.{RanTask}
 use Rattle.vac_report.specs.Reported.{Reported}
-use Rattle.vac_plain.specs.Holds.{IsStateOf}
-use Rattle.vac_records.specs.Holds.{HoldsState}
+use Rattle.vac_plain.specs.PlainState.{IsStateOf}
+use Rattle.vac_records.specs.InMemory.{HoldsState}
 use Rattle.vac_records.specs.Steps.{stood}
 
 -- the memory that plain memory means, over any image of its size

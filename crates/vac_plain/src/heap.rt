@@ -1,13 +1,13 @@
 //! Plain memory that holds a state of the reservation system.
 
-ghost use Rattle.std.specs.Prelude.{◌≡◌, ◌≤◌, IfOk, IsTrue, true};
+ghost use Rattle.std.specs.Prelude.{◌≡◌, ◌≤◌, IfOk, true};
 ghost use Rattle.stm_words.specs.Plain.{flat_view};
 ghost use Rattle.vac_model.specs.State.{State, empty_state, report as report_of};
 ghost use Rattle.vac_model.specs.Ranges.{is_task};
 ghost use Rattle.vac_model.specs.Run.{run as runs};
-ghost use Rattle.vac_records.specs.Holds.{HoldsState};
+ghost use Rattle.vac_records.specs.InMemory.{HoldsState};
 ghost use Rattle.vac_tasks.specs.Reading as reading;
-ghost use Rattle.vac_plain.specs.Holds.{IsStateOf};
+ghost use Rattle.vac_plain.specs.PlainState.{IsStateOf};
 
 use std::alloc::{AllocError, Global};
 use std::marker::Model;
@@ -27,7 +27,7 @@ pub struct Heap {
 impl Model for Heap {
     ghost use Rattle.std.specs.Prelude.{ℕ, List};
     ghost use Rattle.stm_words.specs.Plain.{flat_view};
-    ghost use Rattle.vac_records.specs.Holds.{HoldsState};
+    ghost use Rattle.vac_records.specs.InMemory.{HoldsState};
 
     ghost Value = { List ℕ };
 
@@ -70,7 +70,7 @@ impl Heap {
 
     /// The reply to a task that only reads.
     pub fn read(&mut self, task: &Task) -> Reply
-        requires { IsTrue (reading.only_reads task.now) }
+        requires { reading.only_reads task.now ≡ true }
         ensures state { (s : State) → IsStateOf self.old s
             → IsStateOf self.new (runs s task.now).0 }
         ensures reply { (s : State) → IsStateOf self.old s → (runs s task.now).1 ≡ result }

@@ -5,7 +5,7 @@ use Rattle.vac_model.specs.State.{State}
 use Rattle.vac_records.specs.Items.{mem}
 use Rattle.vac_records.specs.Steps.{kept_none, kept_both, stood}
 use Rattle.vac_records.specs.Represents.{IsState}
-use Rattle.vac_records.specs.Holds.{HoldsState, OnlyRead}
+use Rattle.vac_records.specs.InMemory.{HoldsState, OnlyRead}
 
 pub read_none : (s : View) → OnlyRead s s
 read_none s = record { kept = kept_none s; writes = refl }

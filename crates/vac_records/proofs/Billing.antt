@@ -1,7 +1,7 @@
 -- A bill is added up along the list.
 use Rattle.std.proofs.Common.{◌≡◌, ◌≢◌, ℕ, ◌+◌, ◌<◌, ◌≤◌, ◌^◌, List, [], ◌∷◌, length, Option, Some, None, nat_eq, true, refl, sym, ap, ◌∙◌, subst, arith}
 use Rattle.std.proofs.lemmas.Bool.Decides.{nat_tests}
-use Rattle.stm_words.specs.View.{View, Sees, Stands, Kept, Loaded}
+use Rattle.stm_words.specs.View.{View, Sees, RestsOn, Kept, Loaded}
 use Rattle.tx_alloc.specs.Pointer.{pointer, IsWithin}
 use Rattle.tx_alloc.specs.Rows.{Rows}
 use Rattle.tx_list.specs.Bookings.{IsList, first_block, block_behind}
@@ -90,7 +90,7 @@ pub block_node : (s0 s : View) (customer i total : ℕ) (block : ℕ) → CanBil
 block_node s0 s customer i total block c h = let w = h.within in record { inside = w.1; small = omega (arith, c.small, h.kept.size) }
 
 -- the sum stays a word
-pub sum_fits : (s0 s s1 : View) (customer i total v : ℕ) (block : ℕ) → CanBill s0 customer → Billing s0 s customer (Some block) i total → Loaded s s1 (block + 2) v → ∥ ((image : List ℕ) × Stands s1 image) ∥₁ → total + v < 2 ^ 64
+pub sum_fits : (s0 s s1 : View) (customer i total v : ℕ) (block : ℕ) → CanBill s0 customer → Billing s0 s customer (Some block) i total → Loaded s s1 (block + 2) v → ∥ ((image : List ℕ) × RestsOn s1 image) ∥₁ → total + v < 2 ^ 64
 sum_fits s0 s s1 customer i total v block c h l ws = some_lt (total + v) (2 ^ 64) ws (λ w.
     let image = w.0 in
     let j = stood l.kept image w.1 in

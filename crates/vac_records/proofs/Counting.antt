@@ -3,7 +3,7 @@ use Rattle.std.proofs.Common.{◌≡◌, ◌≢◌, inl, inr, ℕ, ◌+◌, ◌-
 use Rattle.std.proofs.lemmas.Bool.{cases_lt}
 use Rattle.std.proofs.lemmas.Grind.{not_there}
 use Rattle.stm_words.specs.Seen.{some_le}
-use Rattle.stm_words.specs.View.{View, Sees, Stands, Loaded, Stored, IsWrite}
+use Rattle.stm_words.specs.View.{View, Sees, RestsOn, Loaded, Stored, IsWrite}
 use Rattle.vac_model.specs.declared.items.Item.{Item}
 use Rattle.vac_model.specs.Step.{deleted, taken, given_back, added}
 use Rattle.std.specs.Prelude.{None}
@@ -14,11 +14,11 @@ use Rattle.vac_records.specs.Steps.{kept_both, stood, write_at_start}
 pub some_lt : {W : Type 0} (a b : ℕ) → ∥ W ∥₁ → (W → a < b) → a < b
 some_lt a b w f = elim (cases_lt a b) [ inl less ↦ less | inr le ↦ absurd (not_there w (λ x. absurd (omega (arith, f x)))) ]
 
-pub room_fits : (s s1 : View) (a by v : ℕ) → RoomAt s a by → Loaded s s1 a v → ∥ ((image : List ℕ) × Stands s1 image) ∥₁ → v + by < 2 ^ 64
+pub room_fits : (s s1 : View) (a by v : ℕ) → RoomAt s a by → Loaded s s1 a v → ∥ ((image : List ℕ) × RestsOn s1 image) ∥₁ → v + by < 2 ^ 64
 room_fits s s1 a by v room l ws = some_lt (v + by) (2 ^ 64) ws (λ w.
     omega (arith, room.fits w.0 (stood l.kept w.0 w.1), l.answer w.0 w.1.sees))
 
-pub enough_fits : (s s1 : View) (a by v : ℕ) → EnoughAt s a by → Loaded s s1 a v → ∥ ((image : List ℕ) × Stands s1 image) ∥₁ → by ≤ v
+pub enough_fits : (s s1 : View) (a by v : ℕ) → EnoughAt s a by → Loaded s s1 a v → ∥ ((image : List ℕ) × RestsOn s1 image) ∥₁ → by ≤ v
 enough_fits s s1 a by v enough l ws = some_le by v ws (λ w.
     omega (arith, enough.enough w.0 (stood l.kept w.0 w.1), l.answer w.0 w.1.sees))
 

@@ -1,13 +1,13 @@
 -- Units of an item are used, of which the free ones were counted before.
 use Rattle.std.proofs.Common.{◌≡◌, ℕ, ◌+◌, List}
-use Rattle.stm_words.specs.View.{View, Stands, Loaded}
+use Rattle.stm_words.specs.View.{View, RestsOn, Loaded}
 use Rattle.vac_model.specs.declared.items.Item.{Item}
 use Rattle.vac_records.specs.Items.{mem, CanMake, CanMakeOf, ItemChanged, ItemChangedOf}
 use Rattle.vac_records.specs.Steps.{kept_both, stood}
 use Rattle.vac_records.proofs.Counting.{enough_fits}
 
 -- the free units were read just now
-pub made_known : (s s1 : View) (node num v : ℕ) → CanMake s node num → Loaded s s1 (node + 5) v → ∥ ((image : List ℕ) × Stands s1 image) ∥₁ → CanMakeOf s1 node num v
+pub made_known : (s s1 : View) (node num v : ℕ) → CanMake s node num → Loaded s s1 (node + 5) v → ∥ ((image : List ℕ) × RestsOn s1 image) ∥₁ → CanMakeOf s1 node num v
 made_known s s1 node num v can l ws = record {
   free_is = λ image i. rw l.writes (l.answer image i.sees);
   enough = enough_fits s s1 (node + 5) num v can.free l ws;

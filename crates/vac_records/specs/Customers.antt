@@ -1,7 +1,7 @@
 -- Customers and their bookings in blocks of a transactional memory. The words of a customer's block
 -- are key, left, right, colour, head of the bookings, and three spare ones.
 use Rattle.std.specs.Prelude.{◌≡◌, ◌≢◌, ◌⊎◌, ℕ, ◌+◌, ◌*◌, ◌<◌, ◌≤◌, ◌^◌, List, [], ◌∷◌, length, Option, Some, None}
-use Rattle.stm_words.specs.View.{View, Sees, Stands, Kept}
+use Rattle.stm_words.specs.View.{View, Sees, RestsOn, Kept}
 use Rattle.vac_model.specs.declared.items.Booking.{Booking}
 use Rattle.vac_model.specs.State.{Place, kind_number}
 use Rattle.vac_model.specs.Step.{new_booking}
@@ -80,7 +80,7 @@ pub record IsLoose (m : ℕ → ℕ) (n customer : ℕ) (rows : Rows) (place : P
 
 -- this is so under each image of the memory's size on which these are the bookings
 pub record CanBook (s : View) (customer : ℕ) (place : Place) (b : ℕ) : Type 0 where
-  pub under : (image : List ℕ) (rows : Rows) → Stands s image →
+  pub under : (image : List ℕ) (rows : Rows) → RestsOn s image →
       IsListAt (mem s image) (length image) (head_of customer) rows →
       IsLoose (mem s image) (length image) customer rows place b
 
@@ -172,7 +172,7 @@ pub record SomeBill (m : ℕ → ℕ) (n customer : ℕ) : Type 0 where
 pub record CanBill (s : View) (customer : ℕ) : Type 0 where
   pub small : s.size ≤ 2 ^ 32
   pub room : head_of customer < s.size
-  pub under : (image : List ℕ) → Stands s image → SomeBill (mem s image) (length image) customer
+  pub under : (image : List ℕ) → RestsOn s image → SomeBill (mem s image) (length image) customer
 
 -- only reads were made, and the answer is the sum of the bookings' sums
 pub record Billed (s s' : View) (customer total : ℕ) : Type 0 where

@@ -1,7 +1,7 @@
 -- Items in blocks of a transactional memory. The words of a block are key, left, right, colour,
 -- used, free, total, price.
 use Rattle.std.specs.Prelude.{◌≡◌, ◌≢◌, ◌⊎◌, ℕ, ◌+◌, ◌<◌, ◌≤◌, ◌^◌, List}
-use Rattle.stm_words.specs.View.{View, Sees, Stands, Kept, IsWrite}
+use Rattle.stm_words.specs.View.{View, Sees, RestsOn, Kept, IsWrite}
 use Rattle.tx_alloc.specs.declared.place.TheConstants.{BLOCK_WORDS}
 use Rattle.vac_model.specs.declared.items.Item.{Item}
 use Rattle.vac_records.specs.declared.place.TheConstants.{USED, FREE, TOTAL, PRICE}
@@ -24,8 +24,8 @@ pub record IsNode (s : View) (node : ℕ) : Type 0 where
 -- under each image of the memory's size so many units can be added to the item's counts and fit a
 -- word
 pub record HasRoom (s : View) (node num : ℕ) : Type 0 where
-  pub free : (image : List ℕ) → Stands s image → mem s image (node + FREE) + num < 2 ^ 64
-  pub total : (image : List ℕ) → Stands s image → mem s image (node + TOTAL) + num < 2 ^ 64
+  pub free : (image : List ℕ) → RestsOn s image → mem s image (node + FREE) + num < 2 ^ 64
+  pub total : (image : List ℕ) → RestsOn s image → mem s image (node + TOTAL) + num < 2 ^ 64
 
 -- the block became an item of which nothing is used; its links and all words outside are as before
 pub record IsNewItem (m m' : ℕ → ℕ) (node key num price : ℕ) : Type 0 where
@@ -61,11 +61,11 @@ pub record ItemRead (s s' : View) (node : ℕ) (item : Item) : Type 0 where
 
 -- under each image of the memory's size the word has room for so much more
 pub record RoomAt (s : View) (a by : ℕ) : Type 0 where
-  pub fits : (image : List ℕ) → Stands s image → mem s image a + by < 2 ^ 64
+  pub fits : (image : List ℕ) → RestsOn s image → mem s image a + by < 2 ^ 64
 
 -- under each image of the memory's size the word is so much or more
 pub record EnoughAt (s : View) (a by : ℕ) : Type 0 where
-  pub enough : (image : List ℕ) → Stands s image → by ≤ mem s image a
+  pub enough : (image : List ℕ) → RestsOn s image → by ≤ mem s image a
 
 -- under each image the word was changed by f, and no other word was
 pub record Shifted (s s' : View) (a : ℕ) (f : ℕ → ℕ) : Type 0 where
@@ -85,7 +85,7 @@ pub record CanMake (s : View) (node num : ℕ) : Type 0 where
 
 -- the same, where this is how many units are free
 pub record CanMakeOf (s : View) (node num free : ℕ) : Type 0 where
-  pub free_is : (image : List ℕ) → Stands s image → mem s image (node + FREE) ≡ free
+  pub free_is : (image : List ℕ) → RestsOn s image → mem s image (node + FREE) ≡ free
   pub enough : num ≤ free
   pub used : RoomAt s (node + USED) num
 

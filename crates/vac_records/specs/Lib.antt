@@ -6,4 +6,4 @@ pub mod Heap
 pub mod Represents
 pub mod Laws
 pub mod Customers
-pub mod Holds
+pub mod InMemory

@@ -1,7 +1,7 @@
 -- A walk over a customer's bookings adds up their units and their sums.
 use Rattle.std.proofs.Common.{◌≡◌, ◌≢◌, ℕ, ◌+◌, ◌<◌, ◌≤◌, ◌^◌, List, [], ◌∷◌, length, Option, Some, None, nat_eq, true, refl, sym, ap, ◌∙◌, subst, arith}
 use Rattle.std.proofs.lemmas.Bool.Decides.{nat_tests}
-use Rattle.stm_words.specs.View.{View, Sees, Stands, Loaded}
+use Rattle.stm_words.specs.View.{View, Sees, RestsOn, Loaded}
 use Rattle.tx_alloc.specs.Pointer.{pointer, IsWithin}
 use Rattle.tx_alloc.specs.Rows.{Rows, times}
 use Rattle.tx_list.specs.Bookings.{IsList, first_block, block_behind}
@@ -9,7 +9,7 @@ use Rattle.tx_list.specs.Lists.{HasList, First, Next, HasBooking}
 use Rattle.tx_list.proofs.Frame.{list_rest}
 use Rattle.vac_records.specs.Items.{mem, IsNode}
 use Rattle.vac_records.specs.Customers.{head_of}
-use Rattle.vac_records.specs.Holds.{OnlyRead}
+use Rattle.vac_records.specs.InMemory.{OnlyRead}
 use Rattle.vac_records.specs.Steps.{stood}
 use Rattle.vac_records.proofs.Counting.{some_lt}
 use Rattle.vac_report.specs.Sums.{words_at, HasSums, CanCount, customer_alone, CustomerCounted}
@@ -89,7 +89,7 @@ word_is : (s0 s s' : View) (a v : ℕ) → OnlyRead s0 s → Loaded s s' a v →
 word_is s0 s s' a v r l image i = rw r.writes at (l.answer image i)
 
 -- the units stay a word
-pub units_fit : (s0 s s1 : View) (customer i units billed v : ℕ) (block : ℕ) → CanCount s0 customer → BookingWalk s0 s customer (Some block) i units billed → Loaded s s1 (block + 4) v → ∥ ((image : List ℕ) × Stands s1 image) ∥₁ → units + v < 2 ^ 64
+pub units_fit : (s0 s s1 : View) (customer i units billed v : ℕ) (block : ℕ) → CanCount s0 customer → BookingWalk s0 s customer (Some block) i units billed → Loaded s s1 (block + 4) v → ∥ ((image : List ℕ) × RestsOn s1 image) ∥₁ → units + v < 2 ^ 64
 units_fit s0 s s1 customer i units billed v block c h l ws = some_lt (units + v) (2 ^ 64) ws (λ w.
     let image = w.0 in
     let j = stood l.kept image w.1 in
@@ -98,7 +98,7 @@ units_fit s0 s s1 customer i units billed v block c h l ws = some_lt (units + v)
     omega (arith, b.is.units, t.units_are, word_is s0 s s1 (block + 4) v h.reads l image w.1.sees))
 
 -- and so do the sums
-pub sums_fit : (s0 s s1 s2 : View) (customer i units billed u v : ℕ) (block : ℕ) → CanCount s0 customer → BookingWalk s0 s customer (Some block) i units billed → Loaded s s1 (block + 4) u → Loaded s1 s2 (block + 2) v → ∥ ((image : List ℕ) × Stands s2 image) ∥₁ → billed + v < 2 ^ 64
+pub sums_fit : (s0 s s1 s2 : View) (customer i units billed u v : ℕ) (block : ℕ) → CanCount s0 customer → BookingWalk s0 s customer (Some block) i units billed → Loaded s s1 (block + 4) u → Loaded s1 s2 (block + 2) v → ∥ ((image : List ℕ) × RestsOn s2 image) ∥₁ → billed + v < 2 ^ 64
 sums_fit s0 s s1 s2 customer i units billed u v block c h k l ws = some_lt (billed + v) (2 ^ 64) ws (λ w.
     let image = w.0 in
     let j = stood k.kept image (stood l.kept image w.1) in

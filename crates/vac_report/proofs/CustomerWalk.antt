@@ -1,7 +1,7 @@
 -- A walk over the customers adds up their bookings.
 use Rattle.std.proofs.Common.{◌≡◌, ◌≢◌, ℕ, ◌+◌, ◌<◌, ◌≤◌, ◌^◌, List, [], length, Some, None, refl, ap, ◌∙◌, subst, arith}
 use Rattle.std.specs.FinMap.{entries, len-entries}
-use Rattle.stm_words.specs.View.{View, Sees, Stands}
+use Rattle.stm_words.specs.View.{View, Sees, RestsOn}
 use Rattle.vac_model.proofs.Ids.{id_low}
 use Rattle.vac_model.specs.State.{State, units_booked, bill_of}
 use Rattle.vac_model.proofs.Bounds.{small_sums}
@@ -11,7 +11,7 @@ use Rattle.tx_tree.proofs.TableFrame.{table_block, table_rises}
 use Rattle.vac_records.specs.Items.{mem}
 use Rattle.vac_records.specs.Heap.{over}
 use Rattle.vac_records.specs.Represents.{IsState}
-use Rattle.vac_records.specs.Holds.{HoldsState, OnlyRead}
+use Rattle.vac_records.specs.InMemory.{HoldsState, OnlyRead}
 use Rattle.vac_records.specs.Steps.{stood}
 use Rattle.vac_records.proofs.Bridges.{list_there}
 use Rattle.vac_records.proofs.Counting.{some_lt}
@@ -177,7 +177,7 @@ few_seen sums ws f = record {
 }
 
 -- the sums with one customer more stay words
-pub customers_fit : (s0 s s1 s2 : View) (key i k b : ℕ) (sums one : CustomerSums) → HoldsState s0 → CustomerWalk s0 s key i sums → NextFound s s1 4 key (Some (k, b)) → CustomerCounted s1 s2 b one → ∥ ((image : List ℕ) × Stands s2 image) ∥₁ → CustomersFit sums one
+pub customers_fit : (s0 s s1 s2 : View) (key i k b : ℕ) (sums one : CustomerSums) → HoldsState s0 → CustomerWalk s0 s key i sums → NextFound s s1 4 key (Some (k, b)) → CustomerCounted s1 s2 b one → ∥ ((image : List ℕ) × RestsOn s2 image) ∥₁ → CustomersFit sums one
 unfolding all_rows
 customers_fit s0 s s1 s2 key i k b sums one holds w f c ws =
     let few : AreFew (customers_together sums one) = few_seen (customers_together sums one) ws (λ v.

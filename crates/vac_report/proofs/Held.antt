@@ -9,7 +9,7 @@ use Rattle.tx_tree.specs.declared.search.Entry.{Entry}
 use Rattle.tx_tree.specs.Table.{Table, NextFound, row_of, row_above}
 use Rattle.vac_records.specs.Items.{mem}
 use Rattle.vac_records.specs.Represents.{IsState}
-use Rattle.vac_records.specs.Holds.{OnlyRead}
+use Rattle.vac_records.specs.InMemory.{OnlyRead}
 use Rattle.vac_records.proofs.Shifts.{kind_small}
 use Rattle.vac_records.proofs.Bridges.{table_there}
 pub use Rattle.vac_records.proofs.AfterReads.{read_none, read_both, held_on}

@@ -1,6 +1,6 @@
 -- A walk over a table of items adds up their numbers.
 use Rattle.std.proofs.Common.{◌≡◌, ℕ, ◌+◌, ◌≤◌, ◌^◌, List, [], length, Some, None, refl, ap, ◌∙◌, subst, arith}
-use Rattle.stm_words.specs.View.{View, Sees, Stands}
+use Rattle.stm_words.specs.View.{View, Sees, RestsOn}
 use Rattle.vac_model.specs.declared.items.Kind.{Kind}
 use Rattle.vac_model.specs.State.{State, kind_number, table_of}
 use Rattle.vac_model.proofs.Bounds.{small_sums}
@@ -10,7 +10,7 @@ use Rattle.tx_tree.specs.Table.{NextFound, row_above}
 use Rattle.tx_tree.proofs.TableFrame.{table_block, table_rises}
 use Rattle.vac_records.specs.Items.{mem, item_in, IsNode}
 use Rattle.vac_records.specs.Represents.{IsState}
-use Rattle.vac_records.specs.Holds.{HoldsState, OnlyRead}
+use Rattle.vac_records.specs.InMemory.{HoldsState, OnlyRead}
 use Rattle.vac_records.specs.Steps.{stood}
 use Rattle.vac_records.proofs.Counting.{some_lt}
 use Rattle.vac_records.proofs.Items.{item_found}
@@ -139,7 +139,7 @@ item_step s0 s s1 s2 kind root key i k b sums one after is e w f c = rw is (reco
 })
 
 -- the sums with one item more stay words
-pub items_fit : (s0 s s1 s2 : View) (kind : Kind) (root key i k b : ℕ) (sums one : ItemSums) → HoldsState s0 → root ≡ 1 + kind_number kind → ItemWalk s0 s kind key i sums → NextFound s s1 root key (Some (k, b)) → ItemCounted s1 s2 b one → ∥ ((image : List ℕ) × Stands s2 image) ∥₁ → ItemsFit sums one
+pub items_fit : (s0 s s1 s2 : View) (kind : Kind) (root key i k b : ℕ) (sums one : ItemSums) → HoldsState s0 → root ≡ 1 + kind_number kind → ItemWalk s0 s kind key i sums → NextFound s s1 root key (Some (k, b)) → ItemCounted s1 s2 b one → ∥ ((image : List ℕ) × RestsOn s2 image) ∥₁ → ItemsFit sums one
 items_fit s0 s s1 s2 kind root key i k b sums one holds e w f c ws =
     let small : AreSmall (items_together sums one) = small_seen (items_together sums one) ws (λ v.
     let image = v.0 in
@@ -155,7 +155,7 @@ items_fit s0 s s1 s2 kind root key i k b sums one holds e w f c ws =
     }
 
 -- where no row is above the key, all were added up
-item_end : (s0 s : View) (kind : Kind) (key i : ℕ) (sums : ItemSums) → HoldsState s0 → ItemWalk s0 s kind key i sums → ∥ ((image : List ℕ) × Stands s image) ∥₁ → ((image : List ℕ) (state : State) → Sees s image → (h : IsState (mem s0 image) (length image) state) → rows_above (rows_of (mem s0 image) (length image) state h (kind_number kind)) key ≡ []) → ItemsSummed s0 s kind sums
+item_end : (s0 s : View) (kind : Kind) (key i : ℕ) (sums : ItemSums) → HoldsState s0 → ItemWalk s0 s kind key i sums → ∥ ((image : List ℕ) × RestsOn s image) ∥₁ → ((image : List ℕ) (state : State) → Sees s image → (h : IsState (mem s0 image) (length image) state) → rows_above (rows_of (mem s0 image) (length image) state h (kind_number kind)) key ≡ []) → ItemsSummed s0 s kind sums
 unfolding all_rows
 item_end s0 s kind key i sums holds w ws none = record {
   reads = w.reads;
@@ -174,7 +174,7 @@ item_end s0 s kind key i sums holds w ws none = record {
       table_sums m (length image) state h kind ∙ (λ q. record { count = count q; used = used q; free = free q; total = total q });
 }
 
-pub item_none : (s0 s s1 : View) (kind : Kind) (root key i : ℕ) (sums : ItemSums) → HoldsState s0 → root ≡ 1 + kind_number kind → ItemWalk s0 s kind key i sums → NextFound s s1 root key None → ∥ ((image : List ℕ) × Stands s1 image) ∥₁ → ItemsSummed s0 s1 kind sums
+pub item_none : (s0 s s1 : View) (kind : Kind) (root key i : ℕ) (sums : ItemSums) → HoldsState s0 → root ≡ 1 + kind_number kind → ItemWalk s0 s kind key i sums → NextFound s s1 root key None → ∥ ((image : List ℕ) × RestsOn s1 image) ∥₁ → ItemsSummed s0 s1 kind sums
 item_none s0 s s1 kind root key i sums holds e w f ws =
     item_end s0 s1 kind key i sums holds
     (record {
@@ -183,7 +183,7 @@ item_none s0 s s1 kind root key i sums holds e w f ws =
     }) ws
     (λ image state j h. above_none (rows_of (mem s0 image) (length image) state h (kind_number kind)) key (next_row s0 s s1 (kind_number kind) root key None e (kind_low kind) w.reads f image state j h))
 
-pub item_all : (s0 s : View) (kind : Kind) (key i : ℕ) (sums : ItemSums) → 262144 ≤ i → HoldsState s0 → ItemWalk s0 s kind key i sums → ∥ ((image : List ℕ) × Stands s image) ∥₁ → ItemsSummed s0 s kind sums
+pub item_all : (s0 s : View) (kind : Kind) (key i : ℕ) (sums : ItemSums) → 262144 ≤ i → HoldsState s0 → ItemWalk s0 s kind key i sums → ∥ ((image : List ℕ) × RestsOn s image) ∥₁ → ItemsSummed s0 s kind sums
 item_all s0 s kind key i sums l holds w ws = item_end s0 s kind key i sums holds w ws
     (λ image state j h. no_rows (rows_above (rows_of (mem s0 image) (length image) state h (kind_number kind)) key)
     (omega (arith, l, (w.trail image state j h).steps, (w.trail image state j h).count, few_rows (mem s0 image) (length image) state h (kind_number kind) (kind_low kind))))

@@ -5,7 +5,7 @@ use Rattle.vac_model.specs.declared.replies.Report.{Report}
 use Rattle.vac_model.specs.State.{State, report}
 use Rattle.vac_records.specs.Items.{mem}
 use Rattle.vac_records.specs.Represents.{IsState}
-use Rattle.vac_records.specs.Holds.{OnlyRead}
+use Rattle.vac_records.specs.InMemory.{OnlyRead}
 
 -- only reads were made, and under each image this is the report of the state
 pub record Reported (s s' : View) (r : Report) : Type 0 where

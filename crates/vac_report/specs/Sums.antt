@@ -1,7 +1,7 @@
 -- The sums that a report is made of.
 use Rattle.std.specs.Prelude.{◌≡◌, ℕ, ◌+◌, ◌<◌, ◌≤◌, ◌^◌, List, [], ◌∷◌, length, sum_by}
 use Rattle.std.specs.FinMap.{len, values}
-use Rattle.stm_words.specs.View.{View, Sees, Stands}
+use Rattle.stm_words.specs.View.{View, Sees, RestsOn}
 use Rattle.tx_alloc.specs.declared.place.TheConstants.{MOST_BLOCKS}
 use Rattle.tx_alloc.specs.Rows.{Rows}
 use Rattle.tx_list.specs.Lists.{IsListAt}
@@ -12,7 +12,7 @@ use Rattle.vac_records.specs.Items.{mem}
 use Rattle.vac_records.specs.declared.place.TheConstants.{USED, FREE, TOTAL}
 use Rattle.vac_records.specs.Customers.{head_of}
 use Rattle.vac_records.specs.Represents.{IsState}
-use Rattle.vac_records.specs.Holds.{OnlyRead}
+use Rattle.vac_records.specs.InMemory.{OnlyRead}
 use Rattle.vac_report.specs.declared.items.ItemSums.{ItemSums}
 use Rattle.vac_report.specs.declared.customers.CustomerSums.{CustomerSums}
 
@@ -113,7 +113,7 @@ pub record SomeSums (m : ℕ → ℕ) (n customer : ℕ) : Type 0 where
 pub record CanCount (s : View) (customer : ℕ) : Type 0 where
   pub small : s.size ≤ 2 ^ 32
   pub room : head_of customer < s.size
-  pub under : (image : List ℕ) → Stands s image → SomeSums (mem s image) (length image) customer
+  pub under : (image : List ℕ) → RestsOn s image → SomeSums (mem s image) (length image) customer
 
 -- the customer with these bookings, alone
 abbrev pub customer_alone : (ℕ → ℕ) → Rows → CustomerSums

@@ -1,7 +1,7 @@
 //! Customers and their bookings, added up.
 
 ghost use Rattle.std.specs.Prelude.{◌≡◌, IfOk, IfErr};
-ghost use Rattle.vac_records.specs.Holds.{HoldsState};
+ghost use Rattle.vac_records.specs.InMemory.{HoldsState};
 ghost use Rattle.vac_report.specs.Sums.{CustomersFit, customers_together, CanCount, CustomerCounted, CustomersSummed};
 
 use stm_words::TxRead;

@@ -1,7 +1,7 @@
 //! The report over a transactional memory.
 
 ghost use Rattle.std.specs.Prelude.{◌≡◌, IfOk, IfErr};
-ghost use Rattle.vac_records.specs.Holds.{HoldsState};
+ghost use Rattle.vac_records.specs.InMemory.{HoldsState};
 ghost use Rattle.vac_report.specs.Reported.{Reported};
 
 use crate::customers::sum_customers;

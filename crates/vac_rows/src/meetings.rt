@@ -32,7 +32,7 @@ const fn reserve_car(customer: u32) -> Task {
 
 /// What the client was answered that called meanwhile.
 #[derive(Clone, Copy, Debug, PartialEq, Eq)]
-struct Told {
+struct Answers {
     room: Outcome,
     car: Outcome,
 }
@@ -42,7 +42,7 @@ struct Told {
 struct Meanwhile<'a> {
     when: Point,
     other: Session<'a>,
-    told: Option<Told>,
+    told: Option<Answers>,
 }
 
 impl<'a> Gate for Meanwhile<'a> {
@@ -50,7 +50,7 @@ impl<'a> Gate for Meanwhile<'a> {
         if point == self.when && self.told.is_none() {
             let room = Outcome::of(self.other.call(&FREE_ROOM, 1));
             let car = Outcome::of(self.other.call(&reserve_car(4), 1));
-            self.told = Some(Told { room, car });
+            self.told = Some(Answers { room, car });
         }
     }
 }
@@ -59,7 +59,7 @@ impl<'a> Gate for Meanwhile<'a> {
 #[derive(Clone, Copy, Debug, PartialEq, Eq)]
 struct Met {
     mine: Outcome,
-    told: Option<Told>,
+    told: Option<Answers>,
     free: Outcome,
 }
 
@@ -106,7 +106,7 @@ fn last_car(rt: &impl Abort, manager: &Manager, client: Client, tries: u32) -> M
 
 /// The other client had the last car, and this is what the first was answered.
 fn lost_it(mine: Outcome) -> Met {
-    let told = Told {
+    let told = Answers {
         room: Outcome::Replied(Number(None)),
         car: Outcome::Replied(Done),
     };
@@ -175,7 +175,7 @@ fn at_each_point_one_of_two_clients_is_busy(rt: HostRuntime) {
     ] {
         let (manager, client) = Manager::new(rt.alloc(), 8, LAST).expect(&rt, "it opens");
         let (met, again) = two_cars(&rt, &manager, client, when);
-        let told = Told {
+        let told = Answers {
             room: Outcome::Replied(Number(None)),
             car,
         };

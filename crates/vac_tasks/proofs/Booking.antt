@@ -1,9 +1,9 @@
 -- The customer of a trip, and the bookings.
 use Rattle.std.proofs.Common.{◌≡◌, ◌≢◌, ℕ, ◌<◌, ◌^◌, List, [], ◌∷◌, length, Option, Some, None, Bool, true, false, refl, sym, ap, ◌∙◌, subst, inl, inr, arith}
-use Rattle.std.specs.Prelude.{IfSome, IsTrue, MatchOption, is_some, ◌||◌, if◌then◌else◌}
+use Rattle.std.specs.Prelude.{◌≡◌, IfSome, MatchOption, is_some, ◌||◌, if◌then◌else◌, true}
 use Rattle.std.proofs.lemmas.Bool.{cases_lt}
 use Rattle.std.specs.FinMap.{empty}
-use Rattle.stm_words.specs.View.{View, Sees, Stands, Kept}
+use Rattle.stm_words.specs.View.{View, Sees, RestsOn, Kept}
 use Rattle.vac_model.specs.declared.items.Kind.{Kind}
 use Rattle.vac_model.specs.declared.items.Kind.TheVariants.{Car, Flight, Room}
 use Rattle.vac_model.specs.declared.commands.Command.TheVariants as command
@@ -24,7 +24,7 @@ use Rattle.vac_records.specs.Items.{mem}
 use Rattle.tx_alloc.specs.Pointer.{IsWithin}
 use Rattle.vac_records.specs.Steps.{kept_none, kept_both, stood}
 use Rattle.vac_records.specs.Represents.{IsState}
-use Rattle.vac_records.specs.Holds.{HoldsState, OnlyRead}
+use Rattle.vac_records.specs.InMemory.{HoldsState, OnlyRead}
 use Rattle.vac_records.proofs.Customers.{customer_found, customer_missing}
 use Rattle.vac_records.proofs.Single.{one_state}
 use Rattle.vac_commands.specs.Entries.{item_block, customer_block, LacksCustomer, HasCustomerAt, ItemsStay}
@@ -180,11 +180,11 @@ pick_here m n state h id kind block o b c is_b is_c b_some c_some small p = reco
   small = small;
 }
 
-pub reserve_range : (id : ℕ) (kind : Kind) (item : ℕ) → IsTrue (is_id id) → IsTrue (is_id item) → IsTrue (is_command (command.Reserve id kind item 1))
+pub reserve_range : (id : ℕ) (kind : Kind) (item : ℕ) → is_id id ≡ true → is_id item ≡ true → is_command (command.Reserve id kind item 1) ≡ true
 reserve_range id kind item a b = rw (a, b) refl
 
 pub reserved : (s s' : View) (id : ℕ) (kind : Kind) (block : Option ℕ) (o : Option Choice) (b : ℕ) (c : Choice) (r : Reply) (why : Option Why) → block ≡ Some b → o ≡ Some c → b ≢ 0 → c.item ≢ 0 → c.id < 2 ^ 32 →
-    IsTrue (is_command (command.Reserve id kind c.id 1)) → Serves s s' (command.Reserve id kind c.id 1) r (AtBlocks id b kind c.id c.item) → why ≡ refusal_of r →
+    is_command (command.Reserve id kind c.id 1) ≡ true → Serves s s' (command.Reserve id kind c.id 1) r (AtBlocks id b kind c.id c.item) → why ≡ refusal_of r →
     RunsWhere s s' (picks id kind o) (Some (record { id = c.id; price = c.price; refused = why })) (AtPick id block kind o)
 reserved s s' id kind block o b c r why is_b is_c b_some c_some small range v w =
     let out : (image : List ℕ) (state : State) → Sees s' image → (h : IsState (mem s image) (length image) state) → AtPick id block kind o (mem s image) (length image) state h → IsOutcome (mem s' image) (length image) (step state (command.Reserve id kind c.id 1)) r = λ image state i h p.
@@ -222,23 +222,23 @@ pub record Ready (s : View) (id : ℕ) (block : Option ℕ) (cs : Choices) : Typ
   pub known : ChoicesAreAt s cs
 
 -- what is so at the size is so of each state there
-owner_at : (s : View) (id : ℕ) (block : Option ℕ) → IsOwner s id block → (image : List ℕ) (state : State) → Stands s image → (h : IsState (mem s image) (length image) state) → IsOwnerAt h id block
+owner_at : (s : View) (id : ℕ) (block : Option ℕ) → IsOwner s id block → (image : List ℕ) (state : State) → RestsOn s image → (h : IsState (mem s image) (length image) state) → IsOwnerAt h id block
 owner_at s id None l image state i h = l.none image state i h
 owner_at s id (Some c) at image state i h = at.at image state i h
 
-choice_at : (s : View) (kind : Kind) (o : Option Choice) → IfSome o (λ c. ChoiceIsAt s kind c) → (image : List ℕ) (state : State) → Stands s image → (h : IsState (mem s image) (length image) state) → IsChoiceAt h kind o
+choice_at : (s : View) (kind : Kind) (o : Option Choice) → IfSome o (λ c. ChoiceIsAt s kind c) → (image : List ℕ) (state : State) → RestsOn s image → (h : IsState (mem s image) (length image) state) → IsChoiceAt h kind o
 choice_at s kind None k image state i h = tt
 choice_at s kind (Some c) k image state i h = k.at.at image state i h
 
 -- and where blocks stay at the size, it stays so
 choice_stays : (s s' : View) (kind : Kind) (o : Option Choice) → HoldsState s → Kept s s' →
-    ((image : List ℕ) (state state' : State) → Stands s' image → (h : IsState (mem s image) (length image) state) → (h' : IsState (mem s' image) (length image) state') → (kind : Kind) (id : ℕ) → item_block h' kind id ≡ item_block h kind id) →
+    ((image : List ℕ) (state state' : State) → RestsOn s' image → (h : IsState (mem s image) (length image) state) → (h' : IsState (mem s' image) (length image) state') → (kind : Kind) (id : ℕ) → item_block h' kind id ≡ item_block h kind id) →
     IfSome o (λ c. ChoiceIsAt s kind c) → IfSome o (λ c. ChoiceIsAt s' kind c)
 choice_stays s s' kind None held kept stay k = tt
 choice_stays s s' kind (Some c) held kept stay k = record { id = k.id; at = item_at_stays s s' kind c.id c.item held kept (λ image state state' i h h'. stay image state state' i h h' kind c.id) k.at }
 
 owner_stays : (s s' : View) (id : ℕ) (block : Option ℕ) → HoldsState s → Kept s s' →
-    ((image : List ℕ) (state state' : State) → Stands s' image → (h : IsState (mem s image) (length image) state) → (h' : IsState (mem s' image) (length image) state') → (id : ℕ) → customer_block h' id ≡ customer_block h id) →
+    ((image : List ℕ) (state state' : State) → RestsOn s' image → (h : IsState (mem s image) (length image) state) → (h' : IsState (mem s' image) (length image) state') → (id : ℕ) → customer_block h' id ≡ customer_block h id) →
     IsOwner s id block → IsOwner s' id block
 owner_stays s s' id (Some c) held kept stay at = customer_at_stays s s' id c held kept (λ image state state' i h h'. stay image state state' i h h' id) at
 owner_stays s s' id None held kept stay l = record {
@@ -270,7 +270,7 @@ ready_joined s s' id owner cs held known j = record {
 }
 
 -- a pick's blocks at the size
-pick_at : (s : View) (id : ℕ) (block : Option ℕ) (cs : Choices) (kind : Kind) → Ready s id block cs → (image : List ℕ) (state : State) → Stands s image → (h : IsState (mem s image) (length image) state) → AtPick id block kind (choice_in cs kind) (mem s image) (length image) state h
+pick_at : (s : View) (id : ℕ) (block : Option ℕ) (cs : Choices) (kind : Kind) → Ready s id block cs → (image : List ℕ) (state : State) → RestsOn s image → (h : IsState (mem s image) (length image) state) → AtPick id block kind (choice_in cs kind) (mem s image) (length image) state h
 pick_at s id block cs kind r image state i h = record {
   owner = owner_at s id block r.owner image state i h;
   chosen = choice_at s kind (choice_in cs kind) (r.known.known kind) image state i h;

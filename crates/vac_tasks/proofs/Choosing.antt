@@ -1,6 +1,6 @@
 -- Looking items up, and choosing the dearest of each kind.
 use Rattle.std.proofs.Common.{◌≡◌, ℕ, ◌+◌, List, [], ◌∷◌, ◌++◌, Option, Some, None, Bool, true, false, refl, sym, ap, ◌∙◌}
-use Rattle.std.specs.Prelude.{IfSome, IsTrue, fold, nat_lt, ◌==◌, if◌then◌else◌}
+use Rattle.std.specs.Prelude.{◌≡◌, IfSome, fold, nat_lt, ◌==◌, if◌then◌else◌, true}
 use Rattle.std.specs.Option.{option_map}
 use Rattle.stm_words.specs.View.{View, Loaded}
 use Rattle.vac_model.specs.declared.items.Kind.{Kind}
@@ -10,7 +10,7 @@ use Rattle.vac_model.specs.Amounts.{is_id}
 use Rattle.vac_model.specs.State.{State, Place, kind_number}
 use Rattle.vac_model.specs.Step.{price_of}
 use Rattle.vac_model.specs.Run.{dearer, choice_of}
-use Rattle.vac_records.specs.Holds.{OnlyRead}
+use Rattle.vac_records.specs.InMemory.{OnlyRead}
 use Rattle.vac_commands.specs.Entries.{LacksItem, HasItemAt}
 use Rattle.vac_tasks.specs.declared.trip.Choice.{Choice}
 use Rattle.vac_tasks.specs.declared.trip.Choices.{Choices}
@@ -32,7 +32,7 @@ only_loaded : (s s' : View) (a v : ℕ) → Loaded s s' a v → OnlyRead s s'
 only_loaded s s' a v l = record { kept = l.kept; writes = l.writes }
 
 -- an item that is there
-pub looked_up : (s s1 s2 : View) (kind : Kind) (c : Choice) → IsTrue (is_id c.id) → OnlyRead s s1 → HasItemAt s1 kind c.id c.item →
+pub looked_up : (s s1 s2 : View) (kind : Kind) (c : Choice) → is_id c.id ≡ true → OnlyRead s s1 → HasItemAt s1 kind c.id c.item →
     Loaded s1 s2 (c.item + 7) c.price → LookedUp s s2 kind c.id (Some c)
 looked_up s s1 s2 kind c id reads at loaded = record {
   reads = read_both s s1 s2 reads (only_loaded s1 s2 (c.item + 7) c.price loaded);

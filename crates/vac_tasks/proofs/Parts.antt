@@ -1,6 +1,6 @@
 -- Tasks of one command, leaves and updates, out of the commands that they are made of.
 use Rattle.std.proofs.Common.{◌≡◌, ℕ, ◌+◌, ◌-◌, ◌<◌, ◌≤◌, List, [], ◌∷◌, ◌++◌, length, Option, Some, None, refl, sym, ap, ◌∙◌, subst, arith, slice_set, length-append}
-use Rattle.std.specs.Prelude.{Result, Ok, Err, IfOk, replicate, IsTrue, nat_le, ◌&&◌}
+use Rattle.std.specs.Prelude.{◌≡◌, Result, Ok, Err, IfOk, replicate, nat_le, ◌&&◌, true}
 use Rattle.std.specs.List.{list_all}
 use Rattle.std.specs.Option.{option_map}
 use Rattle.stm_words.specs.View.{View}
@@ -22,7 +22,7 @@ use Rattle.vac_model.proofs.Noted.{noted, steps_more, length-steps}
 use Rattle.vac_records.specs.Items.{mem}
 use Rattle.vac_records.specs.Steps.{kept_none, kept_both, stood}
 use Rattle.vac_records.specs.Represents.{IsState}
-use Rattle.vac_records.specs.Holds.{HoldsState, OnlyRead}
+use Rattle.vac_records.specs.InMemory.{HoldsState, OnlyRead}
 use Rattle.vac_commands.specs.Entries.{LacksCustomer}
 use Rattle.vac_commands.specs.Ran.{IsOutcome, Ran, Asked}
 use Rattle.vac_report.specs.Reported.{Reported}
@@ -103,7 +103,7 @@ left s s1 s2 s3 id n reads asked ran = record {
 }
 
 -- an update has at most 32 changes
-pub few_changes : (cs : List Command) → IsTrue (is_task (task.Update cs)) → length cs ≤ 32
+pub few_changes : (cs : List Command) → is_task (task.Update cs) ≡ true → length cs ≤ 32
 few_changes cs e =
     let outer = both_true (is_list_length (length cs)) (list_all (λ c. is_change c && is_command c) cs) e in
     let inner = both_true (nat_le 1 (length cs)) (nat_le (length cs) 32) outer.0 in

@@ -1,5 +1,5 @@
 -- What the parts of a trip do to a memory that holds a state, under every image.
-use Rattle.std.specs.Prelude.{◌≡◌, ◌≢◌, ℕ, List, Option, Some, None, IfSome, IsTrue, MatchOption, length, nat_lt, ◌||◌, Bool, is_some, if◌then◌else◌}
+use Rattle.std.specs.Prelude.{◌≡◌, ◌≢◌, ℕ, List, Option, Some, None, IfSome, MatchOption, length, nat_lt, ◌||◌, Bool, is_some, if◌then◌else◌, true}
 use Rattle.std.specs.Option.{option_map}
 use Rattle.stm_words.specs.View.{View, Sees}
 use Rattle.vac_model.specs.declared.items.Kind.{Kind}
@@ -13,7 +13,7 @@ use Rattle.vac_model.specs.Run.{choice_of, joined_of}
 use Rattle.tx_alloc.specs.Pointer.{IsWithin}
 use Rattle.vac_records.specs.Items.{mem}
 use Rattle.vac_records.specs.Represents.{IsState}
-use Rattle.vac_records.specs.Holds.{OnlyRead}
+use Rattle.vac_records.specs.InMemory.{OnlyRead}
 use Rattle.vac_commands.specs.Entries.{item_block, customer_block, HasItemAt, ItemIsAt, CustomerIsAt, CustomerIsMissing, ItemsStay}
 use Rattle.vac_tasks.specs.declared.trip.Choice.{Choice}
 use Rattle.vac_tasks.specs.declared.trip.Choices.{Choices}
@@ -50,7 +50,7 @@ with_found cs Room found = record cs { room = dearer_of cs.room found }
 
 -- the item is one of this kind, in the block that is noted
 pub record IsKnown (s : View) (kind : Kind) (c : Choice) : Type 0 where
-  pub id : IsTrue (is_id c.id)
+  pub id : is_id c.id ≡ true
   pub at : HasItemAt s kind c.id c.item
 
 -- so is each that is chosen
@@ -59,7 +59,7 @@ pub record AreKnown (s : View) (cs : Choices) : Type 0 where
 
 -- the same under each image of the memory's size, which is what a booking asks for
 pub record ChoiceIsAt (s : View) (kind : Kind) (c : Choice) : Type 0 where
-  pub id : IsTrue (is_id c.id)
+  pub id : is_id c.id ≡ true
   pub at : ItemIsAt s kind c.id c.item
 
 -- so is each that is chosen

@@ -1,9 +1,9 @@
 //! Each command by its body.
 
-ghost use Rattle.std.specs.Prelude.{◌≡◌, IfOk, IfErr, IsTrue};
+ghost use Rattle.std.specs.Prelude.{◌≡◌, IfOk, IfErr, true};
 ghost use Rattle.vac_model.specs.Ranges.{is_command};
 ghost use Rattle.vac_model.specs.Run.{refusal_of};
-ghost use Rattle.vac_records.specs.Holds.{HoldsState};
+ghost use Rattle.vac_records.specs.InMemory.{HoldsState};
 ghost use Rattle.vac_commands.specs.Ran.{Ran, Asked};
 ghost use Rattle.vac_tasks.specs.Reading.{is_question};
 
@@ -38,7 +38,7 @@ pub(crate) fn refusal(reply: &Reply) -> Option<Why>
 /// Runs a command that only asks.
 pub(crate) fn read_command<M: TxRead>(memory: &mut M, command: Command) -> Result<Reply, M::Stop>
     requires state { HoldsState (M.view memory.old) }
-    requires asks { IsTrue (is_question command) }
+    requires asks { is_question command ≡ true }
     ensures origin { M.origin memory.new ≡ M.origin memory.old }
     ensures answer { IfOk result (λ reply. Asked (M.view memory.old) (M.view memory.new)
         command reply) }
@@ -72,7 +72,7 @@ pub(crate) fn run_command<M: TxMem>(
     start: FreeList,
 ) -> Result<Reply, M::Stop>
     requires state { HoldsState (M.view memory.old) }
-    requires range { IsTrue (is_command command) }
+    requires range { is_command command ≡ true }
     ensures origin { M.origin memory.new ≡ M.origin memory.old }
     ensures answer { IfOk result (λ reply. Ran (M.view memory.old) (M.view memory.new)
         command reply) }

@@ -1,8 +1,8 @@
 //! Leaving: a bill, and the end of a customer.
 
-ghost use Rattle.std.specs.Prelude.{◌≡◌, IfOk, IsTrue};
+ghost use Rattle.std.specs.Prelude.{◌≡◌, IfOk, true};
 ghost use Rattle.vac_model.specs.Ranges.{is_task};
-ghost use Rattle.vac_records.specs.Holds.{HoldsState};
+ghost use Rattle.vac_records.specs.InMemory.{HoldsState};
 ghost use Rattle.vac_tasks.specs.RanTask.{RanTask};
 
 use stm_words::TxMem;
@@ -17,7 +17,7 @@ pub(crate) fn leave<M: TxMem>(
     start: FreeList,
 ) -> Result<Reply, M::Stop>
     requires state { HoldsState (M.view memory.old) }
-    requires range { IsTrue (is_task (Task.Leave customer)) }
+    requires range { is_task (Task.Leave customer) ≡ true }
     ensures origin { M.origin memory.new ≡ M.origin memory.old }
     ensures answer { IfOk result (λ reply. RanTask (M.view memory.old) (M.view memory.new)
         (Task.Leave customer) reply) }

@@ -1,8 +1,8 @@
 //! Tasks, each as the body of one transaction.
 
-ghost use Rattle.std.specs.Prelude.{◌≡◌, IfOk, IfErr, IsTrue};
+ghost use Rattle.std.specs.Prelude.{◌≡◌, IfOk, IfErr, true};
 ghost use Rattle.vac_model.specs.Ranges.{is_task};
-ghost use Rattle.vac_records.specs.Holds.{HoldsState};
+ghost use Rattle.vac_records.specs.InMemory.{HoldsState};
 ghost use Rattle.vac_tasks.specs.Reading as reading;
 ghost use Rattle.vac_tasks.specs.RanTask.{RanTask};
 
@@ -27,7 +27,7 @@ pub fn only_reads(task: &Task) -> bool
 /// Runs a task that only reads.
 pub fn read_task<M: TxRead>(memory: &mut M, task: &Task) -> Result<Reply, M::Stop>
     requires state { HoldsState (M.view memory.old) }
-    requires reads { IsTrue (reading.only_reads task.now) }
+    requires reads { reading.only_reads task.now ≡ true }
     ensures origin { M.origin memory.new ≡ M.origin memory.old }
     ensures answer { IfOk result (λ reply. RanTask (M.view memory.old) (M.view memory.new)
         task.now reply) }
@@ -44,7 +44,7 @@ pub fn read_task<M: TxRead>(memory: &mut M, task: &Task) -> Result<Reply, M::Sto
 /// Runs a task. New entries take their blocks from free list `start` on.
 pub fn run_task<M: TxMem>(memory: &mut M, task: &Task, start: FreeList) -> Result<Reply, M::Stop>
     requires state { HoldsState (M.view memory.old) }
-    requires range { IsTrue (is_task task.now) }
+    requires range { is_task task.now ≡ true }
     ensures origin { M.origin memory.new ≡ M.origin memory.old }
     ensures answer { IfOk result (λ reply. RanTask (M.view memory.old) (M.view memory.new)
         task.now reply) }

@@ -1,11 +1,11 @@
 //! Trips: of each kind the dearest of the items that were asked for, for one customer.
 
-ghost use Rattle.std.specs.Prelude.{◌≡◌, IfOk, IfSome, IsTrue};
+ghost use Rattle.std.specs.Prelude.{◌≡◌, IfOk, IfSome, true};
 ghost use Rattle.std.specs.List.{list_all};
 ghost use Rattle.vac_model.specs.Amounts.{is_id};
 ghost use Rattle.vac_model.specs.Ranges.{is_task};
 ghost use Rattle.vac_model.specs.Run as rules;
-ghost use Rattle.vac_records.specs.Holds.{HoldsState};
+ghost use Rattle.vac_records.specs.InMemory.{HoldsState};
 ghost use Rattle.vac_tasks.specs.RanTask.{RanTask};
 ghost use Rattle.vac_tasks.specs.Runs.{RunsWhere, BlocksStay};
 ghost use Rattle.vac_tasks.specs.Trips.{priced, any_chosen, dearer_of, with_found};
@@ -81,7 +81,7 @@ impl Choices {
 /// An item with its price and its block, if it is there.
 fn look_up<M: TxRead>(memory: &mut M, kind: Kind, id: u32) -> Result<Option<Choice>, M::Stop>
     requires state { HoldsState (M.view memory.old) }
-    requires range { IsTrue (is_id id) }
+    requires range { is_id id ≡ true }
     ensures origin { M.origin memory.new ≡ M.origin memory.old }
     ensures answer { IfOk result (λ found. LookedUp (M.view memory.old) (M.view memory.new)
         kind id found) }
@@ -96,7 +96,7 @@ fn look_up<M: TxRead>(memory: &mut M, kind: Kind, id: u32) -> Result<Option<Choi
 /// Looks each ask up once, and chooses the dearest of each kind.
 fn choose<M: TxRead>(memory: &mut M, asks: &[(Kind, u32)]) -> Result<Choices, M::Stop>
     requires state { HoldsState (M.view memory.old) }
-    requires range { IsTrue (list_all (λ ask. is_id ask.1) asks.now) }
+    requires range { list_all (λ ask. is_id ask.1) asks.now ≡ true }
     ensures origin { M.origin memory.new ≡ M.origin memory.old }
     ensures answer { IfOk result (λ choices. Chosen (M.view memory.old) (M.view memory.new)
         asks.now choices) }
@@ -116,7 +116,7 @@ fn choose<M: TxRead>(memory: &mut M, asks: &[(Kind, u32)]) -> Result<Choices, M:
 /// Looks for the customer once, and makes one who is missing.
 fn join<M: TxMem>(memory: &mut M, customer: u32, start: FreeList) -> Result<Owner, M::Stop>
     requires state { HoldsState (M.view memory.old) }
-    requires range { IsTrue (is_id customer) }
+    requires range { is_id customer ≡ true }
     ensures origin { M.origin memory.new ≡ M.origin memory.old }
     ensures answer { IfOk result (λ owner. HasJoined (M.view memory.old) (M.view memory.new)
         customer owner) }
@@ -149,7 +149,7 @@ fn reserve_choice<M: TxMem>(
     start: FreeList,
 ) -> Result<Option<Pick>, M::Stop>
     requires state { HoldsState (M.view memory.old) }
-    requires range { IsTrue (is_id customer) }
+    requires range { is_id customer ≡ true }
     requires owner { IsOwner (M.view memory.old) customer owner }
     requires known { IfSome choice (λ c. ChoiceIsAt (M.view memory.old) kind c) }
     ensures origin { M.origin memory.new ≡ M.origin memory.old }
@@ -194,7 +194,7 @@ fn book_choices<M: TxMem>(
     start: FreeList,
 ) -> Result<Reply, M::Stop>
     requires state { HoldsState (M.view memory.old) }
-    requires range { IsTrue (is_id customer) }
+    requires range { is_id customer ≡ true }
     requires known { ChoicesAreAt (M.view memory.old) choices.now }
     ensures origin { M.origin memory.new ≡ M.origin memory.old }
     ensures answer { IfOk result (λ reply. RunsWhere (M.view memory.old) (M.view memory.new)
@@ -228,7 +228,7 @@ pub(crate) fn trip<M: TxMem>(
     start: FreeList,
 ) -> Result<Reply, M::Stop>
     requires state { HoldsState (M.view memory.old) }
-    requires range { IsTrue (is_task (Task.Trip customer asks.now)) }
+    requires range { is_task (Task.Trip customer asks.now) ≡ true }
     ensures origin { M.origin memory.new ≡ M.origin memory.old }
     ensures answer { IfOk result (λ reply. RanTask (M.view memory.old) (M.view memory.new)
         (Task.Trip customer asks.now) reply) }

@@ -1,8 +1,8 @@
 //! Updates: changes of the tables, one after the other.
 
-ghost use Rattle.std.specs.Prelude.{◌≡◌, IfOk, IsTrue};
+ghost use Rattle.std.specs.Prelude.{◌≡◌, IfOk, true};
 ghost use Rattle.vac_model.specs.Ranges.{is_task};
-ghost use Rattle.vac_records.specs.Holds.{HoldsState};
+ghost use Rattle.vac_records.specs.InMemory.{HoldsState};
 ghost use Rattle.vac_tasks.specs.RanTask.{RanTask};
 
 use crate::commands::{refusal, run_command};
@@ -18,7 +18,7 @@ pub(crate) fn update<M: TxMem>(
     start: FreeList,
 ) -> Result<Reply, M::Stop>
     requires state { HoldsState (M.view memory.old) }
-    requires range { IsTrue (is_task (Task.Update changes.now)) }
+    requires range { is_task (Task.Update changes.now) ≡ true }
     ensures origin { M.origin memory.new ≡ M.origin memory.old }
     ensures answer { IfOk result (λ reply. RanTask (M.view memory.old) (M.view memory.new)
         (Task.Update changes.now) reply) }

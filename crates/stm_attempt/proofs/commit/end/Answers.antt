@@ -12,7 +12,7 @@ use Rattle.stm_attempt.proofs.commit.end.Goals.{in-Some, in-None+then-len-eq0, i
 pub finish-requires-clause-allowed : goal.finish-requires-clause-allowed
 finish-requires-clause-allowed g c =
     let none = no_pairs c.args.logs.now.writes (sym c.len.ensures ∙ c.if-len-eq0.true) in (
-      c.requires.running.begun.unspent,
+      c.requires.running.begun.out,
       may_act_so (stripe_of c.args.region.now.stripes) g.L.Law.lawful (bounds c.args.region.now) c.args.client.now.value.attempt (finish (g.T.Tag.numbers c.args.tag.now)) (
         (c.requires.running.runs c.in-None.is, c.requires.running.begun.unversioned),
         c.requires.running.begun.free,

@@ -23,7 +23,7 @@ pub returns-then-eq-clause-own : goal.returns-then-eq-clause-own
 returns-then-eq-clause-own g c = c.loop.invariant.0
 
 pub returns-then-eq-clause-failed : goal.returns-then-eq-clause-failed
-returns-then-eq-clause-failed g c = has_lost c.args.client.now.value c.loop.client.value _ _ c.loop.invariant.2 c.requires.ready.unspent c.requires.ready.reading
+returns-then-eq-clause-failed g c = has_lost c.args.client.now.value c.loop.client.value _ _ c.loop.invariant.2 c.requires.ready.out c.requires.ready.reading
 
 pub returns-then-eq-clause-lone : goal.returns-then-eq-clause-lone
 returns-then-eq-clause-lone g c = λ _. tt
@@ -32,7 +32,7 @@ pub returns-clause-own : goal.returns-clause-own
 returns-clause-own g c = c.loop.invariant.0
 
 pub returns-clause-failed : goal.returns-clause-failed
-returns-clause-failed g c = has_lost c.args.client.now.value c.loop.client.value _ _ c.loop.invariant.2 c.requires.ready.unspent c.requires.ready.reading
+returns-clause-failed g c = has_lost c.args.client.now.value c.loop.client.value _ _ c.loop.invariant.2 c.requires.ready.out c.requires.ready.reading
 
 pub loop-preserved : goal.loop-preserved
 loop-preserved g c =

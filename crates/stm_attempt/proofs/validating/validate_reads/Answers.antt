@@ -17,7 +17,7 @@ pub validate_lock-requires-clause-allowed : goal.validate_lock-requires-clause-a
 validate_lock-requires-clause-allowed g c =
     let less = next_less c.args.logs.now.reads c.args.client.now.value.attempt.reads c.loop-i.i c.requires.logged (omega arith) in
     let address = address_at c.args.logs.now.reads c.args.client.now.value.attempt.reads c.loop-i.i c.get-addr.result.0 c.requires.logged c.get-addr.ensures in
-    may_validate_next c.args.region.now c.args.client.now.value c.loop-i.client.value c.loop-i.i c.loop-i.invariant.1 less g.L.Law.lawful (stripe_of c.args.region.now.stripes) (bounds c.args.region.now) c.requires.ready.unspent c.requires.ready.versioned c.get-addr.result.0 c.lock_of-lock.result address c.lock_of-lock.ensures.value
+    may_validate_next c.args.region.now c.args.client.now.value c.loop-i.client.value c.loop-i.i c.loop-i.invariant.1 less g.L.Law.lawful (stripe_of c.args.region.now.stripes) (bounds c.args.region.now) c.requires.ready.out c.requires.ready.versioned c.get-addr.result.0 c.lock_of-lock.result address c.lock_of-lock.ensures.value
 
 pub loop-i-preserved : goal.loop-i-preserved
 loop-i-preserved g c =
@@ -38,4 +38,4 @@ pub returns-in_err-validate_lock-clause-failed : goal.returns-in_err-validate_lo
 returns-in_err-validate_lock-clause-failed g c =
     let less = next_less c.args.logs.now.reads c.args.client.now.value.attempt.reads c.loop-i.i c.requires.logged (omega arith) in
     handed_on c.from_residual.result c.in_err-validate_lock.field-0.0 (λ conflict. HasFailedValidating c.args.client.now.value c.validate_lock.new.client.value) c.from_residual.ensures.1
-    (failed_lock c.args.region.now c.args.client.now.value c.loop-i.client.value c.loop-i.i c.loop-i.invariant.1 less _ c.validate_lock.new.client.value c.in_err-validate_lock.ensures.failed c.requires.ready.unspent)
+    (failed_lock c.args.region.now c.args.client.now.value c.loop-i.client.value c.loop-i.i c.loop-i.invariant.1 less _ c.validate_lock.new.client.value c.in_err-validate_lock.ensures.failed c.requires.ready.out)

@@ -1,6 +1,6 @@
 use Rattle.std.proofs.Common.{◌≡◌, true}
 use Rattle.stm_core.specs.Client.{decided}
-use Rattle.stm_region.specs.Told.{Decides}
+use Rattle.stm_region.specs.Findings.{Decides}
 use Rattle.stm_attempt.proofs.ValidateAll.{IsValidating}
 use Rattle.stm_attempt.proofs.validating.validate_reads.Given as goal
 

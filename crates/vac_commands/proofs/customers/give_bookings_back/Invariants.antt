@@ -1,5 +1,5 @@
 use Rattle.std.proofs.Common.{◌≡◌, ◌-◌}
-use Rattle.vac_records.specs.Holds.{HoldsState}
+use Rattle.vac_records.specs.InMemory.{HoldsState}
 use Rattle.vac_commands.specs.Entries.{CustomerIsAt}
 use Rattle.vac_commands.specs.CustomerSteps.{GivenBack}
 use Rattle.vac_commands.proofs.customers.give_bookings_back.Given as goal

@@ -1,6 +1,6 @@
 use Rattle.std.proofs.Common.{refl}
 use Rattle.vac_lines.proofs.Extends.{on_err}
-use Rattle.vac_script.proofs.Answering.{Told, told_task, told_fault, told_whole, told_in_part, told_nothing}
+use Rattle.vac_script.proofs.Answering.{AnsweredText, told_task, told_fault, told_whole, told_in_part, told_nothing}
 use Rattle.vac_script.proofs.script.run_read.Goals as goal
 use Rattle.vac_script.proofs.script.run_read.Goals.{in-Ok+in_ok-reply-in-Ok+in_ok-print_reply-in-Ok, in-Err+in_ok-print_fault-in-Err}
 
@@ -15,7 +15,7 @@ returns-in_err-print_fault-in-Err-clause-err c = on_err c.from_residual-in_err-p
 
 pub returns-in_err-extend_from_slice-clause-err : goal.returns-in_err-extend_from_slice-clause-err
 returns-in_err-extend_from_slice-clause-err c =
-    let told : Told c.args.system.now c.match-read.system c.args.out.now.items c.match-read.out.items c.args.read.now = elim c.match-read.branch [
+    let told : AnsweredText c.args.system.now c.match-read.system c.args.out.now.items c.match-read.out.items c.args.read.now = elim c.match-read.branch [
       | in-Ok+in_ok-reply-in-Ok+in_ok-print_reply-in-Ok w ↦
           let ran = w.in_ok-reply-in-Ok.ensures in
           rw (w.system-is, w.out-is) (told_task _ _ _ _ _ _ _ w.in-Ok.is ran.reply ran.state ran.goes w.in_ok-print_reply-in-Ok.ensures.ok)
@@ -25,7 +25,7 @@ returns-in_err-extend_from_slice-clause-err c =
 
 pub returns-clause-ok : goal.returns-clause-ok
 returns-clause-ok c =
-    let told : Told c.args.system.now c.match-read.system c.args.out.now.items c.match-read.out.items c.args.read.now = elim c.match-read.branch [
+    let told : AnsweredText c.args.system.now c.match-read.system c.args.out.now.items c.match-read.out.items c.args.read.now = elim c.match-read.branch [
       | in-Ok+in_ok-reply-in-Ok+in_ok-print_reply-in-Ok w ↦
           let ran = w.in_ok-reply-in-Ok.ensures in
           rw (w.system-is, w.out-is) (told_task _ _ _ _ _ _ _ w.in-Ok.is ran.reply ran.state ran.goes w.in_ok-print_reply-in-Ok.ensures.ok)

@@ -1,5 +1,5 @@
 use Rattle.std.proofs.Common.{◌≡◌, take}
-use Rattle.vac_records.specs.Holds.{HoldsState}
+use Rattle.vac_records.specs.InMemory.{HoldsState}
 use Rattle.vac_tasks.specs.Trips.{Chosen}
 use Rattle.vac_tasks.proofs.trip.choose.Given as goal
 

@@ -1,7 +1,7 @@
 use Rattle.std.proofs.Common.{List, sym, ap, subst}
 use Rattle.stm_words.specs.Image.{In}
 use Rattle.stm_core.specs.Client.{Record}
-use Rattle.stm_region.specs.Told.{IsEarlier}
+use Rattle.stm_region.specs.Findings.{IsEarlier}
 use Rattle.stm_region.proofs.region.Region.begin.Goals as goal
 
 pub returns-clause-earlier : goal.returns-clause-earlier

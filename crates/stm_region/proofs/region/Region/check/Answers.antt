@@ -1,6 +1,6 @@
 use Rattle.std.proofs.Common.{ap, subst}
 use Rattle.stm_core.specs.Event.{check}
-use Rattle.stm_region.specs.Told.{IsOfOneVersionAt}
+use Rattle.stm_region.specs.Findings.{IsOfOneVersionAt}
 use Rattle.stm_region.proofs.region.Region.check.Goals as goal
 
 pub returns-clause-after : goal.returns-clause-after

@@ -4,7 +4,7 @@ use Rattle.stm_core.specs.Invariant.{Sorted}
 use Rattle.stm_core.proofs.Whole.{after_sorted}
 use Rattle.stm_region.specs.Shown.{unplaced}
 use Rattle.stm_core.specs.Guards.{stripe_of}
-use Rattle.stm_region.specs.Told.{DecidesAt}
+use Rattle.stm_region.specs.Findings.{DecidesAt}
 use Rattle.stm_region.proofs.region.Region.finish.Goals as goal
 
 pub invariant_of-client : goal.invariant_of-client

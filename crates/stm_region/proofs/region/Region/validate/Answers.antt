@@ -5,7 +5,7 @@ use Rattle.stm_core.proofs.Conditions.{can_act}
 use Rattle.stm_core.proofs.Whole.{after_sorted}
 use Rattle.stm_region.specs.Shown.{RegionShown, bounds, unplaced}
 use Rattle.stm_core.specs.Guards.{stripe_of}
-use Rattle.stm_region.specs.Told.{DecidesAt}
+use Rattle.stm_region.specs.Findings.{DecidesAt}
 use Rattle.stm_region.proofs.region.Region.validate.Goals as goal
 
 pub prove-unreachable-requires : goal.prove-unreachable-requires

@@ -1,6 +1,6 @@
 use Rattle.std.proofs.Common.{subst, sym}
 use Rattle.vac_plain.proofs.Heaps.{held_task}
-use Rattle.vac_plain.specs.Holds.{IsStateOf}
+use Rattle.vac_plain.specs.PlainState.{IsStateOf}
 use Rattle.vac_plain.proofs.Heaps.{holds_run, reply_run}
 use Rattle.vac_plain.proofs.heap.Heap.read.Goals as goal
 

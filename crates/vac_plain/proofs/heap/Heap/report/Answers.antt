@@ -1,6 +1,6 @@
 use Rattle.std.proofs.Common.{subst, sym}
 use Rattle.vac_records.proofs.AfterReads.{held_on}
-use Rattle.vac_plain.specs.Holds.{IsStateOf}
+use Rattle.vac_plain.specs.PlainState.{IsStateOf}
 use Rattle.vac_plain.proofs.Heaps.{report_is}
 use Rattle.vac_plain.proofs.heap.Heap.report.Goals as goal
 

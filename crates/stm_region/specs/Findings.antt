@@ -137,44 +137,44 @@ IsLoneOpen v = (v.attempt.lone ≡ true) × (decided v ≡ false)
 
 -- what a lone attempt finds: a lock word that is free or its own, and not newer; the word of its
 -- probe; the clock that it ticks from, and its tick decides
-abbrev pub LoneTold : Action → ℕ → Client → Client → Type 0
-LoneTold begin n v w = Unit {0}
-LoneTold (probe k) n v w = (IsFree n ⊎ Holds v.attempt.held k) × (version_of n ≤ v.attempt.rv)
-LoneTold (fetch a) n v w = Unit {0}
-LoneTold (check a) n v w = n ≡ word_before v.attempt.last
-LoneTold (lock k) n v w = n ≡ word_before v.attempt.last
-LoneTold (tick from tag writes) n v w = (n ≡ from) × (decided w ≡ true)
-LoneTold (validate k) n v w = Unit {0}
-LoneTold (put a x) n v w = Unit {0}
-LoneTold (release k) n v w = Unit {0}
-LoneTold (give_back k) n v w = Unit {0}
-LoneTold (finish tag) n v w = Unit {0}
+abbrev pub LoneTells : Action → ℕ → Client → Client → Type 0
+LoneTells begin n v w = Unit {0}
+LoneTells (probe k) n v w = (IsFree n ⊎ Holds v.attempt.held k) × (version_of n ≤ v.attempt.rv)
+LoneTells (fetch a) n v w = Unit {0}
+LoneTells (check a) n v w = n ≡ word_before v.attempt.last
+LoneTells (lock k) n v w = n ≡ word_before v.attempt.last
+LoneTells (tick from tag writes) n v w = (n ≡ from) × (decided w ≡ true)
+LoneTells (validate k) n v w = Unit {0}
+LoneTells (put a x) n v w = Unit {0}
+LoneTells (release k) n v w = Unit {0}
+LoneTells (give_back k) n v w = Unit {0}
+LoneTells (finish tag) n v w = Unit {0}
 
 module _ (fits : List ℕ → Type 0) (lawful : RecordLaw) (r : RegionShown) where
   -- what is told of the word found, and of the client's values before and after the step
-  abbrev pub Told : Action → ℕ → Client → Client → Type 0
-  Told begin n v w =
+  abbrev pub Tells : Action → ℕ → Client → Client → Type 0
+  Tells begin n v w =
       IsVersion r.last n × (v.floor ≤ n) × StandsOn fits r.size []
       × AreEarlier r.renewal n v.records × (v.grants ≡ MOST_GRANTS → n ≡ v.floor)
-  Told (probe k) n v w = IsLockWord r.last n × (IsLoneOpen v → LoneTold (probe k) n v w)
-  Told (fetch a) n v w = Unit {0}
-  Told (check a) n v w =
+  Tells (probe k) n v w = IsLockWord r.last n × (IsLoneOpen v → LoneTells (probe k) n v w)
+  Tells (fetch a) n v w = Unit {0}
+  Tells (check a) n v w =
       IsLockWord r.last n × StandsOn fits r.size w.attempt.reads
-      × (IsLoneOpen v → LoneTold (check a) n v w)
+      × (IsLoneOpen v → LoneTells (check a) n v w)
       × IsOfOneVersionAt fits lawful r (check a) n v w
-  Told (lock k) n v w = IsLockWord r.last n × (IsLoneOpen v → LoneTold (lock k) n v w)
-  Told (tick from tag writes) n v w =
+  Tells (lock k) n v w = IsLockWord r.last n × (IsLoneOpen v → LoneTells (lock k) n v w)
+  Tells (tick from tag writes) n v w =
       IsVersion r.last n × (0 < w.attempt.wv → w.attempt.rv < w.attempt.wv)
       × (decided w ≡ true → DecidesAt fits lawful r (tick from tag writes) n v w)
-      × (IsLoneOpen v → LoneTold (tick from tag writes) n v w)
-  Told (validate k) n v w =
+      × (IsLoneOpen v → LoneTells (tick from tag writes) n v w)
+  Tells (validate k) n v w =
       IsLockWord r.last n × (decided w ≡ true → DecidesAt fits lawful r (validate k) n v w)
-  Told (put a x) n v w = Unit {0}
-  Told (release k) n v w = Unit {0}
-  Told (give_back k) n v w = Unit {0}
-  Told (finish tag) n v w = DecidesAt fits lawful r (finish tag) n v w
+  Tells (put a x) n v w = Unit {0}
+  Tells (release k) n v w = Unit {0}
+  Tells (give_back k) n v w = Unit {0}
+  Tells (finish tag) n v w = DecidesAt fits lawful r (finish tag) n v w
 
   -- a step has its effect on the client's value, and tells what it can
   abbrev pub acting : {S : Type 0} → Action → Step S → Me S Client → ℕ → Me S Client → Type 0
   acting e s m n w =
-      (w ≡ (value_after r e n m.0, m.1)) × Told e n m.0 (value_after r e n m.0)
+      (w ≡ (value_after r e n m.0, m.1)) × Tells e n m.0 (value_after r e n m.0)

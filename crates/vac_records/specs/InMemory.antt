@@ -1,6 +1,6 @@
 -- Memories that hold a state, whatever image they stand on.
 use Rattle.std.specs.Prelude.{◌≡◌, ℕ, ◌≤◌, ◌^◌, List, length}
-use Rattle.stm_words.specs.View.{View, Stands, Kept}
+use Rattle.stm_words.specs.View.{View, RestsOn, Kept}
 use Rattle.vac_model.specs.State.{State}
 use Rattle.vac_records.specs.Items.{mem}
 use Rattle.vac_records.specs.Represents.{IsState}
@@ -10,7 +10,7 @@ use Rattle.vac_records.specs.Represents.{IsState}
 pub record HoldsState (s : View) : Type 0 where
   pub inside : 16 ≤ s.size
   pub small : s.size ≤ 2 ^ 32
-  pub under : (image : List ℕ) → Stands s image →
+  pub under : (image : List ℕ) → RestsOn s image →
       (state : State) × IsState (mem s image) (length image) state
 
 -- only reads were made
