@@ -25,7 +25,7 @@ use Rattle.stm_core.proofs.Histories.{image_fits}
 use Rattle.stm_core.proofs.Facts.{some_fits, grants_of_two, ahead, all_lawful, one_version}
 use Rattle.stm_region.specs.Shown.{Opened, RegionShown, joined, opened_with, bounds, unplaced}
 use Rattle.stm_region.specs.Layout.{place, first_cell, InRange, IsLaid, IsStore}
-use Rattle.stm_region.specs.Findings.{IsLockWord, IsVersion, StandsOn, IsRightAfter, IsOfOneVersionAt, DecidesAt, Tells, acting, IsEarlier, AreEarlier}
+use Rattle.stm_region.specs.Findings.{IsLockWord, IsVersion, StandsOn, IsRightAfter, IsOneEvent, IsOfOneVersionAt, DecidesAt, Tells, Happens, acting, IsEarlier, AreEarlier}
 use Rattle.stm_region.specs.Traced.{IsTraced}
 use Rattle.stm_region.specs.Rule.{IsCoreState}
 use Rattle.stm_region.proofs.Tracing.{step_traced, step_listed, split_traced, gather_traced}
@@ -215,6 +215,27 @@ module _ (fits : List ℕ → Type 0) (lawful : RecordLaw) (law : Keeping fits l
       decides_of d m' z f h' i (after (unplaced r.renewal) lk (finish tag) c.clock v) at (finish tag) c.clock v g run (finish_makes (unplaced r.renewal) lk c.clock v run tag)
   told_of c d m m' z top f h h' i v _ was at g may = tt
 
+  -- the step is one event
+  event_of : (d : Core) → Matches o d → length r.opening ≡ r.size → Rule lawful lk d → (i : ℕ) (v : Client) → get_elem? d.clients i ≡ some v → (e : Action) (n : ℕ) (u : Client) → IsRightAfter lawful r e n u i d → IsOneEvent lawful r e n u v
+  event_of d m z h i v at e n u g = record {
+    core = d;
+    rule = h;
+    first = m.first;
+    renewal = m.renewal;
+    opening = m.opening;
+    last = m.last;
+    locks = m.locks;
+    cells = h.inv.size ∙ (ap length m.opening ∙ z);
+    number = i;
+    member = at;
+    after = g;
+  }
+
+  happens_of : (e : Action) (n : ℕ) (v w : Client) → IsOneEvent lawful r e n v w → Happens fits lawful r e n v w
+  happens_of (put a x) n v w h = (n, h)
+  happens_of (release k) n v w h = (n, h)
+  happens_of _ n v w h = h
+
   in_clients : (cs : List Client) (i : ℕ) (v w : Client) → get_elem? cs i ≡ some v → get_elem? (set cs i w) i ≡ some w
   in_clients [] i v w e = absurd (some-ne-none v (sym e))
   in_clients (x ∷ xs) zero v w e = refl
@@ -240,7 +261,7 @@ module _ (fits : List ℕ → Type 0) (lawful : RecordLaw) (law : Keeping fits l
     acts_allowed : (slots id : ℕ) (me : Me S Client) (e : Action) (word : ℕ) (f : ℕ → ℕ) (told : ℕ → Me S Client → Type 0)
         → length r.opening ≡ r.size → word ≡ place r.stripes e → InRange r.stripes r.size e → May lawful lk (bounds r) e me.0
         → ((c : Core) → Rule lawful lk c → get_elem? c.clients id ≡ some me.0 → found lk c e < 18446744073709551616 → f (found lk c e) ≡ left e (found lk c e) me.0)
-        → ((n : ℕ) → Tells fits lawful r e n me.0 (after (unplaced r.renewal) lk e n me.0) → told n (after (unplaced r.renewal) lk e n me.0, me.1))
+        → ((n : ℕ) → Tells fits lawful r e n me.0 (after (unplaced r.renewal) lk e n me.0) → IsOneEvent lawful r e n me.0 (after (unplaced r.renewal) lk e n me.0) → told n (after (unplaced r.renewal) lk e n me.0, me.1))
         → Allows Kept slots id me word f told
     acts_allowed slots id me e word f told z is range may does tells s h len at lt =
         let v : Client = me.0 in
@@ -278,14 +299,15 @@ module _ (fits : List ℕ → Type 0) (lawful : RecordLaw) (law : Keeping fits l
             bounded = h.bounded;
             some = h.some;
           },
-          tells (slice_index s.words word) (rw there (told_of c (stepped (unplaced r.renewal) lk e id v c) (matches s h) m' z h.bounded h.fitting h.rule inv' id v e at' here right may'.1)),
+          tells (slice_index s.words word) (rw there (told_of c (stepped (unplaced r.renewal) lk e id v c) (matches s h) m' z h.bounded h.fitting h.rule inv' id v e at' here right may'.1))
+              (rw there (event_of (stepped (unplaced r.renewal) lk e id v c) m' z inv' id (after (unplaced r.renewal) lk e (found lk c e) v) here e (found lk c e) v right)),
         )
 
     -- the same at a table that was told what the region was opened with
     acts_in : (words : ℕ) (key : Opened) → Runs words key r → (slots id : ℕ) (me : Me S Client) (e : Action) (word : ℕ) (f : ℕ → ℕ) (told : ℕ → Me S Client → Type 0)
         → word ≡ place r.stripes e → InRange r.stripes r.size e → May lawful lk (bounds r) e me.0
         → ((c : Core) → Rule lawful lk c → get_elem? c.clients id ≡ some me.0 → found lk c e < 18446744073709551616 → f (found lk c e) ≡ left e (found lk c e) me.0)
-        → ((n : ℕ) → Tells fits lawful r e n me.0 (after (unplaced r.renewal) lk e n me.0) → told n (after (unplaced r.renewal) lk e n me.0, me.1))
+        → ((n : ℕ) → Tells fits lawful r e n me.0 (after (unplaced r.renewal) lk e n me.0) → IsOneEvent lawful r e n me.0 (after (unplaced r.renewal) lk e n me.0) → told n (after (unplaced r.renewal) lk e n me.0, me.1))
         → (word < words) × Allows (IsCoreState fits lawful key) slots id me word f told
     acts_in words key run slots id me e word f told is range may does tells = (
       subst (λ n. n < words) (sym is) (in_table r.stripes r.size words e run.total run.some range),
@@ -297,20 +319,20 @@ module _ (fits : List ℕ → Type 0) (lawful : RecordLaw) (law : Keeping fits l
         → word ≡ place r.stripes e → InRange r.stripes r.size e → May lawful lk (bounds r) e me.0 → ((n : ℕ) → left e n me.0 ≡ f n)
         → (word < words) × Allows (IsCoreState fits lawful key) slots id me word f (acting fits lawful t e (step 0 0 0 0 none) me)
     acts_here words key run t q slots id me e word f is range may does = subst (λ x. (word < words) × Allows (IsCoreState fits lawful key) slots id me word f (acting fits lawful x e (step 0 0 0 0 none) me)) (sym q)
-        (acts_in words key run slots id me e word f (acting fits lawful r e (step 0 0 0 0 none) me) is range may (λ c i a l. sym (does (found lk c e))) (λ n t. (refl, t)))
+        (acts_in words key run slots id me e word f (acting fits lawful r e (step 0 0 0 0 none) me) is range may (λ c i a l. sym (does (found lk c e))) (λ n t h. (refl, t, happens_of e n me.0 _ h)))
 
     -- a store, whose effect does not depend on the word found
-    stored : (me : Me S Client) (e : Action) → IsStore e → (n new : ℕ) → Tells fits lawful r e n me.0 (after (unplaced r.renewal) lk e n me.0) → acting fits lawful r e (step 0 0 0 0 none) me new (after (unplaced r.renewal) lk e n me.0, me.1)
-    stored me (put a x) s n new t = (refl, tt)
-    stored me (release k) s n new t = (refl, tt)
-    stored me _ s n new t = absurd s
+    stored : (me : Me S Client) (e : Action) → IsStore e → (n new : ℕ) → Tells fits lawful r e n me.0 (after (unplaced r.renewal) lk e n me.0) → IsOneEvent lawful r e n me.0 (after (unplaced r.renewal) lk e n me.0) → acting fits lawful r e (step 0 0 0 0 none) me new (after (unplaced r.renewal) lk e n me.0, me.1)
+    stored me (put a x) s n new t h = (refl, tt, (n, h))
+    stored me (release k) s n new t h = (refl, tt, (n, h))
+    stored me _ s n new t h = absurd s
 
     pub stores_here : (words : ℕ) (key : Opened) → Runs words key r → (t : RegionShown) → t ≡ r → (slots id : ℕ) (me : Me S Client) (e : Action) (word new : ℕ)
         → word ≡ place r.stripes e → InRange r.stripes r.size e → May lawful lk (bounds r) e me.0 → IsStore e → ((n : ℕ) → left e n me.0 ≡ new)
         → (word < words) × Allows (IsCoreState fits lawful key) slots id me word (λ _. new) (λ _. acting fits lawful t e (step 0 0 0 0 none) me new)
     stores_here words key run t q slots id me e word new is range may s does =
         subst (λ x. (word < words) × Allows (IsCoreState fits lawful key) slots id me word (λ _. new) (λ _. acting fits lawful x e (step 0 0 0 0 none) me new)) (sym q)
-        (acts_in words key run slots id me e word (λ _. new) (λ _. acting fits lawful r e (step 0 0 0 0 none) me new) is range may (λ c i a l. sym (does (found lk c e))) (λ n t. stored me e s n new t))
+        (acts_in words key run slots id me e word (λ _. new) (λ _. acting fits lawful r e (step 0 0 0 0 none) me new) is range may (λ c i a l. sym (does (found lk c e))) (λ n t h. stored me e s n new t h))
 
     pub subtracts_here : (words : ℕ) (key : Opened) → Runs words key r → (t : RegionShown) → t ≡ r → (slots id : ℕ) (me : Me S Client) (e : Action) (k word : ℕ)
         → e ≡ give_back k → word ≡ 16 + k → k < r.stripes → May lawful lk (bounds r) (give_back k) me.0
@@ -319,7 +341,7 @@ module _ (fits : List ℕ → Type 0) (lawful : RecordLaw) (law : Keeping fits l
         subst (λ x. (word < words) × Allows (IsCoreState fits lawful key) slots id me word (λ n. (n + (18446744073709551616 - 1)) % 18446744073709551616) (acting fits lawful t x (step 0 0 0 0 none) me)) (sym gives)
         (subst (λ x. (word < words) × Allows (IsCoreState fits lawful key) slots id me word (λ n. (n + (18446744073709551616 - 1)) % 18446744073709551616) (acting fits lawful x (give_back k) (step 0 0 0 0 none) me)) (sym q)
         (acts_in words key run slots id me (give_back k) word (λ n. (n + (18446744073709551616 - 1)) % 18446744073709551616) (acting fits lawful r (give_back k) (step 0 0 0 0 none) me) is range may
-        (λ c i a l. less_one c id k me.0 i a (can_act lk lawful (bounds r) me.0.attempt (give_back k) may.1).1 l) (λ n t. (refl, t))))
+        (λ c i a l. less_one c id k me.0 i a (can_act lk lawful (bounds r) me.0.attempt (give_back k) may.1).1 l) (λ n t h. (refl, t, h))))
 
     -- a client splits off another
     split_allowed : (id : ℕ) (v : Client) → IsFreeHanded v → 0 < v.grants → Splits Kept id v (giving v) (fresh v)

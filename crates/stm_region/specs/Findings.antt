@@ -58,6 +58,25 @@ pub record IsRightAfter (lawful : RecordLaw) (region : RegionShown) (step : Acti
   pub last_event : listed.events
       ≡ traced.events ++ acts (suc (traced.clients.number number)) step ∷ []
 
+-- the step was one event of this region: right after it a core state of the region, which meets the
+-- rule, has this value of the client
+pub record IsOneEvent (lawful : RecordLaw) (region : RegionShown) (step : Action) (word : ℕ)
+    (was v : Client) : Type 0 where
+  -- the core state is this region's
+  pub core : Core
+  pub rule : Rule lawful (stripe_of region.stripes) core
+  pub first : core.first ≡ region.first
+  pub renewal : core.renewal ≡ region.renewal
+  pub opening : core.opening ≡ region.opening
+  pub last : core.last ≡ region.last
+  pub locks : length core.locks ≡ region.stripes
+  pub cells : length core.cells ≡ region.size
+  -- this client has this value in it
+  pub number : ℕ
+  pub member : get_elem? core.clients number ≡ some v
+  -- the step led to it, and found this word
+  pub after : IsRightAfter lawful region step word was number core
+
 -- what the client has read is of one version: the image of its read version, in the region's core
 -- state right after a step of its own, fits and agrees with its reads
 pub record IsOfOneVersion (fits : List ℕ → Type 0) (lawful : RecordLaw) (region : RegionShown)
@@ -174,7 +193,14 @@ module _ (fits : List ℕ → Type 0) (lawful : RecordLaw) (r : RegionShown) whe
   Tells (give_back k) n v w = Unit {0}
   Tells (finish tag) n v w = DecidesAt fits lawful r (finish tag) n v w
 
-  -- a step has its effect on the client's value, and tells what it can
+  -- the step was one event; a store does not tell the word that it found
+  abbrev pub Happens : Action → ℕ → Client → Client → Type 0
+  Happens (put a x) n v w = (found : ℕ) × IsOneEvent lawful r (put a x) found v w
+  Happens (release k) n v w = (found : ℕ) × IsOneEvent lawful r (release k) found v w
+  Happens e n v w = IsOneEvent lawful r e n v w
+
+  -- a step has its effect on the client's value, tells what it can, and is one event
   abbrev pub acting : {S : Type 0} → Action → Step S → Me S Client → ℕ → Me S Client → Type 0
   acting e s m n w =
       (w ≡ (value_after r e n m.0, m.1)) × Tells e n m.0 (value_after r e n m.0)
+      × Happens e n m.0 (value_after r e n m.0)

@@ -7,7 +7,7 @@ ghost use Rattle.stm_core.specs.Event.{Action, lock as locks, tick as ticks, giv
 ghost use Rattle.stm_logs.specs.Log.{log_pairs};
 ghost use Rattle.stm_region.specs.Shown.{MayStep, value_after};
 ghost use Rattle.stm_region.specs.Layout.{place, InRange, Exchanges, Stores};
-ghost use Rattle.stm_region.specs.Findings.{Tells};
+ghost use Rattle.stm_region.specs.Findings.{IsOneEvent, Tells, Happens};
 
 use crate::layout::{CLOCK, FIRST_LOCK};
 use crate::moving::{Acting, Acts};
@@ -37,6 +37,8 @@ impl<L: Law, A: Allocator> Region<L, A> {
         ensures me { seat.new.me
             ≡ (value_after self.now T.action result seat.old.me.0, seat.old.me.1) }
         ensures told { Tells L.fits L.lawful self.now T.action result seat.old.me.0 seat.new.me.0 }
+        ensures event { Happens L.fits L.lawful self.now T.action result
+            seat.old.me.0 seat.new.me.0 }
     {
         let _ = number;
         self.table.shared.load::<Acts<L, T>>(seat, word)
@@ -62,6 +64,8 @@ impl<L: Law, A: Allocator> Region<L, A> {
         ensures me { seat.new.me
             ≡ (value_after self.now T.action result seat.old.me.0, seat.old.me.1) }
         ensures told { Tells L.fits L.lawful self.now T.action result seat.old.me.0 seat.new.me.0 }
+        ensures event { Happens L.fits L.lawful self.now T.action result
+            seat.old.me.0 seat.new.me.0 }
     {
         let _ = number;
         self.table
@@ -87,6 +91,8 @@ impl<L: Law, A: Allocator> Region<L, A> {
         ensures table { seat.new.table_id ≡ seat.old.table_id }
         ensures me { seat.new.me
             ≡ (value_after self.now T.action new seat.old.me.0, seat.old.me.1) }
+        ensures event { Happens L.fits L.lawful self.now T.action new
+            seat.old.me.0 seat.new.me.0 }
     {
         let _ = number;
         self.table.shared.store::<Acts<L, T>>(seat, word, new)
@@ -109,6 +115,8 @@ impl<L: Law, A: Allocator> Region<L, A> {
         ensures table { seat.new.table_id ≡ seat.old.table_id }
         ensures me { seat.new.me
             ≡ (value_after self.now (gives_back number) 0 seat.old.me.0, seat.old.me.1) }
+        ensures event { (found : ℕ) × IsOneEvent L.lawful self.now (gives_back number) found
+            seat.old.me.0 seat.new.me.0 }
     {
         let _ = number;
         self.table.shared.fetch_sub::<Acts<L, T>>(seat, word, 1);
@@ -131,6 +139,8 @@ impl<L: Law, A: Allocator> Region<L, A> {
         ensures me { seat.new.me
             ≡ (value_after self.now S.action result seat.old.me.0, seat.old.me.1) }
         ensures told { Tells L.fits L.lawful self.now S.action result seat.old.me.0 seat.new.me.0 }
+        ensures event { Happens L.fits L.lawful self.now S.action result
+            seat.old.me.0 seat.new.me.0 }
     {
         let _ = tag;
         let _ = writes;
@@ -148,6 +158,8 @@ impl<L: Law, A: Allocator> Region<L, A> {
         ensures me { seat.new.me
             ≡ (value_after self.now S.action result seat.old.me.0, seat.old.me.1) }
         ensures told { Tells L.fits L.lawful self.now S.action result seat.old.me.0 seat.new.me.0 }
+        ensures event { Happens L.fits L.lawful self.now S.action result
+            seat.old.me.0 seat.new.me.0 }
     {
         let _ = tag;
         self.load_as::<S>(seat, CLOCK, 0)

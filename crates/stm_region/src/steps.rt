@@ -5,7 +5,8 @@ ghost use Rattle.stm_core.specs.Event.{begin as begins, probe as probes, fetch a
 ghost use Rattle.stm_logs.specs.Log.{log_pairs};
 ghost use Rattle.stm_region.specs.Shown.{Exchanged, IsAllowed, acted};
 ghost use Rattle.stm_region.specs.declared.limits.TheConstants.{MOST_GRANTS};
-ghost use Rattle.stm_region.specs.Findings.{IsLockWord, IsLoneOpen, StandsOn, IsOfOneVersion, IsOfOneVersionAt, AreEarlier, Decides, DecidesAt};
+ghost use Rattle.stm_region.specs.Findings.{IsLockWord, IsLoneOpen, StandsOn, IsOneEvent, IsOfOneVersion, IsOfOneVersionAt};
+ghost use Rattle.stm_region.specs.Findings.{AreEarlier, Decides, DecidesAt};
 ghost use Rattle.std.specs.Prelude.{◌⊎◌};
 ghost use Rattle.stm_core.specs.Client.{version_of, IsFree};
 ghost use Rattle.stm_core.specs.Guards.{Holds, stripe_of};
@@ -27,6 +28,8 @@ impl<L: Law, A: Allocator> Region<L, A> {
         requires own { client.old.table ≡ self.now.table }
         requires allowed { IsAllowed L.lawful self.now begins client.old }
         ensures client { client.new ≡ acted self.now begins result client.old }
+        ensures event { IsOneEvent L.lawful self.now begins result
+            client.old.value client.new.value }
         ensures version { result ≤ self.now.last }
         ensures floor { client.old.value.floor ≤ result }
         ensures alone { client.old.value.grants ≡ MOST_GRANTS → result ≡ client.old.value.floor }
@@ -47,6 +50,8 @@ impl<L: Law, A: Allocator> Region<L, A> {
         requires own { client.old.table ≡ self.now.table }
         requires allowed { IsAllowed L.lawful self.now (probes lock) client.old }
         ensures client { client.new ≡ acted self.now (probes lock) result client.old }
+        ensures event { IsOneEvent L.lawful self.now (probes lock) result
+            client.old.value client.new.value }
         ensures word { IsLockWord self.now.last result }
         ensures lone { IsLoneOpen client.old.value →
             (IsFree result ⊎ Holds client.old.value.attempt.held lock)
@@ -62,7 +67,9 @@ impl<L: Law, A: Allocator> Region<L, A> {
     pub fn fetch(&self, client: &mut Client<L>, addr: Addr) -> u64
         requires own { client.old.table ≡ self.now.table }
         requires allowed { IsAllowed L.lawful self.now (fetches addr.0) client.old }
-        ensures { client.new ≡ acted self.now (fetches addr.0) result client.old }
+        ensures client { client.new ≡ acted self.now (fetches addr.0) result client.old }
+        ensures event { IsOneEvent L.lawful self.now (fetches addr.0) result
+            client.old.value client.new.value }
     {
         self.load_as::<Brand>(&mut client.seat, self.cells + addr.0 as usize, addr.0)
     }
@@ -94,6 +101,11 @@ impl<L: Law, A: Allocator> Region<L, A> {
         requires allowed { IsAllowed L.lawful self.now (locks lock) client.old }
         ensures client { Exchanged self.now (locks lock)
             (word_before client.old.value.attempt.last) result client.old client.new }
+        ensures event { MatchResult result
+            (λ _. IsOneEvent L.lawful self.now (locks lock)
+            (word_before client.old.value.attempt.last) client.old.value client.new.value)
+            (λ found. IsOneEvent L.lawful self.now (locks lock) found
+            client.old.value client.new.value) }
         ensures word { MatchResult result
             (λ _. IsLockWord self.now.last (word_before client.old.value.attempt.last))
             (λ found. IsLockWord self.now.last found) }
@@ -106,7 +118,10 @@ impl<L: Law, A: Allocator> Region<L, A> {
             word,
             lock,
         );
-        if found == word { Ok(()) } else { Err(found) }
+        if found == word {
+            return Ok(());
+        }
+        Err(found)
     }
 
     /// Ticks the clock from this version to the next, which becomes the write version: one
@@ -127,6 +142,13 @@ impl<L: Law, A: Allocator> Region<L, A> {
         ensures client { Exchanged self.now
             (ticks from (T.numbers tag.now) (log_pairs writes.now)) from result
             client.old client.new }
+        ensures event { MatchResult result
+            (λ _. IsOneEvent L.lawful self.now
+            (ticks from (T.numbers tag.now) (log_pairs writes.now)) from
+            client.old.value client.new.value)
+            (λ found. IsOneEvent L.lawful self.now
+            (ticks from (T.numbers tag.now) (log_pairs writes.now)) found
+            client.old.value client.new.value) }
         ensures version { MatchResult result
             (λ version. (version ≡ from + 1) × (version ≤ self.now.last))
             (λ found. found ≤ self.now.last) }
@@ -158,6 +180,8 @@ impl<L: Law, A: Allocator> Region<L, A> {
         requires own { client.old.table ≡ self.now.table }
         requires allowed { IsAllowed L.lawful self.now (validates lock) client.old }
         ensures client { client.new ≡ acted self.now (validates lock) result client.old }
+        ensures event { IsOneEvent L.lawful self.now (validates lock) result
+            client.old.value client.new.value }
         ensures word { IsLockWord self.now.last result }
         ensures decides { decided client.new.value ≡ true →
             Decides L.fits L.lawful self.now client.new.value }
@@ -175,7 +199,9 @@ impl<L: Law, A: Allocator> Region<L, A> {
         requires own { client.old.table ≡ self.now.table }
         requires range { addr.0 < self.now.size }
         requires allowed { IsAllowed L.lawful self.now (puts addr.0 value) client.old }
-        ensures { client.new ≡ acted self.now (puts addr.0 value) 0 client.old }
+        ensures client { client.new ≡ acted self.now (puts addr.0 value) 0 client.old }
+        ensures event { (found : ℕ) × IsOneEvent L.lawful self.now (puts addr.0 value) found
+            client.old.value client.new.value }
     {
         self.store_as::<Brand>(
             &mut client.seat,
@@ -191,7 +217,9 @@ impl<L: Law, A: Allocator> Region<L, A> {
         requires own { client.old.table ≡ self.now.table }
         requires range { lock < self.now.stripes }
         requires allowed { IsAllowed L.lawful self.now (releases lock) client.old }
-        ensures { client.new ≡ acted self.now (releases lock) 0 client.old }
+        ensures client { client.new ≡ acted self.now (releases lock) 0 client.old }
+        ensures event { (found : ℕ) × IsOneEvent L.lawful self.now (releases lock) found
+            client.old.value client.new.value }
     {
         let word = LockWord::free(client.version);
         self.store_as::<Brand>(&mut client.seat, FIRST_LOCK + lock as usize, word, lock);
@@ -203,7 +231,9 @@ impl<L: Law, A: Allocator> Region<L, A> {
         requires own { client.old.table ≡ self.now.table }
         requires range { lock < self.now.stripes }
         requires allowed { IsAllowed L.lawful self.now (gives_back lock) client.old }
-        ensures { client.new ≡ acted self.now (gives_back lock) 0 client.old }
+        ensures client { client.new ≡ acted self.now (gives_back lock) 0 client.old }
+        ensures event { (found : ℕ) × IsOneEvent L.lawful self.now (gives_back lock) found
+            client.old.value client.new.value }
     {
         self.give_back_as::<Brand>(&mut client.seat, FIRST_LOCK + lock as usize, lock);
         client.version = as_version(0);

@@ -39,7 +39,7 @@ release-requires-clause-allowed c =
     let r = c.args.region.now in
     let h = took_one r c.args.client.now c.begin-from.new.client c.probe-word.new.client c.lock.new.client c.lock_of-lock.result c.begin-from.result c.begin-from.result c.probe-word.result c.requires.free refl c.begin-from.ensures.client c.probe-word.ensures.client c.in-Ok.ensures.client in
     let pairs = ap log_pairs (c.in_ok-put.ensures.answer ∙ ap (λ (w : LogValue). with_word w c.args.addr.0 c.lock_of-lock.result c.args.value) c.new-log.ensures) ∙ one_pair c.args.addr.0 c.lock_of-lock.result c.args.value in
-    may_release r c.tick.new.client c.put-2.new.client c.lock_of-lock.result c.args.addr.0 c.args.value (won_one r c.lock.new.client c.tick.new.client _ c.begin-from.result _ _ (1 ∷ []) _ h pairs c.in-Ok-tick.ensures.client) c.put-2.ensures
+    may_release r c.tick.new.client c.put-2.new.client c.lock_of-lock.result c.args.addr.0 c.args.value (won_one r c.lock.new.client c.tick.new.client _ c.begin-from.result _ _ (1 ∷ []) _ h pairs c.in-Ok-tick.ensures.client) c.put-2.ensures.client
 
 pub returns-in_default-tick-clause-free : goal.returns-in_default-tick-clause-free
 returns-in_default-tick-clause-free c =
@@ -52,4 +52,4 @@ returns-clause-free c =
     let r = c.args.region.now in
     let h = took_one r c.args.client.now c.begin-from.new.client c.probe-word.new.client c.lock.new.client c.lock_of-lock.result c.begin-from.result c.begin-from.result c.probe-word.result c.requires.free refl c.begin-from.ensures.client c.probe-word.ensures.client c.in-Ok.ensures.client in
     let pairs = ap log_pairs (c.in_ok-put.ensures.answer ∙ ap (λ (w : LogValue). with_word w c.args.addr.0 c.lock_of-lock.result c.args.value) c.new-log.ensures) ∙ one_pair c.args.addr.0 c.lock_of-lock.result c.args.value in
-    released_free r c.tick.new.client c.put-2.new.client c.release.new.client c.lock_of-lock.result c.args.addr.0 c.args.value (won_one r c.lock.new.client c.tick.new.client _ c.begin-from.result _ _ (1 ∷ []) _ h pairs c.in-Ok-tick.ensures.client) c.put-2.ensures c.release.ensures
+    released_free r c.tick.new.client c.put-2.new.client c.release.new.client c.lock_of-lock.result c.args.addr.0 c.args.value (won_one r c.lock.new.client c.tick.new.client _ c.begin-from.result _ _ (1 ∷ []) _ h pairs c.in-Ok-tick.ensures.client) c.put-2.ensures.client c.release.ensures.client

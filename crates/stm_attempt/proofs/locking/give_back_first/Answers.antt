@@ -34,6 +34,6 @@ pub loop-lock-preserved : goal.loop-lock-preserved
 loop-lock-preserved g c = (
   tt,
   tt,
-  ap (λ (x : ClientShown). x.table) c.give_back.ensures ∙ c.loop-lock.invariant.2,
-  returned_one g.L.Law.lawful (unplaced c.args.region.now.renewal) (stripe_of c.args.region.now.stripes) (bounds c.args.region.now) c.args.writes.now c.args.client.now.value c.loop-lock.client.value _ _ _ _ _ c.loop-lock.invariant.3 c.in-Some.ensures.steps c.if-left-eq0.false c.give_back.new.client.value (ap (λ (x : ClientShown). x.value) c.give_back.ensures),
+  ap (λ (x : ClientShown). x.table) c.give_back.ensures.client ∙ c.loop-lock.invariant.2,
+  returned_one g.L.Law.lawful (unplaced c.args.region.now.renewal) (stripe_of c.args.region.now.stripes) (bounds c.args.region.now) c.args.writes.now c.args.client.now.value c.loop-lock.client.value _ _ _ _ _ c.loop-lock.invariant.3 c.in-Some.ensures.steps c.if-left-eq0.false c.give_back.new.client.value (ap (λ (x : ClientShown). x.value) c.give_back.ensures.client),
 )

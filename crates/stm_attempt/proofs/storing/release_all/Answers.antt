@@ -17,6 +17,6 @@ pub loop-lock-preserved : goal.loop-lock-preserved
 loop-lock-preserved g c = (
   tt,
   tt,
-  ap (λ (x : ClientShown). x.table) c.release.ensures ∙ c.loop-lock.invariant.2,
-  released_one g.L.Law.lawful (unplaced c.args.region.now.renewal) (stripe_of c.args.region.now.stripes) (bounds c.args.region.now) c.args.writes.now c.args.client.now.value c.loop-lock.client.value _ _ _ c.loop-lock.invariant.3 c.in-Some.ensures.steps c.release.new.client.value (ap (λ (x : ClientShown). x.value) c.release.ensures),
+  ap (λ (x : ClientShown). x.table) c.release.ensures.client ∙ c.loop-lock.invariant.2,
+  released_one g.L.Law.lawful (unplaced c.args.region.now.renewal) (stripe_of c.args.region.now.stripes) (bounds c.args.region.now) c.args.writes.now c.args.client.now.value c.loop-lock.client.value _ _ _ c.loop-lock.invariant.3 c.in-Some.ensures.steps c.release.new.client.value (ap (λ (x : ClientShown). x.value) c.release.ensures.client),
 )

@@ -15,6 +15,6 @@ pub loop-addr-preserved : goal.loop-addr-preserved
 loop-addr-preserved g c = (
   tt,
   tt,
-  ap (λ (x : ClientShown). x.table) c.put.ensures ∙ c.loop-addr.invariant.2,
-  stored_one g.L.Law.lawful (unplaced c.args.region.now.renewal) c.args.region.now c.args.client.now.value c.loop-addr.client.value _ _ _ _ _ c.loop-addr.invariant.3 c.in-Some.ensures.steps c.requires.storable c.put.new.client.value (ap (λ (x : ClientShown). x.value) c.put.ensures),
+  ap (λ (x : ClientShown). x.table) c.put.ensures.client ∙ c.loop-addr.invariant.2,
+  stored_one g.L.Law.lawful (unplaced c.args.region.now.renewal) c.args.region.now c.args.client.now.value c.loop-addr.client.value _ _ _ _ _ c.loop-addr.invariant.3 c.in-Some.ensures.steps c.requires.storable c.put.new.client.value (ap (λ (x : ClientShown). x.value) c.put.ensures.client),
 )
