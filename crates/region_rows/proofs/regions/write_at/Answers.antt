@@ -45,7 +45,7 @@ pub returns-in_default-tick-clause-free : goal.returns-in_default-tick-clause-fr
 returns-in_default-tick-clause-free c =
     let r = c.args.region.now in
     let h = took_one r c.args.client.now c.begin-from.new.client c.probe-word.new.client c.lock.new.client c.lock_of-lock.result c.begin-from.result c.begin-from.result c.probe-word.result c.requires.free refl c.begin-from.ensures.client c.probe-word.ensures.client c.in-Ok.ensures.client in
-    given_free r c.tick.new.client c.give_back-in_default-tick.new.client c.lock_of-lock.result (lost_one r c.lock.new.client c.tick.new.client c.lock_of-lock.result c.begin-from.result c.in_default-tick.field-0 (1 ∷ []) _ h c.in_default-tick.ensures.client.0 c.in_default-tick.ensures.client.1) c.give_back-in_default-tick.ensures
+    given_free r c.tick.new.client c.give_back-in_default-tick.new.client c.lock_of-lock.result (lost_one r c.lock.new.client c.tick.new.client c.lock_of-lock.result c.begin-from.result c.in_default-tick.field-0 (1 ∷ []) _ h c.in_default-tick.ensures.client.0 c.in_default-tick.ensures.client.1) c.give_back-in_default-tick.ensures.client
 
 pub returns-clause-free : goal.returns-clause-free
 returns-clause-free c =
