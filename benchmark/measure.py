@@ -254,7 +254,8 @@ def heading(command, runs, load):
         "Answered tasks a second, in thousands, of the clients' phase: the median of "
         f"{runs} runs, and their range. All programs had the same drawn tasks, and their runs "
         f"were interleaved. {OURS} and those by hand gave a task up after {TRIES} attempts, the "
-        "others never; attempts a task (all attempts, those of tasks that were given up among them, by the tasks answered) are medians, for each number of clients.", "",
+        "others never; attempts a task (all attempts, those of tasks that were given up among "
+        "them, by the tasks answered) are medians, for each number of clients.", "",
     ]
 
 
