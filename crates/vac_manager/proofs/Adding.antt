@@ -16,7 +16,7 @@ use Rattle.stm_attempt.specs.declared.conflict.Stop.{Stop}
 use Rattle.vac_model.specs.declared.tasks.Task.{Task}
 use Rattle.vac_model.specs.declared.replies.Reply.{Reply}
 use Rattle.vac_model.specs.Code.{code}
-use Rattle.vac_manager.specs.Called.{IsUnplaced, Adds, AddsReader, Spares, Tried, changes_nothing}
+use Rattle.vac_manager.specs.Called.{IsUnplaced, Adds, AddsReader, Spares, Tried}
 use Rattle.vac_manager.specs.declared.placed.Place.{Place}
 use Rattle.vac_manager.specs.Placed.{AddsAt, WasPlaced, place_of}
 
@@ -266,7 +266,3 @@ spared_since t v w w' (Ok reply) same h = λ e.
     let a = h e in
     record { added = a.added; reader = a.reader; wrote = a.wrote; records = a.records ∙ ap (λ (rs : List Record). rs ++ (a.added ∷ [])) same }
 spared_since t v w w' (Err stop) same h = tt
-
--- an attempt with nothing to write adds a reader's record
-pub spared : (t : Task) (r : Reply) (pairs : List (ℕ × ℕ)) (v v' : Client) → (changes_nothing t r ≡ true → pairs ≡ []) → (wrote_in pairs ≡ false → AddsReader v v') → Spares {E = Stop} t (Ok r) v v'
-spared t r pairs v v' none reader = λ e. reader (ap (λ (ps : List (ℕ × ℕ)). wrote_in ps) (none e))

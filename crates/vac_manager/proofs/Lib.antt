@@ -4,6 +4,7 @@ pub mod Trying
 pub mod Openings
 pub mod Adding
 pub mod Placing
+pub mod Leaving
 pub mod Histories
 pub mod Versions
 mod Words

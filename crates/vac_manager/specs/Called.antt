@@ -9,7 +9,7 @@ use Rattle.stm_core.specs.Client.{Client, Record, rank}
 use Rattle.stm_core.specs.Core.{IsFreeHanded}
 use Rattle.stm_logs.specs.Log.{LogValue}
 use Rattle.stm_core.specs.Event.{giving, fresh}
-use Rattle.stm_region.specs.Shown.{RegionShown}
+use Rattle.stm_region.specs.Shown.{RegionShown, ClientShown}
 use Rattle.stm_core.specs.Guards.{stripe_of}
 use Rattle.stm_region.specs.declared.fault.RegionFault.{RegionFault}
 use Rattle.stm_region.specs.declared.fault.RegionFault.TheVariants.{Clients}
@@ -55,6 +55,15 @@ HasAllGrants v = v.grants ≡ MOST_GRANTS
 -- the client's records keep no place in a list of events
 pub record IsUnplaced (v : Client) : Type 0 where
   pub each : (r : Record) → In r v.records → r.point ≡ 0
+
+-- what an attempt of a task asks for: a manager's region, a client of it which holds no lock and
+-- whose records keep no place, and a task that can be asked for
+pub record MayTry (region : RegionShown) (client : ClientShown) (t : Task) : Type 0 where
+  pub own : client.table ≡ region.table
+  pub free_handed : IsFreeHanded client.value
+  pub opened : IsOpened region
+  pub unplaced : IsUnplaced client.value
+  pub range : is_task t ≡ true
 
 -- so many tries may be asked for
 abbrev pub is_try_count : ℕ → Bool

@@ -1,7 +1,8 @@
 -- Where the record of a call stands, and what the call took.
-use Rattle.std.specs.Prelude.{◌≡◌, ℕ, ◌+◌, List, [], ◌∷◌, length, Option, Some, None, Result, Ok, Err, IfErr}
+use Rattle.std.specs.Prelude.{◌≡◌, ℕ, ◌+◌, List, [], ◌∷◌, length, Option, Some, None, Result, Ok, Err, IfOk, IfErr}
 use Rattle.stm_core.specs.Client.{Client, Record}
-use Rattle.stm_region.specs.Shown.{RegionShown}
+use Rattle.stm_core.specs.Core.{IsFreeHanded}
+use Rattle.stm_region.specs.Shown.{RegionShown, ClientShown}
 use Rattle.stm_attempt.specs.declared.conflict.Conflict.{Conflict}
 use Rattle.stm_attempt.specs.declared.conflict.Conflict.TheVariants.{Held, Newer, Moved, LostLock, LostTick}
 use Rattle.stm_attempt.specs.declared.conflict.Stop.{Stop}
@@ -14,7 +15,8 @@ use Rattle.vac_manager.specs.declared.fault.Fault.TheVariants as fault
 use Rattle.vac_manager.specs.declared.placed.Place.{Place}
 use Rattle.vac_manager.specs.declared.placed.Placed.{Placed}
 use Rattle.vac_manager.specs.declared.placed.Effort.{Effort}
-use Rattle.vac_manager.specs.Called.{Adds, WasShown}
+use Rattle.vac_manager.specs.Called.{Adds, IsUnplaced, Spares, WasShown}
+use Rattle.vac_manager.specs.Legal.{WasLegal}
 
 -- where a record stands
 abbrev pub place_of : Record → Place
@@ -42,6 +44,19 @@ abbrev pub WasPlaced : {E : Type 0} → RegionShown → Task → Result Reply E 
 WasPlaced region t (Ok reply) (Some place) v v' = AddsAt region.renewal (code t reply) place v v'
 WasPlaced region t (Ok reply) None v v' = ⊥
 WasPlaced region t (Err e) place v v' = v'.records ≡ v.records
+
+-- what one attempt of a task leaves, or several in a row: the client is still one of its region,
+-- holds no lock, and its records keep no place; at an answer the record that was added stands at
+-- the place that is left, is a reader's where the command changes nothing, and was legal; at a
+-- refusal none was added
+pub record Leaves {E : Type 0} (region : RegionShown) (t : Task) (client client' : ClientShown)
+    (result : Result Reply E) (place : Option Place) : Type 0 where
+  pub own : client'.table ≡ client.table
+  pub free_handed : IsFreeHanded client'.value
+  pub unplaced : IsUnplaced client'.value
+  pub placed : WasPlaced region t result place client.value client'.value
+  pub spares : Spares t result client.value client'.value
+  pub legal : IfOk result (λ _. WasLegal region client'.value)
 
 -- no attempt
 abbrev pub nothing_done : Effort

@@ -1,14 +1,11 @@
 //! One task by as many attempts as it takes.
 
-ghost use Rattle.std.specs.Prelude.{◌≡◌, ◌≤◌, IfOk, IfErr, IsOk, false, true};
-ghost use Rattle.stm_core.specs.Core.{IsFreeHanded};
+ghost use Rattle.std.specs.Prelude.{◌≡◌, ◌≤◌, IfErr, IsOk, false, true};
 ghost use Rattle.vac_model.specs.declared.limits.TheConstants.{MOST_TRIES};
-ghost use Rattle.vac_model.specs.Ranges.{is_task};
 ghost use Rattle.vac_tasks.specs.Reading as reading;
-ghost use Rattle.vac_manager.specs.Legal.{WasLegal};
-ghost use Rattle.vac_manager.specs.Called.{HasAllGrants, IsOpened, IsUnplaced, Tried, Repeated};
-ghost use Rattle.vac_manager.specs.Called.{Spares, WasShown, IsStop, IsNoConflict, IsNear, IsCount};
-ghost use Rattle.vac_manager.specs.Placed.{WasPlaced, Tallies, nothing_done};
+ghost use Rattle.vac_manager.specs.Called.{HasAllGrants, MayTry, Tried, Repeated};
+ghost use Rattle.vac_manager.specs.Called.{WasShown, IsStop, IsNoConflict, IsNear, IsCount};
+ghost use Rattle.vac_manager.specs.Placed.{Leaves, Tallies, nothing_done};
 
 use crate::law::ManagerLaw;
 use crate::placed::{Place, Traced};
@@ -28,20 +25,10 @@ fn try_reading<G: Gate>(
     gate: &mut G,
     place: &mut Option<Place>,
 ) -> Result<Reply, Conflict>
-    requires own { client.old.table ≡ region.now.table }
-    requires free_handed { IsFreeHanded client.old.value }
-    requires opened { IsOpened region.now }
-    requires unplaced { IsUnplaced client.old.value }
-    requires range { is_task task.now ≡ true }
+    requires may { MayTry region.now client.old task.now }
     requires reads { reading.only_reads task.now ≡ true }
-    ensures own { client.new.table ≡ client.old.table }
-    ensures free_handed { IsFreeHanded client.new.value }
-    ensures unplaced { IsUnplaced client.new.value }
+    ensures leaves { Leaves region.now task.now client.old client.new result place.new }
     ensures tried { Tried region.now task.now client.old.value client.new.value result }
-    ensures placed { WasPlaced region.now task.now result place.new
-        client.old.value client.new.value }
-    ensures spares { Spares task.now result client.old.value client.new.value }
-    ensures legal { IfOk result (λ _. WasLegal region.now client.new.value) }
     ensures stopped { IfErr result (λ conflict. WasShown region.now conflict client.new.value) }
     ensures lone { HasAllGrants client.old.value → IsOk result }
     ensures near { HasAllGrants client.old.value
@@ -80,20 +67,10 @@ fn try_writing<G: Gate>(
     gate: &mut G,
     place: &mut Option<Place>,
 ) -> Result<Reply, Stop>
-    requires own { client.old.table ≡ region.now.table }
-    requires free_handed { IsFreeHanded client.old.value }
-    requires opened { IsOpened region.now }
-    requires unplaced { IsUnplaced client.old.value }
-    requires range { is_task task.now ≡ true }
+    requires may { MayTry region.now client.old task.now }
     requires writes { reading.only_reads task.now ≡ false }
-    ensures own { client.new.table ≡ client.old.table }
-    ensures free_handed { IsFreeHanded client.new.value }
-    ensures unplaced { IsUnplaced client.new.value }
+    ensures leaves { Leaves region.now task.now client.old client.new result place.new }
     ensures tried { Tried region.now task.now client.old.value client.new.value result }
-    ensures placed { WasPlaced region.now task.now result place.new
-        client.old.value client.new.value }
-    ensures spares { Spares task.now result client.old.value client.new.value }
-    ensures legal { IfOk result (λ _. WasLegal region.now client.new.value) }
     ensures stopped { IfErr result (λ stop. IsStop region.now task.now stop client.new.value) }
     ensures lone { HasAllGrants client.old.value → IfErr result (λ stop. IsNoConflict stop) }
     ensures near { HasAllGrants client.old.value
@@ -138,19 +115,9 @@ fn try_once<G: Gate>(
     gate: &mut G,
     place: &mut Option<Place>,
 ) -> Result<Reply, Stop>
-    requires own { client.old.table ≡ region.now.table }
-    requires free_handed { IsFreeHanded client.old.value }
-    requires opened { IsOpened region.now }
-    requires unplaced { IsUnplaced client.old.value }
-    requires range { is_task task.now ≡ true }
-    ensures own { client.new.table ≡ client.old.table }
-    ensures free_handed { IsFreeHanded client.new.value }
-    ensures unplaced { IsUnplaced client.new.value }
+    requires { MayTry region.now client.old task.now }
+    ensures leaves { Leaves region.now task.now client.old client.new result place.new }
     ensures tried { Tried region.now task.now client.old.value client.new.value result }
-    ensures placed { WasPlaced region.now task.now result place.new
-        client.old.value client.new.value }
-    ensures spares { Spares task.now result client.old.value client.new.value }
-    ensures legal { IfOk result (λ _. WasLegal region.now client.new.value) }
     ensures stopped { IfErr result (λ stop. IsStop region.now task.now stop client.new.value) }
     ensures lone { HasAllGrants client.old.value → IfErr result (λ stop. IsNoConflict stop) }
     ensures near { HasAllGrants client.old.value
@@ -179,27 +146,18 @@ pub(crate) fn run_in_attempts<G: Gate>(
     gate: &mut G,
     traced: &mut Traced,
 ) -> Result<Reply, Stop>
-    requires own { client.old.table ≡ region.now.table }
-    requires free_handed { IsFreeHanded client.old.value }
-    requires opened { IsOpened region.now }
-    requires unplaced { IsUnplaced client.old.value }
-    requires range { is_task task.now ≡ true }
+    requires may { MayTry region.now client.old task.now }
     requires some { 1 ≤ tries }
     requires few { tries ≤ MOST_TRIES }
     requires none { traced.old.effort ≡ nothing_done }
-    ensures own { client.new.table ≡ client.old.table }
-    ensures free_handed { IsFreeHanded client.new.value }
-    ensures unplaced { IsUnplaced client.new.value }
+    ensures leaves { Leaves region.now task.now client.old client.new
+        result traced.new.place }
     ensures once { HasAllGrants client.old.value → IsCount 1
         client.old.value.attempt.number client.new.value.attempt.number result }
-    ensures placed { WasPlaced region.now task.now result traced.new.place
-        client.old.value client.new.value }
-    ensures spares { Spares task.now result client.old.value client.new.value }
     ensures took { Tallies region.now client.old.value client.new.value
         result traced.new.effort }
     ensures repeated { Repeated region.now task.now tries
         client.old.value client.new.value result }
-    ensures legal { IfOk result (λ _. WasLegal region.now client.new.value) }
     ensures stopped { IfErr result (λ stop. IsStop region.now task.now stop client.new.value) }
     ensures lone { HasAllGrants client.old.value → IfErr result (λ stop. IsNoConflict stop) }
     ensures near { HasAllGrants client.old.value

@@ -1,15 +1,12 @@
 use Rattle.std.proofs.Common.{◌≡◌, ◌≤◌}
-use Rattle.stm_core.specs.Core.{IsFreeHanded}
-use Rattle.vac_manager.specs.Called.{IsUnplaced, HasAllGrants}
+use Rattle.vac_manager.specs.Called.{HasAllGrants, MayTry}
 use Rattle.vac_manager.proofs.Trying.{Trying}
 use Rattle.vac_manager.proofs.Placing.{Met}
 use Rattle.vac_manager.proofs.attempts.run_in_attempts.Given as goal
 
 abbrev pub invariant-tries : goal.invariant-tries
 invariant-tries g l = record {
-  own : l.client.table ≡ l.region.table;
-  free : IsFreeHanded l.client.value;
-  unplaced : IsUnplaced l.client.value;
+  may : MayTry l.region l.client l.task;
   some : 1 ≤ l.left;
   few : l.left ≤ l.tries;
   alone : HasAllGrants l.initial.client.value → (l.left ≡ l.tries) × (l.client.value ≡ l.initial.client.value);

@@ -2,41 +2,26 @@ use Rattle.std.proofs.Common.{rules, refl, ap, ◌∙◌}
 use Rattle.stm_region.specs.Shown.{RegionShown, ClientShown}
 use Rattle.stm_attempt.specs.Meaning.{Origin}
 use Rattle.stm_attempt.specs.Begun.{is_unfinished}
-use Rattle.vac_manager.proofs.Adding.{finished, finished_last, placed_as, unplaced_begun}
+use Rattle.vac_manager.proofs.Adding.{finished, finished_last, unplaced_begun}
 use Rattle.vac_manager.proofs.Lawful.{holds_begun, lawful_read}
+use Rattle.vac_manager.proofs.Leaving.{left_decided}
 use Rattle.vac_manager.proofs.Legality.{finished_legal}
 use Rattle.vac_manager.proofs.Trying.{shown_by_read, tried_as, near_begun, near_finished}
 use Rattle.vac_manager.proofs.attempts.try_reading.Goals as goal
 
 pub read_task-answer-requires-clause-state : goal.read_task-answer-requires-clause-state
 read_task-answer-requires-clause-state g c =
-    holds_begun _ _ _ _ _ (ap (λ (x : ClientShown). is_unfinished x.value.attempt.phase) c.begin-attempt.ensures.value) c.begin-attempt.ensures.region c.requires.opened refl
+    holds_begun _ _ _ _ _ (ap (λ (x : ClientShown). is_unfinished x.value.attempt.phase) c.begin-attempt.ensures.value) c.begin-attempt.ensures.region c.requires.may.opened refl
 
 pub finish-version-requires-clause-lawful : goal.finish-version-requires-clause-lawful
 finish-version-requires-clause-lawful g c =
-    lawful_read _ _ _ _ _ _ _ _ _ _ _ _ (ap (λ (x : ClientShown). is_unfinished x.value.attempt.phase) c.begin-attempt.ensures.value) c.requires.range
+    lawful_read _ _ _ _ _ _ _ _ _ _ _ _ (ap (λ (x : ClientShown). is_unfinished x.value.attempt.phase) c.begin-attempt.ensures.value) c.requires.may.range
     c.in-Ok.ensures.origin c.in-Ok.ensures.answer
-
-pub returns-clause-legal : goal.returns-clause-legal
-returns-clause-legal g c =
-    finished_legal _ _ _ _ _ _ (ap (λ (o : Origin). o.region) c.in-Ok.ensures.origin ∙ c.begin-attempt.ensures.region) c.requires.opened (search rules)
-    (finished_last c.args.region.now c.read_task-answer.new.memory.region.now c.args.task.now c.in-Ok.reply _ _ c.args.client.now _ c.read_task-answer.new.memory.client.now _ (ap (λ (o : Origin). o.region.renewal) c.in-Ok.ensures.origin ∙ ap (λ (r : RegionShown). r.renewal) c.begin-attempt.ensures.region) c.begin-attempt.ensures.earlier c.requires.unplaced c.begin-attempt.ensures.value
-    (ap (λ (o : Origin). o.client.value) c.in-Ok.ensures.origin) c.finish-version.ensures.client.1 c.finish-version.ensures.free_handed.1)
-    c.finish-version.ensures.decides (search rules)
 
 pub returns-clause-tried : goal.returns-clause-tried
 returns-clause-tried g c =
-    tried_as _ _ _ _ _ (finished c.args.region.now c.read_task-answer.new.memory.region.now _ _ _ _ _ _ c.read_task-answer.new.memory.client.now _ _ (ap (λ (o : Origin). o.region.renewal) c.in-Ok.ensures.origin ∙ ap (λ (r : RegionShown). r.renewal) c.begin-attempt.ensures.region) c.begin-attempt.ensures.earlier c.requires.unplaced c.begin-attempt.ensures.value
+    tried_as _ _ _ _ _ (finished c.args.region.now c.read_task-answer.new.memory.region.now _ _ _ _ _ _ c.read_task-answer.new.memory.client.now _ _ (ap (λ (o : Origin). o.region.renewal) c.in-Ok.ensures.origin ∙ ap (λ (r : RegionShown). r.renewal) c.begin-attempt.ensures.region) c.begin-attempt.ensures.earlier c.requires.may.unplaced c.begin-attempt.ensures.value
     (ap (λ (o : Origin). o.client.value) c.in-Ok.ensures.origin) c.begin-attempt.ensures.version c.finish-version.ensures.client.1 c.finish-version.ensures.free_handed.1 (search rules)).tried
-
-pub returns-clause-unplaced : goal.returns-clause-unplaced
-returns-clause-unplaced g c =
-    (finished c.args.region.now c.read_task-answer.new.memory.region.now c.args.task.now c.in-Ok.reply _ _ _ _ c.read_task-answer.new.memory.client.now _ _ (ap (λ (o : Origin). o.region.renewal) c.in-Ok.ensures.origin ∙ ap (λ (r : RegionShown). r.renewal) c.begin-attempt.ensures.region) c.begin-attempt.ensures.earlier c.requires.unplaced c.begin-attempt.ensures.value
-    (ap (λ (o : Origin). o.client.value) c.in-Ok.ensures.origin) c.begin-attempt.ensures.version c.finish-version.ensures.client.1 c.finish-version.ensures.free_handed.1 (search rules)).unplaced
-
-pub returns-in-Some-clause-unplaced : goal.returns-in-Some-clause-unplaced
-returns-in-Some-clause-unplaced g c =
-    unplaced_begun c.args.region.now _ _ _ c.read_task-answer.new.memory.client.now.value _ c.requires.unplaced c.begin-attempt.ensures.value (ap (λ (o : Origin). o.client.value) c.read_task-answer.ensures.origin) (search rules)
 
 pub returns-in-Some-clause-stopped : goal.returns-in-Some-clause-stopped
 returns-in-Some-clause-stopped g c =
@@ -51,12 +36,23 @@ pub returns-in-Some-clause-near : goal.returns-in-Some-clause-near
 returns-in-Some-clause-near g c = λ all.
     near_begun c.args.region.now _ c.args.client.now c.begin-attempt.result.client.now c.read_task-answer.new.memory.client.now.value c.begin-attempt.ensures.value (ap (λ (o : Origin). o.client.value) c.read_task-answer.ensures.origin) c.begin-attempt.ensures.alone all _ (search rules)
 
-pub returns-clause-placed : goal.returns-clause-placed
-returns-clause-placed g c =
-    placed_as _ _ _ _ _ _ _ _ _ _ (finished c.args.region.now c.read_task-answer.new.memory.region.now c.args.task.now c.in-Ok.reply _ _ _ _ c.read_task-answer.new.memory.client.now _ _ (ap (λ (o : Origin). o.region.renewal) c.in-Ok.ensures.origin ∙ ap (λ (r : RegionShown). r.renewal) c.begin-attempt.ensures.region) c.begin-attempt.ensures.earlier c.requires.unplaced c.begin-attempt.ensures.value
-    (ap (λ (o : Origin). o.client.value) c.in-Ok.ensures.origin) c.begin-attempt.ensures.version c.finish-version.ensures.client.1 c.finish-version.ensures.free_handed.1 (search rules)).placed (search rules) (search rules) refl
+pub returns-clause-leaves : goal.returns-clause-leaves
+returns-clause-leaves g c =
+    left_decided _ _ _ _ _ _ _ _ _ _ _ (search rules) (search rules)
+    (finished c.args.region.now c.read_task-answer.new.memory.region.now c.args.task.now c.in-Ok.reply _ _ _ _ c.read_task-answer.new.memory.client.now _ _ (ap (λ (o : Origin). o.region.renewal) c.in-Ok.ensures.origin ∙ ap (λ (r : RegionShown). r.renewal) c.begin-attempt.ensures.region) c.begin-attempt.ensures.earlier c.requires.may.unplaced c.begin-attempt.ensures.value
+    (ap (λ (o : Origin). o.client.value) c.in-Ok.ensures.origin) c.begin-attempt.ensures.version c.finish-version.ensures.client.1 c.finish-version.ensures.free_handed.1 (search rules))
+    (search rules) (search rules) refl (λ _. refl)
+    (finished_legal _ _ _ _ _ _ (ap (λ (o : Origin). o.region) c.in-Ok.ensures.origin ∙ c.begin-attempt.ensures.region) c.requires.may.opened (search rules)
+    (finished_last c.args.region.now c.read_task-answer.new.memory.region.now c.args.task.now c.in-Ok.reply _ _ c.args.client.now _ c.read_task-answer.new.memory.client.now _ (ap (λ (o : Origin). o.region.renewal) c.in-Ok.ensures.origin ∙ ap (λ (r : RegionShown). r.renewal) c.begin-attempt.ensures.region) c.begin-attempt.ensures.earlier c.requires.may.unplaced c.begin-attempt.ensures.value
+    (ap (λ (o : Origin). o.client.value) c.in-Ok.ensures.origin) c.finish-version.ensures.client.1 c.finish-version.ensures.free_handed.1)
+    c.finish-version.ensures.decides (search rules))
 
-pub returns-clause-spares : goal.returns-clause-spares
-returns-clause-spares g c = λ _.
-    (finished c.args.region.now c.read_task-answer.new.memory.region.now c.args.task.now c.in-Ok.reply _ _ _ _ c.read_task-answer.new.memory.client.now _ _ (ap (λ (o : Origin). o.region.renewal) c.in-Ok.ensures.origin ∙ ap (λ (r : RegionShown). r.renewal) c.begin-attempt.ensures.region) c.begin-attempt.ensures.earlier c.requires.unplaced c.begin-attempt.ensures.value
-    (ap (λ (o : Origin). o.client.value) c.in-Ok.ensures.origin) c.begin-attempt.ensures.version c.finish-version.ensures.client.1 c.finish-version.ensures.free_handed.1 (search rules)).reader refl
+pub returns-in-Some-clause-leaves : goal.returns-in-Some-clause-leaves
+returns-in-Some-clause-leaves g c = record {
+  own = search rules;
+  free_handed = search rules;
+  unplaced = unplaced_begun c.args.region.now _ _ _ c.read_task-answer.new.memory.client.now.value _ c.requires.may.unplaced c.begin-attempt.ensures.value (ap (λ (o : Origin). o.client.value) c.read_task-answer.ensures.origin) (search rules);
+  placed = search rules;
+  spares = tt;
+  legal = tt;
+}

@@ -1,15 +1,16 @@
 use Rattle.std.proofs.Common.{rules, ap, ◌∙◌}
 use Rattle.stm_region.specs.Shown.{RegionShown}
 use Rattle.stm_attempt.specs.Meaning.{Origin}
-use Rattle.vac_manager.proofs.Adding.{added_last, committed, placed_as, spared, wrote_is, unplaced_begun, unplaced_stopped}
+use Rattle.vac_manager.proofs.Adding.{added_last, committed, wrote_is, unplaced_begun, unplaced_stopped}
 use Rattle.vac_manager.proofs.Lawful.{holds_begun, lawful, wrote_nothing}
+use Rattle.vac_manager.proofs.Leaving.{left_decided, wrote_none}
 use Rattle.vac_manager.proofs.Legality.{committed_legal}
 use Rattle.vac_manager.proofs.Trying.{shown_by_read, commit_stop, near_begun, near_committed, near_stopped}
 use Rattle.vac_manager.proofs.attempts.try_writing.Goals as goal
 
 pub run_task-answer-requires-clause-state : goal.run_task-answer-requires-clause-state
 run_task-answer-requires-clause-state g c =
-    holds_begun _ _ _ _ _ c.begin-attempt.ensures.empty.2 c.begin-attempt.ensures.region c.requires.opened c.begin-attempt.ensures.empty.1
+    holds_begun _ _ _ _ _ c.begin-attempt.ensures.empty.2 c.begin-attempt.ensures.region c.requires.may.opened c.begin-attempt.ensures.empty.1
 
 pub returns-in-Some-clause-stopped : goal.returns-in-Some-clause-stopped
 returns-in-Some-clause-stopped g c =
@@ -18,45 +19,20 @@ returns-in-Some-clause-stopped g c =
 
 pub commit-requires-clause-lawful : goal.commit-requires-clause-lawful
 commit-requires-clause-lawful g c = λ _.
-    lawful _ _ _ _ _ _ _ _ _ _ _ _ _ _ c.begin-attempt.ensures.empty.2 c.begin-attempt.ensures.empty.1 c.requires.range
+    lawful _ _ _ _ _ _ _ _ _ _ _ _ _ _ c.begin-attempt.ensures.empty.2 c.begin-attempt.ensures.empty.1 c.requires.may.range
     c.run_task-answer.ensures.origin c.in-Ok.ensures.answer
-
-pub returns-in-Ok-commit-clause-legal : goal.returns-in-Ok-commit-clause-legal
-returns-in-Ok-commit-clause-legal g c =
-    committed_legal _ _ _ _ _ _ (ap (λ (o : Origin). o.region) c.run_task-answer.ensures.origin ∙ c.begin-attempt.ensures.region) c.requires.opened c.commit.ensures.free_handed.0
-    (added_last c.args.region.now c.run_task-answer.new.memory.region.now c.args.task.now c.in-Ok.reply _ _ _ c.args.client.now _ c.run_task-answer.new.memory.client.now.value _ (ap (λ (o : Origin). o.region.renewal) c.run_task-answer.ensures.origin ∙ ap (λ (r : RegionShown). r.renewal) c.begin-attempt.ensures.region) c.begin-attempt.ensures.earlier c.requires.unplaced c.begin-attempt.ensures.value
-    (ap (λ (o : Origin). o.client.value) c.run_task-answer.ensures.origin) c.in-Ok-commit.ensures.ok)
-    c.in-Ok-commit.ensures.decides (search rules)
 
 pub returns-in-Err-clause-stopped : goal.returns-in-Err-clause-stopped
 returns-in-Err-clause-stopped g c =
     commit_stop _ _ _ _ c.in-Ok.reply _ _ _ _ (ap (λ (o : Origin). o.region) c.run_task-answer.ensures.origin ∙ c.begin-attempt.ensures.region) c.requires.writes
-    (lawful _ _ _ _ _ _ _ _ _ _ _ _ _ _ c.begin-attempt.ensures.empty.2 c.begin-attempt.ensures.empty.1 c.requires.range c.run_task-answer.ensures.origin c.in-Ok.ensures.answer)
+    (lawful _ _ _ _ _ _ _ _ _ _ _ _ _ _ c.begin-attempt.ensures.empty.2 c.begin-attempt.ensures.empty.1 c.requires.may.range c.run_task-answer.ensures.origin c.in-Ok.ensures.answer)
     (wrote_nothing _ _ _ _ _ _ _ _ _ _ _ _ _ _ c.begin-attempt.ensures.empty.2 c.begin-attempt.ensures.empty.1 c.requires.writes c.run_task-answer.ensures.origin c.in-Ok.ensures.answer)
     (c.in-Err.ensures.refused (search rules)) (search rules)
 
 pub returns-in-Ok-commit-clause-tried : goal.returns-in-Ok-commit-clause-tried
 returns-in-Ok-commit-clause-tried g c =
-    (committed c.args.region.now c.run_task-answer.new.memory.region.now _ _ _ _ _ _ _ c.run_task-answer.new.memory.client.now.value _ _ (ap (λ (o : Origin). o.region.renewal) c.run_task-answer.ensures.origin ∙ ap (λ (r : RegionShown). r.renewal) c.begin-attempt.ensures.region) c.begin-attempt.ensures.earlier c.requires.unplaced c.begin-attempt.ensures.value
+    (committed c.args.region.now c.run_task-answer.new.memory.region.now _ _ _ _ _ _ _ c.run_task-answer.new.memory.client.now.value _ _ (ap (λ (o : Origin). o.region.renewal) c.run_task-answer.ensures.origin ∙ ap (λ (r : RegionShown). r.renewal) c.begin-attempt.ensures.region) c.begin-attempt.ensures.earlier c.requires.may.unplaced c.begin-attempt.ensures.value
     (ap (λ (o : Origin). o.client.value) c.run_task-answer.ensures.origin) c.begin-attempt.ensures.version c.in-Ok-commit.ensures.ok (search rules)).tried
-
-pub returns-in-Ok-commit-clause-unplaced : goal.returns-in-Ok-commit-clause-unplaced
-returns-in-Ok-commit-clause-unplaced g c =
-    (committed c.args.region.now c.run_task-answer.new.memory.region.now c.args.task.now c.in-Ok.reply _ _ _ _ _ c.run_task-answer.new.memory.client.now.value _ _ (ap (λ (o : Origin). o.region.renewal) c.run_task-answer.ensures.origin ∙ ap (λ (r : RegionShown). r.renewal) c.begin-attempt.ensures.region) c.begin-attempt.ensures.earlier c.requires.unplaced c.begin-attempt.ensures.value
-    (ap (λ (o : Origin). o.client.value) c.run_task-answer.ensures.origin) c.begin-attempt.ensures.version c.in-Ok-commit.ensures.ok (search rules)).unplaced
-
-pub returns-in-Err-clause-unplaced : goal.returns-in-Err-clause-unplaced
-returns-in-Err-clause-unplaced g c =
-    unplaced_stopped c.args.region.now _ _ _ _ _ _ _ _ _ c.requires.unplaced c.begin-attempt.ensures.value (ap (λ (o : Origin). o.client.value) c.run_task-answer.ensures.origin)
-    (c.in-Err.ensures.refused (search rules)) (search rules)
-
-pub returns-in-Some-clause-unplaced : goal.returns-in-Some-clause-unplaced
-returns-in-Some-clause-unplaced g c =
-    unplaced_begun c.args.region.now _ _ _ c.run_task-answer.new.memory.client.now.value _ c.requires.unplaced c.begin-attempt.ensures.value (ap (λ (o : Origin). o.client.value) c.run_task-answer.ensures.origin) (search rules)
-
-pub returns-in_default-answer-clause-unplaced : goal.returns-in_default-answer-clause-unplaced
-returns-in_default-answer-clause-unplaced g c =
-    unplaced_begun c.args.region.now _ _ _ c.run_task-answer.new.memory.client.now.value _ c.requires.unplaced c.begin-attempt.ensures.value (ap (λ (o : Origin). o.client.value) c.run_task-answer.ensures.origin) (search rules)
 
 pub returns-in_default-answer-clause-near : goal.returns-in_default-answer-clause-near
 returns-in_default-answer-clause-near g c = λ all.
@@ -71,13 +47,45 @@ returns-in-Err-clause-near g c = λ all.
     near_stopped c.args.region.now _ c.args.client.now c.begin-attempt.result.client.now c.run_task-answer.new.memory.client.now.value c.begin-attempt.ensures.value (ap (λ (o : Origin). o.client.value) c.run_task-answer.ensures.origin) c.begin-attempt.ensures.alone all c.run_task-answer.new.memory.region.now _ _ _ _
     (ap (λ (o : Origin). o.region) c.run_task-answer.ensures.origin ∙ c.begin-attempt.ensures.region) c.in-Err.ensures.next c.in-Err.ensures.lone (c.in-Err.ensures.refused (search rules))
 
-pub returns-in-Ok-commit-clause-placed : goal.returns-in-Ok-commit-clause-placed
-returns-in-Ok-commit-clause-placed g c =
-    placed_as _ _ _ _ _ _ _ _ _ _ (committed c.args.region.now c.run_task-answer.new.memory.region.now _ _ _ _ _ _ _ c.run_task-answer.new.memory.client.now.value _ _ (ap (λ (o : Origin). o.region.renewal) c.run_task-answer.ensures.origin ∙ ap (λ (r : RegionShown). r.renewal) c.begin-attempt.ensures.region) c.begin-attempt.ensures.earlier c.requires.unplaced c.begin-attempt.ensures.value
-    (ap (λ (o : Origin). o.client.value) c.run_task-answer.ensures.origin) c.begin-attempt.ensures.version c.in-Ok-commit.ensures.ok (search rules)).placed (search rules) (search rules) (wrote_is c.run_task-answer.new.memory.client.now.value _ _ _ _ (search rules) (search rules) c.in-Ok-commit.ensures.ok.versioned)
+pub returns-in-Ok-commit-clause-leaves : goal.returns-in-Ok-commit-clause-leaves
+returns-in-Ok-commit-clause-leaves g c =
+    left_decided _ _ _ _ _ _ _ _ _ _ _ (search rules) (search rules)
+    (committed c.args.region.now c.run_task-answer.new.memory.region.now c.args.task.now c.in-Ok.reply _ _ _ _ _ c.run_task-answer.new.memory.client.now.value _ _ (ap (λ (o : Origin). o.region.renewal) c.run_task-answer.ensures.origin ∙ ap (λ (r : RegionShown). r.renewal) c.begin-attempt.ensures.region) c.begin-attempt.ensures.earlier c.requires.may.unplaced c.begin-attempt.ensures.value
+    (ap (λ (o : Origin). o.client.value) c.run_task-answer.ensures.origin) c.begin-attempt.ensures.version c.in-Ok-commit.ensures.ok (search rules))
+    (search rules) (search rules) (wrote_is c.run_task-answer.new.memory.client.now.value _ _ _ _ (search rules) (search rules) c.in-Ok-commit.ensures.ok.versioned)
+    (wrote_none c.args.task.now c.in-Ok.reply _ (wrote_nothing _ _ _ _ _ _ _ _ _ _ _ _ _ _ c.begin-attempt.ensures.empty.2 c.begin-attempt.ensures.empty.1 c.requires.writes c.run_task-answer.ensures.origin c.in-Ok.ensures.answer))
+    (committed_legal _ _ _ _ _ _ (ap (λ (o : Origin). o.region) c.run_task-answer.ensures.origin ∙ c.begin-attempt.ensures.region) c.requires.may.opened c.commit.ensures.free_handed.0
+    (added_last c.args.region.now c.run_task-answer.new.memory.region.now c.args.task.now c.in-Ok.reply _ _ _ c.args.client.now _ c.run_task-answer.new.memory.client.now.value _ (ap (λ (o : Origin). o.region.renewal) c.run_task-answer.ensures.origin ∙ ap (λ (r : RegionShown). r.renewal) c.begin-attempt.ensures.region) c.begin-attempt.ensures.earlier c.requires.may.unplaced c.begin-attempt.ensures.value
+    (ap (λ (o : Origin). o.client.value) c.run_task-answer.ensures.origin) c.in-Ok-commit.ensures.ok)
+    c.in-Ok-commit.ensures.decides (search rules))
 
-pub returns-in-Ok-commit-clause-spares : goal.returns-in-Ok-commit-clause-spares
-returns-in-Ok-commit-clause-spares g c =
-    spared c.args.task.now c.in-Ok.reply _ c.args.client.now.value _ (wrote_nothing _ _ _ _ _ _ _ _ _ _ _ _ _ _ c.begin-attempt.ensures.empty.2 c.begin-attempt.ensures.empty.1 c.requires.writes c.run_task-answer.ensures.origin c.in-Ok.ensures.answer)
-    (committed c.args.region.now c.run_task-answer.new.memory.region.now c.args.task.now c.in-Ok.reply _ _ _ _ _ c.run_task-answer.new.memory.client.now.value _ _ (ap (λ (o : Origin). o.region.renewal) c.run_task-answer.ensures.origin ∙ ap (λ (r : RegionShown). r.renewal) c.begin-attempt.ensures.region) c.begin-attempt.ensures.earlier c.requires.unplaced c.begin-attempt.ensures.value
-    (ap (λ (o : Origin). o.client.value) c.run_task-answer.ensures.origin) c.begin-attempt.ensures.version c.in-Ok-commit.ensures.ok (search rules)).reader
+pub returns-in-Err-clause-leaves : goal.returns-in-Err-clause-leaves
+returns-in-Err-clause-leaves g c = record {
+  own = search rules;
+  free_handed = search rules;
+  unplaced = unplaced_stopped c.args.region.now _ _ _ _ _ _ _ _ _ c.requires.may.unplaced c.begin-attempt.ensures.value (ap (λ (o : Origin). o.client.value) c.run_task-answer.ensures.origin)
+      (c.in-Err.ensures.refused (search rules)) (search rules);
+  placed = search rules;
+  spares = tt;
+  legal = tt;
+}
+
+pub returns-in-Some-clause-leaves : goal.returns-in-Some-clause-leaves
+returns-in-Some-clause-leaves g c = record {
+  own = search rules;
+  free_handed = search rules;
+  unplaced = unplaced_begun c.args.region.now _ _ _ c.run_task-answer.new.memory.client.now.value _ c.requires.may.unplaced c.begin-attempt.ensures.value (ap (λ (o : Origin). o.client.value) c.run_task-answer.ensures.origin) (search rules);
+  placed = search rules;
+  spares = tt;
+  legal = tt;
+}
+
+pub returns-in_default-answer-clause-leaves : goal.returns-in_default-answer-clause-leaves
+returns-in_default-answer-clause-leaves g c = record {
+  own = search rules;
+  free_handed = search rules;
+  unplaced = unplaced_begun c.args.region.now _ _ _ c.run_task-answer.new.memory.client.now.value _ c.requires.may.unplaced c.begin-attempt.ensures.value (ap (λ (o : Origin). o.client.value) c.run_task-answer.ensures.origin) (search rules);
+  placed = search rules;
+  spares = tt;
+  legal = tt;
+}
