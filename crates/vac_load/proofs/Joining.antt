@@ -173,6 +173,14 @@ few s e =
       tasks = grind (arith, nat_tests, w);
     }
 
+second_true : (a b : Bool) → (a && b) ≡ true → b ≡ true
+second_true true b e = e
+second_true false b e = absurd (let k : false ≡ true = e in cc)
+
+-- a load has items
+pub some_items : (s : Settings) → is_settings s ≡ true → 1 ≤ s.items
+some_items s e = let h : is_system s ≡ true = second_true (is_work s) (is_system s) e in grind (arith, nat_tests, h)
+
 -- no more tasks than in the most rounds by the most clients
 pub few_tasks : (clients rounds tasks : ℕ) → clients ≤ 64 → rounds ≤ 100 → tasks ≤ 1000000 → clients * (rounds * tasks) ≤ 6400000000
 few_tasks clients rounds tasks a b c =

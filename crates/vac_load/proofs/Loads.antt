@@ -15,7 +15,7 @@ use Rattle.vac_load.specs.declared.tally.Tally.{Tally}
 use Rattle.vac_draws.specs.Tasks.{opening}
 use Rattle.vac_manager.specs.declared.fault.Fault.{Fault}
 use Rattle.vac_manager.specs.declared.fault.Fault.TheVariants as fault
-use Rattle.vac_load.specs.Opening.{Ran, Stopped}
+use Rattle.vac_load.specs.Opening.{Ran, Stopped, IsAnswered}
 use Rattle.vac_draws.specs.Draws.{Reader}
 use Rattle.vac_model.specs.declared.commands.Command.{Command}
 use Rattle.rand_pcg.specs.Lcg.{Lcg}
@@ -202,8 +202,8 @@ kept_by_seed draws_of keep_of notes s t r state n seats left before after begins
 
 -- the manager of a load was made, and its opening was answered whole
 pub was_opened : {D : Type 0} (leads : D → ℕ → D → Type 0) (s : Settings) (state left : D) (stripes : ℕ) (region : RegionShown) (opener : CallerShown) (ready : Client) →
-    Opens s.blocks s.last stripes region opener → Ran leads region.renewal (opening s) opener.value ready state left → WasOpened leads s state left
-was_opened leads s state left stripes region opener ready opens ran = record { stripes = stripes; region = region; opener = opener; opens = opens; ready = ready; ran = ran }
+    Opens s.blocks s.last stripes region opener → Ran leads region.renewal (opening s) opener.value ready state left → IsAnswered region ready → WasOpened leads s state left
+was_opened leads s state left stripes region opener ready opens ran answered = record { stripes = stripes; region = region; opener = opener; opens = opens; ready = ready; ran = ran; answered = answered }
 
 too_short : {D : Type 0} (leads : D → ℕ → D → Type 0) (s : Settings) (renewal : ℕ) (e : Fault) (v v' : Client) (state left : D) → v.floor ≡ 0 → Stopped leads renewal s.last (opening s) e v v' state left → IsTooShort s e
 too_short leads s renewal fault.Arguments v v' state left first p = p.why

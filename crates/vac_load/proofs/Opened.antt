@@ -1,5 +1,5 @@
 -- Commands of the opening that were asked for, one after the other.
-use Rattle.std.proofs.Common.{◌≡◌, ◌≤◌, refl, sym, subst, arith, ℕ, suc, ◌+◌, ◌-◌, List, [], ◌∷◌, ◌++◌, length-append, append_assoc, Result, Ok, Err, IfOk, IfErr}
+use Rattle.std.proofs.Common.{◌≡◌, ◌≤◌, ◌⊎◌, inl, inr, refl, sym, subst, arith, ℕ, suc, ◌+◌, ◌-◌, List, [], ◌∷◌, ◌++◌, length-append, append_assoc, Result, Ok, Err, IfOk, IfErr}
 use Rattle.std.proofs.lemmas.List.{map-append}
 use Rattle.std.specs.Result.{IsErrAnd}
 use Rattle.stm_core.specs.Client.{Client}
@@ -10,8 +10,13 @@ use Rattle.vac_draws.specs.Draws.{Reader, Drawn, joined, for_each}
 use Rattle.vac_draws.specs.Tasks.{stocks, customers, opening}
 use Rattle.vac_draws.specs.declared.settings.Settings.{Settings}
 use Rattle.vac_load.specs.Looping.{Answered}
+use Rattle.stm_region.specs.Shown.{RegionShown}
+use Rattle.vac_manager.specs.Called.{IsWhole}
+use Rattle.vac_manager.specs.Legal.{WasLegal}
+use Rattle.vac_manager.specs.Placed.{replied}
+use Rattle.vac_manager.specs.declared.placed.Placed.{Placed}
 use Rattle.vac_manager.specs.declared.fault.Fault.{Fault}
-use Rattle.vac_load.specs.Opening.{as_tasks, Ran, Begun, Stopped, IsOpeningFault}
+use Rattle.vac_load.specs.Opening.{as_tasks, Ran, Begun, Stopped, IsAnswered, IsOpeningFault}
 use Rattle.vac_draws.proofs.Drawing.{plus_one, drawn_always, drawn_then_always, drawn_joined}
 use Rattle.vac_load.proofs.Answering.{answered_both, answered_quiet}
 use Rattle.vac_load.proofs.Beginning.{Readable, readable_stocks, begun_whole, begun_first, begun_second, begun_on, begun_items, begun_customers, More, more_customers, long_customers}
@@ -173,3 +178,13 @@ stopped_customers leads renewal last s n fault v w u a b less p kept why =
 pub handed_on : {X E : Type 0} (r : Result X E) (e : E) (P : E → Type 0) → IsErrAnd r (λ f. f ≡ e) → P e → IfErr r P
 handed_on (Ok x) e P is holds = tt
 handed_on (Err f) e P is holds = subst P (sym is) holds
+
+-- a call of a client that is alone was answered
+pub is_answered : {E : Type 0} (region : RegionShown) (end : Result Placed E) (p : Placed) (v : Client) → end ≡ Ok p → IfOk (replied end) (λ _. WasLegal region v) → IfOk (replied end) (λ _. IsWhole region v) → IsAnswered region v
+is_answered region (Ok x) p v is legal whole = record { whole = whole; legal = legal }
+is_answered region (Err e) p v is legal whole = absurd (let k : Err e ≡ Ok p = is in cc)
+
+-- of at least one customer that was made the last one was answered
+pub last_answered : (region : RegionShown) (n items : ℕ) (v : Client) → n ≡ items → 1 ≤ items → (n ≡ 0) ⊎ IsAnswered region v → IsAnswered region v
+last_answered region n items v all some (inl none) = absurd (omega (arith, all, some, none))
+last_answered region n items v all some (inr answered) = answered

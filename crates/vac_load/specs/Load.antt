@@ -19,7 +19,7 @@ use Rattle.vac_load.specs.declared.seats.Seat.{Seat}
 use Rattle.vac_load.specs.Looping.{Looped, Clocked, AreOf, total}
 use Rattle.vac_load.specs.Lists.{Paired, Interleaved}
 use Rattle.vac_load.specs.Keeping.{Kept, AreKept, AllKept, HasKeptAdded, SeatShown}
-use Rattle.vac_load.specs.Opening.{as_tasks, Ran, Stopped}
+use Rattle.vac_load.specs.Opening.{as_tasks, Ran, Stopped, IsAnswered}
 use Rattle.vac_draws.specs.Setting.{is_settings}
 use Rattle.vac_load.specs.declared.load.LoadFault.{LoadFault}
 use Rattle.vac_load.specs.declared.load.LoadFault.TheVariants as load
@@ -176,7 +176,8 @@ abbrev pub is_load : Settings → ℕ → Bool
 is_load s clients = is_settings s && nat_eq clients s.clients
 
 -- the manager of a load was made, and the opening was answered whole: from this state of its draws
--- on all its commands were drawn, and each of them was asked for and answered
+-- on all its commands were drawn, and each of them was asked for and answered, by a clock that
+-- ends at the settings' last version. What the client has then is a whole history of this manager
 pub record WasOpened {D : Type 0} (leads : D → ℕ → D → Type 0) (s : Settings) (state left : D)
     : Type 0 where
   pub stripes : ℕ
@@ -185,6 +186,7 @@ pub record WasOpened {D : Type 0} (leads : D → ℕ → D → Type 0) (s : Sett
   pub opens : Opens s.blocks s.last stripes region opener
   pub ready : Client
   pub ran : Ran leads region.renewal (opening s) opener.value ready state left
+  pub answered : IsAnswered region ready
 
 -- where the clock is found at its end, that is the last version of the settings, and less than the
 -- number of the opening's commands

@@ -1,9 +1,12 @@
 -- What the opening of a load does.
 use Rattle.std.specs.Prelude.{◌≡◌, ◌≤◌, ◌+◌, ℕ, List, [], ◌∷◌, ◌++◌, length, map}
 use Rattle.stm_core.specs.Client.{Client}
+use Rattle.stm_region.specs.Shown.{RegionShown}
 use Rattle.vac_model.specs.declared.commands.Command.{Command}
 use Rattle.vac_model.specs.declared.tasks.Task.{Task}
 use Rattle.vac_model.specs.declared.tasks.Task.TheVariants as task
+use Rattle.vac_manager.specs.Called.{IsWhole}
+use Rattle.vac_manager.specs.Legal.{WasLegal}
 use Rattle.vac_manager.specs.declared.fault.Fault.{Fault}
 use Rattle.vac_manager.specs.declared.fault.Fault.TheVariants as fault
 use Rattle.vac_draws.specs.Draws.{Reader, Reads, Drew, Drawn}
@@ -21,6 +24,12 @@ pub record Ran {D : Type 0} (leads : D → ℕ → D → Type 0) (renewal : ℕ)
   pub drawn : Drawn leads reader state commands last
   pub answered : Answered renewal (as_tasks commands) v v'
   pub near : v'.floor ≤ v.floor + length commands
+
+-- a client that is alone had its last call answered by this region's manager: its records are a
+-- whole history, and the last of them was decided in a state of the region's core
+pub record IsAnswered (region : RegionShown) (v : Client) : Type 0 where
+  pub whole : IsWhole region v
+  pub legal : WasLegal region v
 
 -- words were drawn from the first state to the last one, and with some words more behind them
 -- these items are read first

@@ -9,7 +9,7 @@ ghost use Rattle.vac_draws.specs.Setting.{is_settings};
 ghost use Rattle.vac_load.specs.Looping.{Answered};
 ghost use Rattle.vac_load.specs.Keeping.{HasKeptAdded};
 ghost use Rattle.vac_draws.specs.Tasks.{stock, stocks, opening};
-ghost use Rattle.vac_load.specs.Opening.{Ran, Stopped, IsOpeningFault};
+ghost use Rattle.vac_load.specs.Opening.{Ran, Stopped, IsAnswered, IsOpeningFault};
 
 use stm_attempt::NoGate;
 use vac_draws::{Draws, Settings, draw_stock};
@@ -30,6 +30,8 @@ fn ask_for<K: Keep>(session: &mut Session<'_>, command: Command, keep: &mut K) -
         (Task.One command ∷ []) session.old.client.value session.new.client.value) }
     ensures near { IfOk result (λ _.
         session.new.client.value.floor ≤ session.old.client.value.floor + 1) }
+    ensures ready { IfOk result (λ _.
+        IsAnswered session.old.manager session.new.client.value) }
     ensures refused { IfErr result (λ fault.
         IsOpeningFault session.old.manager.last session.old.client.value.floor fault) }
     ensures same { IfErr result (λ _.
@@ -139,6 +141,8 @@ pub(crate) fn open_kept<D: Draws, K: Keep>(
     ensures grants { HasAllGrants session.new.client.value }
     ensures ran { IfOk result (λ _. Ran D.leads session.old.manager.renewal (opening settings.now)
         session.old.client.value session.new.client.value draws.old draws.new) }
+    ensures ready { IfOk result (λ _.
+        IsAnswered session.old.manager session.new.client.value) }
     ensures stopped { IfErr result (λ fault. Stopped D.leads session.old.manager.renewal
         session.old.manager.last (opening settings.now) fault
         session.old.client.value session.new.client.value draws.old draws.new) }
@@ -167,6 +171,8 @@ pub fn open<D: Draws>(
     ensures grants { HasAllGrants session.new.client.value }
     ensures ran { IfOk result (λ _. Ran D.leads session.old.manager.renewal (opening settings.now)
         session.old.client.value session.new.client.value draws.old draws.new) }
+    ensures ready { IfOk result (λ _.
+        IsAnswered session.old.manager session.new.client.value) }
     ensures stopped { IfErr result (λ fault. Stopped D.leads session.old.manager.renewal
         session.old.manager.last (opening settings.now) fault
         session.old.client.value session.new.client.value draws.old draws.new) }

@@ -4,7 +4,7 @@ use Rattle.vac_load.specs.Keeping.{HasKeptAdded, shown}
 use Rattle.vac_draws.specs.Tasks.{opening}
 use Rattle.vac_manager.specs.Session.{SessionShown}
 use Rattle.vac_load.specs.Load.{IsStopOfLoad, RanAll}
-use Rattle.vac_load.specs.Opening.{Ran, Stopped}
+use Rattle.vac_load.specs.Opening.{Ran, Stopped, IsAnswered}
 use Rattle.vac_load.specs.Attempted.{IsEffort}
 use Rattle.vac_load.proofs.Opened.{handed_on}
 use Rattle.vac_load.proofs.Loads.{loaded_kept, opened_known, opened_early, was_opened, was_stopped, stop_behind}
@@ -55,9 +55,10 @@ returns-in_err-progress-clause-stopped g c =
     let leads = g.D.Draws.leads in
     let s = c.args.settings.now in
     let ran = subst (λ (y : SessionShown). Ran g.D.Draws.leads y.manager.renewal (opening c.args.settings.now) y.client.value c.open_kept.new.session.client.value c.args.opening.now c.open_kept.new.draws) c.of-session.ensures c.in_default-open_kept.ensures.ran in
+    let answered = subst (λ (y : SessionShown). IsAnswered y.manager c.open_kept.new.session.client.value) c.of-session.ensures c.in_default-open_kept.ensures.ready in
     handed_on c.from_residual.result c.in_err-progress.field-0.0 (λ e. IsStopOfLoad leads s c.args.opening.now c.open_kept.new.draws e) c.from_residual.ensures.1
     (stop_behind leads s c.args.opening.now c.open_kept.new.draws c.in_err-progress.field-0.0
-    (was_opened leads s c.args.opening.now c.open_kept.new.draws _ c.in-Ok.manager c.in-Ok.client c.open_kept.new.session.client.value c.in-Ok.ensures.ok ran)
+    (was_opened leads s c.args.opening.now c.open_kept.new.draws _ c.in-Ok.manager c.in-Ok.client c.open_kept.new.session.client.value c.in-Ok.ensures.ok ran answered)
     c.in_err-progress.ensures.refused)
 
 pub returns-in-Err-close-clause-stopped : goal.returns-in-Err-close-clause-stopped
@@ -65,8 +66,9 @@ returns-in-Err-close-clause-stopped g c =
     let leads = g.D.Draws.leads in
     let s = c.args.settings.now in
     let ran = subst (λ (y : SessionShown). Ran g.D.Draws.leads y.manager.renewal (opening c.args.settings.now) y.client.value c.open_kept.new.session.client.value c.args.opening.now c.open_kept.new.draws) c.of-session.ensures c.in_default-open_kept.ensures.ran in
+    let answered = subst (λ (y : SessionShown). IsAnswered y.manager c.open_kept.new.session.client.value) c.of-session.ensures c.in_default-open_kept.ensures.ready in
     stop_behind leads s c.args.opening.now c.open_kept.new.draws c.in-Err-close.fault
-    (was_opened leads s c.args.opening.now c.open_kept.new.draws _ c.in-Ok.manager c.in-Ok.client c.open_kept.new.session.client.value c.in-Ok.ensures.ok ran)
+    (was_opened leads s c.args.opening.now c.open_kept.new.draws _ c.in-Ok.manager c.in-Ok.client c.open_kept.new.session.client.value c.in-Ok.ensures.ok ran answered)
     (inl c.in-Err-close.ensures.refused)
 
 pub returns-clause-efforts : goal.returns-clause-efforts

@@ -1,13 +1,14 @@
-use Rattle.std.proofs.Common.{rules, ◌≡◌, ◌+◌, ◌≤◌, ◌∷◌, [], ℕ, refl, subst, arith}
+use Rattle.std.proofs.Common.{rules, inl, inr, ◌≡◌, ◌+◌, ◌≤◌, ◌∷◌, [], ℕ, refl, subst, arith}
 use Rattle.vac_model.specs.declared.commands.Command.TheVariants.{NewCustomer}
 use Rattle.vac_model.specs.declared.tasks.Task.TheVariants.{One}
 use Rattle.vac_draws.specs.Tasks.{opening}
 use Rattle.vac_load.specs.Looping.{Answered}
-use Rattle.vac_load.specs.Opening.{Stopped, IsOpeningFault}
+use Rattle.vac_load.specs.Opening.{Stopped, IsAnswered, IsOpeningFault}
 use Rattle.vac_load.proofs.Answering.{answered_quiet}
-use Rattle.vac_load.proofs.Opened.{handed_on, Opening, opening_more, opening_all, stopped_opening, stopped_customers}
+use Rattle.vac_load.proofs.Opened.{handed_on, last_answered, Opening, opening_more, opening_all, stopped_opening, stopped_customers}
 use Rattle.vac_load.proofs.Sessions.{of_manager}
 use Rattle.vac_load.proofs.Notes.{kept_both}
+use Rattle.vac_load.proofs.Joining.{some_items}
 use Rattle.vac_load.proofs.opening.open_kept.Goals as goal
 
 pub customers-preserved : goal.customers-preserved
@@ -17,6 +18,7 @@ customers-preserved g c = record {
   opening = opening_more g.D.Draws.leads c.args.session.now.manager.renewal c.args.settings.now.items c.customers.place _ _ _ _ _ c.customers.invariant.opening
       (of_manager (λ m. Answered m.renewal (One (NewCustomer (c.customers.place + 1)) ∷ []) c.customers.session.client.value c.ask_for.new.session.client.value) c.args.session.now c.customers.session c.customers.invariant.session c.in_ok-ask_for.ensures.answered) c.in_ok-ask_for.ensures.near;
   kept = kept_both _ _ _ _ _ _ c.customers.invariant.kept c.in_ok-ask_for.ensures.kept;
+  ready = inr (of_manager (λ m. IsAnswered m c.ask_for.new.session.client.value) c.args.session.now c.customers.session c.customers.invariant.session c.in_ok-ask_for.ensures.ready);
 }
 
 pub returns-clause-ran : goal.returns-clause-ran
@@ -54,4 +56,10 @@ customers-init g c = record {
     near = omega arith;
   };
   kept = c.in_ok-add_all.ensures.kept;
+  ready = inl refl;
 }
+
+pub returns-clause-ready : goal.returns-clause-ready
+returns-clause-ready g c =
+    let all : c.customers.place ≡ c.args.settings.now.items = search rules in
+    last_answered c.args.session.now.manager c.customers.place c.args.settings.now.items c.customers.session.client.value all (some_items c.args.settings.now c.requires.settings) c.customers.invariant.ready

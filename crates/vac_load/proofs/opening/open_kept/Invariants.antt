@@ -1,6 +1,8 @@
+use Rattle.std.specs.Prelude.{◌≡◌, ◌⊎◌}
 use Rattle.vac_manager.specs.Called.{HasAllGrants}
 use Rattle.vac_manager.specs.Session.{GoesOn}
 use Rattle.vac_load.specs.Keeping.{HasKeptAdded}
+use Rattle.vac_load.specs.Opening.{IsAnswered}
 use Rattle.vac_load.proofs.Opened.{Opening}
 use Rattle.vac_load.proofs.opening.open_kept.Given as goal
 
@@ -10,4 +12,5 @@ invariant-customers g l = record {
   grants : HasAllGrants l.session.client.value;
   opening : Opening g.D.Draws.leads l.fn.session.manager.renewal l.fn.settings.items l.place l.fn.session.client.value l.session.client.value l.fn.draws l.draws;
   kept : HasKeptAdded l.fn.session.client.value l.session.client.value (g.K.Keep.notes l.fn.keep) (g.K.Keep.notes l.keep);
+  ready : (l.place ≡ 0) ⊎ IsAnswered l.fn.session.manager l.session.client.value;
 }
