@@ -237,17 +237,17 @@ fn add_telling_options<'a>(
     let progress = flag(
         alloc,
         "progress",
-        "Tells on standard error how many tasks were answered, at most twice a second",
+        "With load: tells on standard error how many tasks were answered, at most twice a second",
     );
     let stats = flag(
         alloc,
         "stats",
-        "Tells on standard error how long the clients took, and how often they tried",
+        "With load: tells on standard error how long the clients took, and how often they tried",
     );
     let history = flag(
         alloc,
         "history",
-        "Writes the history of all calls, for judge, and the two lines on standard error",
+        "With load: writes its calls as a history for judge, the two lines on standard error",
     );
     add_option(add_option(add_option(command, progress), stats), history)
 }
