@@ -1,5 +1,6 @@
 -- The history that is written of the calls that were kept.
-use Rattle.std.specs.Prelude.{ℕ, List, ◌∷◌, map, Option}
+use Rattle.std.specs.Prelude.{ℕ, Bool, ◌&&◌, List, ◌∷◌, map, Option}
+use Rattle.std.specs.List.{list_all}
 use Rattle.std.specs.Io.KnownBytes.{Appends}
 use Rattle.vac_judge.specs.Call.{Call}
 use Rattle.vac_judge.specs.CallText.{answered, history_text}
@@ -15,6 +16,10 @@ notes_of journal = journal.notes.items
 -- those of the opening, which is client 0, and of the clients from 1 on
 abbrev pub kept_by : {C : Type 0} → Journal C → List (Journal C) → List (List Note)
 kept_by opening clients = notes_of opening ∷ map notes_of clients
+
+-- room was refused to no call of the opening, and to none of a client
+abbrev pub are_whole : {C : Type 0} → Journal C → List (Journal C) → Bool
+are_whole opening clients = opening.is_whole && list_all (λ j. j.is_whole) clients
 
 -- the call of a history that was kept so
 abbrev pub call_of : Entry → Call

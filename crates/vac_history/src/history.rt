@@ -1,13 +1,15 @@
 //! One history of the calls of all clients.
 
-ghost use Rattle.std.specs.Prelude.{◌≡◌, ◌<◌, ◌^◌, ◌++◌, [], length, OnOk, OnErr, IfOk};
+ghost use Rattle.std.specs.Prelude.{◌≡◌, ◌<◌, false, ◌^◌, ◌++◌, [], length, OnOk, OnErr, IfOk, IsErrOf};
+ghost use Rattle.std.specs.List.{list_all};
 ghost use Rattle.vac_lines.specs.Script.{as_line};
 ghost use Rattle.vac_judge.specs.CallText.{call_text};
 ghost use Rattle.vac_lines.specs.Writing.{AppendsPrefix};
 ghost use Rattle.vac_worklist.specs.Sending.{Sent};
 ghost use Rattle.vac_history.specs.Order.{entries_from};
 ghost use Rattle.vac_history.specs.Rests.{left_of, entry_of};
-ghost use Rattle.vac_history.specs.History.{call_of, kept_by, WroteHistory, WroteHistoryPrefix};
+ghost use Rattle.vac_history.specs.History.{call_of, kept_by, are_whole};
+ghost use Rattle.vac_history.specs.History.{WroteHistory, WroteHistoryPrefix};
 ghost use Rattle.vac_history.specs.Sending.{number_text, stamps_text, answer_text};
 ghost use Rattle.vac_history.specs.Sending.{SentMerged, MergedPrefix};
 
@@ -95,6 +97,20 @@ fn send_all<W: Write>(
     Ok(())
 }
 
+/// Whether each of these journals had room for each call.
+fn all_whole<C: Clock>(clients: &[Journal<'_, C>]) -> bool
+    ensures { result ≡ list_all (λ j. j.is_whole) clients.now }
+{
+    clients.iter().all(|journal| journal.is_whole())
+}
+
+/// Whether the opening's journal and those of the clients had room for each call.
+pub fn are_whole<C: Clock>(opening: &Journal<'_, C>, clients: &[Journal<'_, C>]) -> bool
+    ensures { result ≡ are_whole opening.now clients.now }
+{
+    opening.is_whole() && all_whole(clients)
+}
+
 /// What is left of each client's calls before the first one is written: all of them.
 fn rests_of<'j, C: Clock>(
     alloc: Global,
@@ -125,7 +141,8 @@ fn rests_of<'j, C: Clock>(
 /// before its readers, and readers of one version by when they began.
 ///
 /// Takes memory for one chunk of text, and a few words for each client. After a fault, what was
-/// written is nothing or a prefix of such a text.
+/// written is nothing or a prefix of such a text. Where a journal had no room for a call, that call
+/// is wanting: then nothing is written, and the fault is want of memory.
 pub fn write_history<C: Clock, W: Write>(
     alloc: Global,
     opening: &Journal<'_, C>,
@@ -137,7 +154,12 @@ pub fn write_history<C: Clock, W: Write>(
         (W.contents output.old) (W.contents output.new)) }
     ensures err { OnErr result (WroteHistoryPrefix (kept_by opening.now clients.now)
         (W.contents output.old) (W.contents output.new)) }
+    ensures partial { are_whole opening.now clients.now ≡ false →
+        IsErrOf result HistoryFault.Memory × (W.contents output.new ≡ W.contents output.old) }
 {
+    if !are_whole(opening, clients) {
+        return Err(HistoryFault::Memory);
+    }
     let mut rests = rests_of(alloc, opening, clients)?;
     let mut hand = Vec::new(alloc);
     send_all(output, &mut hand, rests.as_mut_slice())?;

@@ -30,6 +30,7 @@ impl<'a, C: Clock> Journal<'a, C> {
     /// history share.
     pub fn new(alloc: Global, clock: &'a C, start: Option<Instant>) -> Journal<'a, C>
         ensures empty { result.notes.items ≡ [] }
+        ensures whole { result.is_whole ≡ true }
     {
         Journal {
             clock,
@@ -71,13 +72,20 @@ impl<'a, C: Clock> Journal<'a, C> {
 }
 
 impl<C: Clock> Keep for Journal<'_, C> {
-    ghost use Rattle.std.specs.Prelude.{◌<◌, Some, vec_len, vec_capacity};
+    ghost use Rattle.std.specs.Prelude.{◌≡◌, ◌<◌, Some, OnOk, OnErr, false, vec_len, vec_capacity};
+    ghost use Rattle.vac_manager.specs.Keeping.{HasKept};
 
     ghost notes = { λ journal. Some journal.notes.items };
 
     ghost ready = { λ journal. vec_len journal.notes < vec_capacity journal.notes };
 
-    fn begin(&mut self) -> Result<(), AllocError> {
+    /// Where room is refused, the journal is not whole from then on.
+    fn begin(&mut self) -> Result<(), AllocError>
+        ensures same { self.new.notes.items ≡ self.old.notes.items }
+        ensures room { OnOk result (vec_len self.new.notes < vec_capacity self.new.notes) }
+        ensures whole { OnOk result (self.new.is_whole ≡ self.old.is_whole) }
+        ensures partial { OnErr result (self.new.is_whole ≡ false) }
+    {
         if self.notes.reserve(1).is_err() {
             self.is_whole = false;
             return Err(AllocError);
@@ -86,7 +94,12 @@ impl<C: Clock> Keep for Journal<'_, C> {
         Ok(())
     }
 
-    fn keep(&mut self, task: Task, placed: Placed) {
+    fn keep(&mut self, task: Task, placed: Placed)
+        requires { vec_len self.old.notes < vec_capacity self.old.notes }
+        ensures kept { HasKept task placed
+            (Some self.old.notes.items) (Some self.new.notes.items) }
+        ensures whole { self.new.is_whole ≡ self.old.is_whole }
+    {
         let begin = self.latest;
         let end = self.read();
         let Placed { reply, place } = placed;

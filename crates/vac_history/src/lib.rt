@@ -8,6 +8,6 @@ mod laws;
 mod merging;
 
 pub use fault::HistoryFault;
-pub use history::write_history;
+pub use history::{are_whole, write_history};
 pub use journal::Journal;
 pub use laws::{legal_up_to_precedence, ordered_calls_are_legal};

@@ -5,6 +5,9 @@ use Rattle.vac_history.specs.History.{kept_by}
 use Rattle.vac_history.proofs.Texts.{nothing_of_it, prefix_of_it, rest_of_it, rest_in_part}
 use Rattle.vac_history.proofs.history.write_history.Goals as goal
 
+pub returns-then-not-are_whole-clause-err : goal.returns-then-not-are_whole-clause-err
+returns-then-not-are_whole-clause-err g c = nothing_of_it (kept_by c.args.opening.now c.args.clients.now) _
+
 pub returns-in_err-rests-clause-err : goal.returns-in_err-rests-clause-err
 returns-in_err-rests-clause-err g c = on_err c.from_residual.result (nothing_of_it (kept_by c.args.opening.now c.args.clients.now) _)
 
