@@ -1,3 +1,4 @@
 pub mod Steps
 pub mod Lawful
 pub mod Histories
+pub mod Stopping

@@ -1,12 +1,16 @@
 -- What is known of the records of all tellers.
-use Rattle.std.specs.Prelude.{◌≡◌, ℕ, List, [], ◌∷◌, Result, Ok, Err, sum}
+use Rattle.std.specs.Prelude.{◌≡◌, ◌≢◌, ◌⊎◌, ℕ, ◌+◌, ◌<◌, ◌≤◌, List, [], ◌∷◌, Result, Ok, Err, sum}
 use Rattle.stm_words.specs.Image.{In}
 use Rattle.stm_core.specs.Client.{Client, Record, inserted}
 use Rattle.stm_core.specs.History.{Sub, all_records}
+use Rattle.stm_core.specs.Guards.{stripe_of}
+use Rattle.stm_logs.specs.Log.{LogValue}
 use Rattle.stm_region.specs.Shown.{RegionShown}
 use Rattle.stm_region.specs.Closed.{Ends}
 use Rattle.stm_region.specs.declared.limits.TheConstants.{MOST_GRANTS}
+use Rattle.stm_attempt.specs.Conflicts.{IsReadConflict, IsCommitConflict}
 use Rattle.stm_attempt.specs.Committing.{WasDecided}
+use Rattle.stm_attempt.specs.declared.conflict.Conflict.{Conflict as ConflictMet}
 use Rattle.stm_attempt.specs.declared.conflict.Stop.{Stop}
 use Rattle.stm_attempt.specs.declared.conflict.Stop.TheVariants.{Memory, Conflict, Spent}
 use Rattle.bank.specs.declared.entry.Entry.{Entry}
@@ -62,3 +66,44 @@ abbrev pub IsNoConflict : Stop → Type 0
 IsNoConflict Memory = Unit {0}
 IsNoConflict (Conflict conflict) = ⊥
 IsNoConflict (Spent version) = Unit {0}
+
+-- some attempts were made, one after the other, and not more than there were tries
+abbrev pub AreAttempts : ℕ → Client → Client → Type 0
+AreAttempts tries v v' =
+    (v.attempt.number < v'.attempt.number) × (v'.attempt.number ≤ v.attempt.number + tries)
+
+-- all tries were made
+abbrev pub AreAllTries : ℕ → Client → Client → Type 0
+AreAllTries tries v v' = v'.attempt.number ≡ v.attempt.number + tries
+
+-- the teller's last step showed the conflict, in a read
+abbrev pub WasRead : RegionShown → ConflictMet → Client → Type 0
+WasRead region conflict v =
+    ∥ ((address : ℕ) × IsReadConflict (stripe_of region.stripes) address conflict v) ∥₁
+
+-- the teller's last step, but for giving back its locks, showed the conflict: in a read, or in a
+-- commit
+abbrev pub WasShown : RegionShown → ConflictMet → Client → Type 0
+WasShown region conflict v = WasRead region conflict v
+    ⊎ ((log : LogValue) × IsCommitConflict (stripe_of region.stripes) log conflict v)
+
+-- the teller's attempt was to write something: the record of the entry, with what the attempt has
+-- read and these writes, would have been lawful
+pub record WouldWrite (entry : Entry) (v : Client) : Type 0 where
+  pub writes : List (ℕ × ℕ)
+  pub some : writes ≢ []
+  pub lawful : IsLawful (code entry) v.attempt.reads writes
+
+-- why a transfer of this entry stopped: a log could not grow; or all tries were made, and the last
+-- one met the conflict; or the clock was found at the last version, with something to write
+abbrev pub IsStop : RegionShown → Entry → ℕ → Stop → Client → Client → Type 0
+IsStop region entry tries Memory v v' = Unit {0}
+IsStop region entry tries (Conflict conflict) v v' =
+    AreAllTries tries v v' × WasShown region conflict v'
+IsStop region entry tries (Spent version) v v' =
+    (version ≡ region.last) × (v'.attempt.next_from ≡ region.last) × WouldWrite entry v'
+
+-- why a sum stopped: all tries were made, and the last one met the conflict in a read
+abbrev pub IsConflict : RegionShown → ℕ → ConflictMet → Client → Client → Type 0
+IsConflict region tries conflict v v' =
+    AreAllTries tries v v' × WasRead region conflict v'

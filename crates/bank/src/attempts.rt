@@ -1,10 +1,11 @@
 //! One transaction by as many attempts as it takes.
 
-ghost use Rattle.std.specs.Prelude.{◌≡◌, ◌<◌, ◌≤◌, IfOk, IfErr, IsOk, sum};
+ghost use Rattle.std.specs.Prelude.{◌≡◌, ◌<◌, ◌≤◌, true, IfOk, IfErr, IsOk, sum};
 ghost use Rattle.stm_core.specs.Core.{IsFreeHanded};
 ghost use Rattle.bank.specs.declared.entry.Entry.TheVariants.{Transfer, Sum};
 ghost use Rattle.bank.specs.declared.law.TheConstants.{ACCOUNTS};
 ghost use Rattle.bank.specs.History.{IsOpened, Records, WasInOrder, IsAlone, IsNoConflict};
+ghost use Rattle.bank.specs.History.{AreAttempts, IsStop, IsConflict};
 
 use crate::bodies::{add_up, transfer};
 use crate::entry::Entry;
@@ -32,6 +33,9 @@ pub(crate) fn try_transfer(
         client.old.value client.new.value }
     ensures order { IfOk result (λ _. WasInOrder region.now client.new.value) }
     ensures alone { IsAlone client.old.value → IfErr result (λ stop. IsNoConflict stop) }
+    ensures attempt { AreAttempts 1 client.old.value client.new.value }
+    ensures stopped { IfErr result (λ stop. IsStop region.now (Transfer from to amount true) 1
+        stop client.old.value client.new.value) }
 {
     let mut attempt = Attempt::begin(region, client, logs);
     let answer = transfer(&mut attempt, from, to, amount);
@@ -70,6 +74,9 @@ pub(crate) fn try_sum(
     ensures order { IfOk result (λ _. WasInOrder region.now client.new.value) }
     ensures total { IfOk result (λ total. total ≡ sum region.now.first) }
     ensures alone { IsAlone client.old.value → IsOk result }
+    ensures attempt { AreAttempts 1 client.old.value client.new.value }
+    ensures stopped { IfErr result (λ conflict. IsConflict region.now 1
+        conflict client.old.value client.new.value) }
 {
     let mut attempt = ReadAttempt::begin(region, client);
     let answer = add_up(&mut attempt);

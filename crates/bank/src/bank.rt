@@ -1,14 +1,15 @@
 //! The bank and its tellers.
 
-ghost use Rattle.std.specs.Prelude.{◌≡◌, ◌*◌, ◌<◌, ◌≤◌, IfOk, IfErr, IsOk, replicate, sum};
+ghost use Rattle.std.specs.Prelude.{◌≡◌, ◌*◌, ◌<◌, ◌≤◌, true, IfOk, IfErr, IsOk, replicate, sum};
 ghost use Rattle.stm_core.specs.Core.{IsFreeHanded};
 ghost use Rattle.stm_core.specs.Event.{opener};
-ghost use Rattle.stm_region.specs.Shown.{HasSplit, joined};
-ghost use Rattle.stm_region.specs.Refused.{ClosesNot, OpensNot};
+ghost use Rattle.stm_region.specs.Shown.{HasSplit, joined, opened_on};
+ghost use Rattle.stm_region.specs.Refused.{ClosesNot, IsLast, OpensNot};
 ghost use Rattle.stm_region.specs.declared.fault.RegionFault.TheVariants.{Clients};
 ghost use Rattle.bank.specs.declared.entry.Entry.TheVariants.{Transfer, Sum};
 ghost use Rattle.bank.specs.declared.law.TheConstants.{ACCOUNTS};
 ghost use Rattle.bank.specs.History.{Records, WasInOrder, Closes, IsAlone, IsNoConflict};
+ghost use Rattle.bank.specs.History.{AreAttempts, IsStop, IsConflict};
 
 use crate::attempts::{try_sum, try_transfer};
 use crate::law::{ACCOUNTS, BankLaw};
@@ -62,10 +63,13 @@ impl Bank {
     /// Opens a bank with this much on each account, and its first teller. The version clock ends
     /// at `last`, 1 to 2^62 - 1.
     pub fn new(alloc: Global, each: u32, last: u64) -> Result<(Bank, Teller), RegionFault>
+        ensures region { IfOk result (λ r.
+            r.0 ≡ opened_on r.0.table (replicate ACCOUNTS each) last ACCOUNTS) }
         ensures first { IfOk result (λ r. r.0.first ≡ replicate ACCOUNTS each) }
         ensures total { IfOk result (λ r. sum r.0.first ≡ ACCOUNTS * each) }
         ensures teller { IfOk result (λ r.
             r.1 ≡ record { table = r.0.table; value = opener }) }
+        ensures range { IfOk result (λ _. IsLast last) }
         ensures refused { IfErr result (λ fault. OpensNot ACCOUNTS last ACCOUNTS fault) }
     {
         let image = [u64::from(each); ACCOUNTS as usize];
@@ -96,6 +100,9 @@ impl Bank {
             teller.old.value teller.new.value }
         ensures order { IfOk result (λ _. WasInOrder self.now teller.new.value) }
         ensures alone { IsAlone teller.old.value → IfErr result (λ stop. IsNoConflict stop) }
+        ensures attempts { AreAttempts tries teller.old.value teller.new.value }
+        ensures stopped { IfErr result (λ stop. IsStop self.now (Transfer from to amount true)
+            tries stop teller.old.value teller.new.value) }
     {
         let backoff = Backoff::new();
         let mut left = tries;
@@ -121,6 +128,9 @@ impl Bank {
         ensures order { IfOk result (λ _. WasInOrder self.now teller.new.value) }
         ensures total { IfOk result (λ total. total ≡ sum self.now.first) }
         ensures alone { IsAlone teller.old.value → IsOk result }
+        ensures attempts { AreAttempts tries teller.old.value teller.new.value }
+        ensures stopped { IfErr result (λ conflict. IsConflict self.now tries
+            conflict teller.old.value teller.new.value) }
     {
         let backoff = Backoff::new();
         let mut left = tries;

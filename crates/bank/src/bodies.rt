@@ -1,6 +1,6 @@
 //! The bodies of the bank's transactions, over any memory of transactions.
 
-ghost use Rattle.std.specs.Prelude.{◌≡◌, ◌<◌, IfOk, IfErr};
+ghost use Rattle.std.specs.Prelude.{◌≡◌, ◌<◌, false, IfOk, IfErr};
 ghost use Rattle.bank.specs.declared.entry.Entry.TheVariants.{Transfer, Sum};
 ghost use Rattle.bank.specs.declared.law.TheConstants.{ACCOUNTS};
 ghost use Rattle.bank.specs.Body.{Did, HasBank};
@@ -20,6 +20,8 @@ pub(crate) fn transfer<M: TxMem>(
     ensures origin { M.origin memory.new ≡ M.origin memory.old }
     ensures answer { IfOk result (λ moved.
         Did (M.view memory.old) (M.view memory.new) (Transfer from to amount moved)) }
+    ensures wrote { IfOk result (λ moved. moved ≡ false →
+        (M.view memory.new).writes ≡ (M.view memory.old).writes) }
 {
     let left = load(memory, Addr(from))?;
     if left < amount {

@@ -5,6 +5,7 @@ use Rattle.stm_attempt.specs.Meaning.{Origin}
 use Rattle.bank.specs.declared.entry.Entry.TheVariants.{Sum}
 use Rattle.bank.proofs.Lawful.{has_bank, lawful_reading}
 use Rattle.bank.proofs.Histories.{read_in_order, opening_sum}
+use Rattle.bank.proofs.Stopping.{shown_by_read}
 use Rattle.bank.proofs.attempts.try_sum.Goals as goal
 
 pub add_up-answer-requires : goal.add_up-answer-requires
@@ -25,3 +26,9 @@ returns-clause-total c =
     opening_sum c.args.region.now c.args.client.now.value _ _
     (read_in_order _ _ _ _ _ (ap (λ (o : Origin). o.region) c.in-Ok.ensures.origin ∙ c.begin-attempt.ensures.region) c.requires.opened c.finish.ensures.decides refl)
     (search rules)
+
+pub returns-in-Some-clause-stopped : goal.returns-in-Some-clause-stopped
+returns-in-Some-clause-stopped c = (
+  search rules,
+  shown_by_read _ _ _ _ _ (ap (λ (o : Origin). o.region) c.add_up-answer.ensures.origin ∙ c.begin-attempt.ensures.region) (c.stopped.ensures.shown _ c.in-Some.is) (search rules),
+)
