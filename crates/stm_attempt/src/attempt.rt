@@ -1,5 +1,6 @@
 //! An attempt: one transaction of one client.
-ghost use Rattle.std.specs.Prelude.{◌≡◌, ◌≢◌, ◌↔◌, ℕ, ◌+◌, ◌*◌, ◌<◌, ◌≤◌, length, None, Some, true};
+ghost use Rattle.std.specs.Prelude.{◌≡◌, ◌≢◌, ◌↔◌, ℕ, ◌+◌, ◌*◌, ◌^◌, ◌<◌, ◌≤◌, length, None, Some, true};
+ghost use Rattle.stm_words.specs.LockWord.{free_word};
 ghost use Rattle.stm_core.specs.Core.{IsFreeHanded};
 ghost use Rattle.stm_core.specs.Event.{begin as begins};
 ghost use Rattle.stm_region.specs.declared.limits.TheConstants.{MOST_GRANTS};
@@ -15,7 +16,7 @@ use crate::reading::read_word;
 use crate::standing::Standing;
 use std::alloc::{Allocator, Global};
 use stm_region::{Client, Region};
-use stm_words::{Addr, Law, TxMem, TxRead, Version};
+use stm_words::{Addr, Law, LockWord, TxMem, TxRead, Version};
 
 /// A running transaction of a client, with its read log and its write log.
 ///
@@ -25,11 +26,15 @@ pub struct Attempt<'a, L: Law, R: Allocator = Global, A: Allocator + Copy = Glob
     pub(crate) client: &'a mut Client<L>,
     pub(crate) logs: &'a mut Logs<A>,
     pub(crate) rv: Version,
+    /// The word of a free lock at the read version, which no lock word that is read may exceed.
+    pub(crate) newest: u64,
     /// The conflict that a read met.
     pub(crate) stopped: Option<Conflict>,
     pub(crate) standing: Standing<L>,
     ghost own: { client.now.table ≡ region.now.table },
     ghost known: { rv ≤ region.now.last },
+    ghost compared: { newest ≡ free_word rv },
+    ghost small: { newest < 2 ^ 63 },
     ghost running: { logs.now.in_use ≡ true → IsRunning region.now client.now.value rv stopped },
     ghost inside: { logs.now.in_use ≡ true
         → AreInside region.now.size client.now.value.attempt.reads },
@@ -73,6 +78,7 @@ impl<'a, L: Law, R: Allocator, A: Allocator + Copy> Attempt<'a, L, R, A> {
             client,
             logs,
             rv,
+            newest: LockWord::free(rv),
             stopped: None,
             standing,
         }
@@ -110,6 +116,7 @@ impl<'a, L: Law, R: Allocator, A: Allocator + Copy> Attempt<'a, L, R, A> {
             client: _,
             logs: _,
             rv: _,
+            newest: _,
             stopped: _,
             standing: _,
         } = self;
@@ -164,7 +171,7 @@ impl<'a, L: Law, R: Allocator, A: Allocator + Copy> TxRead for Attempt<'a, L, R,
             return Ok(value);
         }
         self.logs.reads.push(addr)?;
-        match read_word(self.region, self.client, self.rv, addr) {
+        match read_word(self.region, self.client, self.newest, addr) {
             Ok(value) => {
                 self.standing = Standing::of(self.region, self.client);
                 Ok(value)

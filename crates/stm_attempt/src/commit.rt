@@ -232,6 +232,7 @@ impl<'a, L: Law, R: Allocator, A: Allocator + Copy> Attempt<'a, L, R, A> {
             client,
             logs,
             rv,
+            newest: _,
             stopped,
             standing: _,
         } = self;

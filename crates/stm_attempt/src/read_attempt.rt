@@ -1,5 +1,6 @@
 //! A transaction that only reads.
-ghost use Rattle.std.specs.Prelude.{◌≡◌, ◌↔◌, ℕ, ◌+◌, ◌*◌, ◌<◌, ◌≤◌, [], length, None, Some, true};
+ghost use Rattle.std.specs.Prelude.{◌≡◌, ◌↔◌, ℕ, ◌+◌, ◌*◌, ◌^◌, ◌<◌, ◌≤◌, [], length, None, Some, true};
+ghost use Rattle.stm_words.specs.LockWord.{free_word};
 ghost use Rattle.stm_core.specs.Core.{IsFreeHanded};
 ghost use Rattle.stm_core.specs.Event.{begin as begins, finish as finishes};
 ghost use Rattle.stm_region.specs.declared.limits.TheConstants.{MOST_GRANTS};
@@ -15,7 +16,7 @@ use crate::reading::read_word;
 use crate::standing::Standing;
 use std::alloc::{Allocator, Global};
 use stm_region::{Client, Region};
-use stm_words::{Addr, Law, Tag, TxRead, Version};
+use stm_words::{Addr, Law, LockWord, Tag, TxRead, Version};
 
 /// A running transaction that only reads. It keeps no log and takes no memory.
 ///
@@ -24,10 +25,14 @@ pub struct ReadAttempt<'a, L: Law, R: Allocator = Global> {
     pub(crate) region: &'a Region<L, R>,
     pub(crate) client: &'a mut Client<L>,
     pub(crate) rv: Version,
+    /// The word of a free lock at the read version, which no lock word that is read may exceed.
+    pub(crate) newest: u64,
     /// The conflict that a read met.
     pub(crate) stopped: Option<Conflict>,
     pub(crate) standing: Standing<L>,
     ghost own: { client.now.table ≡ region.now.table },
+    ghost compared: { newest ≡ free_word rv },
+    ghost small: { newest < 2 ^ 63 },
     ghost running: { is_unfinished client.now.value.attempt.phase ≡ true →
         IsRunning region.now client.now.value rv stopped },
     ghost stands: { IsStanding (is_unfinished client.now.value.attempt.phase) region.now
@@ -59,6 +64,7 @@ impl<'a, L: Law, R: Allocator> ReadAttempt<'a, L, R> {
             region,
             client,
             rv,
+            newest: LockWord::free(rv),
             stopped: None,
             standing,
         }
@@ -96,6 +102,7 @@ impl<'a, L: Law, R: Allocator> ReadAttempt<'a, L, R> {
             region,
             client,
             rv,
+            newest: _,
             stopped: _,
             standing: _,
         } = self;
@@ -114,6 +121,7 @@ impl<'a, L: Law, R: Allocator> ReadAttempt<'a, L, R> {
             region: _,
             client: _,
             rv: _,
+            newest: _,
             stopped: _,
             standing: _,
         } = self;
@@ -158,7 +166,7 @@ impl<'a, L: Law, R: Allocator> TxRead for ReadAttempt<'a, L, R> {
         if self.stopped.is_some() {
             return Err(Stopped);
         }
-        match read_word(self.region, self.client, self.rv, addr) {
+        match read_word(self.region, self.client, self.newest, addr) {
             Ok(value) => {
                 self.standing = Standing::of(self.region, self.client);
                 Ok(value)

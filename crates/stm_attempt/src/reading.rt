@@ -1,11 +1,12 @@
 //! One read of a word of the region.
-ghost use Rattle.std.specs.Prelude.{◌≡◌, ◌+◌, ◌<◌, ◌≤◌, ◌^◌, IfOk, IfErr, IfSome, IfNone, IsOk, true};
+ghost use Rattle.std.specs.Prelude.{◌≡◌, ℕ, ◌+◌, ◌<◌, ◌≤◌, ◌^◌, IfOk, IfErr, IfSome, IfNone, IsOk, true};
 ghost use Rattle.stm_words.specs.LockWord.{free_word};
 ghost use Rattle.stm_core.specs.Client.{running};
 ghost use Rattle.stm_core.specs.Guards.{stripe_of};
 ghost use Rattle.stm_region.specs.Findings.{StandsOn};
 ghost use Rattle.stm_attempt.specs.Begun.{still, IsBegun, HasReadWord, is_unfinished};
 ghost use Rattle.stm_attempt.specs.Conflicts.{IsHeld, IsReadConflict};
+ghost use Rattle.stm_attempt.specs.declared.conflict.Conflict.TheVariants.{Newer};
 
 use crate::conflict::Conflict;
 use std::alloc::Allocator;
@@ -23,17 +24,31 @@ pub(crate) fn free_version(word: u64) -> Option<Version>
     if held { None } else { Some(version) }
 }
 
-/// Reads a word between a probe and a check of its lock, which must find the same free lock word,
-/// of a version of at most the read version.
+/// The conflict with a free lock of a version above the read version, whose free lock word is
+/// given.
+#[cold]
+fn newer(lock: u32, version: Version, newest: u64) -> Conflict
+    requires small { newest < 2 ^ 63 }
+    ensures { (rv : ℕ) → newest ≡ free_word rv → result ≡ Newer lock version rv }
+{
+    let (rv, _held) = LockWord::decode(newest);
+    Conflict::Newer { lock, version, rv }
+}
+
+/// Reads a word between a probe and a check of its lock, which must find the same free lock word.
+/// It must be at most `newest`, the word of a free lock at the read version, so that its version
+/// is at most the read version.
 #[inline]
 pub(crate) fn read_word<L: Law, R: Allocator>(
     region: &Region<L, R>,
     client: &mut Client<L>,
-    rv: Version,
+    newest: u64,
     addr: Addr,
 ) -> Result<u64, Conflict>
     requires own { client.old.table ≡ region.now.table }
-    requires begun { IsBegun client.old.value rv }
+    requires begun { IsBegun client.old.value client.old.value.attempt.rv }
+    requires newest { newest ≡ free_word client.old.value.attempt.rv }
+    requires small { newest < 2 ^ 63 }
     requires runs { client.old.value.attempt.phase ≡ running }
     requires range { addr.0 < region.now.size }
     ensures own { client.new.table ≡ client.old.table }
@@ -55,8 +70,8 @@ pub(crate) fn read_word<L: Law, R: Allocator>(
     let Some(version) = free_version(first) else {
         return Err(Conflict::Held { lock, word: first });
     };
-    if version > rv {
-        return Err(Conflict::Newer { lock, version, rv });
+    if first > newest {
+        return Err(newer(lock, version, newest));
     }
     let value = region.fetch(client, addr);
     let second = region.check(client, addr, lock);

@@ -1,0 +1,7 @@
+use Rattle.std.proofs.Common.{rules, ◌<◌, arith}
+use Rattle.stm_attempt.proofs.reading.read_word.Goals as goal
+
+pub returns-then-first-newest-clause-conflict : goal.returns-then-first-newest-clause-conflict
+returns-then-first-newest-clause-conflict g c =
+    let less : c.args.client.now.value.attempt.rv < c.in-Some.version = omega (arith, c.requires.newest, c.in-Some.ensures.free, c.if-first-newest.true) in
+    rw (c.newer.ensures c.args.client.now.value.attempt.rv c.requires.newest) (search rules)
