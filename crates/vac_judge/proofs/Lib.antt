@@ -7,3 +7,4 @@ pub mod Cutting
 pub mod Texts
 pub mod CallText
 pub mod Histories
+pub mod Stops

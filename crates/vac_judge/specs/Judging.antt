@@ -1,8 +1,10 @@
 -- What judging a call, or a line, does to a judge.
-use Rattle.std.specs.Prelude.{◌≡◌, Option, Some, None, Result, List, ◌∷◌}
+use Rattle.std.specs.Prelude.{◌≡◌, ◌⊎◌, ◌+◌, ◌^◌, Option, Some, None, Result, List, ◌∷◌}
 use Rattle.vac_model.specs.State.{State}
 use Rattle.vac_model.specs.Run.{run}
 use Rattle.vac_judge.specs.declared.fault.CallFault.{CallFault}
+use Rattle.vac_judge.specs.declared.fault.JudgeFault.{JudgeFault}
+use Rattle.vac_judge.specs.declared.fault.JudgeFault.TheVariants as fault
 use Rattle.vac_judge.specs.declared.judge.Judge.{Judge}
 use Rattle.vac_judge.specs.declared.verdict.Wrong.{Wrong}
 use Rattle.vac_judge.specs.declared.verdict.Wrong.TheVariants.{Client, Time, Reply}
@@ -45,3 +47,8 @@ pub record Takes (judge after : Judge) (line : Result Call CallFault) : Type 0 w
 pub record Ends (judge : Judge) (line : Result Call CallFault) (verdict : Verdict) : Type 0 where
   pub on : (s : State) (earlier : List Call) → Follows judge s earlier →
       (more : List (Result Call CallFault)) → judged s earlier (line ∷ more) ≡ verdict
+
+-- why a judge did not judge a line: memory was refused, or its calls are as many as it can count
+abbrev pub IsStop : Judge → JudgeFault → Type 0
+IsStop judge stop =
+    (stop ≡ fault.Memory) ⊎ ((stop ≡ fault.Bound) × (judge.calls + 1 ≡ 2 ^ 64))

@@ -4,6 +4,8 @@ use Rattle.std.specs.Io.KnownBytes.{Appends, Consumes, IsAtEnd}
 use Rattle.vac_model.specs.State.{State}
 use Rattle.vac_lines.specs.Writing.{AppendsPrefix}
 use Rattle.vac_lines.specs.Lines.{lines_of, HasNo}
+use Rattle.vac_judge.specs.declared.fault.JudgeFault.{JudgeFault}
+use Rattle.vac_judge.specs.declared.fault.JudgeFault.TheVariants as fault
 use Rattle.vac_judge.specs.declared.judge.Judge.{Judge}
 use Rattle.vac_judge.specs.declared.verdict.Verdict.{Verdict}
 use Rattle.vac_judge.specs.declared.call.TheConstants.{CALL_BYTES}
@@ -34,11 +36,15 @@ pub record HasJudgedInPart (n : ℕ) (unread left held holds : Option (List ℕ)
   pub is : HasVerdict n unread left verdict
   pub written : AppendsPrefix held holds (verdict_text verdict)
 
--- a fault ended it: before it wrote, or while it wrote
-abbrev pub HasStopped : ℕ → Option (List ℕ) → Option (List ℕ) → Option (List ℕ)
+-- a fault ended it: one of the output while the verdict was written, any other before
+abbrev pub HasStopped : ℕ → JudgeFault → Option (List ℕ) → Option (List ℕ) → Option (List ℕ)
     → Option (List ℕ) → Type 0
-HasStopped n unread left held holds =
-    Appends held holds [] ⊎ HasJudgedInPart n unread left held holds
+HasStopped n fault.Write unread left held holds = HasJudgedInPart n unread left held holds
+HasStopped n fault unread left held holds = Appends held holds []
+
+-- a fault that ends it before a verdict is there
+abbrev pub IsStopOfLines : JudgeFault → Type 0
+IsStopOfLines stop = (stop ≡ fault.Memory) ⊎ (stop ≡ fault.Bound)
 
 -- what is kept of a line that has begun: enough to see that it is too long
 abbrev pub HasBegun : List ℕ → Type 0

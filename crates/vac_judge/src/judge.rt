@@ -1,6 +1,6 @@
 //! Judging one call after another.
 
-ghost use Rattle.std.specs.Prelude.{◌≡◌, ◌≢◌, ◌≤◌, ◌+◌, IfOk, OnOk, MatchOption, List, [], ◌∷◌, true};
+ghost use Rattle.std.specs.Prelude.{◌≡◌, ◌≢◌, ◌≤◌, ◌+◌, IfOk, OnOk, IfErr, MatchOption, List, [], ◌∷◌, true};
 ghost use Rattle.std.specs.Str.{bytes_eq};
 ghost use Rattle.vac_model.specs.Ranges.{is_task};
 ghost use Rattle.vac_model.specs.State.{State, empty_state};
@@ -9,6 +9,7 @@ ghost use Rattle.vac_judge.specs.Call.{Call, line_call};
 ghost use Rattle.vac_judge.specs.Parts.{shown_call};
 ghost use Rattle.vac_judge.specs.Order.{wrong_of};
 ghost use Rattle.vac_judge.specs.Judging.{Follows, JudgesTimes, Judges, Takes, Ends as IsEnd};
+ghost use Rattle.vac_judge.specs.Judging.{IsStop};
 ghost use Rattle.vac_judge.specs.Verdict.{summary_of};
 
 use crate::call::{CallLine, read_call};
@@ -50,8 +51,9 @@ fn is_text_of(buffer: &mut Vec<u8>, reply: &Reply, text: &[u8]) -> Result<bool, 
 
 /// The fault of a line, where it is not want of memory.
 fn own_fault(fault: CallFault) -> Result<CallFault, JudgeFault>
-    ensures { IfOk result (λ found.
+    ensures own { IfOk result (λ found.
         (found ≡ fault) × (fault ≢ CallFault.Line LineFault.Memory)) }
+    ensures refused { IfErr result (λ refused. refused ≡ JudgeFault.Memory) }
 {
     if matches!(fault, CallFault::Line(LineFault::Memory)) {
         return Err(JudgeFault::Memory);
@@ -64,7 +66,8 @@ impl Judge {
     pub fn new(alloc: Global, blocks: u32) -> Result<Judge, JudgeFault>
         requires some { 1 ≤ blocks }
         requires most { blocks ≤ MOST_BLOCKS }
-        ensures { IfOk result (λ judge. Follows judge (empty_state blocks) []) }
+        ensures empty { IfOk result (λ judge. Follows judge (empty_state blocks) []) }
+        ensures refused { IfErr result (λ fault. fault ≡ JudgeFault.Memory) }
     {
         Ok(Judge {
             heap: Heap::new(alloc, blocks)?,
@@ -119,9 +122,10 @@ impl Judge {
     ///
     /// After a verdict or a fault, no further line can be judged by it.
     pub fn judge_line(&mut self, alloc: Global, text: &[u8]) -> Result<Option<Verdict>, JudgeFault>
-        ensures { IfOk result (λ found. MatchOption found
+        ensures judged { IfOk result (λ found. MatchOption found
             (Takes self.old self.new (line_call text.now))
             (λ verdict. IsEnd self.old (line_call text.now) verdict)) }
+        ensures refused { IfErr result (λ fault. IsStop self.old fault) }
     {
         if self.calls == u64::MAX {
             return Err(JudgeFault::Bound);

@@ -1,13 +1,13 @@
 //! Reading a history, and writing the verdict on it.
 
-ghost use Rattle.std.specs.Prelude.{◌≡◌, ◌≤◌, ◌+◌, [], ◌++◌, length, take};
-ghost use Rattle.std.specs.Prelude.{OnOk, OnErr, IfOk, MatchOption};
+ghost use Rattle.std.specs.Prelude.{◌≡◌, ◌≢◌, ◌≤◌, ◌+◌, [], ◌++◌, length, take};
+ghost use Rattle.std.specs.Prelude.{OnOk, IfOk, IfErr, MatchOption};
 ghost use Rattle.vac_model.specs.State.{empty_state};
 ghost use Rattle.vac_judge.specs.Call.{line_call};
-ghost use Rattle.vac_judge.specs.Judging.{Follows, Takes, Ends};
+ghost use Rattle.vac_judge.specs.Judging.{Follows, Takes, Ends, IsStop};
 ghost use Rattle.vac_judge.specs.Verdict.{is_legal};
 ghost use Rattle.vac_judge.specs.Reading.{HasBegun, HasVerdict, HasJudged, HasStopped};
-ghost use Rattle.vac_judge.specs.Reading.{TakesText, EndsText, EndsLast};
+ghost use Rattle.vac_judge.specs.Reading.{TakesText, EndsText, EndsLast, IsStopOfLines};
 
 use crate::call::CALL_BYTES;
 use crate::fault::JudgeFault;
@@ -48,6 +48,7 @@ impl History {
         requires most { blocks ≤ MOST_BLOCKS }
         ensures judge { IfOk result (λ history. Follows history.judge (empty_state blocks) []) }
         ensures line { IfOk result (λ history. history.line.items ≡ []) }
+        ensures refused { IfErr result (λ fault. fault ≡ JudgeFault.Memory) }
     {
         let judge = Judge::new(alloc, blocks)?;
         let line = Vec::with_capacity(alloc, KEPT_BYTES)?;
@@ -62,6 +63,7 @@ impl History {
             (Takes self.old.judge self.new.judge (line_call (self.old.line.items ++ rest.now)))
             (λ verdict. Ends self.old.judge (line_call (self.old.line.items ++ rest.now))
             verdict)) }
+        ensures refused { IfErr result (λ fault. IsStop self.old.judge fault) }
     {
         if self.line.is_empty() {
             return self.judge.judge_line(alloc, rest);
@@ -76,10 +78,11 @@ impl History {
     /// verdict of the first that brings one.
     fn feed(&mut self, alloc: Global, chunk: &[u8]) -> Result<Option<Verdict>, JudgeFault>
         requires { HasBegun self.old.line.items }
-        ensures { IfOk result (λ found. MatchOption found
+        ensures judged { IfOk result (λ found. MatchOption found
             (HasBegun self.new.line.items × TakesText self.old.judge self.new.judge
             (self.old.line.items ++ chunk.now) self.new.line.items)
             (λ verdict. EndsText self.old.judge (self.old.line.items ++ chunk.now) verdict)) }
+        ensures refused { IfErr result IsStopOfLines }
     {
         let mut rest = chunk;
         while let Some((line, behind)) = cut_at(b'\n', rest) {
@@ -96,7 +99,9 @@ impl History {
     /// end, or what is said of all calls.
     fn finish(&mut self, alloc: Global) -> Result<Verdict, JudgeFault>
         requires { HasBegun self.old.line.items }
-        ensures { IfOk result (λ verdict. EndsLast self.old.judge self.old.line.items verdict) }
+        ensures judged { IfOk result (λ verdict.
+            EndsLast self.old.judge self.old.line.items verdict) }
+        ensures refused { IfErr result IsStopOfLines }
     {
         if !self.line.is_empty() {
             if let Some(verdict) = self.end_line(alloc, &[])? {
@@ -112,8 +117,9 @@ impl History {
 fn judge_input<R: Read>(alloc: Global, blocks: u32, input: &mut R) -> Result<Verdict, JudgeFault>
     requires some { 1 ≤ blocks }
     requires most { blocks ≤ MOST_BLOCKS }
-    ensures { IfOk result (λ verdict.
+    ensures judged { IfOk result (λ verdict.
         HasVerdict blocks (R.remaining input.old) (R.remaining input.new) verdict) }
+    ensures refused { IfErr result (λ fault. fault ≢ JudgeFault.Write) }
 {
     let mut history = History::new(alloc, blocks)?;
     let mut buffer = vec![in alloc; 0; CHUNK_BYTES]?;
@@ -146,7 +152,7 @@ fn is_legal(verdict: &Verdict) -> bool
 /// Judges a history of a system of so many blocks: reads its lines to the end of the input, or to
 /// the first that is not right, and writes the verdict. Answers whether it is legal.
 ///
-/// After a fault, what was written is nothing or a prefix of the verdict's text.
+/// After a fault of the output a prefix of the verdict's text was written, after any other nothing.
 pub fn judge_history<R: Read, W: Write>(
     alloc: Global,
     blocks: u32,
@@ -158,7 +164,8 @@ pub fn judge_history<R: Read, W: Write>(
     ensures ok { IfOk result (λ legal. HasJudged blocks legal
         (R.remaining input.old) (R.remaining input.new)
         (W.contents output.old) (W.contents output.new)) }
-    ensures err { OnErr result (HasStopped blocks (R.remaining input.old) (R.remaining input.new)
+    ensures err { IfErr result (λ fault. HasStopped blocks fault
+        (R.remaining input.old) (R.remaining input.new)
         (W.contents output.old) (W.contents output.new)) }
 {
     let verdict = judge_input(alloc, blocks, input)?;

@@ -10,8 +10,8 @@ loop-line-init c = record {
   all = taken_none c.args.self.now.judge c.args.self.now.line.items c.args.chunk.now;
 }
 
-pub returns-in-Some-2 : goal.returns-in-Some-2
-returns-in-Some-2 c =
+pub returns-in-Some-2-clause-judged : goal.returns-in-Some-2-clause-judged
+returns-in-Some-2-clause-judged c =
     let at = c.loop-line in
     taken_end _ at.self.judge _ at.self.line.items _ c.in-Some.line.now c.in-Some.behind.now at.rest.now c.in-Some-2.verdict at.invariant.all at.invariant.begun.0
     c.in-Some.ensures.0 c.in-Some.ensures.1 (rw c.in-Some-2.is at c.in_ok-verdict.ensures.judged)
@@ -27,8 +27,8 @@ loop-line-preserved c =
           at.invariant.all at.invariant.begun.0 c.in-Some.ensures.0 c.in-Some.ensures.1 (rw c.in_default-2.is at ran.judged) ran.line;
     }
 
-pub returns : goal.returns
-returns c =
+pub returns-clause-judged : goal.returns-clause-judged
+returns-clause-judged c =
     let at = c.loop-line in (
       subst HasBegun (sym c.in_ok-keep_start.ensures) (has_begun at.self.line.items at.rest.now at.invariant.begun c.in_default.ensures),
       taken_kept _ at.self.judge _ at.self.line.items _ _ at.rest.now at.invariant.all at.invariant.begun.0 c.in_default.ensures c.in_ok-keep_start.ensures,

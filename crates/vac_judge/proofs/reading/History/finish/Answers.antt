@@ -3,14 +3,14 @@ use Rattle.vac_judge.proofs.Texts.{no_bytes, last_none, last_taken, last_ends}
 use Rattle.vac_judge.proofs.reading.History.finish.Goals as goal
 use Rattle.vac_judge.proofs.reading.History.finish.Goals.{then-not-is_empty+in_ok-verdict+in_default, else-not-is_empty}
 
-pub returns-in-Some : goal.returns-in-Some
-returns-in-Some c =
+pub returns-in-Some-clause-judged : goal.returns-in-Some-clause-judged
+returns-in-Some-clause-judged c =
     let some : 0 < length c.args.self.now.line.items = search rules in
     last_ends c.args.self.now.judge c.args.self.now.line.items c.in-Some.verdict c.requires.0 some
     (rw c.in-Some.is at c.in_ok-verdict.ensures.judged)
 
-pub returns : goal.returns
-returns c =
+pub returns-clause-judged : goal.returns-clause-judged
+returns-clause-judged c =
     elim c.if-not-is_empty.branch [
       | then-not-is_empty+in_ok-verdict+in_default w ↦
           let some : 0 < length c.args.self.now.line.items = search rules in
