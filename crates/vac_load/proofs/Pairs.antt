@@ -1,14 +1,13 @@
 -- Lists whose elements are related place by place.
 use Rattle.std.proofs.Common.{◌≡◌, ◌∙◌, ◌++◌, ◌<◌, ℕ, zero, suc, slice_index_or, List, [], ◌∷◌, length, length-append, map, min, ◌+◌, ◌≤◌, append-nil, append_assoc, All, refl, sym, ap, subst, arith, rules}
 use Rattle.std.specs.Vec.Iter.{into_iter_items, into_iter_len}
-use Rattle.vac_manager.specs.Session.{SessionShown}
 use Rattle.vac_draws.specs.declared.settings.Settings.{Settings}
-use Rattle.vac_load.specs.Attempted.{CountsShown}
+use Rattle.vac_load.specs.declared.workers.Worker.{Worker}
+use Rattle.vac_load.specs.declared.workers.Worked.{Worked}
 use Rattle.vac_load.specs.declared.workers.WorkOf.{WorkOf}
-use Rattle.vac_load.specs.declared.seats.Seat.{Seat}
 use Rattle.vac_load.specs.Lists.{Paired, none, both}
-use Rattle.vac_load.specs.Keeping.{Kept, shown}
-use Rattle.vac_load.specs.Load.{IsPromise, HasWorked}
+use Rattle.vac_load.specs.Keeping.{Kept}
+use Rattle.vac_load.specs.Load.{IsPromise, DidWork}
 
 -- one place more
 pub paired_more : {A B : Type 0} (related : A → B → Type 0) (xs : List A) (ys : List B) (x : A) (y : B) → Paired related xs ys → related x y → Paired related (xs ++ (x ∷ [])) (ys ++ (y ∷ []))
@@ -78,15 +77,16 @@ all_same P xs ys e h = subst (λ (l : List _). All P l) (sym e) h
 pub all_but_first : {A : Type 0} (P : A → Type 0) (xs ys : List A) (x : A) → xs ≡ x ∷ ys → All P xs → All P ys
 all_but_first P xs ys x e h = let g : All P (x ∷ ys) = subst (λ (l : List _). All P l) e h in λ k d less. g (suc k) d (omega (arith, less))
 
+-- a promise of work that was kept
+pub kept_promise : {D G K : Type 0} (leads : D → ℕ → D → Type 0) (notes : K → Kept) (s : Settings) (w : Worker D G K) (p : WorkOf D G K) (d : Worked D G K) →
+    IsPromise s w p → DidWork leads notes p.settings p.worker.value d → DidWork leads notes s w d
+kept_promise leads notes s w p d h k =
+    subst (λ (x : Settings). DidWork leads notes x w d) h.settings_is (subst (λ (x : Worker _ _ _). DidWork leads notes p.settings x d) h.worker_is k)
+
 -- promises of work that were kept
-pub worked_through : {D G K W H R : Type 0} (leads : D → ℕ → D → Type 0) (notes : K → Kept) (s : Settings) (session : W → SessionShown) (seat : W → Seat D G K) (promise : H → WorkOf D G K) (after : R → SessionShown) (last : R → Seat D G K) (tally : R → CountsShown) (ws : List W) (hs : List H) (rs : List R) →
-    Paired (λ w h. IsPromise s (session w) (seat w) (promise h)) ws hs →
-    Paired (λ h r. HasWorked leads (promise h).settings (promise h).session.value (after r) (shown notes (promise h).seat.value) (shown notes (last r)) (tally r)) hs rs →
-    Paired (λ w r. HasWorked leads s (session w) (after r) (shown notes (seat w)) (shown notes (last r)) (tally r)) ws rs
-worked_through leads notes s session seat promise after last tally ws hs rs = paired_through _ _ _ (λ w h r p k.
-    subst (λ (x : Settings). HasWorked leads x (session w) (after r) (shown notes (seat w)) (shown notes (last r)) (tally r)) p.settings_is
-    (subst (λ (y : SessionShown). HasWorked leads (promise h).settings y (after r) (shown notes (seat w)) (shown notes (last r)) (tally r)) p.session_is
-    (subst (λ (x : Seat _ _ _). HasWorked leads (promise h).settings (promise h).session.value (after r) (shown notes x) (shown notes (last r)) (tally r)) p.seat_is k))) ws hs rs
+pub worked_through : {D G K H : Type 0} (leads : D → ℕ → D → Type 0) (notes : K → Kept) (s : Settings) (promise : H → WorkOf D G K) (ws : List (Worker D G K)) (hs : List H) (ds : List (Worked D G K)) →
+    Paired (λ w h. IsPromise s w (promise h)) ws hs → Paired (λ h d. DidWork leads notes (promise h).settings (promise h).worker.value d) hs ds → Paired (DidWork leads notes s) ws ds
+worked_through leads notes s promise ws hs ds = paired_through _ _ _ (λ w h d p k. kept_promise leads notes s w (promise h) d p k) ws hs ds
 
 pub all_first : {A : Type 0} (P : A → Type 0) (xs ys : List A) (x : A) → xs ≡ x ∷ ys → All P xs → P x
 all_first P xs ys x e h = let g : All P (x ∷ ys) = subst (λ (l : List _). All P l) e h in g 0 x (omega arith)

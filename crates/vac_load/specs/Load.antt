@@ -14,11 +14,13 @@ use Rattle.vac_manager.specs.declared.fault.Fault.TheVariants as fault
 use Rattle.vac_draws.specs.declared.settings.Settings.{Settings}
 use Rattle.vac_load.specs.declared.tally.Tally.{Tally}
 use Rattle.vac_load.specs.Attempted.{CountsShown}
+use Rattle.vac_load.specs.declared.workers.Worker.{Worker}
+use Rattle.vac_load.specs.declared.workers.Worked.{Worked}
 use Rattle.vac_load.specs.declared.workers.WorkOf.{WorkOf}
-use Rattle.vac_load.specs.declared.seats.Seat.{Seat}
+use Rattle.vac_load.specs.declared.workers.Crew.{Crew}
 use Rattle.vac_load.specs.Looping.{Looped, Clocked, AreOf, total}
 use Rattle.vac_load.specs.Lists.{Paired, Interleaved}
-use Rattle.vac_load.specs.Keeping.{Kept, AreKept, AllKept, HasKeptAdded, SeatShown}
+use Rattle.vac_load.specs.Keeping.{Kept, AreKept, AllKept, HasKeptAdded, SeatShown, shown}
 use Rattle.vac_load.specs.Opening.{as_tasks, Ran, Stopped, IsAnswered}
 use Rattle.vac_draws.specs.Setting.{is_settings}
 use Rattle.vac_load.specs.declared.load.LoadFault.{LoadFault}
@@ -49,12 +51,23 @@ pub record HasWorked {D : Type 0} (leads : D → ℕ → D → Type 0) (s : Sett
   pub tries : t.tries ≡ s.tries
   pub kept : HasKeptAdded y.client.value y'.client.value state.kept last.kept
 
--- the promise is of the tasks by these settings, in this session, and from this seat
-pub record IsPromise {D G K : Type 0} (s : Settings) (y : SessionShown) (seat : Seat D G K)
-    (p : WorkOf D G K) : Type 0 where
+-- the same, of a worker before its tasks, and of that worker after them with how they ended
+abbrev pub DidWork : {D G K : Type 0} → (D → ℕ → D → Type 0) → (K → Kept) → Settings
+    → Worker D G K → Worked D G K → Type 0
+DidWork leads notes s w d = HasWorked leads s w.session d.worker.session
+    (shown notes w.seat) (shown notes d.worker.seat) d.tally
+
+-- so did each worker of a crew, which stand in their order
+pub record DidAllWork {D G K : Type 0} (leads : D → ℕ → D → Type 0) (notes : K → Kept)
+    (s : Settings) (crew : Crew (Worker D G K)) (done : Crew (Worked D G K)) : Type 0 where
+  pub first : DidWork leads notes s crew.first done.first
+  pub others : Paired (DidWork leads notes s) crew.others.items done.others.items
+
+-- the promise is of the tasks of this worker by these settings
+pub record IsPromise {D G K : Type 0} (s : Settings) (w : Worker D G K) (p : WorkOf D G K)
+    : Type 0 where
   pub settings_is : p.settings ≡ s
-  pub session_is : p.session.value ≡ y
-  pub seat_is : p.seat.value ≡ seat
+  pub worker_is : p.worker.value ≡ w
 
 -- the list has the records of all these and no others, each once, those of each in their order
 abbrev pub InterleavedAll : {X : Type 0} → (X → List Record) → List X → List Record → Type 0

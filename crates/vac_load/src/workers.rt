@@ -3,8 +3,7 @@
 ghost use Rattle.std.specs.Prelude.{◌≡◌, ◌≤◌, ◌⊎◌, [], true, IfOk, IfErr, vec_len, vec_capacity};
 ghost use Rattle.vac_draws.specs.Setting.{is_settings};
 ghost use Rattle.vac_load.specs.Lists.{Paired};
-ghost use Rattle.vac_load.specs.Keeping.{shown};
-ghost use Rattle.vac_load.specs.Load.{HasWorked, IsPromise};
+ghost use Rattle.vac_load.specs.Load.{DidWork, DidAllWork, IsPromise};
 
 use crate::counts::Counts;
 use crate::load::LoadFault;
@@ -37,14 +36,11 @@ pub(crate) struct Worked<'m, D, G, K> {
 #[derive(Drop)]
 struct WorkOf<'m, D, G, K> {
     settings: Settings,
-    session: Snapshot<Session<'m>>,
-    seat: Snapshot<Seat<D, G, K>>,
+    worker: Snapshot<Worker<'m, D, G, K>>,
 }
 
 impl<'m, D: Draws, G, K: Keep> Promise<Worked<'m, D, G, K>> for WorkOf<'m, D, G, K> {
-    ghost kept_by = { λ p r. HasWorked D.leads p.settings
-        p.session.value r.worker.session
-        (shown K.notes p.seat.value) (shown K.notes r.worker.seat) r.tally };
+    ghost kept_by = { λ p r. DidWork D.leads K.notes p.settings p.worker.value r };
 }
 
 /// The thread of a worker.
@@ -57,9 +53,7 @@ fn work<'m, D: Draws, G: Gate, K: Keep>(
     worker: Worker<'m, D, G, K>,
 ) -> Worked<'m, D, G, K>
     requires settings { is_settings settings.now ≡ true }
-    ensures { HasWorked D.leads settings.now
-        worker.entry.session result.worker.session
-        (shown K.notes worker.entry.seat) (shown K.notes result.worker.seat) result.tally }
+    ensures { DidWork D.leads K.notes settings.now worker.entry result }
 {
     let Worker { mut session, seat } = worker;
     let Seat {
@@ -95,20 +89,16 @@ fn start<
     worker: Worker<'m, D, G, K>,
 ) -> Result<Handle<'m, D, G, K>, LoadFault>
     requires settings { is_settings settings ≡ true }
-    ensures promise { IfOk result (λ handle.
-        IsPromise settings worker.entry.session worker.entry.seat handle.promise) }
+    ensures promise { IfOk result (λ handle. IsPromise settings worker.entry handle.promise) }
     ensures refused { IfErr result (λ fault. fault ≡ LoadFault.Spawn) }
 {
     let promise = WorkOf {
         settings,
-        session: Snapshot::of(&worker.session),
-        seat: Snapshot::of(&worker.seat),
+        worker: Snapshot::of(&worker),
     };
     let run = move || -> Worked<'_, D, G, K>
         requires { is_settings settings ≡ true }
-        ensures { HasWorked D.leads settings
-            worker.entry.session result.worker.session
-            (shown K.notes worker.entry.seat) (shown K.notes result.worker.seat) result.tally }
+        ensures { DidWork D.leads K.notes settings worker.entry result }
     { work(alloc, &settings, worker) };
     match scope.spawn_with(promise, run) {
         Ok(handle) => Ok(handle),
@@ -135,7 +125,7 @@ fn start_all<
     requires room { vec_len workers ≤ vec_capacity handles.old }
     requires empty { handles.old.items ≡ [] }
     ensures promises { IfOk result (λ _.
-        Paired (λ w h. IsPromise settings w.session w.seat h.promise)
+        Paired (λ w h. IsPromise settings w h.promise)
         workers.entry.items handles.new.items) }
     ensures few { vec_len handles.new ≤ vec_len workers.entry }
     ensures refused { IfErr result (λ fault. fault ≡ LoadFault.Spawn) }
@@ -155,9 +145,8 @@ fn join_all<'m, R: Threads, D: Draws + Drop, G: Drop, K: Keep + Drop>(
 ) -> Vec<Worked<'m, D, G, K>>
     requires room { vec_len handles ≤ vec_capacity done }
     requires empty { done.items ≡ [] }
-    ensures { Paired (λ h r. HasWorked D.leads h.promise.settings
-        h.promise.session.value r.worker.session
-        (shown K.notes h.promise.seat.value) (shown K.notes r.worker.seat) r.tally)
+    ensures { Paired
+        (λ h r. DidWork D.leads K.notes h.promise.settings h.promise.worker.value r)
         handles.entry.items result.items }
 {
     for handle in handles {
@@ -191,15 +180,7 @@ fn run_in<
     crew: Crew<Worker<'m, D, G, K>>,
 ) -> Result<Crew<Worked<'m, D, G, K>>, LoadFault>
     requires settings { is_settings settings ≡ true }
-    ensures first { IfOk result (λ r. HasWorked D.leads settings
-        crew.entry.first.session r.first.worker.session
-        (shown K.notes crew.entry.first.seat) (shown K.notes r.first.worker.seat)
-        r.first.tally) }
-    ensures others { IfOk result (λ r.
-        Paired (λ w d. HasWorked D.leads settings
-        w.session d.worker.session
-        (shown K.notes w.seat) (shown K.notes d.worker.seat) d.tally)
-        crew.entry.others.items r.others.items) }
+    ensures worked { IfOk result (λ r. DidAllWork D.leads K.notes settings crew.entry r) }
     ensures refused { IfErr result (λ fault.
         (fault ≡ LoadFault.Memory) ⊎ (fault ≡ LoadFault.Spawn)) }
 {
@@ -233,15 +214,7 @@ pub(crate) fn run_all<
     crew: Crew<Worker<'m, D, G, K>>,
 ) -> Result<Crew<Worked<'m, D, G, K>>, LoadFault>
     requires settings { is_settings settings ≡ true }
-    ensures first { IfOk result (λ r. HasWorked D.leads settings
-        crew.entry.first.session r.first.worker.session
-        (shown K.notes crew.entry.first.seat) (shown K.notes r.first.worker.seat)
-        r.first.tally) }
-    ensures others { IfOk result (λ r.
-        Paired (λ w d. HasWorked D.leads settings
-        w.session d.worker.session
-        (shown K.notes w.seat) (shown K.notes d.worker.seat) d.tally)
-        crew.entry.others.items r.others.items) }
+    ensures worked { IfOk result (λ r. DidAllWork D.leads K.notes settings crew.entry r) }
     ensures refused { IfErr result (λ fault.
         (fault ≡ LoadFault.Memory) ⊎ (fault ≡ LoadFault.Spawn)) }
 {
@@ -250,15 +223,7 @@ pub(crate) fn run_all<
         rt,
         move |scope| -> Result<Crew<Worked<'_, D, G, K>>, LoadFault>
             requires { is_settings settings ≡ true }
-            ensures first { IfOk result (λ r. HasWorked D.leads settings
-                crew.entry.first.session r.first.worker.session
-                (shown K.notes crew.entry.first.seat) (shown K.notes r.first.worker.seat)
-                r.first.tally) }
-            ensures others { IfOk result (λ r.
-                Paired (λ w d. HasWorked D.leads settings
-                w.session d.worker.session
-                (shown K.notes w.seat) (shown K.notes d.worker.seat) d.tally)
-                crew.entry.others.items r.others.items) }
+            ensures worked { IfOk result (λ r. DidAllWork D.leads K.notes settings crew.entry r) }
             ensures refused { IfErr result (λ fault.
                 (fault ≡ LoadFault.Memory) ⊎ (fault ≡ LoadFault.Spawn)) }
         { run_in(scope, rt, alloc, settings, crew) },

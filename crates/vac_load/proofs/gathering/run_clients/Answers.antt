@@ -12,42 +12,42 @@ gather_all-requires g c =
     let most = few c.args.settings.now c.requires.settings in
     let n : c.args.settings.now.tasks ≤ 1000000 = most.tasks in
     let m : c.args.settings.now.clients ≤ 64 = most.clients in
-    let same = paired_length _ _ _ c.in_ok-crew-2.ensures.others in
-    let all = c.in_ok-crew-2.ensures.first.looped.all in
+    let same = paired_length _ _ _ c.in_ok-crew-2.ensures.worked.others in
+    let all = c.in_ok-crew-2.ensures.worked.first.looped.all in
     let number = c.in_ok-crew.ensures.number in
-    let first = ap (λ (y : SessionShown). y.manager) c.in_ok-crew-2.ensures.first.session ∙ c.in_ok-crew.ensures.crew.opening.manager_is in
+    let first = ap (λ (y : SessionShown). y.manager) c.in_ok-crew-2.ensures.worked.first.session ∙ c.in_ok-crew.ensures.crew.opening.manager_is in
     record {
       one = worked_with g.D.Draws.leads c.args.settings.now (λ w. w.session) (λ w. shown g.K.Keep.notes w.seat) (λ r. r.worker.session) (λ r. shown g.K.Keep.notes r.worker.seat) (λ r. r.tally) _ _ _
-          (paired_each _ (λ w. w.session.manager ≡ c.in_ok-crew-2.crew.first.worker.session.manager) (λ p w h. h.manager_is ∙ sym first) _ _ c.in_ok-crew.ensures.crew.others_are) c.in_ok-crew-2.ensures.others;
-      grants = let held = c.in_ok-crew-2.ensures.first.looped.answered.grants in omega (arith, held, same, c.in_ok-crew.ensures.grants);
-      others_grants = worked_grants g.D.Draws.leads c.args.settings.now (λ w. w.session) (λ w. shown g.K.Keep.notes w.seat) (λ r. r.worker.session) (λ r. shown g.K.Keep.notes r.worker.seat) (λ r. r.tally) _ _ c.in_ok-crew.ensures.others_grants c.in_ok-crew-2.ensures.others;
+          (paired_each _ (λ w. w.session.manager ≡ c.in_ok-crew-2.crew.first.worker.session.manager) (λ p w h. h.manager_is ∙ sym first) _ _ c.in_ok-crew.ensures.crew.others_are) c.in_ok-crew-2.ensures.worked.others;
+      grants = let held = c.in_ok-crew-2.ensures.worked.first.looped.answered.grants in omega (arith, held, same, c.in_ok-crew.ensures.grants);
+      others_grants = worked_grants g.D.Draws.leads c.args.settings.now (λ w. w.session) (λ w. shown g.K.Keep.notes w.seat) (λ r. r.worker.session) (λ r. shown g.K.Keep.notes r.worker.seat) (λ r. r.tally) _ _ c.in_ok-crew.ensures.others_grants c.in_ok-crew-2.ensures.worked.others;
       few = omega (arith, number, same, m, c.requires.number);
       room = omega (arith, number, same, c.in-Ok.ensures.capacity, c.len.ensures);
       empty = c.in-Ok.ensures.items;
       tasks = omega (arith, all, n);
-      others_tasks = worked_tasks g.D.Draws.leads c.args.settings.now (λ w. w.session) (λ w. shown g.K.Keep.notes w.seat) (λ r. r.worker.session) (λ r. shown g.K.Keep.notes r.worker.seat) (λ r. r.tally) _ _ _ n c.in_ok-crew-2.ensures.others;
-      tries = worked_tries g.D.Draws.leads c.args.settings.now (λ w. w.session) (λ w. shown g.K.Keep.notes w.seat) (λ r. r.worker.session) (λ r. shown g.K.Keep.notes r.worker.seat) (λ r. r.tally) _ _ _ (sym c.in_ok-crew-2.ensures.first.tries) c.in_ok-crew-2.ensures.others;
+      others_tasks = worked_tasks g.D.Draws.leads c.args.settings.now (λ w. w.session) (λ w. shown g.K.Keep.notes w.seat) (λ r. r.worker.session) (λ r. shown g.K.Keep.notes r.worker.seat) (λ r. r.tally) _ _ _ n c.in_ok-crew-2.ensures.worked.others;
+      tries = worked_tries g.D.Draws.leads c.args.settings.now (λ w. w.session) (λ w. shown g.K.Keep.notes w.seat) (λ r. r.worker.session) (λ r. shown g.K.Keep.notes r.worker.seat) (λ r. r.tally) _ _ _ (sym c.in_ok-crew-2.ensures.worked.first.tries) c.in_ok-crew-2.ensures.worked.others;
     }
 
 pub returns-clause-tries : goal.returns-clause-tries
-returns-clause-tries g c = c.gather_all.ensures.tries ∙ c.in_ok-crew-2.ensures.first.tries
+returns-clause-tries g c = c.gather_all.ensures.tries ∙ c.in_ok-crew-2.ensures.worked.first.tries
 
 pub returns-clause-ran : goal.returns-clause-ran
 returns-clause-ran g c = ran_all g.D.Draws.leads c.args.settings.now c.args.session (shown g.K.Keep.notes) (λ w. w.session) (λ w. shown g.K.Keep.notes w.seat) (λ r. r.worker.session) (λ r. shown g.K.Keep.notes r.worker.seat) (λ r. r.tally) _ _ _ _ _ _ c.gather_all.result.client.value _
-    c.requires.known c.in_ok-crew.ensures.crew c.in_ok-crew-2.ensures.first c.in_ok-crew-2.ensures.others c.gather_all.ensures.gathered c.gather_all.ensures.seats (omega (arith, c.in_ok-crew.ensures.grants))
+    c.requires.known c.in_ok-crew.ensures.crew c.in_ok-crew-2.ensures.worked.first c.in_ok-crew-2.ensures.worked.others c.gather_all.ensures.gathered c.gather_all.ensures.seats (omega (arith, c.in_ok-crew.ensures.grants))
     c.requires.last c.requires.early
 
 pub returns-clause-number : goal.returns-clause-number
 returns-clause-number g c =
-    let same = paired_length _ _ _ c.in_ok-crew-2.ensures.others in
+    let same = paired_length _ _ _ c.in_ok-crew-2.ensures.worked.others in
     let handed = paired_length _ _ _ c.gather_all.ensures.seats in
     omega (arith, c.in_ok-crew.ensures.number, same, handed, c.requires.number)
 
 pub returns-clause-era : goal.returns-clause-era
 returns-clause-era g c = ran_in g.D.Draws.leads c.args.settings.now c.args.session (shown g.K.Keep.notes) (λ w. w.session) (λ w. shown g.K.Keep.notes w.seat) (λ r. r.worker.session) (λ r. shown g.K.Keep.notes r.worker.seat) (λ r. r.tally) _ _ _ _ _ c.gather_all.result.client.value _
-    c.requires.known c.in_ok-crew.ensures.crew c.in_ok-crew-2.ensures.first c.in_ok-crew-2.ensures.others c.gather_all.ensures.gathered c.requires.era
+    c.requires.known c.in_ok-crew.ensures.crew c.in_ok-crew-2.ensures.worked.first c.in_ok-crew-2.ensures.worked.others c.gather_all.ensures.gathered c.requires.era
 
 pub returns-clause-own : goal.returns-clause-own
 returns-clause-own g c =
-    let first = ap (λ (y : SessionShown). y.manager) c.in_ok-crew-2.ensures.first.session ∙ c.in_ok-crew.ensures.crew.opening.manager_is in
+    let first = ap (λ (y : SessionShown). y.manager) c.in_ok-crew-2.ensures.worked.first.session ∙ c.in_ok-crew.ensures.crew.opening.manager_is in
     c.gather_all.ensures.own ∙ ap (λ (m : RegionShown). m.table) first
