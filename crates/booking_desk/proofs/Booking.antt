@@ -1,11 +1,12 @@
 -- Trips that were booked, one behind the other.
-use Rattle.std.proofs.Common.{◌≡◌, ◌∙◌, ℕ, zero, suc, ◌+◌, ◌<◌, ◌≤◌, ◌⊎◌, inl, inr, List, [], ◌∷◌, ◌++◌, length, length-append, refl, sym, ap, subst, arith}
+use Rattle.std.proofs.Common.{◌≡◌, ◌∙◌, ℕ, zero, suc, ◌+◌, ◌*◌, ◌<◌, ◌≤◌, ◌⊎◌, inl, inr, List, [], ◌∷◌, ◌++◌, length, length-append, refl, sym, ap, subst, arith}
 use mathlib.Core.Option.{some-injective, some-ne-none}
 use Rattle.stm_words.specs.Image.{In}
 use Rattle.stm_core.specs.Client.{Record}
 use Rattle.stm_core.specs.History.{Sub, done, keep, skip}
 use Rattle.booking_desk.specs.declared.desk.Desk.{Desk}
-use Rattle.booking_desk.specs.Desks.{asked, Ascend, AreTrips, Booked, HasBooked}
+use Rattle.booking_desk.specs.Desks.{asked, Ascend, AreTrips, Booked, HasBooked, Paid}
+use Rattle.booking_desk.specs.Rounds.{IsNextPaid, ArePaid}
 
 pub ascend_more : (low : ℕ) (ns : List ℕ) (n high : ℕ) → Ascend low ns n → n < high → Ascend low (ns ++ (n ∷ [])) high
 ascend_more low [] n high h l = let m : n + 1 ≤ high = omega (arith, l) in (h, m)
@@ -40,6 +41,70 @@ in_both (x ∷ rs) qs r (suc j, e) = elim (in_both rs qs r (j, e)) [ inl k ↦ i
 pub in_one : (x r : Record) → In r (x ∷ []) → x ≡ r
 in_one x r (zero, e) = some-injective x r e
 in_one x r (suc j, e) = absurd (some-ne-none r (sym e))
+
+-- ---- the attempts that trips cost
+one_more : (n k : ℕ) → (n + 1) * k ≡ n * k + k
+one_more n k = grind arith
+
+pub paid_none : (price from low : ℕ) → Paid price from low [] [] low from
+paid_none price from low = let l : from + low * price ≤ from + low * price = omega arith in l
+
+-- attempts that cost nothing
+pub paid_same : (price from low : ℕ) (ns : List ℕ) (rs : List Record) (high to to' : ℕ) → Paid price from low ns rs high to → to ≤ to' → Paid price from low ns rs high to'
+paid_same price from low [] [] high to to' h l = let m : from + high * price ≤ to' + low * price = omega (arith, h, l) in m
+paid_same price from low [] (r ∷ rs) high to to' h l = absurd h
+paid_same price from low (n ∷ ns) [] high to to' h l = absurd h
+paid_same price from low (n ∷ ns) (r ∷ rs) high to to' h l = (h.0, paid_same price r.attempt (n + 1) ns rs high to to' h.1 l)
+
+-- the next trip was given up
+pub paid_on : (price from low : ℕ) (ns : List ℕ) (rs : List Record) (high high' to to' : ℕ) → Paid price from low ns rs high to → high' ≡ high + 1 → to' ≡ to + price → Paid price from low ns rs high' to'
+paid_on price from low [] [] high high' to to' h e f =
+    let more : high' * price ≡ high * price + price = ap (λ (k : ℕ). k * price) e ∙ one_more high price in
+    let m : from + high' * price ≤ to' + low * price = omega (arith, h, more, f) in
+    m
+paid_on price from low [] (r ∷ rs) high high' to to' h e f = absurd h
+paid_on price from low (n ∷ ns) [] high high' to to' h e f = absurd h
+paid_on price from low (n ∷ ns) (r ∷ rs) high high' to to' h e f = (h.0, paid_on price r.attempt (n + 1) ns rs high high' to to' h.1 e f)
+
+-- the next trip was booked
+pub paid_more : (price from low : ℕ) (ns : List ℕ) (rs : List Record) (r : Record) (high high' to to' : ℕ) → Paid price from low ns rs high to → high' ≡ high + 1 → to < to' → r.attempt ≡ to' → Paid price from low (ns ++ (high ∷ [])) (rs ++ (r ∷ [])) high' to'
+paid_more price from low [] [] r high high' to to' h e l f =
+    let same : high' * price ≡ (high + 1) * price = ap (λ (k : ℕ). k * price) e in
+    let a : from + high * price < r.attempt + low * price = omega (arith, h, l, f) in
+    let b : r.attempt + high' * price ≤ to' + (high + 1) * price = omega (arith, same, f) in
+    (a, b)
+paid_more price from low [] (q ∷ rs) r high high' to to' h e l f = absurd h
+paid_more price from low (n ∷ ns) [] r high high' to to' h e l f = absurd h
+paid_more price from low (n ∷ ns) (q ∷ rs) r high high' to to' h e l f = (h.0, paid_more price q.attempt (n + 1) ns rs r high high' to to' h.1 e l f)
+
+-- the trips between two booked ones
+next_between : (price n : ℕ) (r : Record) (ms : List ℕ) (qs : List Record) (high to : ℕ) → Paid price r.attempt (n + 1) ms qs high to → IsNextPaid price n r ms qs
+next_between price n r [] qs high to h = tt
+next_between price n r (m ∷ ms) [] high to h = tt
+next_between price n r (m ∷ ms) (q ∷ qs) high to h = λ same. h.0
+
+pub paid_between : (price from low : ℕ) (ns : List ℕ) (rs : List Record) (high to : ℕ) → Paid price from low ns rs high to → ArePaid price ns rs
+paid_between price from low [] rs high to h = tt
+paid_between price from low (n ∷ ns) [] high to h = tt
+paid_between price from low (n ∷ ns) (r ∷ rs) high to h = (next_between price n r ns rs high to h.1, paid_between price r.attempt (n + 1) ns rs high to h.1)
+
+next_both : (price desk n : ℕ) (r : Record) (ns ms : List ℕ) (rs qs : List Record) → AreTrips desk ns rs → IsNextPaid price n r ns rs → ((q : Record) → In q qs → r.renewal ≡ q.renewal → ⊥) → IsNextPaid price n r (ns ++ ms) (rs ++ qs)
+next_both price desk n r [] [] [] qs t h f = tt
+next_both price desk n r [] (m ∷ ms) [] [] t h f = tt
+next_both price desk n r [] (m ∷ ms) [] (q ∷ qs) t h f = λ same. absurd (f q (zero, refl) same)
+next_both price desk n r [] ms (x ∷ rs) qs t h f = absurd t
+next_both price desk n r (m ∷ ns) ms [] qs t h f = absurd t
+next_both price desk n r (m ∷ ns) ms (x ∷ rs) qs t h f = h
+
+-- in some rounds, and then in others, of other renewals
+pub paid_both : (price desk : ℕ) (ns ms : List ℕ) (rs qs : List Record) → AreTrips desk ns rs → ArePaid price ns rs → ArePaid price ms qs → ((r q : Record) → In r rs → In q qs → r.renewal ≡ q.renewal → ⊥) → ArePaid price (ns ++ ms) (rs ++ qs)
+paid_both price desk [] ms [] qs t h k f = k
+paid_both price desk [] ms (r ∷ rs) qs t h k f = absurd t
+paid_both price desk (n ∷ ns) ms [] qs t h k f = absurd t
+paid_both price desk (n ∷ ns) ms (r ∷ rs) qs t h k f = (
+  next_both price desk n r ns ms rs qs t.1 h.0 (λ q j. f r q (zero, refl) j),
+  paid_both price desk ns ms rs qs t.1 h.1 k (λ x q i j. f x q (suc i.0, i.1) j),
+)
 
 -- the same trips of another state of the desk
 pub same_desk : (a b : ℕ) (ns : List ℕ) (rs : List Record) → a ≡ b → AreTrips a ns rs → AreTrips b ns rs

@@ -5,7 +5,7 @@ use Rattle.std.proofs.lemmas.List.Elements.{All-nil, All-push, All-pop, AllZip-p
 use Rattle.stm_words.specs.Image.{In}
 use Rattle.stm_core.specs.Client.{Record, before, rank, inserted, merged}
 use Rattle.stm_core.specs.History.{Sub, done}
-use Rattle.stm_core.proofs.Merging.{sub_trans, sub_left}
+use Rattle.stm_core.proofs.Merging.{sub_trans, sub_left, in_sub}
 use Rattle.stm_core.proofs.Orders.{in_merged}
 use Rattle.stm_region.specs.Shown.{RegionShown, joined}
 use Rattle.vac_manager.specs.Called.{CallerShown, Splits}
@@ -14,10 +14,10 @@ use Rattle.vac_manager.specs.Session.{SessionShown}
 use Rattle.vac_manager.proofs.Adding.{not_earlier}
 use Rattle.booking_desk.specs.declared.desk.Desk.{Desk}
 use Rattle.booking_desk.specs.declared.settings.DeskSettings.{DeskSettings}
-use Rattle.booking_desk.specs.Desks.{AreOf, Booked, HasBooked, MayServe, HasServed, new_desks, new_desk}
-use Rattle.booking_desk.specs.Rounds.{AreOld, WentOn, booked_by, RoundRan, MayRun, HasRun}
+use Rattle.booking_desk.specs.Desks.{asked, price_of, AreOf, Booked, HasBooked, MayServe, HasServed, new_desks, new_desk}
+use Rattle.booking_desk.specs.Rounds.{AreOld, ArePaid, WentOn, booked_by, RoundRan, MayRun, HasRun}
 use Rattle.booking_desk.specs.Run.{IsStock, Went}
-use Rattle.booking_desk.proofs.Booking.{in_none, booked_none, booked_both, sub_both, sub_beyond, length_trips}
+use Rattle.booking_desk.proofs.Booking.{in_none, booked_none, booked_both, sub_both, sub_beyond, length_trips, paid_between, paid_both}
 
 length_cond : (b : Bool) (xs ys : List Record) (n : ℕ) → length xs ≡ n → length ys ≡ n → length (cond b xs ys) ≡ n
 length_cond true xs ys n e f = e
@@ -57,19 +57,19 @@ booked_more : (ds : List Desk) (d : Desk) → booked_by (ds ++ d ∷ []) ≡ boo
 booked_more [] d = omega arith
 booked_more (e ∷ ds) d = let k = booked_by (ds ++ d ∷ []) in omega (arith, booked_more ds d)
 
-went_among : (rest all : List Record) → Sub rest all → (d d' : Desk) → WentOn rest d d' → WentOn all d d'
-went_among rest all p d d' h = record { done = h.done; booked = h.booked; among = sub_trans h.among p }
+went_among : (price : ℕ) (rest all : List Record) → Sub rest all → (d d' : Desk) → WentOn price rest d d' → WentOn price all d d'
+went_among price rest all p d d' h = record { done = h.done; booked = h.booked; among = sub_trans h.among p; paid = h.paid }
 
-each_among : (rest all : List Record) → Sub rest all → (ds ds' : List Desk) → AllZip (WentOn rest) ds ds' → AllZip (WentOn all) ds ds'
-each_among rest all p [] [] h = tt
-each_among rest all p [] (d' ∷ ds') h = absurd h
-each_among rest all p (d ∷ ds) [] h = absurd h
-each_among rest all p (d ∷ ds) (d' ∷ ds') h = (went_among rest all p d d' h.0, each_among rest all p ds ds' h.1)
+each_among : (price : ℕ) (rest all : List Record) → Sub rest all → (ds ds' : List Desk) → AllZip (WentOn price rest) ds ds' → AllZip (WentOn price all) ds ds'
+each_among price rest all p [] [] h = tt
+each_among price rest all p [] (d' ∷ ds') h = absurd h
+each_among price rest all p (d ∷ ds) [] h = absurd h
+each_among price rest all p (d ∷ ds) (d' ∷ ds') h = (went_among price rest all p d d' h.0, each_among price rest all p ds ds' h.1)
 
 -- one client more was gathered
-round_more : (n : ℕ) (ds ds' : List Desk) (d d' : Desk) (old now all : List Record) (x : Booked) → AreOld n old → RoundRan n ds ds' old now → HasBooked d d' x → AreOf n x.records →
-    all ≡ merged now x.records → Sub x.records all → RoundRan n (ds ++ d ∷ []) (ds' ++ d' ∷ []) old all
-round_more n ds ds' d d' old now all x past h b new e s =
+round_more : (price n : ℕ) (ds ds' : List Desk) (d d' : Desk) (old now all : List Record) (x : Booked) → AreOld n old → RoundRan price n ds ds' old now → HasBooked d d' x → ArePaid price x.trips x.records → AreOf n x.records →
+    all ≡ merged now x.records → Sub x.records all → RoundRan price n (ds ++ d ∷ []) (ds' ++ d' ∷ []) old all
+round_more price n ds ds' d d' old now all x past h b paid new e s =
     let rest : List Record = merged h.rest x.records in
     let behind : all ≡ old ++ rest =
     e ∙ (ap (λ (l : List Record). merged l x.records) h.behind
@@ -80,7 +80,7 @@ round_more n ds ds' d d' old now all x past h b new e s =
       rest = rest;
       behind = behind;
       renewals = λ r i. elim (in_merged h.rest x.records r i) [ inl j ↦ h.renewals r j | inr j ↦ new r j ];
-      each = AllZip-push (WentOn rest) ds ds' d d' (each_among h.rest rest (sub_left h.rest x.records) ds ds' h.each) (record { done = x; booked = b; among = mine });
+      each = AllZip-push (WentOn price rest) ds ds' d d' (each_among price h.rest rest (sub_left h.rest x.records) ds ds' h.each) (record { done = x; booked = b; among = mine; paid = paid });
       number = omega (arith, length_merged h.rest x.records, h.number, counted d d' x b, booked_more ds d, booked_more ds' d');
     }
 
@@ -125,35 +125,38 @@ has_run_more s all ds ds' d d' y a b c o o' e may am split om one run taken thei
     let mine : o'.client.value.records ≡ one.serves.done.records = one.serves.records ∙ ap (λ (l : List Record). l ++ one.serves.done.records) fresh in
     let gathered : c.client.value.records ≡ merged b.client.value.records one.serves.done.records =
     ap (λ (x : SessionShown). x.client.value.records) taken ∙ ap (λ (l : List Record). merged b.client.value.records l) mine in
-    let ran : RoundRan y.manager.renewal ds ds' y.client.value.records b.client.value.records =
-    subst (λ (l : List Record). RoundRan y.manager.renewal ds ds' l b.client.value.records) kept
-    (subst (λ (m : RegionShown). RoundRan m.renewal ds ds' a.client.value.records b.client.value.records) am run.ran) in
+    let ran : RoundRan (price_of s) y.manager.renewal ds ds' y.client.value.records b.client.value.records =
+    subst (λ (l : List Record). RoundRan (price_of s) y.manager.renewal ds ds' l b.client.value.records) kept
+    (subst (λ (m : RegionShown). RoundRan (price_of s) m.renewal ds ds' a.client.value.records b.client.value.records) am run.ran) in
+    let paid : ArePaid (price_of s) one.serves.done.trips one.serves.done.records =
+    paid_between (price_of s) o.client.value.attempt.number (asked d) one.serves.done.trips one.serves.done.records (asked d') o'.client.value.attempt.number one.serves.paid in
     record {
       manager = ap (λ (x : SessionShown). x.manager) taken ∙ (run.manager ∙ am);
       own = ap (λ (x : SessionShown). x.client.table) taken ∙ (run.own ∙ ap (λ (x : CallerShown). x.table) split.mine);
       grants = omega (arith, held, run.grants, one.serves.grants, left, none, split.some, may.most);
       desks = All-push (MayServe s) ds' d' run.desks one.serves.may;
-      ran = subst (λ (l : List Desk). RoundRan y.manager.renewal l (ds' ++ d' ∷ []) y.client.value.records c.client.value.records) (sym e)
-          (round_more y.manager.renewal ds ds' d d' y.client.value.records b.client.value.records c.client.value.records one.serves.done may.old ran one.serves.booked
+      ran = subst (λ (l : List Desk). RoundRan (price_of s) y.manager.renewal l (ds' ++ d' ∷ []) y.client.value.records c.client.value.records) (sym e)
+          (round_more (price_of s) y.manager.renewal ds ds' d d' y.client.value.records b.client.value.records c.client.value.records one.serves.done may.old ran one.serves.booked paid
           (subst (λ (m : RegionShown). AreOf m.renewal one.serves.done.records) om one.serves.renewals)
           gathered (subst (λ (l : List Record). Sub l c.client.value.records) mine theirs));
     }
 
--- a desk went on, and then on again
-on_both : (d e f : Desk) (rest more : List Record) → WentOn rest d e → WentOn more e f → WentOn (rest ++ more) d f
-on_both d e f rest more h k = record {
+-- a desk went on, and then on again, in other renewals
+on_both : (price : ℕ) (d e f : Desk) (rest more : List Record) → ((r q : Record) → In r rest → In q more → r.renewal ≡ q.renewal → ⊥) → WentOn price rest d e → WentOn price more e f → WentOn price (rest ++ more) d f
+on_both price d e f rest more apart_of h k = record {
   done = record { trips = h.done.trips ++ k.done.trips; records = h.done.records ++ k.done.records };
   booked = booked_both d e f h.done k.done h.booked k.booked;
   among = sub_both k.done.records more h.among k.among;
+  paid = paid_both price d.number h.done.trips k.done.trips h.done.records k.done.records h.booked.are_of h.paid k.paid (λ r q i j. apart_of r q (in_sub r h.among i) (in_sub q k.among j));
 }
 
-each_both : (ds es fs : List Desk) (rest more : List Record) → AllZip (WentOn rest) ds es → AllZip (WentOn more) es fs → AllZip (WentOn (rest ++ more)) ds fs
-each_both [] [] [] rest more h k = tt
-each_both [] [] (f ∷ fs) rest more h k = absurd k
-each_both [] (e ∷ es) fs rest more h k = absurd h
-each_both (d ∷ ds) [] fs rest more h k = absurd h
-each_both (d ∷ ds) (e ∷ es) [] rest more h k = absurd k
-each_both (d ∷ ds) (e ∷ es) (f ∷ fs) rest more h k = (on_both d e f rest more h.0 k.0, each_both ds es fs rest more h.1 k.1)
+each_both : (price : ℕ) (ds es fs : List Desk) (rest more : List Record) → ((r q : Record) → In r rest → In q more → r.renewal ≡ q.renewal → ⊥) → AllZip (WentOn price rest) ds es → AllZip (WentOn price more) es fs → AllZip (WentOn price (rest ++ more)) ds fs
+each_both price [] [] [] rest more a h k = tt
+each_both price [] [] (f ∷ fs) rest more a h k = absurd k
+each_both price [] (e ∷ es) fs rest more a h k = absurd h
+each_both price (d ∷ ds) [] fs rest more a h k = absurd h
+each_both price (d ∷ ds) (e ∷ es) [] rest more a h k = absurd k
+each_both price (d ∷ ds) (e ∷ es) (f ∷ fs) rest more a h k = (on_both price d e f rest more a h.0 k.0, each_both price ds es fs rest more a h.1 k.1)
 
 -- before the first round
 pub went_none : (s : DeskSettings) (ds : List Desk) (r : Record) (records : List Record) → ds ≡ new_desks → IsStock s.units r → records ≡ r ∷ [] → Went s ds records
@@ -162,21 +165,22 @@ went_none s ds r records e h one = record {
   stock_is = h;
   rest = [];
   stock_first = one;
-  each = subst (λ (l : List Desk). AllZip (WentOn []) new_desks l) (sym e) (none (new_desk 0), (none (new_desk 1), (none (new_desk 2), (none (new_desk 3), tt))));
+  each = subst (λ (l : List Desk). AllZip (WentOn (price_of s) []) new_desks l) (sym e) (none (new_desk 0), (none (new_desk 1), (none (new_desk 2), (none (new_desk 3), tt))));
   number = sym (ap booked_by e);
 }
   where
-    none : (d : Desk) → WentOn [] d d
-    none d = record { done = record { trips = []; records = [] }; booked = booked_none d; among = done }
+    none : (d : Desk) → WentOn (price_of s) [] d d
+    none d = record { done = record { trips = []; records = [] }; booked = booked_none d; among = done; paid = tt }
 
 -- one round more
-pub went_more : (s : DeskSettings) (n : ℕ) (ds ds' : List Desk) (old all : List Record) → Went s ds old → RoundRan n ds ds' old all → Went s ds' all
-went_more s n ds ds' old all h k = record {
+pub went_more : (s : DeskSettings) (n : ℕ) (ds ds' : List Desk) (old all : List Record) → AreOld n old → Went s ds old → RoundRan (price_of s) n ds ds' old all → Went s ds' all
+went_more s n ds ds' old all past h k = record {
   stock = h.stock;
   stock_is = h.stock_is;
   rest = h.rest ++ k.rest;
   stock_first = k.behind ∙ ap (λ (l : List Record). l ++ k.rest) h.stock_first;
-  each = each_both new_desks ds ds' h.rest k.rest h.each k.each;
+  each = each_both (price_of s) new_desks ds ds' h.rest k.rest
+      (λ r q i j same. (let p = past r (subst (λ (l : List Record). In r l) (sym h.stock_first) (suc i.0, i.1)) in let o = k.renewals q j in omega (arith, p, o, same))) h.each k.each;
   number = omega (arith, length-append h.rest k.rest, h.number, k.number);
 }
 

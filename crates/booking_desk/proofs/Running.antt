@@ -24,7 +24,7 @@ use Rattle.booking_desk.specs.declared.settings.DeskSettings.{DeskSettings}
 use Rattle.booking_desk.specs.declared.rounds.Progress.{Progress}
 use Rattle.booking_desk.specs.declared.run.DeskReport.{DeskReport}
 use Rattle.booking_desk.specs.Trips.{stock_of}
-use Rattle.booking_desk.specs.Desks.{asked, MayServe, new_desk, new_desks}
+use Rattle.booking_desk.specs.Desks.{asked, price_of, MayServe, new_desk, new_desks}
 use Rattle.booking_desk.specs.Rounds.{WentOn, RoundRan, MayRun, HasRun}
 use Rattle.booking_desk.specs.Run.{AreOn, AreEnded, Desked}
 use Rattle.booking_desk.proofs.Rounding.{went_none, went_more, renewed_old}
@@ -69,7 +69,7 @@ only_memory s stripes region c c' t (fault.Spent version) some range opens call 
 pub may_run : (s : DeskSettings) (p : Progress) (m : RegionShown) (c : CallerShown) (words : List ℕ) → AreOn s p → ClosesSomewhere p.manager p.client.value words → m.renewal ≡ p.manager.renewal + 1 →
     c ≡ record p.client { table = m.table; value = renewing p.client.value } → MayRun s p.desks.items (record { manager = m; client = c })
 may_run s p m c words on closes next same =
-    let four = length_all_zip (WentOn on.went.rest) new_desks p.desks.items on.went.each in
+    let four = length_all_zip (WentOn (price_of s) on.went.rest) new_desks p.desks.items on.went.each in
     let all : c.value.grants ≡ p.client.value.grants = ap (λ (x : CallerShown). x.value.grants) same in
     record {
       desks = on.within;
@@ -91,15 +91,15 @@ pub all_ended : (s : DeskSettings) (ds : List Desk) → All (MayServe s) ds → 
 all_ended s ds h e = All-from_recursion (λ d. asked d ≡ s.trips) ds (ended_each s ds (recursion_from_All (MayServe s) ds h) e)
 
 -- one round more was run after a renewal
-pub on_more : (s : DeskSettings) (p q : Progress) (m : RegionShown) (c : CallerShown) (y : SessionShown) → AreOn s p → p.rounds < s.rounds →
+pub on_more : (s : DeskSettings) (p q : Progress) (m : RegionShown) (c : CallerShown) (y : SessionShown) (words : List ℕ) → AreOn s p → p.rounds < s.rounds → ClosesSomewhere p.manager p.client.value words →
     m.size ≡ p.manager.size → m.renewal ≡ p.manager.renewal + 1 → c ≡ record p.client { table = m.table; value = renewing p.client.value } →
     HasRun s p.desks.items q.desks.items (record { manager = m; client = c }) y → q.manager ≡ m → q.client ≡ y.client → q.rounds ≡ p.rounds + 1 → AreOn s q
-on_more s p q m c y on less size next same run manager client rounds =
+on_more s p q m c y words on less closes size next same run manager client rounds =
     let grants : q.client.value.grants ≡ y.client.value.grants = ap (λ (x : CallerShown). x.value.grants) client in
     let all : c.value.grants ≡ p.client.value.grants = ap (λ (x : CallerShown). x.value.grants) same in
     let before : c.value.records ≡ p.client.value.records = ap (λ (x : CallerShown). x.value.records) same in
-    let ran : RoundRan m.renewal p.desks.items q.desks.items p.client.value.records y.client.value.records =
-    subst (λ (l : List Record). RoundRan m.renewal p.desks.items q.desks.items l y.client.value.records) before run.ran in
+    let ran : RoundRan (price_of s) m.renewal p.desks.items q.desks.items p.client.value.records y.client.value.records =
+    subst (λ (l : List Record). RoundRan (price_of s) m.renewal p.desks.items q.desks.items l y.client.value.records) before run.ran in
     record {
       own = ap (λ (x : CallerShown). x.table) client ∙ (run.own ∙ (ap (λ (x : CallerShown). x.table) same ∙ ap (λ (x : RegionShown). x.table) (sym manager)));
       alone = grants ∙ (run.grants ∙ (all ∙ on.alone));
@@ -107,8 +107,8 @@ on_more s p q m c y on less size next same run manager client rounds =
       renewals = ap (λ (x : RegionShown). x.renewal) manager ∙ (next ∙ (ap (λ (k : ℕ). k + 1) on.renewals ∙ sym rounds));
       most = omega (arith, rounds, less);
       within = run.desks;
-      went = went_more s m.renewal p.desks.items q.desks.items p.client.value.records q.client.value.records on.went
-          (subst (λ (x : CallerShown). RoundRan m.renewal p.desks.items q.desks.items p.client.value.records x.value.records) (sym client) ran);
+      went = went_more s m.renewal p.desks.items q.desks.items p.client.value.records q.client.value.records (renewed_old p.manager m p.client p.client words closes next refl) on.went
+          (subst (λ (x : CallerShown). RoundRan (price_of s) m.renewal p.desks.items q.desks.items p.client.value.records x.value.records) (sym client) ran);
     }
 
 -- the manager was closed
@@ -123,6 +123,7 @@ desked s p words version r on ended closes shows desks rounds = rw (desks, round
   alone = on.alone;
   room = on.room;
   shown = shows closes.last closes.shown;
+  renewals = on.renewals;
   went = on.went;
   within = on.within;
   most = on.most;

@@ -1,20 +1,21 @@
 -- A desk goes on with its trips.
-use Rattle.std.proofs.Common.{◌≡◌, ◌∙◌, ℕ, ◌+◌, ◌*◌, ◌<◌, ◌≤◌, inl, inr, List, [], ◌∷◌, ◌++◌, length-append, append-nil, append_assoc, refl, sym, ap, subst, arith}
-use Rattle.std.specs.Prelude.{Result, Ok, Err}
+use Rattle.std.proofs.Common.{◌≡◌, ◌∙◌, ℕ, ◌+◌, ◌*◌, ◌<◌, inl, inr, List, [], ◌∷◌, ◌++◌, length-append, append-nil, append_assoc, refl, sym, ap, subst, arith}
+use Rattle.std.specs.Prelude.{Result, Ok, Err, Bool, true, false, ◌&&◌, nat_le}
 use Rattle.stm_core.specs.Client.{Record}
 use Rattle.stm_region.specs.Shown.{RegionShown}
 use Rattle.vac_model.specs.declared.replies.Reply.{Reply}
 use Rattle.vac_model.specs.Code.{code}
+use Rattle.vac_model.specs.Ranges.{is_task}
 use Rattle.vac_model.specs.declared.tasks.Task.{Task}
 use Rattle.vac_manager.specs.declared.fault.Fault.{Fault}
 use Rattle.vac_manager.specs.declared.fault.Fault.TheVariants as fault
 use Rattle.vac_manager.specs.Session.{SessionShown, GoesOn}
-use Rattle.vac_manager.specs.Called.{CallerShown, Adds, Attempts}
+use Rattle.vac_manager.specs.Called.{CallerShown, Adds, HasCalled}
 use Rattle.booking_desk.specs.declared.desk.Desk.{Desk}
 use Rattle.booking_desk.specs.declared.settings.DeskSettings.{DeskSettings}
 use Rattle.booking_desk.specs.Trips.{trip_of}
-use Rattle.booking_desk.specs.Desks.{asked, AreTrips, MayServe, session_of, Serves, HasServed}
-use Rattle.booking_desk.proofs.Booking.{ascend_more, ascend_on, are_both, in_none, in_both, in_one, booked_none, same_desk}
+use Rattle.booking_desk.specs.Desks.{asked, AreTrips, MayServe, session_of, Serves, HasServed, price_of}
+use Rattle.booking_desk.proofs.Booking.{ascend_more, ascend_on, are_both, in_none, in_both, in_one, booked_none, same_desk, paid_none, paid_same, paid_on, paid_more}
 
 pub serves_none : (s : DeskSettings) (d : Desk) (y : SessionShown) → MayServe s d → Serves s d d y y
 serves_none s d y may = record {
@@ -26,13 +27,14 @@ serves_none s d y may = record {
   records = sym (append-nil y.client.value.records);
   renewals = λ r i. absurd (in_none r i);
   attempts = omega arith;
+  paid = paid_none (price_of s) y.client.value.attempt.number (asked d);
 }
 
 -- a call left all but its client's value, and made some attempts
 pub record Called (z z' : SessionShown) : Type 0 where
   pub session : GoesOn z z'
   pub grants : z'.client.value.grants ≡ z.client.value.grants
-  pub attempts : z.client.value.attempt.number ≤ z'.client.value.attempt.number
+  pub attempts : z.client.value.attempt.number < z'.client.value.attempt.number
 
 on : (y z z' : SessionShown) → GoesOn y z → Called z z' → GoesOn y z'
 on y z z' e k = k.session ∙ ap (λ (x : SessionShown). record x { client = record x.client { value = z'.client.value } }) e
@@ -48,6 +50,7 @@ serves_same s d e y z z' h k same = record {
   records = same ∙ h.records;
   renewals = h.renewals;
   attempts = omega (arith, h.attempts, k.attempts);
+  paid = paid_same (price_of s) y.client.value.attempt.number (asked d) h.done.trips h.done.records (asked e) z.client.value.attempt.number z'.client.value.attempt.number h.paid (omega (arith, k.attempts));
 }
 
 one_more : (n k : ℕ) → (n + 1) * k ≡ n * k + k
@@ -71,6 +74,7 @@ serves_busy s d e y z z' h less k same cost = record {
   records = same ∙ h.records;
   renewals = h.renewals;
   attempts = omega (arith, h.attempts, cost, one_more e.given_up (s.asks * 16));
+  paid = paid_on (price_of s) y.client.value.attempt.number (asked d) h.done.trips h.done.records (asked e) (e.booked + (e.given_up + 1)) z.client.value.attempt.number z'.client.value.attempt.number h.paid (omega arith) cost;
 }
 
 -- a trip was booked
@@ -97,6 +101,7 @@ serves_booked s d e y z z' reply h less k a =
         | inr j ↦ subst (λ (x : Record). x.renewal ≡ y.manager.renewal) (in_one a.added r j) a.renewal_is
       ];
       attempts = omega (arith, h.attempts, k.attempts);
+      paid = paid_more (price_of s) y.client.value.attempt.number (asked d) h.done.trips h.done.records a.added (asked e) (e.booked + 1 + e.given_up) z.client.value.attempt.number z'.client.value.attempt.number h.paid (omega arith) k.attempts a.attempt_is;
     }
 
 -- a task was answered that is the desk's next trip
@@ -120,10 +125,13 @@ served_out s d e region c c' z h same =
     let all : z ≡ session_of region c' = h.serves.session ∙ ap (λ (x : CallerShown). session_of region (record c { value = x.value })) (sym same) ∙ sym (ap (λ (x : CallerShown). session_of region x) (same ∙ ap (λ (x : SessionShown). x.client) h.serves.session ∙ ap (λ (x : CallerShown). record c { value = x.value }) (sym same))) in
     subst (λ (x : SessionShown). HasServed s d e (session_of region c) x) all h
 
--- no call takes attempts back
-pub grows : (tries before now : ℕ) (result : Result Reply Fault) → Attempts tries before now result → before ≤ now
-grows tries before now (Ok reply) a = omega (arith, a.0)
-grows tries before now (Err fault.Arguments) a = omega (arith, a)
-grows tries before now (Err fault.Memory) a = omega (arith, a.0)
-grows tries before now (Err (fault.Busy conflict)) a = omega (arith, a)
-grows tries before now (Err (fault.Spent version)) a = omega (arith, a.0)
+some_false : (b : Bool) → b ≡ true → b ≡ false → ⊥
+some_false b e f = cc
+
+-- a call of a task in its range made an attempt
+pub grows : (region : RegionShown) (t : Task) (c c' : CallerShown) (result : Result Reply Fault) → is_task t ≡ true → HasCalled region t 16 result c c' → c.value.attempt.number < c'.value.attempt.number
+grows region t c c' (Ok reply) range k = k.attempts.0
+grows region t c c' (Err fault.Arguments) range k = absurd (some_false (is_task t && (nat_le 1 16 && nat_le 16 1048576)) (rw range refl) (k.arguments.0 refl))
+grows region t c c' (Err fault.Memory) range k = k.attempts.0
+grows region t c c' (Err (fault.Busy conflict)) range k = let all = k.attempts in omega (arith, all)
+grows region t c c' (Err (fault.Spent version)) range k = k.attempts.0

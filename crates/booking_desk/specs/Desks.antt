@@ -70,8 +70,28 @@ pub record HasBooked (d d' : Desk) (x : Booked) : Type 0 where
 abbrev pub session_of : RegionShown → CallerShown → SessionShown
 session_of region client = record { manager = region; client = client }
 
+-- how many attempts a trip costs that is given up: all tries of all calls that ask for it
+abbrev pub price_of : DeskSettings → ℕ
+price_of s = s.asks * TRIES
+
+-- how many attempts the trips cost at least that a desk asked for: one each that was booked, and
+-- its whole price each that was given up
+abbrev pub cost_of : DeskSettings → Desk → ℕ
+cost_of s d = d.booked + d.given_up * price_of s
+
+-- trips were asked for one after the other, from the number low to the number high, by the attempts
+-- from one number to another. Those with these numbers were booked, each by the attempt that its
+-- record tells, which stands behind those of the trips before; each other one cost this price
+abbrev pub Paid : ℕ → ℕ → ℕ → List ℕ → List Record → ℕ → ℕ → Type 0
+Paid price from low [] [] high to = from + high * price ≤ to + low * price
+Paid price from low [] (r ∷ rs) high to = ⊥
+Paid price from low (n ∷ ns) [] high to = ⊥
+Paid price from low (n ∷ ns) (r ∷ rs) high to =
+    (from + n * price < r.attempt + low * price) × Paid price r.attempt (n + 1) ns rs high to
+
 -- a desk went on with its trips in this session: the records of what it booked, of this renewal,
--- are all that the client got, and each trip that was given up cost all its attempts
+-- are all that the client got. Each trip that was booked cost an attempt of its own, and each that
+-- was given up all its attempts
 pub record Serves (s : DeskSettings) (d d' : Desk) (y y' : SessionShown) : Type 0 where
   pub session : GoesOn y y'
   pub grants : y'.client.value.grants ≡ y.client.value.grants
@@ -80,8 +100,10 @@ pub record Serves (s : DeskSettings) (d d' : Desk) (y y' : SessionShown) : Type 
   pub booked : HasBooked d d' done
   pub records : y'.client.value.records ≡ y.client.value.records ++ done.records
   pub renewals : AreOf y.manager.renewal done.records
-  pub attempts : y.client.value.attempt.number + d'.given_up * (s.asks * TRIES)
-      ≤ y'.client.value.attempt.number + d.given_up * (s.asks * TRIES)
+  pub attempts : y.client.value.attempt.number + cost_of s d'
+      ≤ y'.client.value.attempt.number + cost_of s d
+  pub paid : Paid (price_of s) y.client.value.attempt.number (asked d) done.trips done.records
+      (asked d') y'.client.value.attempt.number
 
 -- a desk served in a round: until no trip was left, or the clock was found at its last version
 pub record HasServed (s : DeskSettings) (d d' : Desk) (y y' : SessionShown) : Type 0 where

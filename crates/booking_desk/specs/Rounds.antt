@@ -1,5 +1,5 @@
 -- What a round of all desks does.
-use Rattle.std.specs.Prelude.{◌≡◌, ℕ, ◌+◌, ◌<◌, ◌≤◌, List, [], ◌∷◌, ◌++◌, length, All}
+use Rattle.std.specs.Prelude.{◌≡◌, ℕ, ◌+◌, ◌*◌, ◌<◌, ◌≤◌, List, [], ◌∷◌, ◌++◌, length, All}
 use Rattle.std.specs.List.{AllZip}
 use Rattle.stm_words.specs.Image.{In}
 use Rattle.stm_core.specs.Client.{Record}
@@ -8,18 +8,36 @@ use Rattle.stm_core.specs.declared.limits.TheConstants.{MOST_GRANTS}
 use Rattle.vac_manager.specs.Session.{SessionShown}
 use Rattle.booking_desk.specs.declared.desk.Desk.{Desk}
 use Rattle.booking_desk.specs.declared.settings.DeskSettings.{DeskSettings}
-use Rattle.booking_desk.specs.Desks.{MayServe, AreOf, Booked, HasBooked}
+use Rattle.booking_desk.specs.Desks.{MayServe, AreOf, Booked, HasBooked, price_of}
 
 -- the records are of earlier renewals than this one
 abbrev pub AreOld : ℕ → List Record → Type 0
 AreOld renewal records = (r : Record) → In r records → r.renewal < renewal
 
+-- behind a booked trip and its record stand these, of which the first was booked by an attempt of
+-- the same renewal: then the trips between the two cost this price each
+abbrev pub IsNextPaid : ℕ → ℕ → Record → List ℕ → List Record → Type 0
+IsNextPaid price n r [] qs = Unit {0}
+IsNextPaid price n r (m ∷ ms) [] = Unit {0}
+IsNextPaid price n r (m ∷ ms) (q ∷ qs) =
+    r.renewal ≡ q.renewal → r.attempt + m * price < q.attempt + (n + 1) * price
+
+-- wherever two of these booked trips that follow each other are of one renewal, their records tell
+-- attempts of one client, between which stand those of the trips between the two, which were given
+-- up: each cost this price
+abbrev pub ArePaid : ℕ → List ℕ → List Record → Type 0
+ArePaid price [] rs = Unit {0}
+ArePaid price (n ∷ ns) [] = Unit {0}
+ArePaid price (n ∷ ns) (r ∷ rs) = IsNextPaid price n r ns rs × ArePaid price ns rs
+
 -- a desk went from one state to another, and the records of the trips that it booked, and nothing
--- else of it, stand in this list, in their order
-pub record WentOn (rest : List Record) (d d' : Desk) : Type 0 where
+-- else of it, stand in this list, in their order. Those that it gave up between two of a round cost
+-- this price each
+pub record WentOn (price : ℕ) (rest : List Record) (d d' : Desk) : Type 0 where
   pub done : Booked
   pub booked : HasBooked d d' done
   pub among : Sub done.records rest
+  pub paid : ArePaid price done.trips done.records
 
 -- how many trips were booked by all desks
 abbrev pub booked_by : List Desk → ℕ
@@ -28,12 +46,12 @@ booked_by (d ∷ ds) = d.booked + booked_by ds
 
 -- the desks went on, each to the one at its place, and were gathered: behind the records from
 -- before stand those of the trips that they booked, of this renewal, and no others
-pub record RoundRan (renewal : ℕ) (ds ds' : List Desk) (before after : List Record) :
+pub record RoundRan (price renewal : ℕ) (ds ds' : List Desk) (before after : List Record) :
     Type 0 where
   pub rest : List Record
   pub behind : after ≡ before ++ rest
   pub renewals : AreOf renewal rest
-  pub each : AllZip (WentOn rest) ds ds'
+  pub each : AllZip (WentOn price rest) ds ds'
   pub number : length rest + booked_by ds ≡ booked_by ds'
 
 -- a round of the desks may be run: each may go on, this session's client has a grant for each, and
@@ -50,4 +68,5 @@ pub record HasRun (s : DeskSettings) (ds ds' : List Desk) (y y' : SessionShown) 
   pub own : y'.client.table ≡ y.client.table
   pub grants : y'.client.value.grants ≡ y.client.value.grants
   pub desks : All (MayServe s) ds'
-  pub ran : RoundRan y.manager.renewal ds ds' y.client.value.records y'.client.value.records
+  pub ran : RoundRan (price_of s) y.manager.renewal ds ds'
+      y.client.value.records y'.client.value.records

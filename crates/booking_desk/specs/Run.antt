@@ -14,7 +14,7 @@ use Rattle.booking_desk.specs.declared.settings.DeskSettings.{DeskSettings}
 use Rattle.booking_desk.specs.declared.rounds.Progress.{Progress}
 use Rattle.booking_desk.specs.declared.run.DeskReport.{DeskReport}
 use Rattle.booking_desk.specs.Trips.{stock_of}
-use Rattle.booking_desk.specs.Desks.{asked, new_desks, MayServe}
+use Rattle.booking_desk.specs.Desks.{asked, new_desks, MayServe, price_of}
 use Rattle.booking_desk.specs.Rounds.{WentOn, booked_by}
 
 -- the record is of the stock, with so many units of each item, and of some reply
@@ -32,7 +32,7 @@ pub record Went (s : DeskSettings) (ds : List Desk) (records : List Record) : Ty
   pub stock_is : IsStock s.units stock
   pub rest : List Record
   pub stock_first : records ≡ stock ∷ rest
-  pub each : AllZip (WentOn rest) new_desks ds
+  pub each : AllZip (WentOn (price_of s) rest) new_desks ds
   pub number : length rest ≡ booked_by ds
 
 -- the desks after so many rounds, as many renewals of the manager, which has room for so many
@@ -52,7 +52,8 @@ AreEnded s ds rounds = All (λ d. asked d ≡ s.trips) ds ⊎ (rounds ≡ s.roun
 
 -- what the desks leave: a manager that its last client, which was alone, closed with these words.
 -- So that client's records are one history, legal from the empty state, and its last state has the
--- report. The records are those of the stock and of the trips that are booked
+-- report. The records are those of the stock and of the trips that are booked. The rounds are the
+-- renewals of the manager
 pub record Desked (s : DeskSettings) (r : DeskReport) : Type 0 where
   pub region : RegionShown
   pub client : Client
@@ -62,6 +63,7 @@ pub record Desked (s : DeskSettings) (r : DeskReport) : Type 0 where
   pub alone : HasAllGrants client
   pub room : capacity_of region ≡ s.blocks
   pub shown : report closes.last ≡ r.report
+  pub renewals : region.renewal ≡ r.rounds
   pub went : Went s r.desks.items client.records
   pub within : All (MayServe s) r.desks.items
   pub most : r.rounds ≤ s.rounds

@@ -1,6 +1,6 @@
 //! A desk asks for its trips.
 
-ghost use Rattle.std.specs.Prelude.{◌≡◌, ◌≤◌, true, IfOk, IfErr};
+ghost use Rattle.std.specs.Prelude.{◌≡◌, ◌<◌, ◌≤◌, true, IfOk, IfErr};
 ghost use Rattle.vac_model.specs.Ranges.{is_task};
 ghost use Rattle.vac_manager.specs.Called.{Records};
 ghost use Rattle.vac_manager.specs.Session.{GoesOn};
@@ -26,7 +26,7 @@ fn ask(session: &mut Session<'_>, task: &Task, asks: u32) -> Result<Reply, Fault
     ensures session { GoesOn session.old session.new }
     ensures grants { session.new.client.value.grants ≡ session.old.client.value.grants }
     ensures attempts { session.old.client.value.attempt.number
-        ≤ session.new.client.value.attempt.number }
+        < session.new.client.value.attempt.number }
     ensures records { Records session.old.manager task.now result
         session.old.client.value session.new.client.value }
     ensures refused { IfErr result (λ fault. IsRefusal session.old.manager task.now asks fault
