@@ -3,3 +3,4 @@ pub mod Journals
 pub mod Turning
 mod Recorded
 pub mod LoadEnds
+pub mod Judgement

@@ -1,5 +1,5 @@
 -- What the program does with a command line: its status, and what it reads and writes.
-use Rattle.std.specs.Prelude.{◌≡◌, ℕ, ◌≤◌, ◌⊎◌, Bool, true, false, Option, List, []}
+use Rattle.std.specs.Prelude.{◌≡◌, ◌≢◌, ℕ, ◌≤◌, ◌⊎◌, Bool, true, false, Option, List, []}
 use Rattle.std.specs.Prelude.{◌++◌, codes}
 use Rattle.std.specs.Io.KnownBytes.{Appends}
 use Rattle.clap.specs.Words.{IsAmong, Text, fault_of}
@@ -16,11 +16,13 @@ use Rattle.vac_lines.specs.Writing.{AppendsPrefix}
 use Rattle.vac_script.specs.Script.{WroteAll, WrotePrefix}
 use Rattle.vac_script.specs.Dump.{Dumped, DumpStopped}
 use Rattle.vac_script.specs.Check.{Checked, CheckStopped}
-use Rattle.vac_judge.specs.Reading.{HasJudged, HasStopped}
+use Rattle.vac_judge.specs.Reading.{HasJudged, HasJudgedInPart}
+use Rattle.vac_judge.specs.declared.fault.JudgeFault.{JudgeFault}
+use Rattle.vac_judge.specs.declared.fault.JudgeFault.TheVariants as judge
 use Rattle.vac_worklist.specs.Worklist.{WroteTasks, WroteTasksPrefix}
 use Rattle.vac_cli.specs.Load.{LoadWrote, LoadEnded}
 use Rattle.vac_cli.specs.Ending.{NamedAfter, CanStopReading, CanStopWriting, fault_line}
-use Rattle.vac_cli.specs.Ending.{load_fault_line}
+use Rattle.vac_cli.specs.Ending.{as_run_fault, load_fault_line}
 use Rattle.vac_options.specs.CommandLine.{vacation, AsksFor}
 
 -- status 0 where this was done, 1 where that stopped it
@@ -45,6 +47,15 @@ Lists status s held holds =
     ⊎ ((is_settings s ≡ false) × (status ≡ 2)
     × AppendsPrefix held holds (load_fault_line Arguments))
 
+-- a fault ended a judgement: one of the output, and a prefix of the verdict was written; or
+-- another, and nothing was written but a prefix of the line that names it
+abbrev pub JudgeStopped : ℕ → Option (List ℕ) → Option (List ℕ) → Option (List ℕ)
+    → Option (List ℕ) → Type 0
+JudgeStopped blocks unread left held holds =
+    HasJudgedInPart blocks unread left held holds
+    ⊎ ((fault : JudgeFault) × (fault ≢ judge.Write)
+    × AppendsPrefix held holds (fault_line (as_run_fault fault)))
+
 -- what the program does where its words ask for this
 abbrev pub Does : Asked → ℕ → Option (List ℕ) → Option (List ℕ) → Option (List ℕ)
     → Option (List ℕ) → Type 0
@@ -61,7 +72,7 @@ Does Check status unread left held holds =
 Does (Judge blocks) status unread left held holds =
     Ends status (HasJudged blocks true unread left held holds)
     (HasJudged blocks false unread left held holds
-    ⊎ NamedAfter CanStopReading (HasStopped blocks unread left held) holds)
+    ⊎ JudgeStopped blocks unread left held holds)
 Does (Load settings how) status unread left held holds =
     (left ≡ unread) × Loads how.history status settings held holds
 Does (Tasks settings) status unread left held holds =

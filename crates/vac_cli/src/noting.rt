@@ -16,7 +16,7 @@ use std::sync::Wait;
 use std::thread::Threads;
 use std::time::{Clock, Instant};
 use stm_attempt::NoGate;
-use vac_history::{HistoryFault, Journal, write_history};
+use vac_history::{HistoryFault, Journal, are_whole, write_history};
 use vac_load::{Efforts, Keepers, LoadFault, LoadReport, Settings, run_load_kept};
 use vac_manager::Keep;
 use vac_options::How;
@@ -37,11 +37,6 @@ fn journals<'a, T: Clock>(
         journals.push(Journal::new(alloc, clock, start))?;
     }
     Ok(journals)
-}
-
-/// Whether all journals had room for each call.
-fn are_whole<T: Clock>(kept: &Keepers<Journal<'_, T>>) -> bool {
-    kept.opening.is_whole() && kept.clients.iter().all(|journal| journal.is_whole())
 }
 
 /// Runs a load with these keepers, and tells how far it is where that is asked for.
@@ -99,7 +94,7 @@ pub(crate) fn load_noted<T: Threads + Wait + Clock + Sync + AllocGlobal, W: Writ
         Ok(loaded) => loaded,
         Err(fault) => return end_load_by(fault, output),
     };
-    if !are_whole(&kept) {
+    if !are_whole(&kept.opening, kept.clients.as_slice()) {
         return end_load_by(LoadFault::Memory, output);
     }
     if how.stats {
