@@ -12,6 +12,7 @@ pub mod LogLemmas
 pub mod RisingLemmas
 pub mod LockLemmas
 pub mod ChainLemmas
+pub mod PairLemmas
 pub mod ClearLemmas
 pub mod StripeLemmas
 pub mod MarkLemmas

@@ -42,6 +42,12 @@ groups_from ns whole start (suc most) p =
     (groups_from ns whole start most next)
     ((lock, words_from ns lock whole start) ∷ groups_from ns most next most next))
 
+-- the words of a chain, with their values, of at most so many nodes
+abbrev pub pairs_from : List Node → ℕ → ℕ → List (ℕ × ℕ)
+pairs_from ns zero p = []
+pairs_from ns (suc most) p =
+    cond (nat_eq p 0) [] (pair_of (at ns p) ∷ pairs_from ns most (at ns p).next)
+
 -- the same in the block that there may be
 abbrev pub words_in : Option (Bor Block) → ℕ → ℕ → ℕ → List (ℕ × ℕ)
 words_in None lock most p = []
@@ -54,6 +60,10 @@ locks_in (Some block) most p = locks_from block.now.list most p
 abbrev pub groups_in : Option (Bor Block) → ℕ → ℕ → List (ℕ × List (ℕ × ℕ))
 groups_in None most p = []
 groups_in (Some block) most p = groups_from block.now.list most p most p
+
+abbrev pub pairs_in : Option (Bor Block) → ℕ → ℕ → List (ℕ × ℕ)
+pairs_in None most p = []
+pairs_in (Some block) most p = pairs_from block.now.list most p
 
 abbrev pub EndsIn : Option (Bor Block) → ℕ → ℕ → Type 0
 EndsIn None most p = Unit {0}

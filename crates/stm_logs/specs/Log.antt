@@ -1,5 +1,6 @@
 -- What the logs of a transaction mean.
 use Rattle.std.specs.Prelude.{◌≡◌, ℕ, ◌%◌, Bool, false, List, Option, Some, None, filter, map, nat_eq}
+use Rattle.std.specs.List.{flat_map}
 use Rattle.std.specs.Ordering.{nat_cmp}
 use Rattle.std.specs.FinMap.{FinMap, empty, get, entries, keys, from_entries}
 use Rattle.std.specs.Coded.{Coded, code_by, coded×, coded_ℕ}
@@ -46,6 +47,11 @@ pairs_of w lock = filter (λ p. is_number (get w.locks p.0) lock) (log_pairs w)
 -- the locks of the written addresses in ascending order, each with its addresses and values
 abbrev pub log_groups : LogValue → List (ℕ × List (ℕ × ℕ))
 log_groups w = map (λ lock. (lock, pairs_of w lock)) (log_locks w)
+
+-- the written addresses with their values, by ascending lock, those of one lock by ascending
+-- address
+abbrev pub pairs_by_lock : LogValue → List (ℕ × ℕ)
+pairs_by_lock w = flat_map (pairs_of w) (log_locks w)
 
 -- the same addresses have a value and a lock
 abbrev pub SameAddresses : LogValue → Type 0

@@ -140,6 +140,48 @@ impl<'a, A: Allocator> Iterator for ByLock<'a, A> {
     }
 }
 
+/// The words of a write log with their values, by ascending lock, those of one lock by ascending
+/// address.
+#[derive(Drop)]
+pub struct Pairs<'a, A: Allocator = Global> {
+    pub(crate) nodes: Option<&'a Nodes<A>>,
+    pub(crate) at: usize,
+    /// No more nodes are left than this.
+    pub(crate) most: usize,
+}
+
+impl<'a, A: Allocator> Model for Pairs<'a, A> {
+    ghost use Rattle.std.specs.Prelude.{ℕ, List};
+
+    ghost Value = { List (ℕ × ℕ) };
+
+    ghost use Rattle.stm_logs.specs.Chain.{pairs_in, EndsIn};
+
+    ghost view = { λ w. pairs_in w.nodes w.most w.at };
+
+    ghost invariant = { λ w. EndsIn w.nodes w.most w.at };
+}
+
+impl<'a, A: Allocator> Iterator for Pairs<'a, A> {
+    type Item = (Addr, u64);
+
+    ghost next_gives = { YieldsFirstBy (λ item. (item.0.0, item.1)) (λ rest. rest) };
+
+    ghost remaining = { item_count (λ rest. rest) };
+
+    #[inline]
+    fn next(&mut self) -> Option<(Addr, u64)> {
+        let nodes = self.nodes?;
+        if self.at == 0 {
+            return None;
+        }
+        let word = nodes.get(self.at);
+        self.at = word.next as usize;
+        self.most -= 1;
+        Some((Addr(word.number), word.value))
+    }
+}
+
 /// The first node behind those of a node's lock, and how many nodes are left there at the most.
 #[inline]
 fn past<A: Allocator>(nodes: &Nodes<A>, start: usize, most: usize) -> (usize, usize)

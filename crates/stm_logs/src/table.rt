@@ -6,10 +6,10 @@ ghost use Rattle.stm_logs.specs.Index.{HasNone, Answers};
 ghost use Rattle.stm_logs.specs.Order.{OnlyFingers, block_log};
 ghost use Rattle.stm_logs.specs.Held.{IsLog, HasMore, with_word};
 ghost use Rattle.stm_logs.specs.Chain.{Ends, words_from};
-ghost use Rattle.stm_logs.specs.Log.{LogValue, empty_log, log_groups, log_locks, pairs_of, SameAddresses};
+ghost use Rattle.stm_logs.specs.Log.{LogValue, empty_log, log_groups, log_locks, pairs_by_lock, pairs_of, SameAddresses};
 ghost use Rattle.stm_logs.specs.Refusals.{OrSame, Becomes};
 
-use crate::chain::{ByLock, Locks, Words};
+use crate::chain::{ByLock, Locks, Pairs, Words};
 use crate::finger::{point, point_all_if, shows};
 use crate::grow::{SHORT, grown, is_full, is_long};
 use crate::index::{enter, find, probe};
@@ -117,6 +117,18 @@ impl<A: Allocator + Copy> Table<A> {
         ensures { result ≡ log_groups self.now }
     {
         ByLock {
+            nodes: Some(&self.nodes),
+            at: self.nodes.get(0).next as usize,
+            most: self.nodes.count(),
+        }
+    }
+
+    /// The words with their values, by ascending lock, those of one lock by ascending number.
+    #[inline]
+    pub(crate) fn pairs_by_lock(&self) -> Pairs<'_, A>
+        ensures { result ≡ pairs_by_lock self.now }
+    {
+        Pairs {
             nodes: Some(&self.nodes),
             at: self.nodes.get(0).next as usize,
             most: self.nodes.count(),

@@ -3,9 +3,9 @@ ghost use Rattle.std.specs.Prelude.{◌≡◌, ◌≢◌, ◌↔◌, ℕ, ◌%�
 ghost use Rattle.std.specs.FinMap.{get, len};
 ghost use Rattle.stm_logs.specs.Refusals.{Becomes};
 ghost use Rattle.stm_logs.specs.Held.{with_word};
-ghost use Rattle.stm_logs.specs.Log.{LogValue, empty_log, log_groups, log_locks, pairs_of, SameAddresses};
+ghost use Rattle.stm_logs.specs.Log.{LogValue, empty_log, log_groups, log_locks, pairs_by_lock, pairs_of, SameAddresses};
 
-use crate::chain::{ByLock, Locks, Words};
+use crate::chain::{ByLock, Locks, Pairs, Words};
 use crate::table::Table;
 use std::alloc::{AllocError, Allocator, Global};
 use std::marker::Model;
@@ -200,6 +200,22 @@ impl<A: Allocator + Copy> WriteLog<A> {
         match &self.table {
             Some(table) => table.by_lock(),
             None => ByLock {
+                nodes: None,
+                at: 0,
+                most: 0,
+            },
+        }
+    }
+
+    /// The addresses with their values, by ascending lock, those of one lock by ascending address.
+    /// It is one walk, which looks at no lock.
+    #[inline]
+    pub fn pairs_by_lock(&self) -> Pairs<'_, A>
+        ensures { result ≡ pairs_by_lock self.now }
+    {
+        match &self.table {
+            Some(table) => table.pairs_by_lock(),
+            None => Pairs {
                 nodes: None,
                 at: 0,
                 most: 0,
