@@ -145,7 +145,8 @@ impl Judge {
 
     /// What is said of the calls, where no further line comes.
     pub fn summary(&mut self) -> Summary
-        ensures { (s : State) (earlier : List Call) → Follows self.old s earlier →
+        ensures same { self.new ≡ self.old }
+        ensures summary { (s : State) (earlier : List Call) → Follows self.old s earlier →
             result ≡ summary_of s earlier }
     {
         Summary {

@@ -1,8 +1,9 @@
 -- Plain memory that holds a state.
-use Rattle.std.proofs.Common.{List, Option, ap, arith, inl, inr, length, slice_index, subst, sym, unwrap_or, ℕ, ◌∙◌, ◌≡◌, ◌≤◌}
-use Rattle.std.proofs.lemmas.List.{get_or_past}
+use Rattle.std.proofs.Common.{List, Option, Some, ap, arith, inl, inr, length, slice_index, subst, sym, unwrap_or, ℕ, ◌∙◌, ◌≡◌, ◌≤◌}
+use Rattle.std.proofs.lemmas.List.{get_or_past, ext_get_or}
 use Rattle.std.proofs.lemmas.Bool.{cases_lt}
-use Rattle.stm_words.specs.View.{View, memory}
+use Rattle.std.specs.FinMap.{get}
+use Rattle.stm_words.specs.View.{View, Words, memory}
 use Rattle.stm_words.specs.Plain.{flat_view, numbered}
 use Rattle.stm_words.specs.PlainSeen.{flat_seen, get_at, get_behind}
 use Rattle.vac_model.specs.declared.replies.Reply.{Reply}
@@ -19,7 +20,7 @@ use Rattle.vac_commands.specs.Ran.{IsOutcome}
 use Rattle.vac_tasks.specs.RanTask.{RanTask}
 use Rattle.vac_report.specs.Reported.{Reported}
 use Rattle.vac_plain.specs.PlainState.{IsStateOf}
-use Rattle.vac_records.specs.InMemory.{HoldsState}
+use Rattle.vac_records.specs.InMemory.{HoldsState, OnlyRead}
 use Rattle.vac_records.specs.Steps.{stood}
 
 -- the memory that plain memory means, over any image of its size
@@ -88,3 +89,17 @@ held_task s s' t r ran h = record {
   small = omega (arith, h.small, ran.kept.size);
   under = λ image i. (let t0 = h.under image (stood ran.kept image i) in ((run t0.0 t).0, (ran.outcome image t0.0 i.sees t0.1).state));
 }
+
+some_same : {x y : ℕ} → Some x ≡ Some y → x ≡ y
+some_same e = (let k = e in cc)
+
+-- the same writes are those of the same words
+pub same_words : (xs ys : List ℕ) → length ys ≡ length xs → numbered 0 ys ≡ numbered 0 xs → ys ≡ xs
+same_words xs ys size same = ext_get_or 0 ys xs size (λ a less.
+    let here = get_at ys a less in
+    let there = get_at xs a (omega (arith, less, size)) in
+    some_same (sym here ∙ ap (λ (w : Words). get w a) same ∙ there))
+
+-- where nothing was written, the words are as they were
+pub words_stay : (xs ys : List ℕ) → OnlyRead (flat_view xs) (flat_view ys) → ys ≡ xs
+words_stay xs ys only = same_words xs ys only.kept.size only.writes

@@ -71,6 +71,7 @@ impl Heap {
     /// The reply to a task that only reads.
     pub fn read(&mut self, task: &Task) -> Reply
         requires { reading.only_reads task.now ≡ true }
+        ensures words { self.new ≡ self.old }
         ensures state { (s : State) → IsStateOf self.old s
             → IsStateOf self.new (runs s task.now).0 }
         ensures reply { (s : State) → IsStateOf self.old s → (runs s task.now).1 ≡ result }
@@ -81,7 +82,8 @@ impl Heap {
 
     /// The report of the state.
     pub fn report(&mut self) -> Report
-        ensures { (s : State) → IsStateOf self.old s → report_of s ≡ result }
+        ensures words { self.new ≡ self.old }
+        ensures report { (s : State) → IsStateOf self.old s → report_of s ≡ result }
     {
         let Ok(found) = report(&mut self.memory);
         found

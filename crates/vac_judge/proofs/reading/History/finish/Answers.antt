@@ -15,8 +15,8 @@ returns-clause-judged c =
       | then-not-is_empty+in_ok-verdict+in_default w ↦
           let some : 0 < length c.args.self.now.line.items = search rules in
           last_taken c.args.self.now.judge c.if-not-is_empty.self.judge c.args.self.now.line.items c.summary.result c.requires.0 some
-          (rw w.self-is (rw w.in_default.is at w.in_ok-verdict.ensures.judged)) c.summary.ensures
+          (rw w.self-is (rw w.in_default.is at w.in_ok-verdict.ensures.judged)) c.summary.ensures.summary
       | else-not-is_empty w ↦
           let none : length c.args.self.now.line.items ≡ 0 = search rules in
-          last_none c.args.self.now.judge c.args.self.now.line.items c.summary.result (no_bytes c.args.self.now.line.items none) (rw w.self-is at c.summary.ensures)
+          last_none c.args.self.now.judge c.args.self.now.line.items c.summary.result (no_bytes c.args.self.now.line.items none) (rw w.self-is at c.summary.ensures.summary)
     ]
