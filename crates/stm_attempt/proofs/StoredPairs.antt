@@ -1,8 +1,7 @@
--- Values that are stored lock by lock.
-use Rattle.std.proofs.Common.{◌≡◌, ◌⊎◌, inl, inr, refl, sym, ap, subst, ◌∙◌, ℕ, zero, suc, ◌+◌, ◌<◌, Bool, true, false, List, [], ◌∷◌, ◌++◌, map, append_assoc, length, length-append, Option, Some, None, arith}
+-- Values that are stored one after the other.
+use Rattle.std.proofs.Common.{◌≡◌, ◌⊎◌, inl, inr, refl, sym, ap, subst, ◌∙◌, ℕ, zero, suc, ◌+◌, ◌<◌, Bool, true, false, List, [], ◌∷◌, ◌++◌, append_assoc, length, length-append, Option, Some, None, arith}
 use Rattle.std.proofs.lemmas.Bool.{eqb-true, eq-eqb}
 use Rattle.std.proofs.lemmas.List.{append-nil, map-append}
-use Rattle.std.proofs.lemmas.Grind.{flat_map-append}
 use Rattle.std.specs.FinMap.{get}
 use Rattle.std.specs.List.{flat_map}
 use mathlib.Core.Option.{some}
@@ -11,15 +10,14 @@ use Rattle.stm_words.proofs.Paired.{in_later}
 use Rattle.stm_core.specs.Client.{Client, Stamp, committed, writes_to, old_version, RecordLaw}
 use Rattle.stm_core.specs.Event.{put, after}
 use Rattle.stm_core.proofs.Held.{old_in}
-use Rattle.stm_logs.specs.Log.{LogValue, log_groups, log_pairs, log_locks, is_number, pairs_of, SameAddresses}
+use Rattle.stm_logs.specs.Log.{LogValue, log_pairs, log_locks, is_number, pairs_of, pairs_by_lock, SameAddresses}
 use Rattle.stm_logs.proofs.LockLemmas.{in_locks, locks_rise}
-use Rattle.stm_logs.proofs.RisingLemmas.{Rising, rising_entries, rising_map, rising_filter, filter_in, in_filter, in_get, get_in, in_map, map_in, In as Among}
+use Rattle.stm_logs.proofs.RisingLemmas.{Rising, rising_entries, rising_filter, filter_in, in_filter, in_get, get_in, in_map, In as Among}
 use Rattle.stm_region.specs.Shown.{RegionShown, bounds}
 use Rattle.stm_attempt.specs.Begun.{addresses, address_of, IsPlaced}
 use Rattle.stm_attempt.specs.Committing.{settling}
 use Rattle.stm_attempt.specs.CommitParts.{CanSettle, IsAllStored, HasStored}
-use Rattle.stm_attempt.specs.StoredPairs.{AreStorable, IsUnstored, HasStoredPairs}
-use Rattle.stm_attempt.proofs.Locks.{among_held, rising_before, among_middle, among_front}
+use Rattle.stm_attempt.proofs.Locks.{among_held, among_middle, among_front}
 use Rattle.stm_attempt.proofs.Counting.{count_shares, one_kept}
 use Rattle.stm_core.proofs.Conditions.{may_act_so}
 use Rattle.stm_core.specs.Guards.{Holds, May, stripe_of}
@@ -51,6 +49,28 @@ number_is (Some j) k e = ap Some (eqb-true j k e)
 is_its_number : (k : ℕ) → is_number (Some k) k ≡ true
 is_its_number k = eq-eqb k k refl
 
+-- no address comes twice
+abbrev AreApart : List (ℕ × ℕ) → Type 0
+AreApart [] = Unit {0}
+AreApart (p ∷ ps) = ((q : ℕ × ℕ) → Among q ps → q.0 ≡ p.0 → ⊥) × AreApart ps
+
+rising_apart : (ps : List (ℕ × ℕ)) → Rising address_of ps → AreApart ps
+rising_apart [] rises = tt
+rising_apart (p ∷ ps) rises = (λ q i same. (let less : p.0 < q.0 = rises.0 q i in absurd (omega (arith, less, same))), rising_apart ps rises.1)
+
+apart_both : (ps qs : List (ℕ × ℕ)) → AreApart ps → AreApart qs → ((p q : ℕ × ℕ) → Among p ps → Among q qs → q.0 ≡ p.0 → ⊥) → AreApart (ps ++ qs)
+apart_both [] qs first last across = last
+apart_both (p ∷ ps) qs first last across = (
+  λ q i same. elim (among_either ps qs q i) [ inl l ↦ first.0 q l same | inr r ↦ across p q (inl refl) r same ],
+  apart_both ps qs first.1 last (λ x q i j same. across x q (inr i) j same),
+)
+
+-- an address does not come before itself
+apart_once : (before after : List (ℕ × ℕ)) (a x : ℕ) → AreApart (before ++ (a, x) ∷ after) → Among a (addresses before) → ⊥
+apart_once [] after a x apart i = i
+apart_once (p ∷ ps) after a x apart (inl is) = apart.0 (a, x) (among_middle ps (a, x) after) is
+apart_once (p ∷ ps) after a x apart (inr i) = apart_once ps after a x apart.1 i
+
 module _ (w : LogValue) where
   -- the pair has this lock
   abbrev pub has_lock : ℕ × ℕ → ℕ → Bool
@@ -65,9 +85,8 @@ module _ (w : LogValue) where
   pair_stands k a x i is =
       in_filter (λ (p : ℕ × ℕ). has_lock p k) (log_pairs w) (a, x) i (ap (λ (o : Option ℕ). is_number o k) is ∙ is_its_number k)
 
-  pub rising_pairs : (k : ℕ) → Rising (λ (x : ℕ). x) (addresses (pairs_of w k))
-  rising_pairs k =
-      rising_map address_of address_of (λ (x : ℕ). x) (λ _. refl) (pairs_of w k) (rising_filter address_of (λ (p : ℕ × ℕ). has_lock p k) (log_pairs w) (rising_entries w.words))
+  rising_pairs : (k : ℕ) → Rising address_of (pairs_of w k)
+  rising_pairs k = rising_filter address_of (λ (p : ℕ × ℕ). has_lock p k) (log_pairs w) (rising_entries w.words)
 
   pub lock_of_pair : SameAddresses w → (p : ℕ × ℕ) → Among p (log_pairs w) → (k : ℕ) × (get w.locks p.0 ≡ Some k)
   lock_of_pair same p i = there (get w.locks p.0) refl
@@ -95,6 +114,37 @@ module _ (w : LogValue) where
     | inl l ↦ (j, (inl refl, l))
     | inr r ↦ (let s = flat_among ks p r in (s.0, (inr s.1.0, s.1.1)))
   ]
+
+  flat_apart : (ks : List ℕ) → Rising (λ (x : ℕ). x) ks → AreApart (flat_map (pairs_of w) ks)
+  flat_apart [] rises = tt
+  flat_apart (k ∷ ks) rises = apart_both (pairs_of w k) (flat_map (pairs_of w) ks) (rising_apart (pairs_of w k) (rising_pairs k)) (flat_apart ks rises.1) (λ p q i j same.
+      let f = flat_among ks q j in
+      let less : k < f.0 = rises.0 f.0 f.1.0 in
+      let both : Some f.0 ≡ Some k = sym (pair_logged f.0 q.0 q.1 f.1.1).1 ∙ ap (get w.locks) same ∙ (pair_logged k p.0 p.1 i).1 in
+      let is : f.0 ≡ k = cc in
+      absurd (omega (arith, less, is)))
+
+-- no address of the pairs is stored
+abbrev pub IsUnstored : List (ℕ × ℕ) → List ℕ → Type 0
+IsUnstored pairs stored = (address x : ℕ) → In (address, x) pairs → In address stored → ⊥
+
+-- a decided attempt may store the pairs one after the other: each is one of its writes that is not
+-- stored, it has the lock of each, and no address comes twice
+pub record AreStorable (region : RegionShown) (v : Client) (pairs : List (ℕ × ℕ)) : Type 0 where
+  pub inside : (address x : ℕ) → In (address, x) pairs → address < region.size
+  pub written : (address x : ℕ) → In (address, x) pairs → In (address, x) v.attempt.writes
+  pub held : (address x : ℕ) → In (address, x) pairs
+      → Holds v.attempt.held (stripe_of region.stripes address)
+  pub unstored : IsUnstored pairs v.attempt.stored
+  pub once : (before after : List (ℕ × ℕ)) (address x : ℕ)
+      → before ++ (address, x) ∷ after ≡ pairs → In address (addresses before) → ⊥
+
+-- the pairs were stored in their order, one step each
+pub record HasStoredPairs (v v' : Client) (pairs : List (ℕ × ℕ)) : Type 0 where
+  pub same : settling v' ≡ settling v
+  pub held : v'.attempt.held ≡ v.attempt.held
+  pub stored : v'.attempt.stored ≡ v.attempt.stored ++ addresses pairs
+  pub steps : v'.attempt.steps ≡ v.attempt.steps + length pairs
 
 -- the pairs of the rest are still to be stored
 pub record IsStoring (v v' : Client) (pairs rest : List (ℕ × ℕ)) : Type 0 where
@@ -148,109 +198,29 @@ module _ (lawful : RecordLaw) (t : Stamp) (region : RegionShown) (v0 v : Client)
     });
   }
 
--- a lock with its pairs
-abbrev with_pairs : LogValue → ℕ → ℕ × List (ℕ × ℕ)
-with_pairs w k = (k, pairs_of w k)
+-- a decided attempt may store the pairs of its log
+pub all_storable : (region : RegionShown) (w : LogValue) (v : Client) → IsPlaced region w → CanSettle v w → AreStorable region v (pairs_by_lock w)
+all_storable region w v placed decided =
+    let lock : (a x : ℕ) → In (a, x) (pairs_by_lock w) → (k : ℕ) × (Among k (log_locks w) × Among (a, x) (pairs_of w k)) = λ a x i. flat_among w (log_locks w) (a, x) (in_among (a, x) _ i) in
+    let logged : (a x : ℕ) (i : In (a, x) (pairs_by_lock w)) → (get w.words a ≡ Some x) × (get w.locks a ≡ Some (lock a x i).0) = λ a x i. pair_logged w (lock a x i).0 a x (lock a x i).1.1 in record {
+      inside = λ a x i. placed.inside a (lock a x i).0 (logged a x i).1;
+      written = λ a x i. subst (In (a, x)) (sym decided.writes) (among_in (a, x) (log_pairs w) (get_in w.words a x (logged a x i).0));
+      held = λ a x i. subst (Holds v.attempt.held) (placed.lock a (lock a x i).0 (logged a x i).1) (among_held v.attempt.held (lock a x i).0 (subst (Among (lock a x i).0) (sym decided.held) (lock a x i).1.0));
+      unstored = λ a x i m. in_among a [] (subst (In a) decided.stored m);
+      once = λ before after a x order i. apart_once before after a x (subst AreApart (sym order) (flat_apart w (log_locks w) (locks_rise w))) (in_among a (addresses before) i);
+    }
 
--- the pairs of the locks that are done are stored, and those of the rest are left
-pub record IsStoringAll (w : LogValue) (v v' : Client) (rest : List (ℕ × List (ℕ × ℕ))) : Type 0 where
-  pub done : List ℕ
-  pub left : List ℕ
-  pub order : done ++ left ≡ log_locks w
-  pub groups : rest ≡ map (with_pairs w) left
-  pub has : HasStoredPairs v v' (flat_map (pairs_of w) done)
-
--- the first of the locks that are left, with its pairs
-record Next (w : LogValue) (left : List ℕ) (k : ℕ) (pairs : List (ℕ × ℕ)) (rest : List (ℕ × List (ℕ × ℕ))) : Type 0 where
-  behind : List ℕ
-  first : left ≡ k ∷ behind
-  its : pairs ≡ pairs_of w k
-  groups : rest ≡ map (with_pairs w) behind
-
-next_of : (w : LogValue) (left : List ℕ) (k : ℕ) (pairs : List (ℕ × ℕ)) (now rest : List (ℕ × List (ℕ × ℕ)))
-    → now ≡ map (with_pairs w) left → now ≡ (k, pairs) ∷ rest → Next w left k pairs rest
-next_of w [] k pairs now rest groups next = cc
-next_of w (j ∷ js) k pairs now rest groups next =
-    let both : (j, pairs_of w j) ∷ map (with_pairs w) js ≡ (k, pairs) ∷ rest = sym groups ∙ next in
-    let tail : rest ≡ map (with_pairs w) js = cc in
-    let head : (j, pairs_of w j) ≡ (k, pairs) = cc in
-    let same : j ≡ k = ap (λ (p : ℕ × List (ℕ × ℕ)). p.0) head in
-    let its : pairs_of w j ≡ pairs = ap (λ (p : ℕ × List (ℕ × ℕ)). p.1) head in
-    record { behind = js; first = ap (λ (l : ℕ). l ∷ js) same; its = sym its ∙ ap (pairs_of w) same; groups = tail }
-
-module _ (w : LogValue) (v0 v : Client) (k : ℕ) (pairs : List (ℕ × ℕ)) (now rest : List (ℕ × List (ℕ × ℕ))) (storing : IsStoringAll w v0 v now) (next : now ≡ (k, pairs) ∷ rest) where
-  found : Next w storing.left k pairs rest
-  found = next_of w storing.left k pairs now rest storing.groups next
-
-  all_order : storing.done ++ k ∷ found.behind ≡ log_locks w
-  all_order = ap (λ (ks : List ℕ). storing.done ++ ks) (sym found.first) ∙ storing.order
-
-  next_held : addresses v0.attempt.held ≡ log_locks w → Holds v.attempt.held k
-  next_held held =
-      let same_held : v0.attempt.held ≡ v.attempt.held = sym (storing.has.held) in
-      subst (λ (h : List (ℕ × ℕ)). Holds h k) same_held (among_held v0.attempt.held k (subst (Among k) (all_order ∙ sym held) (among_middle storing.done k found.behind)))
-
-  next_unstored : v0.attempt.stored ≡ [] → IsUnstored (pairs_of w k) v.attempt.stored
-  next_unstored none a x i m =
-      let stored : v.attempt.stored ≡ addresses (flat_map (pairs_of w) storing.done) = storing.has.stored ∙ ap (λ (zs : List ℕ). zs ++ addresses (flat_map (pairs_of w) storing.done)) none in
-      let s = map_in address_of (flat_map (pairs_of w) storing.done) a (in_among a _ (subst (In a) stored m)) in
-      let f = flat_among w storing.done s.0 s.1.0 in
-      let less : f.0 < k = rising_before storing.done k found.behind f.0 (subst (λ (ks : List ℕ). Rising (λ (y : ℕ). y) ks) (sym all_order) (locks_rise w)) f.1.0 in
-      let before = (pair_logged w f.0 s.0.0 s.0.1 f.1.1).1 in
-      let now_is = (pair_logged w k a x (in_among (a, x) (pairs_of w k) i)).1 in
-      let both : Some f.0 ≡ Some k = sym before ∙ ap (get w.locks) (sym s.1.1) ∙ now_is in
-      let same : f.0 ≡ k = cc in
-      absurd (omega (arith, less, same))
-
-  next_once : (before after : List (ℕ × ℕ)) (a x : ℕ) → before ++ (a, x) ∷ after ≡ pairs_of w k → In a (addresses before) → ⊥
-  next_once before after a x order i =
-      let both : addresses before ++ a ∷ addresses after ≡ addresses (pairs_of w k) = sym (map-append address_of before ((a, x) ∷ after)) ∙ ap addresses order in
-      let less : a < a = rising_before (addresses before) a (addresses after) a (subst (λ (zs : List ℕ). Rising (λ (y : ℕ). y) zs) (sym both) (rising_pairs w k)) (in_among a _ i) in
-      absurd (omega arith)
-
-  pub next_storable : (region : RegionShown) → IsPlaced region w → CanSettle v0 w → AreStorable region v pairs
-  next_storable region placed decided =
-      let same_writes : log_pairs w ≡ v.attempt.writes = sym (ap (λ (c : Client). c.attempt.writes) storing.has.same ∙ decided.writes) in
-      let logged : (a x : ℕ) → In (a, x) (pairs_of w k) → (get w.words a ≡ Some x) × (get w.locks a ≡ Some k) = λ a x i. pair_logged w k a x (in_among (a, x) (pairs_of w k) i) in
-      let here : AreStorable region v (pairs_of w k) = record {
-        inside = λ a x i. placed.inside a k (logged a x i).1;
-        written = λ a x i. subst (In (a, x)) same_writes (among_in (a, x) (log_pairs w) (get_in w.words a x (logged a x i).0));
-        held = λ a x i. subst (Holds v.attempt.held) (placed.lock a k (logged a x i).1) (next_held decided.held);
-        unstored = next_unstored decided.stored;
-        once = next_once;
-      } in
-      subst (AreStorable region v) (sym found.its) here
-
-  pub stored_lock : (v' : Client) → HasStoredPairs v v' pairs → IsStoringAll w v0 v' rest
-  stored_lock v' has = record {
-    done = storing.done ++ k ∷ [];
-    left = found.behind;
-    order = append_assoc storing.done (k ∷ []) found.behind ∙ all_order;
-    groups = found.groups;
-    has = subst (HasStoredPairs v0 v') (ap (λ (ps : List (ℕ × ℕ)). flat_map (pairs_of w) storing.done ++ ps) (sym (append-nil (pairs_of w k))) ∙ sym (flat_map-append (pairs_of w) storing.done (k ∷ []))) (has_more v0 v v' _ _ storing.has (subst (HasStoredPairs v v') found.its has));
-  }
-
--- before the first lock nothing is stored
-pub storing_none : (w : LogValue) (v : Client) (rest : List (ℕ × List (ℕ × ℕ))) → rest ≡ log_groups w → IsStoringAll w v v rest
+-- before the first pair nothing is stored
+pub storing_none : (w : LogValue) (v : Client) (rest : List (ℕ × ℕ)) → rest ≡ pairs_by_lock w → IsStoring v v (pairs_by_lock w) rest
 storing_none w v rest all = record {
   done = [];
-  left = log_locks w;
-  order = refl;
-  groups = all;
+  order = all;
   has = record { same = refl; held = refl; stored = sym (append-nil v.attempt.stored); steps = omega arith };
 }
 
--- none is left where no group is
-none_behind : (w : LogValue) (left : List ℕ) (now : List (ℕ × List (ℕ × ℕ))) → now ≡ map (with_pairs w) left → now ≡ [] → left ≡ []
-none_behind w [] now groups none = refl
-none_behind w (j ∷ js) now groups none = cc
-
-module _ (w : LogValue) (v0 v : Client) (now : List (ℕ × List (ℕ × ℕ))) (storing : IsStoringAll w v0 v now) (none_left : now ≡ []) (same_addresses : SameAddresses w) (writes : v0.attempt.writes ≡ log_pairs w) where
-  all_done : storing.done ≡ log_locks w
-  all_done = sym (append-nil storing.done) ∙ ap (λ (ks : List ℕ). storing.done ++ ks) (sym (none_behind w storing.left now storing.groups none_left)) ∙ storing.order
-
-  all_has : HasStoredPairs v0 v (flat_map (pairs_of w) (log_locks w))
-  all_has = subst (λ (ks : List ℕ). HasStoredPairs v0 v (flat_map (pairs_of w) ks)) all_done storing.has
+module _ (w : LogValue) (v0 v : Client) (now : List (ℕ × ℕ)) (storing : IsStoring v0 v (pairs_by_lock w) now) (none_left : now ≡ []) (same_addresses : SameAddresses w) (writes : v0.attempt.writes ≡ log_pairs w) where
+  all_has : HasStoredPairs v0 v (pairs_by_lock w)
+  all_has = subst (HasStoredPairs v0 v) (sym (append-nil storing.done) ∙ ap (λ (ps : List (ℕ × ℕ)). storing.done ++ ps) (sym none_left) ∙ storing.order) storing.has
 
   all_stored : IsAllStored v
   all_stored a written =

@@ -5,7 +5,6 @@ pub mod Answers
 pub mod Committing
 pub mod CommitParts
 pub mod Validating
-pub mod StoredPairs
 pub mod Attempt
 pub mod ReadAttempt
 pub mod Leading
