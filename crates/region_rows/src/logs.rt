@@ -93,8 +93,15 @@ fn locks_come_with_their_words(rt: HostRuntime) -> Result<(), Fail> {
     }
     let wanted = [(1, Addr(5), 3), (1, Addr(9), 4), (2, Addr(6), 2)];
     same(&rt, &found.as_slice(), &wanted.as_slice());
+    let pairs: Vec<(Addr, u64)> = log.pairs_by_lock().collect(rt.alloc())?;
+    same(
+        &rt,
+        &pairs.as_slice(),
+        &[(Addr(5), 3), (Addr(9), 4), (Addr(6), 2)].as_slice(),
+    );
     log.clear();
     holds(&rt, log.by_lock().next().is_none());
+    holds(&rt, log.pairs_by_lock().next().is_none());
     Ok(())
 }
 
