@@ -69,6 +69,7 @@ fn close(progress: Progress, settings: DeskSettings) -> Result<DeskReport, DeskF
     requires on { AreOn settings progress }
     requires ended { AreEnded settings progress.desks.items progress.rounds }
     ensures ran { IfOk result (λ r. Desked settings r) }
+    ensures rounds { IfOk result (λ r. r.rounds ≡ progress.rounds) }
     ensures refused { IfErr result (λ fault. fault ≡ DeskFault.Memory) }
 {
     match progress.manager.close(progress.client) {
