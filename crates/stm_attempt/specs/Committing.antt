@@ -59,6 +59,8 @@ IsCounted (Conflicting conflict) steps v = Unit {0}
 IsCounted (Spent version) steps v = v.attempt.steps ≡ steps + v.attempt.ticks
 
 -- the commit added exactly one record, and no lock is held
+-- Not said: that the values stand in the shared words: a lock is released only once all its words
+-- are stored, and `close` of the region says what the words are.
 pub record HasCommitted (region : RegionShown) (tag : List ℕ) (writes : List (ℕ × ℕ))
     (v v' : Client) (version : ℕ) : Type 0 where
   pub records : v'.records ≡ inserted (commit_record region tag v writes version) v.records
@@ -70,6 +72,7 @@ pub record HasCommitted (region : RegionShown) (tag : List ℕ) (writes : List (
 -- the commit was refused: it added no record, and no lock is held. Something was written. A spent
 -- clock is answered after as many steps as each lock costs, two to take it and one to give it
 -- back, and the lost ticks
+-- Not said: in which order the locks were given back.
 pub record HasStopped (region : RegionShown) (log : LogValue) (stop : Stop)
     (v v' : Client) : Type 0 where
   pub written : log_pairs log ≢ []
@@ -87,6 +90,7 @@ DecidesWith fits lawful region r v = (d : Decides fits lawful region v) × (d.ma
 -- at the step that decided the attempt, and made this record, its client was as it is now, but for
 -- its last step, what it had stored, the locks it held and its steps, and the records of all
 -- clients were lawful and serial, the client's own among them
+-- Not said: which other clients there are.
 pub record WasDecided (fits : List ℕ → Type 0) (lawful : RecordLaw) (region : RegionShown)
     (r : Record) (v : Client) : Type 0 where
   pub then : Client

@@ -16,6 +16,8 @@ IsHeld word = word ≡ held_word (version_of word)
 
 -- a conflict of a read at an address: the probe of its lock found it held, and not by the client
 -- itself, or free with a version above the read version; or the check found another word
+-- Not said: that a test meets Moved: no gate stands between the steps of a read, and it is proved
+-- alone.
 abbrev pub IsReadConflict : (ℕ → ℕ) → ℕ → Conflict → Client → Type 0
 IsReadConflict lk address (Held lock word) v =
     (lock ≡ lk address) × (v.attempt.last ≡ probed lock word) × IsHeld word
@@ -73,6 +75,7 @@ IsReadLock lk reads lock = (address x : ℕ) × In (address, x) reads × (lock �
 
 -- a conflict of a commit: over the lock of an address that it writes, of one that it has read, or
 -- over the clock
+-- Not said: that a commit wins; that a test meets LostLock or LostTick, which are proved alone.
 abbrev pub IsCommitConflict : (ℕ → ℕ) → LogValue → Conflict → Client → Type 0
 IsCommitConflict lk log conflict v =
     ((lock : ℕ) × IsWriteLock log lock × IsLockConflict lock conflict v) ⊎
@@ -91,5 +94,6 @@ refused (Some conflict) = 1
 
 -- how many steps an attempt takes at most, with so many reads that its write log did not answer,
 -- and so many words to write
+-- Not said: time, and how often an attempt is tried.
 abbrev pub most_steps : ℕ → ℕ → ℕ
 most_steps reads words = 4 * reads + 4 * words + 17

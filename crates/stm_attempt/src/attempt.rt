@@ -49,6 +49,9 @@ impl<'a, L: Law, R: Allocator, A: Allocator + Copy> Attempt<'a, L, R, A> {
     ghost use Rattle.stm_attempt.specs.Attempt.{runs, client_of, lock_of, IsFresh, step_bound, client_left};
 
     /// Begins an attempt, with one load of the clock. It starts with the logs emptied.
+    ///
+    /// Not said: that the read version is the newest one where other clients are out; that a client
+    /// which is alone has all grants: it has where it gathered all others.
     pub fn begin(
         region: &'a Region<L, R>,
         client: &'a mut Client<L>,
@@ -105,6 +108,8 @@ impl<'a, L: Law, R: Allocator, A: Allocator + Copy> Attempt<'a, L, R, A> {
     }
 
     /// Ends the attempt with no record.
+    ///
+    /// Not said: what the logs hold until the next begin.
     pub fn drop_it(self)
         requires { runs self ≡ true }
         ensures client { client_left self.exit ≡ self.entry.client.now }
@@ -144,6 +149,9 @@ impl<'a, L: Law, R: Allocator, A: Allocator + Copy> TxRead for Attempt<'a, L, R,
     /// The attempt's own write of this address, or a value that a probe and a check of its lock
     /// enclose, with equal words, and which enters the reads. The probe answers `Held` before
     /// `Newer`, the check `Moved` where it differs.
+    ///
+    /// Not said: that a read is answered while others write; of which version the image is that
+    /// agrees with the reads, which the region's law `reads_are_of_one_version` says.
     #[inline(always)]
     fn read(&mut self, addr: Addr) -> Result<u64, Refusal>
         requires { addr.0 < (view self.old).size }

@@ -20,6 +20,9 @@ pub enum Point {
 /// What is called at each point of a commit. A gate may use other clients of the region.
 pub trait Gate {
     /// Called once at each point that the commit comes to.
+    ///
+    /// Not said: when it is called: tests see each point told once and in its order, and that
+    /// Decided comes after the last validation is read in the code.
     fn at(&mut self, point: Point);
 }
 

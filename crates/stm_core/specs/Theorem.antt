@@ -70,6 +70,7 @@ Reaches lawful image last stripes events c =
 
 -- every list of allowed events, in any interleaving of any number of clients, leads to a core of
 -- which all this holds
+-- Not said: that an attempt is decided in the end, or what a client does next.
 abbrev pub EveryListIsSerializable : RecordLaw → Type 0
 EveryListIsSerializable lawful =
     (image : List ℕ) (last stripes : ℕ) (events : List Event) (c : Core)

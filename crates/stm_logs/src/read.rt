@@ -152,6 +152,8 @@ impl<A: Allocator + Copy> ReadLog<A> {
     }
 
     /// Empties the log. Its chunks stay for the next addresses.
+    ///
+    /// Not said: that the log keeps its chunks, which a test sees.
     #[inline]
     pub fn clear(&mut self)
         ensures { self.new ≡ [] }

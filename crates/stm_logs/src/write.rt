@@ -75,6 +75,8 @@ impl<A: Allocator + Copy> WriteLog<A> {
     ///
     /// An address that is there is put with the lock number that it has; that takes no memory.
     /// Where memory is refused, the log stays as it was.
+    ///
+    /// Not said: how the entries lie in memory, and what a call costs.
     #[inline]
     pub fn put(&mut self, addr: Addr, lock: u32, value: u64) -> Result<(), AllocError>
         requires { (l : ℕ) → get self.old.locks addr.0 ≡ Some l → l ≡ lock }
@@ -148,6 +150,9 @@ impl<A: Allocator + Copy> WriteLog<A> {
     }
 
     /// The locks of the addresses in ascending order, each once.
+    ///
+    /// Not said: that the walk is linear, and that a put, `has_lock` and `words_of` start theirs
+    /// near its end: both are read in the code.
     #[inline]
     pub fn locks(&self) -> Locks<'_, A>
         ensures { result ≡ log_locks self.now }

@@ -60,6 +60,10 @@ pub record IsRightAfter (lawful : RecordLaw) (region : RegionShown) (step : Acti
 
 -- the step was one event of this region: right after it a core state of the region, which meets the
 -- rule, has this value of the client
+-- Not said: that a step wins; that a step call makes no further load that changes nothing, which is
+-- read in `accesses.rt`.
+-- Not said: of the states that two calls name, that the list of the later one goes on from that of
+-- the earlier one.
 pub record IsOneEvent (lawful : RecordLaw) (region : RegionShown) (step : Action) (word : ℕ)
     (was v : Client) : Type 0 where
   -- the core state is this region's
@@ -79,6 +83,8 @@ pub record IsOneEvent (lawful : RecordLaw) (region : RegionShown) (step : Action
 
 -- what the client has read is of one version: the image of its read version, in the region's core
 -- state right after a step of its own, fits and agrees with its reads
+-- Not said: anything of the image between two checks but what the law `reads_are_of_one_version`
+-- says.
 pub record IsOfOneVersion (fits : List ℕ → Type 0) (lawful : RecordLaw) (region : RegionShown)
     (v : Client) : Type 0 where
   -- the core state is this region's
@@ -105,6 +111,7 @@ pub record IsOfOneVersion (fits : List ℕ → Type 0) (lawful : RecordLaw) (reg
 -- a step of this region decided the client's attempt, and right after it the records of all
 -- clients, this one's with its newest among them, each of its own once and in its order, are lawful
 -- and serial from the first opening image
+-- Not said: which other clients there are.
 pub record Decides (fits : List ℕ → Type 0) (lawful : RecordLaw) (region : RegionShown) (v : Client)
     : Type 0 where
   -- the region's core state right after the deciding step
@@ -151,6 +158,8 @@ module _ (fits : List ℕ → Type 0) (lawful : RecordLaw) (region : RegionShown
   DecidesAt = (d : Decides fits lawful region w) × (d.step ≡ e) × (d.word ≡ n) × (d.was ≡ v)
 
 -- it was lone, and not decided
+-- Not said: that no other client is out: an attempt is lone whose client has all 63 grants and made
+-- no split.
 abbrev pub IsLoneOpen : Client → Type 0
 IsLoneOpen v = (v.attempt.lone ≡ true) × (decided v ≡ false)
 

@@ -29,6 +29,8 @@ OpensNot size last stripes Stripes = IsSize size × IsLast last × ¬ IsStripes 
 OpensNot size last stripes Renewals = ⊥
 
 -- when an ending is refused: others are out, as many as the client's grants say, or no memory
+-- Not said: how many other clients are out, as these may have taken in others: the number is 63
+-- less the grants of the closing client.
 abbrev pub ClosesNot : ℕ → RegionFault → Type 0
 ClosesNot grants Size = ⊥
 ClosesNot grants Last = ⊥

@@ -8,6 +8,7 @@ use Rattle.stm_region.specs.declared.renew.RenewFault.{RenewFault}
 use Rattle.stm_region.specs.declared.renew.RenewFault.TheVariants.{Kept, Closed}
 
 -- the old region ended with these words, at some version
+-- Not said: which step of the old clock was its last.
 abbrev pub EndsSomewhere : RecordLaw → RegionShown → Client → List ℕ → Type 0
 EndsSomewhere lawful region v words = (version : ℕ) × Ends lawful region v words version
 

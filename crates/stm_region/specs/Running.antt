@@ -16,6 +16,10 @@ use Rattle.stm_region.specs.Rule.{listed}
 use Rattle.stm_region.specs.declared.layout.TheConstants.{FIRST_LOCK}
 
 -- there is such a list and such a core
+-- Not said: of two states, that the list of the later one begins with that of the earlier one: each
+-- has a list of its own.
+-- Not said: of a region that was renewed, at which last version the first of its clocks ended: it
+-- is some number for which the list is allowed.
 pub record IsListed (lawful : RecordLaw) (o : Opened) (s : State (Unit {0}) Client) : Type 0 where
   -- the last version of the first opening
   pub last : ℕ

@@ -30,6 +30,7 @@ unplaced_client rs w = record w { records = rs; attempt = unplaced_attempt w.att
 
 -- a client's value in a region is that of the list, but for the places in it, and for the order of
 -- its records: since both are sorted (`IsListed`), only readers of one version may stand in another
+-- Not said: in which order the list has readers of one version, those of one client among them.
 abbrev pub IsShadow : Client → Client → Type 0
 IsShadow v w =
     (v ≡ unplaced_client v.records w) × Shuffled v.records (map unplaced_record w.records)

@@ -21,7 +21,8 @@ pub enum RegionFault {
     /// The client may split off no more clients.
     #[error("this client has no grant left")]
     Clients,
-    /// This many other clients are out.
+    /// Other clients are out: `out` is 63 less this client's grants, which counts them and the
+    /// grants that they hold.
     #[error("{out} other clients are out")]
     StillOut { out: u64 },
     /// A region has 1 to [`MOST_STRIPES`](crate::MOST_STRIPES) lock words.

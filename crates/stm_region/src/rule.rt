@@ -21,6 +21,8 @@ pub fn running_threads_are_a_list<L: Law>()
 
 /// Between any two steps of any threads the records of all clients are lawful and serial from the
 /// first opening image, and each client's own stand among them, each once and in its order.
+///
+/// Not said: any order in time between clients that are out.
 pub fn records_are_serial<L: Law>()
     ensures serial { Always L.fits L.lawful (λ o s. Serial o.first (all_records s.views)) }
     ensures lawful { Always L.fits L.lawful (λ o s.

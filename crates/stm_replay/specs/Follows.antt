@@ -9,6 +9,7 @@ use Rattle.stm_replay.specs.declared.event.Entry.{Entry}
 use Rattle.stm_words.specs.declared.version.TheConstants.{VERSION_LIMIT}
 
 -- the core has one history, and these are the entries and the points of its records, in its order
+-- Not said: what a record read and wrote: an entry has its client, tag, version and kind.
 pub record IsOrderOf (c : Core) (entries : List Entry) (points : List ℕ) : Type 0 where
   pub history : List Record
   pub is_history : IsHistory c history
@@ -18,6 +19,7 @@ pub record IsOrderOf (c : Core) (entries : List Entry) (points : List ℕ) : Typ
 
 -- a list of allowed events leads from an opening to a core, and the running core is what the same
 -- list makes of the running core just opened
+-- Not said: which list of events led there: only that there is one.
 pub record IsReached (s : Running) : Type 0 where
   pub image : List ℕ
   pub last : ℕ

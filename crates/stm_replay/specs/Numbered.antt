@@ -85,6 +85,7 @@ module _ (lawful : RecordLaw) where
       (numbered_core number c)
 
   -- the running core plays it, where all its clients have their numbers, and shows that core
+  -- Not said: that the values in the events fit 64 bits.
   abbrev pub PlayedWithNumbers : Type 0
   PlayedWithNumbers =
       (number : List ℕ → ℕ) (image : List ℕ) (last stripes : ℕ) (events : List Event) (c : Core)

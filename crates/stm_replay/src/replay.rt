@@ -56,6 +56,9 @@ impl<A: Allocator + Copy> Core<A> {
     ///
     /// `Event` exactly where the event is not allowed, and `Memory` where it is but memory was
     /// refused, or no more events can be counted. The core comes back as it was.
+    ///
+    /// Not said: which events take memory, which a test's list of events shows; that events can
+    /// still be counted.
     pub fn play(mut self, event: Event<A>) -> Result<Core<A>, (Core<A>, NotAllowed)>
         ensures played { IfOk result (λ c.
             (may_run (stripes_of self.core) (event_of event) self.core ≡ true)

@@ -30,6 +30,8 @@ pub trait TxRead {
 
     /// The word at an address below the size: the transaction's own write of it, or a value that
     /// enters the reads. A refusal changes neither reads nor writes.
+    ///
+    /// Not said: when a read is refused.
     fn read(&mut self, addr: Addr) -> Result<u64, Self::Stop>
         requires { addr.0 < (view self.old).size }
         ensures origin { origin self.new ≡ origin self.old }
@@ -47,6 +49,8 @@ pub trait TxRead {
 pub trait TxMem: TxRead {
     /// Lets the value enter the writes, at an address below the size. A refusal changes neither
     /// reads nor writes.
+    ///
+    /// Not said: when a write is refused.
     fn write(&mut self, addr: Addr, value: u64) -> Result<(), Self::Stop>
         requires { addr.0 < (Self.view self.old).size }
         ensures origin { Self.origin self.new ≡ Self.origin self.old }
@@ -59,6 +63,8 @@ pub trait TxMem: TxRead {
 
 /// A read, in terms of every image that the memory may stand on: under each that agrees with the
 /// reads afterwards, the word was the answer.
+///
+/// Not said: what a refused read leaves; that no other word enters the reads.
 #[inline(always)]
 pub fn load<M: TxRead>(memory: &mut M, addr: Addr) -> Result<u64, M::Stop>
     requires { addr.0 < (M.view memory.old).size }
@@ -72,6 +78,8 @@ pub fn load<M: TxRead>(memory: &mut M, addr: Addr) -> Result<u64, M::Stop>
 
 /// A write, in terms of every image that the memory may stand on: under each, the word at this
 /// address is the value, and every other word is as before.
+///
+/// Not said: what a refused write leaves.
 #[inline]
 pub fn store<M: TxMem>(memory: &mut M, addr: Addr, value: u64) -> Result<(), M::Stop>
     requires { addr.0 < (M.view memory.old).size }
