@@ -13,6 +13,8 @@ use stm_words::{Addr, TxMem, load, store};
 ///
 /// The block's words are as they were when it was given back: its first word is the next free
 /// block's place.
+///
+/// Not said: what a refused call leaves of the lists.
 pub fn take<M: TxMem>(memory: &mut M, start: FreeList) -> Result<Option<Block>, M::Stop>
     requires pool { HasPool (M.view memory.old) }
     ensures origin { M.origin memory.new ≡ M.origin memory.old }
@@ -36,6 +38,8 @@ pub fn take<M: TxMem>(memory: &mut M, start: FreeList) -> Result<Option<Block>, 
 
 /// Gives back a block that is taken and that nothing leads to any more. It becomes the first of
 /// list `start`.
+///
+/// Not said: what a refused call leaves of the lists.
 pub fn give<M: TxMem>(memory: &mut M, start: FreeList, block: Block) -> Result<(), M::Stop>
     requires used { HasUsed (M.view memory.old) block }
     ensures origin { M.origin memory.new ≡ M.origin memory.old }

@@ -91,6 +91,7 @@ pub record IsInsertion (m m' : ℕ → ℕ) (n head key b : ℕ) (rs : Rows) : T
   pub relinks : Relinks m m' NEXT head (put_row rs key b)
 
 -- the block, which was fresh, came into the list
+-- Not said: what a refused call leaves of the list.
 pub record Inserted (s s' : View) (head : ℕ) (key : Key) (b : ℕ) : Type 0 where
   pub kept : Kept s s'
   pub insertion : (image : List ℕ) (rs : Rows) → Sees s' image →
@@ -107,6 +108,7 @@ pub record IsRemoval (m m' : ℕ → ℕ) (n head key : ℕ) (removed : Option �
     pub relinks : Relinks m m' NEXT head rs
 
 -- the booking of the key left the list, if there was one. Nothing was written where there was none.
+-- Not said: what a refused call leaves of the list.
 pub record Removed (s s' : View) (head key : ℕ) (removed : Option ℕ) : Type 0 where
   pub kept : Kept s s'
   pub none : removed ≡ None → s'.writes ≡ s.writes

@@ -49,6 +49,7 @@ pub record SpotAt (m : ℕ → ℕ) (head key : ℕ) (spot : Spot) (rs : Rows) :
   pub entry : pointer spot.entry ≡ block_at rs key
 
 -- the block b came into each list in which this was the spot of its key
+-- Not said: what is written where the spot is that of no key in any list.
 pub record Hung (s s' : View) (spot : Spot) (b : ℕ) : Type 0 where
   pub kept : Kept s s'
   pub insertion : (image : List ℕ) → Sees s' image → (head : ℕ) (key : Key) (rs : Rows) →
@@ -58,6 +59,7 @@ pub record Hung (s s' : View) (spot : Spot) (b : ℕ) : Type 0 where
       IsInsertion (mem s image) (mem s' image) (length image) head (code_of key) b rs
 
 -- the booking at a spot, if it had one, left each list in which this was the spot of a key
+-- Not said: what is written where the spot is that of no key in any list.
 pub record Unhung (s s' : View) (spot : Spot) (removed : Option ℕ) : Type 0 where
   pub kept : Kept s s'
   pub none : removed ≡ None → s'.writes ≡ s.writes

@@ -90,6 +90,8 @@ pub record IsFresh (s : View) (root key b : ℕ) : Type 0 where
       Table (mem s image) (length image) root rs → Fresh (mem s image) (length image) rs key b
 
 -- the block, which was fresh, came into the table under its key
+-- Not said: what a refused call leaves of the table; anything of tables of more than 262,144
+-- entries.
 pub record Inserted (s s' : View) (root key b : ℕ) : Type 0 where
   pub kept : Kept s s'
   pub table : (image : List ℕ) (rs : Rows) → Sees s' image →
@@ -100,6 +102,7 @@ pub record Inserted (s s' : View) (root key b : ℕ) : Type 0 where
       Relinks (mem s image) (mem s' image) 1 root (put_row rs key b)
 
 -- the row of the key was there and is gone, and p is its block
+-- Not said: what a refused call leaves of the table.
 pub record Removed (s s' : View) (root key p : ℕ) : Type 0 where
   pub kept : Kept s s'
   pub inside : IsInside s'.size p

@@ -223,5 +223,7 @@ report_of m p = record {
 }
 
 -- the audit of the words of a heap of this many blocks
+-- Not said: that this order of the walk is that of the rules, beyond the heaps of
+-- `damaged_words_have_their_flaws`: it is read here.
 abbrev pub audit : (ℕ → ℕ) → ℕ → Result Report Flaw
 audit m blocks = then (walk m blocks) (λ p. Ok (report_of m p))

@@ -153,6 +153,9 @@ fn audit_heap(alloc: Global, words: &[u64], blocks: usize) -> Result<Report, Fau
 ///
 /// `Size` where the length is not that of a heap of 1 to 262,144 blocks, `Memory` where there was
 /// none for the walk, and `Flaw` with the first flaw that the walk met.
+///
+/// Not said: that no stack grows with the words and that time is near linear in them: the code has
+/// no recursion, and a test has a long chain.
 pub fn audit_words(alloc: Global, words: &[u64]) -> Result<Report, AuditFault>
     ensures size { (IsHeapSize (length words.now) → ⊥) → result ≡ Err Size }
     ensures audited { (heap : IsHeapSize (length words.now)) →

@@ -19,6 +19,7 @@ use Rattle.vac_commands.specs.Ran.{Untouched, Idle, IsOutcome}
 
 -- the command ran under each image on which the customer's block is c, or the customer is missing
 -- where c is 0
+-- Not said: that other entries which stay keep their blocks.
 pub record RanOn (s s' : View) (id c : ℕ) (command : Command) (r : Reply) : Type 0 where
   pub kept : Kept s s'
   pub untouched : Untouched s s' r

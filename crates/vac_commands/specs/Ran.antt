@@ -44,6 +44,10 @@ Idle s s' command.Audit = Unit {0}
 
 -- under each image the memory was changed as the command changes the state, and the reply is the
 -- command's; a command that is refused, or has nothing to change, writes nothing
+-- Not said: which blocks new entries get, and of which free list the block of an entry that goes
+-- becomes the first; tests of vac_rows see it for some commands.
+-- Not said: that the spare words of a block stay 0, and, where something is to change, that no word
+-- is written with the value that it has.
 pub record Ran (s s' : View) (c : Command) (r : Reply) : Type 0 where
   pub kept : Kept s s'
   pub untouched : Untouched s s' r

@@ -2,8 +2,8 @@
 
 use thiserror::Error;
 
-/// Why a line asks for no task, in the order in which faults are looked for. The numbers are those
-/// of the protocol.
+/// Why a line asks for no task, in the order in which faults are looked for. Nothing reads the
+/// numbers.
 #[derive(Clone, Copy, Debug, PartialEq, Eq, Error)]
 pub enum LineFault {
     /// More than 1,024 bytes stand before the line end.

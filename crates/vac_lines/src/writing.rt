@@ -15,6 +15,8 @@ pub struct NotWritten;
 ///
 /// # Errors
 /// The output could not be written: a prefix of the text was.
+///
+/// Not said: that it fails only where the output does.
 pub fn write_all<W: Write>(output: &mut W, text: &[u8]) -> Result<(), NotWritten>
     ensures ok { OnOk result (Appends (W.contents output.old) (W.contents output.new) text.now) }
     ensures err { OnErr result
@@ -42,6 +44,9 @@ pub fn write_all<W: Write>(output: &mut W, text: &[u8]) -> Result<(), NotWritten
 ///
 /// # Errors
 /// The output could not be written or flushed: a prefix of the text was written.
+///
+/// Not said: that the output is flushed, which no contract names; that it fails only where the
+/// output does.
 pub fn write_and_flush<W: Write>(output: &mut W, text: &[u8]) -> Result<(), NotWritten>
     ensures ok { OnOk result (Appends (W.contents output.old) (W.contents output.new) text.now) }
     ensures err { OnErr result

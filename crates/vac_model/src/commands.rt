@@ -149,7 +149,8 @@ fn has_deletable_units(kind: Kind) -> bool
     }
 }
 
-/// Why a command was refused. The numbers are those of the protocol; 10 is out of use.
+/// Why a command was refused. Nothing reads the numbers: the program writes names, and in the code
+/// of a record stands the refusal's place among these.
 #[derive(Clone, Copy, Debug, PartialEq, Eq)]
 pub enum Why {
     NeedsCountAndPrice = 1,

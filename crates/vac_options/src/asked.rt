@@ -136,6 +136,8 @@ fn settings_of(matches: &ArgMatches) -> Settings
 }
 
 /// What a command line asks for. An error is the help that it asks for, or why it is refused.
+///
+/// Not said: where clap could name two faults, which of them.
 pub fn read_asked(alloc: Global, words: &[String]) -> Result<Asked, Error>
     ensures fails { FailsBy (fault_of vacation (map string_bytes words.now)) result }
     ensures asked { IfOk result (λ asked. AsksFor (map string_bytes words.now) asked) }

@@ -93,6 +93,7 @@ pub record IsBooked (m m' : ℕ → ℕ) (n customer : ℕ) (rows : Rows) (place
   pub relinks : Relinks between m' 3 (head_of customer) (put_row rows (place_key place) b)
 
 -- this is so under each image on which the customer has such a list and the block is loose
+-- Not said: the limit of a booking's units, which the caller shows; what a refused call leaves.
 pub record Booked (s s' : View) (customer : ℕ) (place : Place) (num price b : ℕ) : Type 0 where
   pub kept : Kept s s'
   pub booked : (image : List ℕ) (rows : Rows) → Sees s' image →

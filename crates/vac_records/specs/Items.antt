@@ -43,12 +43,14 @@ pub record HasMore (m m' : ℕ → ℕ) (node num : ℕ) : Type 0 where
   pub others : (x : ℕ) → x ≢ node + FREE → x ≢ node + TOTAL → m' x ≡ m x
 
 -- under each image the block became a new item
+-- Not said: what a refused call leaves of the block.
 pub record ItemMade (s s' : View) (node key num price : ℕ) : Type 0 where
   pub kept : Kept s s'
   pub made : (image : List ℕ) → Sees s' image →
       IsNewItem (mem s image) (mem s' image) node key num price
 
 -- under each image so many units were added
+-- Not said: what a refused call leaves of the item.
 pub record UnitsAdded (s s' : View) (node num : ℕ) : Type 0 where
   pub kept : Kept s s'
   pub added : (image : List ℕ) → Sees s' image → HasMore (mem s image) (mem s' image) node num
@@ -100,6 +102,7 @@ pub record IsItemNow (m m' : ℕ → ℕ) (node : ℕ) (item : Item) : Type 0 wh
   pub others : (x : ℕ) → (x < node + USED) ⊎ (node + BLOCK_WORDS ≤ x) → m' x ≡ m x
 
 -- under each image the item became what f makes of it
+-- Not said: what a refused call leaves of the item.
 pub record ItemChanged (s s' : View) (node : ℕ) (f : Item → Item) : Type 0 where
   pub kept : Kept s s'
   pub changed : (image : List ℕ) → Sees s' image →

@@ -8,6 +8,8 @@ use Rattle.vac_records.specs.Represents.{IsState}
 use Rattle.vac_records.specs.InMemory.{OnlyRead}
 
 -- only reads were made, and under each image this is the report of the state
+-- Not said: the cost: each table is walked by its keys, so that a report of n entries makes about n
+-- log n reads.
 pub record Reported (s s' : View) (r : Report) : Type 0 where
   pub reads : OnlyRead s s'
   pub is : (image : List ℕ) (state : State) → Sees s' image →
