@@ -112,6 +112,7 @@ pub record HasServed (s : DeskSettings) (d d' : Desk) (y y' : SessionShown) : Ty
 
 -- why a trip was not booked: never for its numbers; all attempts of all calls met a conflict; or
 -- the clock was found at its last version
+-- Not said: that want of memory is answered for that alone.
 abbrev pub IsRefusal : RegionShown → Task → ℕ → Fault → Client → Client → Type 0
 IsRefusal region t asks fault.Arguments v v' = ⊥
 IsRefusal region t asks fault.Memory v v' = Unit {0}

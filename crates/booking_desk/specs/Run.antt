@@ -54,6 +54,16 @@ AreEnded s ds rounds = All (λ d. asked d ≡ s.trips) ds ⊎ (rounds ≡ s.roun
 -- So that client's records are one history, legal from the empty state, and its last state has the
 -- report. The records are those of the stock and of the trips that are booked. The rounds are the
 -- renewals of the manager
+-- Not said: that a booked trip found anything free, which its reply tells; in which round a trip
+-- was booked; that desks run at once.
+-- Not said: that a trip counted as given up was asked for, but where one before it and one after it
+-- were booked in the same round.
+-- Not said: how many tries a booked trip took: one that took long, with a trip counted as given up
+-- before it, cannot be told from two.
+-- Not said: that the region is the one that ran: one that was renewed more often, with nothing done
+-- since, leaves the same words and records.
+-- Not said: why a desk ended a round; that a round books a trip; which conflict a trip was given up
+-- for.
 pub record Desked (s : DeskSettings) (r : DeskReport) : Type 0 where
   pub region : RegionShown
   pub client : Client

@@ -55,6 +55,10 @@ IsFaultBySeed s fault = IsLoadFault gives s (stream_of s.seed 0) fault
 
 -- a load of these settings was stopped by a fault, which is not that they do not fit each other,
 -- and a prefix of the line that names it was written
+-- Not said: that memory was refused where `fault memory` or `fault opening` is named, or a thread
+-- where `fault spawn` is.
+-- Not said: which of the three: the clock of the program's loads has time for every opening, so
+-- that each can be named for any settings in range.
 abbrev pub NamedFault : Settings → Option (List ℕ) → Option (List ℕ) → Type 0
 NamedFault s held holds = (fault : LoadFault) × (fault ≢ load.Arguments)
     × IsFaultBySeed s fault × AppendsPrefix held holds (load_fault_line fault)
@@ -75,6 +79,12 @@ pub record HasNoted (s : Settings) (opening : List Note) (clients : List (List N
 -- the load was run to its end, and the history of its answered calls was written and nothing else:
 -- all in the order of their records, and readers of one version in that in which they began. In
 -- this order the calls are legal, and leave the state that the load reports
+-- Not said: that a call which had ended before another began stands before it, by which alone the
+-- judge could still call the history illegal (`LegalUpToPrecedence` of vac_history).
+-- Not said: that a stamp is a reading of the clock; that the lines are read by the judge; that the
+-- state is the one which the load tells on the errors, of which no clause speaks.
+-- Not said: that no call was left out since a journal had no room for it: of the journals that a
+-- load hands back it is only known which calls they keep.
 pub record WroteCalls (s : Settings) (held holds : Option (List ℕ)) : Type 0 where
   pub opening : List Note
   pub clients : List (List Note)

@@ -26,6 +26,8 @@ use Rattle.vac_cli.specs.Ending.{as_run_fault, load_fault_line}
 use Rattle.vac_options.specs.CommandLine.{vacation, AsksFor}
 
 -- status 0 where this was done, 1 where that stopped it
+-- Not said: that the line of a fault comes, or comes whole; that it is the fault that was met; that
+-- the output is flushed. Tests play streams that fail.
 abbrev pub Ends : ℕ → Type 0 → Type 0 → Type 0
 Ends status done stopped = ((status ≡ 0) × done) ⊎ ((status ≡ 1) × stopped)
 
@@ -40,6 +42,7 @@ Loads history status s held holds =
 
 -- the tasks of a load are written where its settings fit each other; where they do not, the command
 -- line is refused
+-- Not said: which fault stands for which cause.
 abbrev pub Lists : ℕ → Settings → Option (List ℕ) → Option (List ℕ) → Type 0
 Lists status s held holds =
     ((is_settings s ≡ true) × Ends status (WroteTasks s held holds)
@@ -49,6 +52,7 @@ Lists status s held holds =
 
 -- a fault ended a judgement: one of the output, and a prefix of the verdict was written; or
 -- another, and nothing was written but a prefix of the line that names it
+-- Not said: which fault stands for which cause.
 abbrev pub JudgeStopped : ℕ → Option (List ℕ) → Option (List ℕ) → Option (List ℕ)
     → Option (List ℕ) → Type 0
 JudgeStopped blocks unread left held holds =
@@ -79,12 +83,15 @@ Does (Tasks settings) status unread left held holds =
     (left ≡ unread) × Lists status settings held holds
 
 -- what the program says of itself: its name and version, and what proved and built it
+-- Not said: that the toolchain of the second line is the one that built the program.
 abbrev pub version_text : List ℕ
 version_text = as_line (codes "vacation 0.1.0")
     ++ as_line (codes "rattle-kit-13f logic dac8208d650f15bf")
 
 -- what it shows of an error of this kind: the fault where memory was refused, help and the version
 -- on the output, and nothing on the output where the words are refused
+-- Not said: the text of the help, nor that it was written whole where the status is 0; what is
+-- written to the errors.
 abbrev pub Shows : ErrorKind → ℕ → Option (List ℕ) → Option (List ℕ) → Type 0
 Shows error.OutOfMemory status held holds =
     (status ≡ 1) × AppendsPrefix held holds (fault_line Memory)
@@ -104,6 +111,7 @@ pub record Obeyed (words : List Text) (status : ℕ) (unread left held holds : O
 
 -- memory was refused, or clap does not take the words: what it says of them was shown, and nothing
 -- was read
+-- Not said: where clap gives two kinds of error, as for a stray word after `help`, which of them.
 pub record Explained (words : List Text) (status : ℕ) (unread left held holds : Option (List ℕ)) :
     Type 0 where
   pub kind : ErrorKind

@@ -32,6 +32,9 @@ use vac_worklist::{TasksFault, write_tasks};
 /// Help and the version go to `output`, the text of a refused command line to `errors`. A fault is
 /// the last line of `output`, unless `output` is what failed. What a load tells on `errors` (how
 /// far it is, its numbers, with `--history` its two lines) changes neither `output` nor the status.
+///
+/// Not said: that a load which tells how far it is tells it, what, and when; what the line of
+/// `--stats` says. Tests look at both.
 pub fn run_words<
     T: Threads + Wait + Clock + Sync + AllocGlobal,
     R: Read,
@@ -56,6 +59,9 @@ pub fn run_words<
 
 /// Says that a word of the command line is no text, and answers the status of a refused command
 /// line. Whether that could be written changes nothing.
+///
+/// Not said: that `main` calls it for words that are no text, and hands all words of any other line
+/// to `run_words`: three lines, read in the code.
 pub fn refuse_words<E: Write>(errors: &mut E) -> u8
     ensures { result ≡ 2 }
 {

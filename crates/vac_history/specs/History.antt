@@ -18,6 +18,8 @@ abbrev pub kept_by : {C : Type 0} → Journal C → List (Journal C) → List (L
 kept_by opening clients = notes_of opening ∷ map notes_of clients
 
 -- room was refused to no call of the opening, and to none of a client
+-- Not said: that memory was refused where there was no room; that a load hands a journal back with
+-- what it knows of its room.
 abbrev pub are_whole : {C : Type 0} → Journal C → List (Journal C) → Bool
 are_whole opening clients = opening.is_whole && list_all (λ j. j.is_whole) clients
 
@@ -30,12 +32,15 @@ abbrev pub entries_text : List Entry → List ℕ
 entries_text all = history_text (map call_of all)
 
 -- the calls that the clients kept were written, a line each, in one order, and nothing else
+-- Not said: that the lines are read back, which `histories_are_read` of vac_judge says of calls in
+-- their ranges; in how many writes.
 pub record WroteHistory (kept : List (List Note)) (held holds : Option (List ℕ)) : Type 0 where
   pub all : List Entry
   pub merged : IsMerged kept all
   pub written : Appends held holds (entries_text all)
 
 -- a prefix of such a text was written
+-- Not said: that want of memory or a failed write alone end it otherwise.
 pub record WroteHistoryPrefix (kept : List (List Note)) (held holds : Option (List ℕ))
     : Type 0 where
   pub all : List Entry

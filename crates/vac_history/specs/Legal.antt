@@ -48,6 +48,7 @@ OrderedCallsAreLegal = (n : ℕ) (kept : List (List Note)) (all : List Entry) (l
 
 -- such an order is a linearization exactly where no call that had ended before another began
 -- stands behind it
+-- Not said: that it is so: what two clients read of the clock says nothing of which read it first.
 abbrev pub LegalUpToPrecedence : Type 0
 LegalUpToPrecedence = (n : ℕ) (calls : List Call) (last : State) → AreLegal n calls last →
     IsLinearization n calls ↔ KeepPrecedence calls

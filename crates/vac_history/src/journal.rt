@@ -80,6 +80,8 @@ impl<C: Clock> Keep for Journal<'_, C> {
     ghost ready = { λ journal. vec_len journal.notes < vec_capacity journal.notes };
 
     /// Where room is refused, the journal is not whole from then on.
+    ///
+    /// Not said: that the reading is that of the clock, and was taken right before the call.
     fn begin(&mut self) -> Result<(), AllocError>
         ensures same { self.new.notes.items ≡ self.old.notes.items }
         ensures room { OnOk result (vec_len self.new.notes < vec_capacity self.new.notes) }
@@ -94,6 +96,8 @@ impl<C: Clock> Keep for Journal<'_, C> {
         Ok(())
     }
 
+    /// Not said: that the reading is that of the clock, and was taken right after the call; that a
+    /// call without room is not made, to which its caller sees.
     fn keep(&mut self, task: Task, placed: Placed)
         requires { vec_len self.old.notes < vec_capacity self.old.notes }
         ensures kept { HasKept task placed

@@ -49,6 +49,7 @@ pub record Ends (judge : Judge) (line : Result Call CallFault) (verdict : Verdic
       (more : List (Result Call CallFault)) → judged s earlier (line ∷ more) ≡ verdict
 
 -- why a judge did not judge a line: memory was refused, or its calls are as many as it can count
+-- Not said: that memory was refused where Memory is answered.
 abbrev pub IsStop : Judge → JudgeFault → Type 0
 IsStop judge stop =
     (stop ≡ fault.Memory) ⊎ ((stop ≡ fault.Bound) × (judge.calls + 1 ≡ 2 ^ 64))

@@ -15,6 +15,8 @@ use Rattle.vac_judge.specs.Judging.{Follows}
 
 -- so much of the input was read as decides the verdict: all of it, or whatever follows; it is the
 -- verdict on the whole input
+-- Not said: streams whose bytes no contract knows; that no byte is read after the chunk with the
+-- first wrong line, which is read in the code.
 pub record HasVerdict (n : ℕ) (unread left : Option (List ℕ)) (verdict : Verdict) : Type 0 where
   pub bytes : List ℕ
   pub consumed : Consumes unread left bytes
@@ -37,6 +39,8 @@ pub record HasJudgedInPart (n : ℕ) (unread left held holds : Option (List ℕ)
   pub written : AppendsPrefix held holds (verdict_text verdict)
 
 -- a fault ended it: one of the output while the verdict was written, any other before
+-- Not said: which of Read, Memory and Bound ends it before it writes; that the output failed where
+-- Write is answered, since no contract says what a reader or a writer gives.
 abbrev pub HasStopped : ℕ → JudgeFault → Option (List ℕ) → Option (List ℕ) → Option (List ℕ)
     → Option (List ℕ) → Type 0
 HasStopped n fault.Write unread left held holds = HasJudgedInPart n unread left held holds

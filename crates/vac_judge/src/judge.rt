@@ -121,6 +121,9 @@ impl Judge {
     /// lines follow; or `None`, where its call is right and was taken.
     ///
     /// After a verdict or a fault, no further line can be judged by it.
+    ///
+    /// Not said: that it keeps no more than the heap, one number for each client and a reply, which
+    /// is read in the code.
     pub fn judge_line(&mut self, alloc: Global, text: &[u8]) -> Result<Option<Verdict>, JudgeFault>
         ensures judged { IfOk result (λ found. MatchOption found
             (Takes self.old self.new (line_call text.now))

@@ -51,6 +51,10 @@ pub record CountsShown : Type 0 where
 -- answer and for a spent clock, at most one for want of memory, which may come before the call, and
 -- beside these only attempts that ended in a conflict, at least as many as its tries for each busy
 -- task; together no more than so many tries for each task
+-- Not said: of one task, that a busy one met as many conflicts as it had tries and that none took
+-- more attempts: the sums are compared.
+-- Not said: of which kind a conflict was; that no attempt is left out together with its conflict or
+-- its answered call.
 pub record IsEffort (tries : ℕ) (t : Tally) (e : Efforts) : Type 0 where
   pub least : conflicts_in e + t.answered + t.spent ≤ e.attempts
   pub most : e.attempts ≤ conflicts_in e + t.answered + t.memory + t.spent

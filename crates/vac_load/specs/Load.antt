@@ -191,6 +191,7 @@ is_load s clients = is_settings s && nat_eq clients s.clients
 -- the manager of a load was made, and the opening was answered whole: from this state of its draws
 -- on all its commands were drawn, and each of them was asked for and answered, by a clock that
 -- ends at the settings' last version. What the client has then is a whole history of this manager
+-- Not said: that it was the manager of this load: some region and client are named.
 pub record WasOpened {D : Type 0} (leads : D → ℕ → D → Type 0) (s : Settings) (state left : D)
     : Type 0 where
   pub stripes : ℕ
@@ -211,6 +212,7 @@ IsTooShort s (fault.Spent version) = (version ≡ s.last) × (s.last < 4 * s.ite
 
 -- the manager of a load was made, and the opening stopped: its commands were asked for up to one
 -- that was refused with this fault, and those before it were answered
+-- Not said: that it was the manager of this load: some region and client are named.
 pub record WasStopped {D : Type 0} (leads : D → ℕ → D → Type 0) (s : Settings) (e : Fault)
     (state left : D) : Type 0 where
   pub stripes : ℕ
@@ -224,6 +226,10 @@ pub record WasStopped {D : Type 0} (leads : D → ℕ → D → Type 0) (s : Set
 -- why a load that could be run stopped, with the opening's draws before and after it. For want of
 -- memory: before the first word was drawn, or when the opening was answered whole. For want of a
 -- thread: when it was. For the opening: since one of its commands was refused so
+-- Not said: of memory that is wanting once the opening was answered, whether it was that of a
+-- thread's place, of a renewal or of the closing; that a thread could not be started.
+-- Not said: that the opening which was drawn was this load's, so that with a clock that has time
+-- each of the three can be told for any settings in range.
 abbrev pub IsStopOfLoad : {D : Type 0} → (D → ℕ → D → Type 0) → Settings → D → D → LoadFault
     → Type 0
 IsStopOfLoad leads s state left load.Arguments = ⊥
@@ -233,6 +239,7 @@ IsStopOfLoad leads s state left (load.Opening e) = WasStopped leads s e state le
 
 -- why a load was not run to its end: for its arguments, or since it stopped when the opening's
 -- draws were in some state
+-- Not said: when memory was wanting, since it gives back no draws.
 abbrev pub IsLoadFault : {D : Type 0} → (D → ℕ → D → Type 0) → Settings → D → LoadFault → Type 0
 IsLoadFault {D} leads s state e =
     (e ≡ load.Arguments) ⊎ ((left : D) × IsStopOfLoad leads s state left e)
@@ -244,6 +251,13 @@ IsLoadFault {D} leads s state e =
 -- has at most one writer, and a reader wrote nothing. The tally counts all tasks of all clients in
 -- all rounds; no task of one client alone is busy, and where the clock has time none finds it at
 -- its end
+-- Not said: of several clients, that a task counted as busy or spent was asked for; of any number,
+-- that one counted under memory was refused it. Tests count the answers.
+-- Not said: in which round a task was answered; that gates go on from round to round, or stay with
+-- their clients.
+-- Not said: that threads run at once; that a thread is refused only where it could not be started.
+-- Not said: that the history is one of a manager's clients: it is any legal history with these
+-- tasks, and `tests/history` has the histories of loads judged.
 pub record Loaded {D P : Type 0} (leads : D → ℕ → D → Type 0) (s : Settings) (draws_of : P → D)
     (state : D) (pairs : List P) (t : Tally) (r : Report) : Type 0 where
   pub history : List Record
@@ -269,6 +283,10 @@ pub record Loaded {D P : Type 0} (leads : D → ℕ → D → Type 0) (s : Setti
 
 -- a load whose keepers kept the answered calls: the opening's keeper those of the opening, and the
 -- keeper of each client those of its client's tasks, each call once, in the order of its records
+-- Not said: what the keepers of a load keep that is refused; that want of room for a call is told
+-- apart from other want of memory.
+-- Not said: that a keeper is asked for room before its call begins, and is handed the call before
+-- anything else is told of it.
 pub record LoadedKept {D P : Type 0} (leads : D → ℕ → D → Type 0) (s : Settings)
     (draws_of : P → D) (state : D) (pairs : List P) (t : Tally) (r : Report)
     (before after : Kept) (befores afters : List Kept) : Type 0 where

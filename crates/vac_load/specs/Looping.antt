@@ -66,6 +66,8 @@ least_attempts tries t = t.answered + t.spent + t.busy * tries
 
 -- a client asked for the first n of its tasks: those that were answered are a part of the tasks
 -- drawn, in their order, and each of them added its record. Alone it met no conflict
+-- Not said: that the gate is told of each answer; that a task which is counted under memory was
+-- asked for at all. Tests count both.
 pub record Looped {D : Type 0} (leads : D → ℕ → D → Type 0) (s : Settings) (renewal n : ℕ)
     (v v' : Client) (state last : D) (t : Tally) : Type 0 where
   pub tasks : List Task

@@ -3,6 +3,8 @@
 /// What is called around the rounds of a load.
 pub trait Phases {
     /// Called once, right before the first round.
+    ///
+    /// Not said: when it is called, which is read in the code.
     fn begin(&mut self);
 
     /// Called once, right after the last round, if all of them were run.

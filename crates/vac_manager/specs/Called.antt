@@ -103,6 +103,8 @@ pub record AddsReader (v v' : Client) : Type 0 where
   pub records : v'.records ≡ v.records ++ (added ∷ [])
 
 -- a command that is refused, or has nothing to change, adds a reader's record
+-- Not said: that an Add which gives an item the price that it has writes nothing: it writes the
+-- price.
 abbrev pub Spares : {E : Type 0} → Task → Result Reply E → Client → Client → Type 0
 Spares t (Ok reply) v v' = changes_nothing t reply ≡ true → AddsReader v v'
 Spares t (Err e) v v' = Unit {0}
@@ -161,6 +163,8 @@ WasShown region conflict v =
 -- the client's attempt of the task was to write something: the record of the task and some reply,
 -- with what the attempt has read and these writes, would have been lawful; and it is no command
 -- that is refused so, or has nothing to change
+-- Not said: of a task that is no single command, that a write which changes nothing is never made:
+-- a word written with the value that it has is lawful too.
 pub record WouldWrite (t : Task) (v : Client) : Type 0 where
   pub reply : Reply
   pub writes : List (ℕ × ℕ)
@@ -213,6 +217,8 @@ pub record Repeated (region : RegionShown) (t : Task) (tries : ℕ) (v v' : Clie
 
 -- how many attempts a call made: at most as many as tries, all of them where it answers Busy, none
 -- where it answers Arguments
+-- Not said: of a client that is not alone, that want of memory and a spent clock end the call at
+-- once: `Took` of `call_placed` says it, by its counts.
 abbrev pub Attempts : ℕ → ℕ → ℕ → Result Reply Fault → Type 0
 Attempts tries before now (Ok reply) = (before < now) × (now ≤ before + tries)
 Attempts tries before now (Err fault.Arguments) = now ≡ before
@@ -230,6 +236,7 @@ IsNext last before now (Err (fault.Spent version)) = before ≡ last
 
 -- why a call of a task was not answered: its numbers, a conflict that the last attempt showed, or,
 -- where the task may write, want of memory or a spent clock
+-- Not said: that want of memory is answered for that alone; that a try wins.
 abbrev pub IsFault : RegionShown → Task → ℕ → Fault → Client → Client → Type 0
 IsFault region t tries fault.Arguments v v' = (is_call t tries ≡ false) × (v' ≡ v)
 IsFault region t tries fault.Memory v v' = only_reads t ≡ false

@@ -99,6 +99,8 @@ effort_of (conflict ∷ earlier) = conflicted conflict (effort_of earlier)
 
 -- an attempt of this client, so many behind its present one, ended with this conflict shown, and
 -- changed neither its records nor its grants
+-- Not said: of which kind the conflicts of earlier tries were: the witness is any value that has
+-- the client's records and grants and that attempt's number, and shows it.
 pub record HasShown (region : RegionShown) (v : Client) (behind : ℕ) (conflict : Conflict) :
     Type 0 where
   pub client : Client

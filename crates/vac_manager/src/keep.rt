@@ -17,6 +17,8 @@ pub trait Keep {
     ghost ready: { Self → Type 0 };
 
     /// Makes room for a call that is about to begin.
+    ///
+    /// Not said: when a keeper has no room.
     fn begin(&mut self) -> Result<(), AllocError>
         ensures same { notes self.new ≡ notes self.old }
         ensures room { OnOk result (ready self.new) };

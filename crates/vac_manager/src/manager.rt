@@ -110,6 +110,9 @@ impl Manager {
 
     /// The same, and each attempt tells the gate how far its commit is. One that only reads tells
     /// it when its reads are done.
+    ///
+    /// Not said: of a gate, which has what its maker gave it, that it does not wait; that a call
+    /// comes to its end.
     pub fn call_gated<G: Gate>(
         &self,
         client: &mut Client,

@@ -106,6 +106,8 @@ pub record CheckedPrefix (unread left held holds : Option (List ℕ)) : Type 0 w
   pub written : AppendsPrefix held holds (as_line (verdict_text verdict))
 
 -- a check ended by a fault: before it wrote, or while it wrote
+-- Not said: which fault ended it, but that it is neither Busy nor Spent; that words are read no
+-- further than they must be, which a test counts.
 abbrev pub CheckStopped : Option (List ℕ) → Option (List ℕ) → Option (List ℕ)
     → Option (List ℕ) → Type 0
 CheckStopped unread left held holds =

@@ -8,6 +8,8 @@ use Rattle.vac_lines.specs.Writing.{AppendsPrefix}
 
 -- the input was read to its end; words that represent the state after its script, run on a system
 -- of n blocks, were written and nothing else
+-- Not said: which of several arrangements of blocks is written; streams whose bytes no contract
+-- knows.
 pub record Dumped (n : ℕ) (unread left held holds : Option (List ℕ)) : Type 0 where
   pub bytes : List ℕ
   pub consumed : Consumes unread left bytes
@@ -32,6 +34,7 @@ pub record DumpedNothing (unread left held holds : Option (List ℕ)) : Type 0 w
   pub written : Appends held holds []
 
 -- a dump ended by a fault: before it wrote, or while it wrote
+-- Not said: which of Read, Write, Memory and Bound ended it.
 abbrev pub DumpStopped : ℕ → Option (List ℕ) → Option (List ℕ) → Option (List ℕ)
     → Option (List ℕ) → Type 0
 DumpStopped n unread left held holds =

@@ -15,6 +15,8 @@ abbrev pub answers : State → List (Result Task LineFault) → List ℕ
 answers s lines = (script s lines).1
 
 -- the input was read to its end, and its script output was written and nothing else
+-- Not said: streams whose bytes no contract knows, as a terminal's; that each line's task is one
+-- transaction of the manager, which is read in the code.
 pub record WroteAll (n : ℕ) (unread left held holds : Option (List ℕ)) : Type 0 where
   pub bytes : List ℕ
   pub consumed : Consumes unread left bytes
@@ -23,6 +25,8 @@ pub record WroteAll (n : ℕ) (unread left held holds : Option (List ℕ)) : Typ
 
 -- what was written is a prefix of the output of the bytes that were read, and of the output of the
 -- whole input
+-- Not said: which of Read, Write, Memory and Bound ended it; that memory was refused where Memory
+-- is answered. Tests play readers and writers that fail.
 pub record WrotePrefix (n : ℕ) (unread left held holds : Option (List ℕ)) : Type 0 where
   pub bytes : List ℕ
   pub consumed : Consumes unread left bytes

@@ -52,12 +52,15 @@ abbrev pub IsTasksText : Settings → List ℕ → Type 0
 IsTasksText s text = IsTextOf s s.clients text
 
 -- the tasks of a load were written, and nothing else
+-- Not said: in how many writes; that the output is flushed; that it takes one chunk and one task of
+-- memory.
 pub record WroteTasks (s : Settings) (held holds : Option (List ℕ)) : Type 0 where
   pub text : List ℕ
   pub is : IsTasksText s text
   pub written : Appends held holds text
 
 -- a prefix of the tasks of a load was written
+-- Not said: that want of memory or a failed write alone end it otherwise.
 pub record WroteTasksPrefix (s : Settings) (held holds : Option (List ℕ)) : Type 0 where
   pub text : List ℕ
   pub is : IsTasksText s text
