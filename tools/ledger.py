@@ -534,6 +534,20 @@ def clause_rows(function):
     return rows
 
 
+def edits_line(function):
+    """The edits, and whether the function has a proof by hand, which an edit may merely fail to fit."""
+    told = ", ".join(function.edits)
+    return told + (" (proof by hand)" if has_hand_proof(function) else "")
+
+
+def has_hand_proof(function):
+    """A function's proof stands under its file, that of a method under the file of its type."""
+    folder = CRATES / function.crate / "proofs"
+    if function.owner:
+        return any(folder.glob(f"*/{function.owner + function.trait}/{function.name}"))
+    return (folder / function.file.stem / function.name).is_dir()
+
+
 def tests_line(names):
     told = ", ".join(names[:MOST_TESTS])
     return told + (f" and {len(names) - MOST_TESTS} more" if len(names) > MOST_TESTS else "")
@@ -546,7 +560,7 @@ def call_section(function, tests):
         out += ["| Clause | Definition | In words |", "|---|---|---|", *rows, ""]
     marks = []
     if function.edits:
-        marks.append(f"- Edits: {', '.join(function.edits)}")
+        marks.append(f"- Edits: {edits_line(function)}")
     if tests:
         marks.append(f"- Tests: {tests_line(tests)}")
     marks += [f"- Not said: {text}" for text in function.unsaid]
@@ -566,30 +580,41 @@ def cited_by(function):
 
 
 def record_section(crate, calls):
-    """The fields of the crate's records that clauses of its calls cite, and other definitions that
-    say what is not said."""
-    shown = {}
-    for function in calls:
-        for definition in cited_by(function):
-            if definition.crate == crate:
-                shown[definition.name] = definition
-    out = []
-    for definition in shown.values():
-        rows = []
-        for name, text in definition.fields:
-            cites = [d for d in cited(definition.file, text) if d.name != definition.name]
-            said = cites and (cites[-1].name[0].isupper() or len(text) > MOST_CLAUSE)
-            words = cell(sentence(cites[-1].words)) if said else as_code(text)
-            rows.append(f"| `{name}` | {links(cites)} | {words} |")
-        if rows:
-            out += [f"### {definition.name}", "", sentence(definition.words), "",
-                    "| Field | Definition | In words |", "|---|---|---|", *rows, ""]
-    unsaid = []
+    """The fields of the crate's records that its calls come to, and what its other definitions do not
+    say."""
+    at_calls, shown = set(), {}
+    pending = [definition for function in calls for definition in cited_by(function)]
+    at_calls = {(d.file, d.name) for d in pending}
+    while pending:
+        definition = pending.pop(0)
+        if definition.crate != crate or (definition.file, definition.name) in shown:
+            continue
+        shown[(definition.file, definition.name)] = definition
+        for _, text in definition.fields:
+            for inner in cited(definition.file, text):
+                pending += meant(inner.file, inner.name)
+    out, unsaid = [], []
+    for key, definition in shown.items():
+        rows = [field_row(definition, name, text) for name, text in definition.fields]
+        if not rows:
+            continue
+        out += [f"### {definition.name}", "", sentence(definition.words), "",
+                "| Field | Definition | In words |", "|---|---|---|", *rows, ""]
+        if definition.unsaid and key not in at_calls:
+            at_calls.add(key)
+            out += [*[f"- Not said: {text}" for text in definition.unsaid], ""]
     for path in sorted((CRATES / crate / "specs").rglob("*.antt")):
         for definition in definitions(path).values():
-            if definition.unsaid and shown.get(definition.name) is not definition:
+            if (path, definition.name) not in at_calls:
                 unsaid += [f"- {link(definition)}: {text}" for text in definition.unsaid]
     return out, unsaid
+
+
+def field_row(definition, name, text):
+    cites = [d for d in cited(definition.file, text) if d.name != definition.name]
+    said = cites and (cites[-1].name[0].isupper() or len(text) > MOST_CLAUSE)
+    words = cell(sentence(cites[-1].words)) if said else as_code(text)
+    return f"| `{name}` | {links(cites)} | {words} |"
 
 
 def private_section(crate, calls):
@@ -603,7 +628,7 @@ def private_section(crate, calls):
             where = f"[{path.name}](../../{path.relative_to(ROOT)})"
             out.append(f"- `{function.title()}` ({where}): {sentence(function.words)}")
             if function.edits:
-                out.append(f"  - Edits: {', '.join(function.edits)}")
+                out.append(f"  - Edits: {edits_line(function)}")
             out += [f"  - Not said: {text}" for text in function.unsaid]
     return out
 
@@ -666,7 +691,10 @@ def index_of(crates, counts):
            "definition that it cites. What is not said stands where the statement stands. The promises "
            "of the first page are in [PROMISES.md](../PROMISES.md).", "",
            "An edit is a wrong body that the prover must refuse; it is listed at the function in whose "
-           "text it stands. A test is listed where it names the call, itself or by a helper.", "",
+           "text it stands. Where goals of that function are proved by hand, a refusal may say no more "
+           "than that this proof does not fit the other body. A test is listed where it names the call, "
+           "itself or by a helper. A clause that begins with `asks` is what the caller must show; a law "
+           "is a public function with an empty body, whose contract is the promise.", "",
            "| Crate | What it is | Calls | Clauses | Edits | Tests | Not said |",
            "|---|---|---|---|---|---|---|"]
     total = Counts()
