@@ -32,7 +32,7 @@ HasReadRegion lk address v v' stopped (Ok x) = HasReadWord v v' address x × (st
 HasReadRegion lk address v v' stopped (Err OutOfMemory) = (v' ≡ v) × (stopped ≡ None)
 HasReadRegion lk address v v' stopped (Err Stopped) = HasMetOne lk address v v' stopped
 
--- the same of a read that keeps no log
+-- a read that keeps no log answered a value that entered the reads, or a conflict was shown
 abbrev pub HasReadOnly : (ℕ → ℕ) → ℕ → Client → Client → Option Conflict →
     Result ℕ reading.Stopped → Type 0
 HasReadOnly lk address v v' stopped (Ok x) = HasReadWord v v' address x × (stopped ≡ None)

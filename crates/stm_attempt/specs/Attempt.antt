@@ -66,7 +66,7 @@ module _ {L R A : Type 0} {l : Law.Ghosts L} where
   Writes s s' address x result =
       HasWritten (lock_of s address) address x (log_of s) (log_of s') result
 
-  -- its commit made a record of this tag and this version, and left its client so
+  -- the attempt's commit made a record of this tag and this version, and left its client so
   abbrev pub Commits : Attempt L R A l → List ℕ → Client → ℕ → Type 0
   Commits s tag v version =
       HasCommitted s.region.now tag (log_pairs (log_of s)) (client_of s) v version
@@ -76,7 +76,7 @@ module _ {L R A : Type 0} {l : Law.Ghosts L} where
   record_made s tag version =
       commit_record s.region.now tag (client_of s) (log_pairs (log_of s)) version
 
-  -- its commit stopped, and left its client so
+  -- the attempt's commit stopped, and left its client so
   abbrev pub Stops : Attempt L R A l → Client → Stop → Type 0
   Stops s v stop = HasStopped s.region.now (log_of s) stop (client_of s) v
 

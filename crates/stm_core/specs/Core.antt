@@ -101,7 +101,7 @@ pub data Event : Type 0 where
   gathers : (client other : ℕ) → Event
   renews : (client last : ℕ) → Event
 
--- it is out, and holds no lock
+-- the client is out, and holds no lock
 abbrev pub IsFreeHanded : Client → Type 0
 IsFreeHanded v = (v.is_gathered ≡ false) × (v.attempt.held ≡ [])
 

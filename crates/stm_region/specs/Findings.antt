@@ -30,7 +30,7 @@ pub record IsEarlier (renewal clock : ℕ) (r : Record) : Type 0 where
   pub present : r.renewal ≤ renewal
   pub version : r.renewal ≡ renewal → r.version ≤ clock
 
--- so is each of these records
+-- each of these records is of an earlier renewal, or of a version that the clock has reached
 abbrev pub AreEarlier : ℕ → ℕ → List Record → Type 0
 AreEarlier renewal clock records = (r : Record) → In r records → IsEarlier renewal clock r
 
@@ -157,7 +157,7 @@ module _ (fits : List ℕ → Type 0) (lawful : RecordLaw) (region : RegionShown
   abbrev pub DecidesAt : Type 0
   DecidesAt = (d : Decides fits lawful region w) × (d.step ≡ e) × (d.word ≡ n) × (d.was ≡ v)
 
--- it was lone, and not decided
+-- the attempt was lone, and not decided
 -- Not said: that no other client is out: an attempt is lone whose client has all 63 grants and made
 -- no split.
 abbrev pub IsLoneOpen : Client → Type 0

@@ -78,7 +78,8 @@ pub record Fresh (m : ℕ → ℕ) (n head : ℕ) (rs : Rows) (key : Key) (b : �
   pub kind_is : m (b + KIND) ≡ key.kind
   pub id_is : m (b + ID) ≡ key.id
 
--- this is so under each image of the memory's size, of each list that head leads to
+-- under each image of the memory's size b is a block with this key that no list at head has, and
+-- such a list has no row of the key
 pub record IsFresh (s : View) (head : ℕ) (key : Key) (b : ℕ) : Type 0 where
   pub under : (image : List ℕ) (rs : Rows) → RestsOn s image →
       IsListAt (mem s image) (length image) head rs →

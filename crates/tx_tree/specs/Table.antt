@@ -84,7 +84,8 @@ pub record Fresh (m : ℕ → ℕ) (n : ℕ) (rs : Rows) (key b : ℕ) : Type 0 
   pub absent : block_at rs key ≡ 0
   pub key_is : m b ≡ key
 
--- this is so under each image of the memory's size, of each table that root leads to
+-- under each image of the memory's size b is a block whose first word is a key that no table at
+-- root has
 pub record IsFresh (s : View) (root key b : ℕ) : Type 0 where
   pub under : (image : List ℕ) (rs : Rows) → RestsOn s image →
       Table (mem s image) (length image) root rs → Fresh (mem s image) (length image) rs key b

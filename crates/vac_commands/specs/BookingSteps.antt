@@ -33,7 +33,7 @@ pub record Here {m : ℕ → ℕ} {n : ℕ} {s : State} (h : IsState m n s) (cus
   pub item_some : item ≢ 0
   pub small : id < 2 ^ 32
 
--- the same, in the order in which it is asked of a state
+-- the customer and the item stand in these blocks, as it is asked of a state
 abbrev pub AtBlocks : ℕ → ℕ → Kind → ℕ → ℕ → (m : ℕ → ℕ) (n : ℕ) (s : State) →
     IsState m n s → Type 0
 AtBlocks customer owner kind id item m n s h = Here h customer owner kind id item

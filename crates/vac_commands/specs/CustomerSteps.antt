@@ -28,7 +28,8 @@ pub record RanOn (s s' : View) (id c : ℕ) (command : Command) (r : Reply) : Ty
       (h : IsState (mem s image) (length image) state) → customer_block h id ≡ c →
       IsOutcome (mem s' image) (length image) (step state command) r
 
--- under each such image the items stand in the same blocks as before
+-- under each image on which the customer's block was c, or the customer was missing where c is 0,
+-- the items stand in the same blocks as before
 pub record ItemsStayOn (s s' : View) (id c : ℕ) : Type 0 where
   pub stay : (image : List ℕ) (state state' : State) → Sees s' image →
       (h : IsState (mem s image) (length image) state) → customer_block h id ≡ c →

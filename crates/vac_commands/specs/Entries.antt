@@ -45,7 +45,7 @@ pub record HasCustomerAt (s : View) (id c : ℕ) : Type 0 where
   pub at : (image : List ℕ) (state : State) → Sees s image →
       (h : IsState (mem s image) (length image) state) → customer_block h id ≡ c
 
--- the same of images of the memory's size, which is what a call asks for: b is the item's block
+-- under each image of the memory's size, which is what a call asks for, b is the item's block
 pub record ItemIsAt (s : View) (kind : Kind) (id b : ℕ) : Type 0 where
   pub some : b ≢ 0
   pub inside : IsInside s.size b

@@ -56,7 +56,7 @@ pub record Ran (s s' : View) (c : Command) (r : Reply) : Type 0 where
       IsState (mem s image) (length image) state →
       IsOutcome (mem s' image) (length image) (step state c) r
 
--- the same, and nothing was written
+-- under each image the reply is the command's, and nothing was written
 pub record Asked (s s' : View) (c : Command) (r : Reply) : Type 0 where
   pub ran : Ran s s' c r
   pub writes : s'.writes ≡ s.writes

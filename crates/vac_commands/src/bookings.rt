@@ -52,7 +52,7 @@ pub fn reserve<M: TxMem>(
     reserve_at(memory, customer, owner, kind, id, item, num, start)
 }
 
-/// The same at the blocks of the customer and of the item.
+/// Books units as `reserve` does, at the blocks of the customer and of the item.
 pub fn reserve_at<M: TxMem>(
     memory: &mut M,
     customer: u32,

@@ -80,7 +80,7 @@ pub fn bill<M: TxRead>(memory: &mut M, id: u32) -> Result<Option<u64>, M::Stop>
     }
 }
 
-/// The same at the customer's block.
+/// The bill of a customer who is there, at the customer's block.
 pub fn bill_at<M: TxRead>(memory: &mut M, id: u32, customer: Block) -> Result<u64, M::Stop>
     requires state { HoldsState (M.view memory.old) }
     requires customer { CustomerIsAt (M.view memory.old) id customer }
@@ -112,7 +112,7 @@ pub fn drop_customer<M: TxMem>(memory: &mut M, id: u32, start: FreeList) -> Resu
     }
 }
 
-/// The same at the customer's block.
+/// Removes a customer as `drop_customer` does, at the customer's block.
 pub fn drop_customer_at<M: TxMem>(
     memory: &mut M,
     id: u32,

@@ -246,15 +246,15 @@ IsLoadFault {D} leads s state e =
 
 -- what a load did: there is a history, legal from the empty state on, whose last state has the
 -- report. First come the commands of the opening, and then the tasks that were answered, and no
--- others, one round behind the other. A client's tasks are drawn one behind the other over all
+-- others, in the order of renewals and versions. A client's tasks are drawn in turn over all
 -- rounds, and those of them that were answered stand in the history in their order. Each version
 -- has at most one writer, and a reader wrote nothing. The tally counts all tasks of all clients in
 -- all rounds; no task of one client alone is busy, and where the clock has time none finds it at
 -- its end
 -- Not said: of several clients, that a task counted as busy or spent was asked for; of any number,
 -- that one counted under memory was refused it. Tests count the answers.
--- Not said: in which round a task was answered; that gates go on from round to round, or stay with
--- their clients.
+-- Not said: in which round a task was answered; that the manager is renewed between two rounds;
+-- that gates go on from round to round, or stay with their clients.
 -- Not said: that threads run at once; that a thread is refused only where it could not be started.
 -- Not said: that the history is one of a manager's clients: it is any legal history with these
 -- tasks, and `tests/history` has the histories of loads judged.

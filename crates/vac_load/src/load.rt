@@ -187,8 +187,9 @@ pub fn run_load<R: Threads + Wait + AllocGlobal>(
     }
 }
 
-/// The same, each client with a copy of the gate. Beside the report, answers what the calls of all
-/// clients in all rounds took. The phases are told when the rounds begin and when they are over.
+/// Runs a load as `run_load` does, each client with a copy of the gate. Beside the report, answers
+/// what the calls of all clients in all rounds took. The phases are told when the rounds begin and
+/// when they are over.
 pub fn run_load_counted<R: Threads + Wait + AllocGlobal, G: Gate + Copy + Send + Drop, S: Phases>(
     rt: &R,
     settings: &Settings,
@@ -214,7 +215,7 @@ pub fn run_load_counted<R: Threads + Wait + AllocGlobal, G: Gate + Copy + Send +
     }
 }
 
-/// The same, with keepers of the answered calls: one of the opening's, and one of each client's,
+/// Runs a load with keepers of the answered calls: one of the opening's, and one of each client's,
 /// which goes on from round to round. Each is asked for room before a call and is handed the call
 /// once it is answered; where it has no room the call is not made, and the task counts under
 /// memory, or the opening stops for want of memory. The keepers are handed back in their order.

@@ -64,7 +64,7 @@ impl Manager {
         Self::with_stripes(alloc, blocks, last, words.min(MOST_STRIPES))
     }
 
-    /// The same with this many lock words, 1 to 1,048,576.
+    /// A manager as `new` opens it, with this many lock words, 1 to 1,048,576.
     pub fn with_stripes(
         alloc: Global,
         blocks: u32,
@@ -108,8 +108,8 @@ impl Manager {
         self.call_gated(client, task, tries, &mut NoGate)
     }
 
-    /// The same, and each attempt tells the gate how far its commit is. One that only reads tells
-    /// it when its reads are done.
+    /// Runs a task as `call` does, and each attempt tells the gate how far its commit is. One that
+    /// only reads tells it when its reads are done.
     ///
     /// Not said: of a gate, which has what its maker gave it, that it does not wait; that a call
     /// comes to its end.
@@ -127,7 +127,8 @@ impl Manager {
         self.call_traced(client, task, tries, gate, &mut traced)
     }
 
-    /// The same, and tells where the record of the call stands and what the call took.
+    /// Runs a task as `call_gated` does, and tells where the record of the call stands and what the
+    /// call took.
     pub fn call_placed<G: Gate>(
         &self,
         client: &mut Client,

@@ -78,7 +78,8 @@ pub record IsLoose (m : ℕ → ℕ) (n customer : ℕ) (rows : Rows) (place : P
   pub absent : block_at rows (place_key place) ≡ 0
   pub loose : times b rows ≡ 0
 
--- this is so under each image of the memory's size on which these are the bookings
+-- under each image of the memory's size the customer's list has no booking of the place, and b is a
+-- block that is neither the customer's nor in the list
 pub record CanBook (s : View) (customer : ℕ) (place : Place) (b : ℕ) : Type 0 where
   pub under : (image : List ℕ) (rows : Rows) → RestsOn s image →
       IsListAt (mem s image) (length image) (head_of customer) rows →
@@ -92,7 +93,8 @@ pub record IsBooked (m m' : ℕ → ℕ) (n customer : ℕ) (rows : Rows) (place
   pub list : IsListAt m' n (head_of customer) (put_row rows (place_key place) b)
   pub relinks : Relinks between m' 3 (head_of customer) (put_row rows (place_key place) b)
 
--- this is so under each image on which the customer has such a list and the block is loose
+-- under each image on which the customer had a list without a booking of the place, and b was in
+-- no structure, b became that booking, of so many units at this price
 -- Not said: the limit of a booking's units, which the caller shows; what a refused call leaves.
 pub record Booked (s s' : View) (customer : ℕ) (place : Place) (num price b : ℕ) : Type 0 where
   pub kept : Kept s s'

@@ -85,7 +85,7 @@ pub record CanMake (s : View) (node num : ℕ) : Type 0 where
   pub free : EnoughAt s (node + FREE) num
   pub used : RoomAt s (node + USED) num
 
--- the same, where this is how many units are free
+-- under each image on which so many units are free, num of them are, and fit the used ones
 pub record CanMakeOf (s : View) (node num free : ℕ) : Type 0 where
   pub free_is : (image : List ℕ) → RestsOn s image → mem s image (node + FREE) ≡ free
   pub enough : num ≤ free
@@ -108,7 +108,7 @@ pub record ItemChanged (s s' : View) (node : ℕ) (f : Item → Item) : Type 0 w
   pub changed : (image : List ℕ) → Sees s' image →
       IsItemNow (mem s image) (mem s' image) node (f (item_in (mem s image) node))
 
--- the same where so many units were free
+-- under each image on which so many units were free the item became what f makes of it
 pub record ItemChangedOf (s s' : View) (node free : ℕ) (f : Item → Item) : Type 0 where
   pub kept : Kept s s'
   pub changed : (image : List ℕ) → Sees s' image → mem s image (node + FREE) ≡ free →

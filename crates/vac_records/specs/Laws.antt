@@ -68,7 +68,8 @@ pub record Stays {m : ℕ → ℕ} {n : ℕ} {out : List ℕ} {s : State} (h : R
   pub after : Represents m' n out' s'
   pub tables : (i : ℕ) → i < 4 → after.parts.tables i ≡ h.parts.tables i
 
--- the same but for the j-th table, which has these rows
+-- the memory m' represents the state s', with the tables that h has, but for the j-th table, which
+-- has these rows
 pub record StaysBut {m : ℕ → ℕ} {n : ℕ} {out : List ℕ} {s : State} (h : Represents m n out s)
     (j : ℕ) (rows : Rows) (m' : ℕ → ℕ) (out' : List ℕ) (s' : State) : Type 0 where
   pub after : Represents m' n out' s'
@@ -81,7 +82,7 @@ OneState =
     (m : ℕ → ℕ) (n : ℕ) (out out' : List ℕ) (s s' : State) →
     Represents m n out s → Represents m n out' s' → s ≡ s'
 
--- and its tables have the same rows whenever it does
+-- where a memory represents a state its tables have the same rows, however it does
 abbrev pub OneShape : Type 0
 OneShape =
     (m : ℕ → ℕ) (n : ℕ) (out out' : List ℕ) (s s' : State) (h : Represents m n out s)

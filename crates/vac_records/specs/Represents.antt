@@ -39,7 +39,8 @@ pub record Represents (m : ℕ → ℕ) (n : ℕ) (out : List ℕ) (s : State) :
       entries (table_of s kind) ≡ items_in m (parts.tables (kind_number kind))
   pub customers : opened (entries s.customers) ≡ customers_in m parts.lists (parts.tables 3)
 
--- it represents a balanced state of at most 262,144 blocks, and no block is in hand
+-- a memory of n words represents a balanced state of at most 262,144 blocks, and no block is in
+-- hand
 pub record IsState (m : ℕ → ℕ) (n : ℕ) (s : State) : Type 0 where
   pub represents : Represents m n [] s
   pub small : IsSmall s

@@ -90,7 +90,8 @@ pub fn book<M: TxMem>(
     Ok(())
 }
 
-/// The same at the spot of the booking in the customer's list, which is not walked again.
+/// Books units as `book` does, at the spot of the booking in the customer's list, which is not
+/// walked again.
 pub fn book_at<M: TxMem>(
     memory: &mut M,
     spot: Spot,
@@ -131,7 +132,8 @@ pub fn unbook<M: TxMem>(
     Ok(taken)
 }
 
-/// The same at the spot of the booking in the customer's list, which is not walked again.
+/// Takes a booking out as `unbook` does, at the booking's spot in the customer's list, which is not
+/// walked again.
 pub fn unbook_at<M: TxMem>(memory: &mut M, spot: Spot) -> Result<Option<(Block, u64)>, M::Stop>
     requires small { (M.view memory.old).size ≤ 2 ^ 32 }
     requires link { spot.link.0 < (M.view memory.old).size }

@@ -153,7 +153,7 @@ pub fn make<M: TxMem>(memory: &mut M, node: Block, num: u32) -> Result<(), M::St
     Ok(())
 }
 
-/// The same where the caller has read how many units are free.
+/// Makes a reservation as `make` does, where the caller has read how many units are free.
 pub fn make_of<M: TxMem>(memory: &mut M, node: Block, num: u32, free: u64) -> Result<(), M::Stop>
     requires node { IsNode (M.view memory.old) node }
     requires units { CanMakeOf (M.view memory.old) node num free }

@@ -46,13 +46,15 @@ pub fn items_follow_their_blocks()
     ensures removed { ItemRemoved }
 {}
 
-/// The same of customers, who come and go without bookings.
+/// A customer that is hung into its table, or taken out of it, without bookings, changes the state
+/// by that one customer.
 pub fn customers_follow_their_blocks()
     ensures inserted { CustomerInserted }
     ensures removed { CustomerRemoved }
 {}
 
-/// The same of bookings.
+/// What is hung into a customer's list, written into a booking, or taken out of the list changes
+/// the state by that one booking.
 pub fn bookings_follow_their_blocks()
     ensures inserted { BookingInserted }
     ensures replaced { BookingReplaced }

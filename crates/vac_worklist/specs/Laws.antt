@@ -29,8 +29,8 @@ pub record IsReadBack (t : Task) : Type 0 where
   pub fits : length (task_text t) ≤ LINE_BYTES
   pub read : line_task (task_text t) ≡ Ok t
 
--- so it is with each command of the opening and with each task of a client, whatever words are
--- drawn
+-- the line of each command of the opening, and of each task of a client, is no longer than a line
+-- may be and is read as that task, whatever words are drawn
 pub record AreReadBack (s : Settings) : Type 0 where
   pub of_opening : (words rest : List ℕ) (commands : List Command)
       → opening s words ≡ Some (commands, rest) → All (λ c. IsReadBack (task.One c)) commands
