@@ -151,17 +151,19 @@ def definitions(path):
 
 
 def fields_of(lines, number, indent):
-    """The fields of a record: their names, and what each says."""
-    fields = []
+    """The fields of a record: their names, what each says, and the comment above it, if there is one."""
+    fields, above, inner = [], [], indent[:-4]
     for line in lines[number + 1:]:
-        if not line.strip() or not line.startswith(indent[:-4]):
-            if "where" in line or line.startswith(indent[:-4]):
-                continue
-            break
-        start = re.match(indent + r"(\S+) : ?(.*)", line)
+        start = re.match(re.escape(indent) + r"(\S+) : ?(.*)", line)
         if start:
-            fields.append([start.group(1), start.group(2)])
-        elif fields and not line.strip().startswith("--"):
+            fields.append([start.group(1), start.group(2), comment(above)[0]])
+            above = []
+        elif line.strip().startswith("--") and line.startswith(inner):
+            above.append(line.strip()[2:].strip())
+        elif not line.strip() or not line.startswith(inner):
+            if fields or not line.strip():
+                break
+        elif fields:
             fields[-1][1] += " " + line.strip()
     return fields
 
@@ -187,6 +189,8 @@ def imported(path):
     return names
 
 
+GENERAL = {"In", "At"}
+DATA = {}
 WORD = re.compile(r"(?<![\w.'\-])[A-Za-z_][\w'\-?]*")
 
 
@@ -195,7 +199,24 @@ def cited(path, text):
     say something, or, where there are none, what it computes with."""
     names = imported(path)
     found = list({word: names[word] for word in WORD.findall(text) if word in names}.values())
+    found = [d for d in found if d.name not in GENERAL and not is_data(d)]
     return [d for d in found if d.name[0].isupper()] or found
+
+
+def is_data(definition):
+    """Whether it is a type of values and no statement: a list of cases, or a record of such types."""
+    key = (definition.file, definition.name)
+    if key not in DATA:
+        DATA[key] = False
+        if re.match(r" *(pub )?data ", definition.body):
+            DATA[key] = True
+        elif re.match(rf" *(pub )?record (pub )?{re.escape(definition.name)} : Type", definition.body):
+            names = imported(definition.file)
+            DATA[key] = not any(
+                re.search(r"[≡≢→≤<↔¬]", text)
+                or any(not is_data(names[word]) for word in WORD.findall(text) if word in names)
+                for _, text, _ in definition.fields)
+    return DATA[key]
 
 
 @lru_cache(maxsize=None)
@@ -553,7 +574,7 @@ def tests_line(names):
     return told + (f" and {len(names) - MOST_TESTS} more" if len(names) > MOST_TESTS else "")
 
 
-def call_section(function, tests):
+def call_section(function, tests, told):
     out = [f"### `{function.title()}`", "", sentence(function.words), "", f"`{function.head}`", ""]
     rows = clause_rows(function)
     if rows:
@@ -565,7 +586,12 @@ def call_section(function, tests):
         marks.append(f"- Tests: {tests_line(tests)}")
     marks += [f"- Not said: {text}" for text in function.unsaid]
     for definition in cited_by(function):
-        marks += [f"- Not said by {link(definition)}: {text}" for text in definition.unsaid]
+        key = (definition.file, definition.name)
+        if definition.unsaid and key in told:
+            marks.append(f"- Not said by {link(definition)}: as above.")
+        else:
+            marks += [f"- Not said by {link(definition)}: {text}" for text in definition.unsaid]
+        told.add(key)
     return out + marks + ([""] if marks else [])
 
 
@@ -590,12 +616,12 @@ def record_section(crate, calls):
         if definition.crate != crate or (definition.file, definition.name) in shown:
             continue
         shown[(definition.file, definition.name)] = definition
-        for _, text in definition.fields:
+        for _, text, _ in definition.fields:
             for inner in cited(definition.file, text):
                 pending += meant(inner.file, inner.name)
     out, unsaid = [], []
     for key, definition in shown.items():
-        rows = [field_row(definition, name, text) for name, text in definition.fields]
+        rows = [field_row(definition, *about) for about in definition.fields]
         if not rows:
             continue
         out += [f"### {definition.name}", "", sentence(definition.words), "",
@@ -610,10 +636,10 @@ def record_section(crate, calls):
     return out, unsaid
 
 
-def field_row(definition, name, text):
+def field_row(definition, name, text, own):
     cites = [d for d in cited(definition.file, text) if d.name != definition.name]
     said = cites and (cites[-1].name[0].isupper() or len(text) > MOST_CLAUSE)
-    words = cell(sentence(cites[-1].words)) if said else as_code(text)
+    words = cell(sentence(own or cites[-1].words)) if own or said else as_code(text)
     return f"| `{name}` | {links(cites)} | {words} |"
 
 
@@ -668,8 +694,9 @@ def page_of(crate, tests, common):
     out = [f"# {crate}", "", sentence(crate_words(crate)), ""]
     if calls:
         out += ["## Calls", ""]
+        told = set()
         for function in calls:
-            out += call_section(function, tests.naming(function, common))
+            out += call_section(function, tests.naming(function, common), told)
     records, more = record_section(crate, calls)
     if records:
         out += ["## Records that these clauses cite", ""] + records
