@@ -204,18 +204,21 @@ def cited(path, text):
 
 
 def is_data(definition):
-    """Whether it is a type of values and no statement: a list of cases, or a record of such types."""
+    """Whether it is a type of values and no statement: a list of cases, or made of such types alone."""
     key = (definition.file, definition.name)
     if key not in DATA:
         DATA[key] = False
+        name = re.escape(definition.name)
         if re.match(r" *(pub )?data ", definition.body):
             DATA[key] = True
-        elif re.match(rf" *(pub )?record (pub )?{re.escape(definition.name)} : Type", definition.body):
+        elif re.match(rf" *(pub )?(record|abbrev) (pub )?{name} : Type \d+( where)?\n", definition.body):
+            parts = [text for _, text, _ in definition.fields] or definition.body.splitlines()[1:]
             names = imported(definition.file)
             DATA[key] = not any(
-                re.search(r"[≡≢→≤<↔¬]", text)
-                or any(not is_data(names[word]) for word in WORD.findall(text) if word in names)
-                for _, text, _ in definition.fields)
+                re.search(r"[≡≢→≤<↔¬⊎]", text)
+                or any(names[word].name != definition.name and not is_data(names[word])
+                       for word in WORD.findall(text) if word in names)
+                for text in parts)
     return DATA[key]
 
 
