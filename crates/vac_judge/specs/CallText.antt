@@ -66,8 +66,6 @@ pub record IsReadBack (call : Call) : Type 0 where
   pub read : line_call (call_text call) ≡ Ok call
 
 -- the line that is written of an answered call is read back as that call
--- Not said: a task whose own line is longer than 1,024 bytes, which only an update of 26 changes or
--- more has.
 abbrev pub CallTextsAreRead : Type 0
 CallTextsAreRead = (call : Call) (answer : Reply) → IsAnswered call answer → IsReadBack call
 
