@@ -37,7 +37,18 @@ fn legal_histories(rt: HostRuntime) -> Result<(), Fail> {
         "4294967295 5 18446744073709551615 bill 3 -> 100",
     ];
     let no_clock: &[&str] = &["0 0 0 newcust 1 -> true", "0 0 0 newcust 1 -> false exists"];
-    let rows: [(&[&str], &str); 3] = [
+    let never_answered: &[&str] = &[
+        "1 0 4 newcust 1 -> true",
+        "2 18446744073709551615 - newcust 2 -> ?",
+        "3 2 - leave 1 -> ?",
+        "1 4 18446744073709551615 bill 1 -> -1",
+    ];
+    let rows: [(&[&str], &str); 4] = [
+        (
+            never_answered,
+            "legal calls=4 clients=3\ncars=0 flights=0 rooms=0 customers=1 \
+                bookings=0 used=0 free=0 total=0 billed=0\n",
+        ),
         (
             nothing,
             "legal calls=0 clients=0\ncars=0 flights=0 rooms=0 customers=0 \
@@ -62,7 +73,22 @@ fn legal_histories(rt: HostRuntime) -> Result<(), Fail> {
 
 #[test]
 fn illegal_calls(rt: HostRuntime) -> Result<(), Fail> {
-    let rows: [(&[&str], &str); 6] = [
+    let rows: [(&[&str], &str); 9] = [
+        (
+            &[
+                "5 0 - newcust 1 -> ?",
+                "5 18446744073709551615 - audit -> ?",
+            ],
+            "illegal client 2\n",
+        ),
+        (
+            &["5 3 - newcust 1 -> ?", "4 0 2 newcust 2 -> true"],
+            "illegal time 2\n",
+        ),
+        (
+            &["5 0 - newcust 1 -> ?", "4 0 2 newcust 1 -> true"],
+            "illegal reply 2 false exists\n",
+        ),
         (&["0 0 1 add car 7 10 50 -> truE"], "illegal reply 1 true\n"),
         (&["0 0 1 add car 7 10 50 -> tru"], "illegal reply 1 true\n"),
         (
@@ -91,7 +117,14 @@ fn illegal_calls(rt: HostRuntime) -> Result<(), Fail> {
 
 #[test]
 fn lines_that_are_no_calls(rt: HostRuntime) -> Result<(), Fail> {
-    let rows: [(&str, &str); 10] = [
+    let rows: [(&str, &str); 17] = [
+        ("0 0 - audit -> x", "fault bad-call 1\n"),
+        ("x 0 - audit -> x", "fault bad-call 1\n"),
+        ("0 0 - audit -> ? ", "fault bad-call 1\n"),
+        ("0 0 0 audit -> ?", "fault bad-call 1\n"),
+        ("0 0 -- audit -> x", "fault bad-number 1\n"),
+        ("0 - - audit -> ?", "fault bad-number 1\n"),
+        ("0 0 - newcust 0 -> ?", "fault bad-number 1\n"),
         ("0 0 0 audit -> \t", "fault bad-byte 1\n"),
         ("0 0 0 -> true", "fault bad-call 1\n"),
         ("0 0 0 audit ->", "fault bad-call 1\n"),

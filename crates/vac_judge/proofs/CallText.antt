@@ -1,5 +1,5 @@
 -- The line that is written of a call is read as that call.
-use Rattle.std.proofs.Common.{◌≡◌, ◌≤◌, ◌<◌, ◌+◌, ◌*◌, ◌-◌, ◌/◌, ◌%◌, ◌^◌, ◌&&◌, ◌||◌, Bool, true, false, cond, Option, Some, None, Ok, ℕ, List, [], ◌∷◌, ◌++◌, length, take, decimal, codes, refl, sym, ap, subst, ◌∙◌, arith, append_assoc, append-nil, length-append, length-take, slice_index, ◌==◌, All}
+use Rattle.std.proofs.Common.{◌≡◌, ◌≤◌, ◌<◌, ◌+◌, ◌*◌, ◌-◌, ◌/◌, ◌%◌, ◌^◌, ◌&&◌, ◌||◌, Bool, true, false, cond, not, inl, inr, Option, Some, None, Ok, ℕ, List, [], ◌∷◌, ◌++◌, length, take, decimal, codes, refl, sym, ap, subst, ◌∙◌, arith, append_assoc, append-nil, length-append, length-take, slice_index, ◌==◌, All}
 use Rattle.std.specs.List.{list_all, list_any, flat_map, zip}
 use Rattle.std.specs.Char.{is_ascii_digit}
 use Rattle.std.proofs.lemmas.Bool.{le-leb, le-ltb}
@@ -30,11 +30,13 @@ use Rattle.vac_lines.specs.LineTable.{is_bad_byte}
 use Rattle.vac_lines.specs.Text.{why_name, done_text, field_text, entries_text, booked_text, sums_text, report_text, joined_text, pick_text, change_text, picks_text, trip_text, reply_text}
 use Rattle.vac_lines.specs.TaskText.{TaskTextsAreRead, kind_word, price_word, units_words, command_words, further_words, changes_words, task_words, task_text, spaced, words_text}
 use Rattle.vac_lines.proofs.Decimals.{all_digits, number_in_word}
-use Rattle.vac_lines.proofs.Spacing.{Each, each_both, words_cut, words_clean}
+use Rattle.vac_lines.proofs.Spacing.{Each, IsPlain, each_both, words_cut, words_clean}
 use Rattle.vac_lines.proofs.TaskReading.{both, small_id, small_amount, small_units, ask_words, has_id, is_good_change, words_plain, task_some}
-use Rattle.vac_judge.specs.Call.{Call, Parts, is_arrow, parts_of, call_parts, parts_call, at_client, at_time, line_call}
+use Rattle.vac_judge.specs.Call.{Call, Parts, is_arrow, parts_of, call_parts, parts_call, at_client, at_time, at_end, reply_at, is_no_end, is_no_reply, line_call}
+use Rattle.vac_judge.specs.declared.call.TheConstants.{MOST_CLIENT, NEVER}
+use Rattle.vac_lines.specs.declared.line.TheConstants.{LINE_BYTES}
 use Rattle.vac_judge.specs.Parts.{IsCutAtArrow}
-use Rattle.vac_judge.specs.CallText.{call_text, IsPick, IsReply, IsAnswered, CallTextsAreRead}
+use Rattle.vac_judge.specs.CallText.{call_text, end_text, answer_text, IsPick, IsReply, IsUnanswered, IsWritten, CallTextsAreRead}
 use Rattle.vac_judge.proofs.Arrows.{words_between, cut_gives, all_parts}
 
 -- numbers
@@ -286,25 +288,101 @@ task_fits t h few = record { clean = words_clean (task_words t) (words_plain t h
 fits_spaced : (a b : ℕ) (xs ys : List ℕ) → Fits a xs → Fits b ys → Fits (a + 1 + b) (xs ++ codes " " ++ ys)
 fits_spaced a b xs ys p q = fits_both (a + 1) b (xs ++ codes " ") ys (fits_both a 1 xs (codes " ") p (record { clean = refl; size = omega arith })) q
 
+-- END and REPLY of a call as they are written, and what reading them gives
+record IsGiven (c : Call) : Type 0 where
+  pub client : c.client ≤ MOST_CLIENT
+  pub begin : c.begin < 2 ^ 64
+  pub task : is_task c.task ≡ true
+  pub line : length (task_text c.task) ≤ LINE_BYTES
+  pub end_fits : Fits 20 (end_text c.reply c.end)
+  pub end_plain : IsPlain (end_text c.reply c.end)
+  pub end_other : IsOther (end_text c.reply c.end)
+  pub end_read : at_end (end_text c.reply c.end) ≡ Ok c.end
+  pub reply_fits : Fits 800 (answer_text c.reply)
+  pub reply_read : reply_at (answer_text c.reply) ≡ c.reply
+  pub same : is_no_end (end_text c.reply c.end) ≡ is_no_reply (answer_text c.reply)
+
+digits_no_end : (digits : List ℕ) → list_all is_ascii_digit digits ≡ true → is_no_end digits ≡ false
+digits_no_end [] e = refl
+digits_no_end (d ∷ ds) e = let h = and_left (is_ascii_digit d) (list_all is_ascii_digit ds) e in grind (arith, nat_tests, h)
+
+digits_no_reply : (digits : List ℕ) → list_all is_ascii_digit digits ≡ true → is_no_reply digits ≡ false
+digits_no_reply [] e = refl
+digits_no_reply (d ∷ ds) e = let h = and_left (is_ascii_digit d) (list_all is_ascii_digit ds) e in grind (arith, nat_tests, h)
+
+-- no reply has the text that stands for none
+reply_other : (r : Reply) → IsReply r → is_no_reply (reply_text r) ≡ false
+reply_other reply.Done h = refl
+reply_other (reply.Number None) h = refl
+reply_other (reply.Number (Some n)) h = digits_no_reply (decimal n) (all_digits n h)
+reply_other (reply.Report r) h = refl
+reply_other (reply.No w) h = refl
+reply_other (reply.Trip t) h = refl
+reply_other (reply.Update u) h = refl
+
+-- the facts of a call that was answered so
+given_some : (c : Call) (text : List ℕ) → c.reply ≡ Some text → c.client ≤ MOST_CLIENT → c.begin < 2 ^ 64 → c.end < 2 ^ 64 → is_task c.task ≡ true
+    → length (task_text c.task) ≤ LINE_BYTES → Fits 800 text → is_no_reply text ≡ false → IsGiven c
+given_some c text e client begin end task line f other =
+    let digits = digits_no_end (decimal c.end) (all_digits c.end end) in
+    record {
+      client = client;
+      begin = begin;
+      task = task;
+      line = line;
+      end_fits = subst (λ o. Fits 20 (end_text o c.end)) (sym e) (number_fits c.end end);
+      end_plain = subst (λ o. IsPlain (end_text o c.end)) (sym e) (number_in_word c.end end);
+      end_other = subst (λ o. IsOther (end_text o c.end)) (sym e) (number_other c.end end);
+      end_read = subst (λ o. at_end (end_text o c.end) ≡ Ok c.end) (sym e) (end_is c.end end digits);
+      reply_fits = subst (λ o. Fits 800 (answer_text o)) (sym e) f;
+      reply_read = subst (λ o. reply_at (answer_text o) ≡ o) (sym e) (ap (λ b. cond b None (Some text)) other);
+      same = subst (λ o. is_no_end (end_text o c.end) ≡ is_no_reply (answer_text o)) (sym e) (digits ∙ sym other);
+    }
+  where
+    end_is : (n : ℕ) → n < 2 ^ 64 → is_no_end (decimal n) ≡ false → at_end (decimal n) ≡ Ok n
+    end_is n small d = ap (λ b. cond b (Ok NEVER) (at_time (decimal n))) d ∙ time_read n small
+
+-- the facts of a call that was never answered
+given_none : (c : Call) → IsUnanswered c → IsGiven c
+given_none c h = record {
+  client = h.client;
+  begin = h.begin;
+  task = h.task;
+  line = h.line;
+  end_fits = subst (λ o. Fits 20 (end_text o c.end)) (sym h.reply) (record { clean = refl; size = omega arith });
+  end_plain = subst (λ o. IsPlain (end_text o c.end)) (sym h.reply) refl;
+  end_other = subst (λ o. IsOther (end_text o c.end)) (sym h.reply) refl;
+  end_read = subst (λ o. at_end (end_text o c.end) ≡ Ok c.end) (sym h.reply) (ap Ok (sym h.end));
+  reply_fits = subst (λ o. Fits 800 (answer_text o)) (sym h.reply) (record { clean = refl; size = omega arith });
+  reply_read = subst (λ o. reply_at (answer_text o) ≡ o) (sym h.reply) refl;
+  same = subst (λ o. is_no_end (end_text o c.end) ≡ is_no_reply (answer_text o)) (sym h.reply) refl;
+}
+
+given_of : (c : Call) → IsWritten c → IsGiven c
+given_of c (inl h) =
+    let a = h.1 in
+    given_some c (reply_text h.0) a.reply a.client a.begin a.end a.task a.line (reply_fits h.0 a.numbers) (reply_other h.0 a.numbers)
+given_of c (inr h) = given_none c h
+
 -- what stands before the arrow
 abbrev front : Call → List ℕ
-front c = decimal c.client ++ codes " " ++ decimal c.begin ++ codes " " ++ decimal c.end ++ codes " " ++ task_text c.task
+front c = decimal c.client ++ codes " " ++ decimal c.begin ++ codes " " ++ end_text c.reply c.end ++ codes " " ++ task_text c.task
 
-call_fits : (c : Call) (answer : Reply) → IsAnswered c answer → Fits 4096 (call_text c)
-call_fits c answer h =
+call_fits : (c : Call) → IsGiven c → Fits 4096 (call_text c)
+call_fits c h =
+    let last = end_text c.reply c.end in
     let client : Fits 20 (decimal c.client) = number_fits c.client (let small = h.client in omega (arith, small)) in
     let begin : Fits 41 (decimal c.client ++ codes " " ++ decimal c.begin) = fits_spaced 20 20 (decimal c.client) (decimal c.begin) client (number_fits c.begin h.begin) in
-    let end : Fits 62 (decimal c.client ++ codes " " ++ decimal c.begin ++ codes " " ++ decimal c.end) =
-    fits_spaced 41 20 (decimal c.client ++ codes " " ++ decimal c.begin) (decimal c.end) begin (number_fits c.end h.end) in
+    let end : Fits 62 (decimal c.client ++ codes " " ++ decimal c.begin ++ codes " " ++ last) =
+    fits_spaced 41 20 (decimal c.client ++ codes " " ++ decimal c.begin) last begin h.end_fits in
     let line : Fits 1087 (front c) =
-    fits_spaced 62 1024 (decimal c.client ++ codes " " ++ decimal c.begin ++ codes " " ++ decimal c.end) (task_text c.task) end (task_fits c.task h.task h.line) in
-    let reply : Fits 800 c.reply = subst (λ t. Fits 800 t) (sym h.reply) (reply_fits answer h.numbers) in
+    fits_spaced 62 1024 (decimal c.client ++ codes " " ++ decimal c.begin ++ codes " " ++ last) (task_text c.task) end (task_fits c.task h.task h.line) in
     fits_more 1891 4096 (call_text c) (omega arith)
-    (fits_both 1091 800 (front c ++ codes " -> ") c.reply (fits_both 1087 4 (front c) (codes " -> ") line (record { clean = refl; size = omega arith })) reply)
+    (fits_both 1091 800 (front c ++ codes " -> ") (answer_text c.reply) (fits_both 1087 4 (front c) (codes " -> ") line (record { clean = refl; size = omega arith })) h.reply_fits)
 
 -- the words before the arrow
 abbrev head_words : Call → List (List ℕ)
-head_words c = decimal c.client ∷ decimal c.begin ∷ decimal c.end ∷ task_words c.task
+head_words c = decimal c.client ∷ decimal c.begin ∷ end_text c.reply c.end ∷ task_words c.task
 
 spaced_text : (ws : List (List ℕ)) → 0 < length ws → spaced ws ≡ 32 ∷ words_text ws
 spaced_text [] h = absurd (omega arith)
@@ -315,22 +393,23 @@ from_left a b c d = simp append_assoc
 
 front_is : (c : Call) → front c ≡ words_text (head_words c)
 front_is c =
-    from_left (decimal c.client) (decimal c.begin) (decimal c.end) (task_text c.task)
-    ∙ ap (λ s. decimal c.client ++ 32 ∷ (decimal c.begin ++ 32 ∷ (decimal c.end ++ s))) (sym (spaced_text (task_words c.task) (task_some c.task)))
+    let last = end_text c.reply c.end in
+    from_left (decimal c.client) (decimal c.begin) last (task_text c.task)
+    ∙ ap (λ s. decimal c.client ++ 32 ∷ (decimal c.begin ++ 32 ∷ (last ++ s))) (sym (spaced_text (task_words c.task) (task_some c.task)))
 
-front_words : (c : Call) (answer : Reply) → IsAnswered c answer → words_of (front c) ≡ head_words c
-front_words c answer h =
+front_words : (c : Call) → IsGiven c → words_of (front c) ≡ head_words c
+front_words c h =
     ap words_of (front_is c)
     ∙ words_cut (head_words c) (omega arith)
-    (number_in_word c.client (let small = h.client in omega (arith, small)), (number_in_word c.begin h.begin, (number_in_word c.end h.end, words_plain c.task h.task)))
+    (number_in_word c.client (let small = h.client in omega (arith, small)), (number_in_word c.begin h.begin, (h.end_plain, words_plain c.task h.task)))
 
-call_cut : (c : Call) (answer : Reply) → IsAnswered c answer → IsCutAtArrow (call_text c) (front c) c.reply
-call_cut c answer h = record {
-  words = ap words_of (append_assoc (front c) (codes " -> ") c.reply) ∙ words_between (front c) (codes "-> " ++ c.reply);
+call_cut : (c : Call) → IsGiven c → IsCutAtArrow (call_text c) (front c) (answer_text c.reply)
+call_cut c h = record {
+  words = ap words_of (append_assoc (front c) (codes " -> ") (answer_text c.reply)) ∙ words_between (front c) (codes "-> " ++ answer_text c.reply);
   first =
-      ap (list_any is_arrow) (front_words c answer h)
+      ap (list_any is_arrow) (front_words c h)
       ∙ no_arrow (head_words c)
-      (number_other c.client (let small = h.client in omega (arith, small)), (number_other c.begin h.begin, (number_other c.end h.end, task_other c.task h.task)));
+      (number_other c.client (let small = h.client in omega (arith, small)), (number_other c.begin h.begin, (h.end_other, task_other c.task h.task)));
 }
 
 -- the parts of the line
@@ -338,34 +417,43 @@ abbrev written : Call → Parts
 written c = record {
   client = decimal c.client;
   begin = decimal c.begin;
-  end = decimal c.end;
+  end = end_text c.reply c.end;
   line = task_text c.task;
-  reply = c.reply;
+  reply = answer_text c.reply;
 }
 
-call_cut_parts : (c : Call) (answer : Reply) → IsAnswered c answer → call_parts (call_text c) ≡ Some (written c)
-call_cut_parts c answer h =
+call_cut_parts : (c : Call) → IsGiven c → call_parts (call_text c) ≡ Some (written c)
+call_cut_parts c h =
+    let last = end_text c.reply c.end in
     let task : words_of (task_text c.task) ≡ task_words c.task = words_cut (task_words c.task) (task_some c.task) (words_plain c.task h.task) in
-    cut_gives (call_text c) (front c) c.reply (call_cut c answer h)
-    ∙ ap (λ t. parts_of t (words_of c.reply)) (front_words c answer h ∙ ap (λ t. decimal c.client ∷ decimal c.begin ∷ decimal c.end ∷ t) (sym task))
-    ∙ all_parts (decimal c.client) (decimal c.begin) (decimal c.end) (task_text c.task) c.reply
+    cut_gives (call_text c) (front c) (answer_text c.reply) (call_cut c h)
+    ∙ ap (λ t. parts_of t (words_of (answer_text c.reply))) (front_words c h ∙ ap (λ t. decimal c.client ∷ decimal c.begin ∷ last ∷ t) (sym task))
+    ∙ all_parts (decimal c.client) (decimal c.begin) last (task_text c.task) (answer_text c.reply)
 
-parts_read : TaskTextsAreRead → (c : Call) (answer : Reply) → IsAnswered c answer → parts_call (written c) ≡ Ok c
-parts_read read c answer h =
-    rw (client_read c.client h.client, time_read c.begin h.begin, time_read c.end h.end, read c.task h.task h.line) refl
+-- tests that agree make no half
+whole : (a b : Bool) → a ≡ b → cond a (not b) b ≡ false
+whole true true e = refl
+whole false false e = refl
+whole true false e = cc
+whole false true e = cc
+
+parts_read : TaskTextsAreRead → (c : Call) → IsGiven c → parts_call (written c) ≡ Ok c
+parts_read read c h =
+    rw (whole (is_no_end (end_text c.reply c.end)) (is_no_reply (answer_text c.reply)) h.same, client_read c.client h.client, time_read c.begin h.begin, h.end_read, h.reply_read, read c.task h.task h.line) refl
 
 line_read : (line : List ℕ) (parts : Parts) (c : Call) → Fits 4096 line → call_parts line ≡ Some parts → parts_call parts ≡ Ok c → line_call line ≡ Ok c
 line_read line parts c f p r = rw (le-ltb 4096 (length line) f.size, f.clean, p) r
 
 -- the line of a call is read as that call
 pub texts_read : TaskTextsAreRead → CallTextsAreRead
-texts_read read = λ c answer h.
-    let fits = call_fits c answer h in
+texts_read read = λ c h.
+    let given = given_of c h in
+    let fits = call_fits c given in
     record {
       fits = fits.size;
-      read = line_read (call_text c) (written c) c fits (call_cut_parts c answer h) (parts_read read c answer h);
+      read = line_read (call_text c) (written c) c fits (call_cut_parts c given) (parts_read read c given);
     }
 
 -- no byte of it is a bad one
-pub call_clean : (c : Call) (answer : Reply) → IsAnswered c answer → list_any is_bad_byte (call_text c) ≡ false
-call_clean c answer h = (call_fits c answer h).clean
+pub call_clean : (c : Call) → IsWritten c → list_any is_bad_byte (call_text c) ≡ false
+call_clean c h = (call_fits c (given_of c h)).clean

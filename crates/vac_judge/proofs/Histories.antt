@@ -2,13 +2,12 @@
 use Rattle.std.proofs.Common.{◌≡◌, ◌≢◌, ◌||◌, ℕ, Bool, true, false, Result, Ok, List, [], ◌∷◌, map, refl, sym, ap, subst, ◌∙◌, append_assoc}
 use Rattle.std.specs.List.{list_any}
 use Rattle.std.proofs.lemmas.List.Elements.{All-head, All-tail, All-nil, All-cons}
-use Rattle.vac_model.specs.declared.replies.Reply.{Reply}
 use Rattle.vac_lines.specs.Lines.{lines_of, HasNo}
 use Rattle.vac_lines.specs.LineTable.{is_bad_byte}
 use Rattle.vac_judge.specs.declared.fault.CallFault.{CallFault}
 use Rattle.vac_judge.specs.Call.{Call, line_call}
 use Rattle.vac_judge.specs.Laws.{Lists, IsLinearization, LegalIsLinearization}
-use Rattle.vac_judge.specs.CallText.{call_text, history_text, IsAnswered, AreAnswered, HistoriesAreRead, CallTextsAreRead}
+use Rattle.vac_judge.specs.CallText.{call_text, history_text, IsWritten, AreWritten, HistoriesAreRead, CallTextsAreRead}
 use Rattle.vac_judge.proofs.Cutting.{lines_cut}
 use Rattle.vac_judge.proofs.CallText.{call_clean}
 
@@ -26,18 +25,14 @@ no_ends (b ∷ bs) h =
     let both = false_both (is_bad_byte b) (list_any is_bad_byte bs) h in
     All-cons (λ b. b ≢ 10) b bs (no_end b both.0) (no_ends bs both.1)
 
--- a call that some reply answers
-abbrev HasAnswer : Call → Type 0
-HasAnswer c = (answer : Reply) × IsAnswered c answer
-
-all_listed : CallTextsAreRead → (calls : List Call) → AreAnswered calls → Lists (history_text calls) calls
+all_listed : CallTextsAreRead → (calls : List Call) → AreWritten calls → Lists (history_text calls) calls
 all_listed read [] h = refl
 all_listed read (c ∷ cs) h =
-    let own = All-head HasAnswer c cs h in
+    let own = All-head IsWritten c cs h in
     ap (λ t. map line_call (lines_of t)) (append_assoc (call_text c) (10 ∷ []) (history_text cs))
-    ∙ ap (map line_call) (lines_cut (call_text c) (history_text cs) (no_ends (call_text c) (call_clean c own.0 own.1)))
-    ∙ ap (λ r. r ∷ map line_call (lines_of (history_text cs))) (read c own.0 own.1).read
-    ∙ ap (λ rs. Ok c ∷ rs) (all_listed read cs (All-tail HasAnswer c cs h))
+    ∙ ap (map line_call) (lines_cut (call_text c) (history_text cs) (no_ends (call_text c) (call_clean c own)))
+    ∙ ap (λ r. r ∷ map line_call (lines_of (history_text cs))) (read c own).read
+    ∙ ap (λ rs. Ok c ∷ rs) (all_listed read cs (All-tail IsWritten c cs h))
 
 -- a text has no calls but one list
 one_list : (xs ys : List Call) → ◌≡◌ {A = List (Result Call CallFault)} (map Ok xs) (map Ok ys) → xs ≡ ys

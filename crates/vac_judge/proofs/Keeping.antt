@@ -1,7 +1,6 @@
 -- What a judge keeps of the calls that it has judged decides on the next as all of them do.
 use Rattle.std.proofs.Common.{◌≡◌, ◌≢◌, ◌⊎◌, ℕ, ◌+◌, ◌==◌, ◌&&◌, ◌||◌, ◌<◌, ◌≤◌, max, suc, Bool, true, false, cond, List, [], ◌∷◌, length, Option, Some, None, is_some, refl, sym, ap, ◌∙◌, subst, inl, inr, arith, nat_lt}
 use Rattle.std.specs.List.{list_any}
-use Rattle.std.specs.Str.{bytes_eq}
 use Rattle.std.specs.Ordering.{nat_cmp}
 use Rattle.std.specs.FinMap.{FinMap, get, insert, len, empty, get-empty, len-empty, len-insert}
 use Rattle.std.proofs.lemmas.Cmp.{nat_cmp_total}
@@ -10,11 +9,10 @@ use Rattle.std.proofs.lemmas.Bool.Decides.{nat_tests}
 use Rattle.stm_words.specs.Seen.{same_or, get_here, get_other}
 use Rattle.vac_model.specs.State.{State}
 use Rattle.vac_model.specs.Run.{run}
-use Rattle.vac_lines.specs.Text.{reply_text}
 use Rattle.vac_judge.specs.declared.verdict.Wrong.{Wrong}
 use Rattle.vac_judge.specs.declared.verdict.Wrong.TheVariants.{Client, Time, Reply}
 use Rattle.vac_judge.specs.Call.{Call}
-use Rattle.vac_judge.specs.Order.{same_client, overlaps, ended_before, breaks_client, breaks_time, wrong_of}
+use Rattle.vac_judge.specs.Order.{same_client, overlaps, ended_before, breaks_client, breaks_time, is_right, wrong_of}
 use Rattle.vac_judge.specs.Follows.{end_of, latest_of, IsBehind, EachCall, AreInTurn, Keeps}
 use Rattle.vac_judge.specs.Judging.{JudgesTimes}
 use Rattle.vac_judge.proofs.Order.{both_false, false_both}
@@ -204,18 +202,18 @@ found client time reply last = cond client (Some Client) (cond time (Some Time) 
 
 -- what is wrong with the times is wrong with the call
 pub wrong_times : (s : State) (earlier : List Call) (c : Call) (w : Wrong) → JudgesTimes earlier c (Some w) → wrong_of s earlier c ≡ Some w
-wrong_times s earlier c Client h = ap (λ b. found b (breaks_time earlier c) (bytes_eq c.reply (reply_text (run s c.task).1)) (Some (Reply (run s c.task).1))) h
+wrong_times s earlier c Client h = ap (λ b. found b (breaks_time earlier c) (is_right c.reply (run s c.task).1) (Some (Reply (run s c.task).1))) h
 wrong_times s earlier c Time h =
-    ap (λ b. found b (breaks_time earlier c) (bytes_eq c.reply (reply_text (run s c.task).1)) (Some (Reply (run s c.task).1))) h.0
-    ∙ ap (λ b. found false b (bytes_eq c.reply (reply_text (run s c.task).1)) (Some (Reply (run s c.task).1))) h.1
+    ap (λ b. found b (breaks_time earlier c) (is_right c.reply (run s c.task).1) (Some (Reply (run s c.task).1))) h.0
+    ∙ ap (λ b. found false b (is_right c.reply (run s c.task).1) (Some (Reply (run s c.task).1))) h.1
 wrong_times s earlier c (Reply r) h = absurd h
 
 -- where the times are right, the reply decides
-pub wrong_reply : (s : State) (earlier : List Call) (c : Call) (same : Bool) → JudgesTimes earlier c None → same ≡ bytes_eq c.reply (reply_text (run s c.task).1)
+pub wrong_reply : (s : State) (earlier : List Call) (c : Call) (same : Bool) → JudgesTimes earlier c None → same ≡ is_right c.reply (run s c.task).1
     → wrong_of s earlier c ≡ cond same None (Some (Reply (run s c.task).1))
 wrong_reply s earlier c same h e =
-    ap (λ b. found b (breaks_time earlier c) (bytes_eq c.reply (reply_text (run s c.task).1)) (Some (Reply (run s c.task).1))) h.0
-    ∙ ap (λ b. found false b (bytes_eq c.reply (reply_text (run s c.task).1)) (Some (Reply (run s c.task).1))) h.1
+    ap (λ b. found b (breaks_time earlier c) (is_right c.reply (run s c.task).1) (Some (Reply (run s c.task).1))) h.0
+    ∙ ap (λ b. found false b (is_right c.reply (run s c.task).1) (Some (Reply (run s c.task).1))) h.1
     ∙ ap (λ b. cond b None (Some (Reply (run s c.task).1))) (sym e)
 
 -- a wrong that is found is none that is not

@@ -22,7 +22,7 @@ AllRight s earlier [] = ⊤
 AllRight s earlier (c ∷ cs) = IsRight s earlier c × AllRight (run s c.task).0 (c ∷ earlier) cs
 
 -- each call takes time and fits in front of those behind it
-abbrev Pairwise : List Call → Type 0
+abbrev pub Pairwise : List Call → Type 0
 Pairwise [] = ⊤
 Pairwise (c ∷ cs) = (c.begin ≤ c.end) × Each (FitsBefore c) cs × Pairwise cs
 
@@ -108,18 +108,18 @@ each_from : (P : Call → Type 0) (cs : List Call) → ((i : ℕ) (a : Call) →
 each_from P [] h = tt
 each_from P (c ∷ cs) h = (h 0 c refl, each_from P cs (λ i a e. h (suc i) a e))
 
-times_of : (cs : List Call) → Pairwise cs → TakeTime cs
+pub times_of : (cs : List Call) → Pairwise cs → TakeTime cs
 times_of [] p i a e = absurd (none_some a e)
 times_of (c ∷ cs) p zero a e = subst (λ d. d.begin ≤ d.end) (some_same c a e) p.0
 times_of (c ∷ cs) p (suc i) a e = times_of cs p.2 i a e
 
-pair_of : (cs : List Call) → Pairwise cs → (i j : ℕ) (a b : Call) → IsAt cs i a → IsAt cs j b → i < j → FitsBefore a b
+pub pair_of : (cs : List Call) → Pairwise cs → (i j : ℕ) (a b : Call) → IsAt cs i a → IsAt cs j b → i < j → FitsBefore a b
 pair_of [] p i j a b e f l = absurd (none_some a e)
 pair_of (c ∷ cs) p i zero a b e f l = absurd (omega arith)
 pair_of (c ∷ cs) p zero (suc j) a b e f l = subst (λ d. FitsBefore d b) (some_same c a e) (each_at (FitsBefore c) cs j b p.1 f)
 pair_of (c ∷ cs) p (suc i) (suc j) a b e f l = pair_of cs p.2 i j a b e f (omega arith)
 
-precedence_of : (cs : List Call) → Pairwise cs → KeepPrecedence cs
+pub precedence_of : (cs : List Call) → Pairwise cs → KeepPrecedence cs
 precedence_of cs p i j a b e f l =
     elim (cases_lt i j) [
       | inl h ↦ h
@@ -141,7 +141,7 @@ not_before cs k i j a b e f l =
       | inr h ↦ h
     ]
 
-pairwise_from : (cs : List Call) → TakeTime cs → AreSequential cs → KeepPrecedence cs → Pairwise cs
+pub pairwise_from : (cs : List Call) → TakeTime cs → AreSequential cs → KeepPrecedence cs → Pairwise cs
 pairwise_from [] t s k = tt
 pairwise_from (c ∷ cs) t s k = (
   t 0 c refl,

@@ -2,16 +2,17 @@
 use Rattle.std.proofs.Common.{◌≡◌, ℕ, ◌≤◌, ◌==◌, ◌&&◌, ◌||◌, Bool, true, false, cond, List, [], ◌∷◌, Option, Some, None, refl, sym, ap, ◌∙◌, arith, nat_lt}
 use Rattle.std.specs.Prelude.{⊤}
 use Rattle.std.specs.List.{list_any}
-use Rattle.std.specs.Str.{bytes_eq}
 use Rattle.std.proofs.lemmas.Bool.Decides.{nat_tests}
 use Rattle.std.proofs.lemmas.Slice.Eq.{bytes_eq-Decides}
 use Rattle.vac_model.specs.State.{State}
 use Rattle.vac_model.specs.Run.{run}
+use Rattle.vac_model.specs.declared.replies.Reply.{Reply}
 use Rattle.vac_lines.specs.Text.{reply_text}
 use Rattle.vac_judge.specs.declared.verdict.Wrong.{Wrong}
-use Rattle.vac_judge.specs.declared.verdict.Wrong.TheVariants.{Client, Time, Reply}
+use Rattle.vac_judge.specs.declared.verdict.Wrong.TheVariants as wrong
 use Rattle.vac_judge.specs.Call.{Call}
-use Rattle.vac_judge.specs.Order.{overlaps, ended_before, breaks_client, breaks_time, wrong_of}
+use Rattle.vac_judge.specs.Order.{overlaps, ended_before, breaks_client, breaks_time, is_right, wrong_of}
+use Rattle.vac_judge.specs.Laws.{IsAnswerOf}
 
 -- a fact of each element
 abbrev pub Each : {X : Type 0} → (X → Type 0) → List X → Type 0
@@ -27,7 +28,7 @@ pub record FitsBefore (e c : Call) : Type 0 where
 pub record IsRight (s : State) (earlier : List Call) (c : Call) : Type 0 where
   pub own : c.begin ≤ c.end
   pub fits : Each (λ e. FitsBefore e c) earlier
-  pub reply : reply_text (run s c.task).1 ≡ c.reply
+  pub reply : IsAnswerOf (run s c.task).1 c.reply
 
 turn_from : (a b x y : ℕ) → (a == b && nat_lt x y) ≡ false → a ≡ b → y ≤ x
 turn_from a b x y h e = grind (arith, nat_tests)
@@ -66,33 +67,42 @@ none_ended c (e ∷ es) h = false_both (ended_before c e) (list_any (ended_befor
 
 -- the order of the tests
 abbrev found : Bool → Bool → Bool → Option Wrong → Option Wrong
-found client time reply last = cond client (Some Client) (cond time (Some Time) (cond reply None last))
+found client time reply last = cond client (Some wrong.Client) (cond time (Some wrong.Time) (cond reply None last))
 
 some_none : (w : Wrong) → Some w ≡ None → ⊥
 some_none w e = cc
 
 found_none : (client time reply : Bool) (w : Wrong) → found client time reply (Some w) ≡ None → (client ≡ false) × (time ≡ false) × (reply ≡ true)
-found_none true time reply w h = absurd (some_none Client h)
-found_none false true reply w h = absurd (some_none Time h)
+found_none true time reply w h = absurd (some_none wrong.Client h)
+found_none false true reply w h = absurd (some_none wrong.Time h)
 found_none false false true w h = (refl, refl, refl)
 found_none false false false w h = absurd (some_none w h)
+
+-- the test of a reply says that it may have been given
+pub answer_of : (r : Reply) (given : Option (List ℕ)) → is_right given r ≡ true → IsAnswerOf r given
+answer_of r None h = tt
+answer_of r (Some text) h = sym ((bytes_eq-Decides text (reply_text r)).0 h)
+
+pub of_answer : (r : Reply) (given : Option (List ℕ)) → IsAnswerOf r given → is_right given r ≡ true
+of_answer r None h = refl
+of_answer r (Some text) h = (bytes_eq-Decides text (reply_text r)).1 (sym h)
 
 -- no wrong is found in a call that is right, and in no other
 pub right_of : (s : State) (earlier : List Call) (c : Call) → wrong_of s earlier c ≡ None → IsRight s earlier c
 right_of s earlier c h =
-    let tests = found_none (breaks_client earlier c) (breaks_time earlier c) (bytes_eq c.reply (reply_text (run s c.task).1)) (Reply (run s c.task).1) h in
+    let tests = found_none (breaks_client earlier c) (breaks_time earlier c) (is_right c.reply (run s c.task).1) (wrong.Reply (run s c.task).1) h in
     let client = both_false (nat_lt c.end c.begin) (list_any (overlaps c) earlier) tests.0 in
     record {
       own = time_from c.end c.begin client.0;
       fits = fits_all c earlier client.1 tests.1;
-      reply = sym ((bytes_eq-Decides c.reply (reply_text (run s c.task).1)).0 tests.2);
+      reply = answer_of (run s c.task).1 c.reply tests.2;
     }
 
 pub wrong_none : (s : State) (earlier : List Call) (c : Call) → IsRight s earlier c → wrong_of s earlier c ≡ None
 wrong_none s earlier c h =
-    let last : Option Wrong = Some (Reply (run s c.task).1) in
+    let last : Option Wrong = Some (wrong.Reply (run s c.task).1) in
     let client : breaks_client earlier c ≡ false = false_both (nat_lt c.end c.begin) (list_any (overlaps c) earlier) (time_test c.end c.begin h.own) (none_overlaps c earlier h.fits) in
-    let reply : bytes_eq c.reply (reply_text (run s c.task).1) ≡ true = (bytes_eq-Decides c.reply (reply_text (run s c.task).1)).1 (sym h.reply) in
-    ap (λ b. found b (breaks_time earlier c) (bytes_eq c.reply (reply_text (run s c.task).1)) last) client
-    ∙ ap (λ b. found false b (bytes_eq c.reply (reply_text (run s c.task).1)) last) (none_ended c earlier h.fits)
+    let reply : is_right c.reply (run s c.task).1 ≡ true = of_answer (run s c.task).1 c.reply h.reply in
+    ap (λ b. found b (breaks_time earlier c) (is_right c.reply (run s c.task).1) last) client
+    ∙ ap (λ b. found false b (is_right c.reply (run s c.task).1) last) (none_ended c earlier h.fits)
     ∙ ap (λ b. found false false b last) reply

@@ -1,7 +1,8 @@
--- Which call a line of a history stands for: CLIENT BEGIN END LINE -> REPLY.
+-- Which call a line of a history stands for: CLIENT BEGIN END LINE -> REPLY, or, where the call was
+-- never answered, CLIENT BEGIN - LINE -> ?.
 use Rattle.std.specs.Prelude.{ℕ, Option, Some, None, Result, Ok, Err, List, ◌∷◌, length, nat_lt, codes, if◌then◌else◌}
 use Rattle.std.specs.Option.{ok_or}
-use Rattle.std.specs.Prelude.{Bool}
+use Rattle.std.specs.Prelude.{Bool, not}
 use Rattle.std.specs.List.{list_any, join_with_byte, before_first, after_first}
 use Rattle.std.specs.Str.{bytes_eq}
 use Rattle.vac_model.specs.declared.tasks.Task.{Task}
@@ -12,16 +13,17 @@ use Rattle.vac_lines.specs.Words.{number_between, memory_word_of}
 use Rattle.vac_lines.specs.LineTable.{line_task, is_bad_byte}
 use Rattle.vac_judge.specs.declared.fault.CallFault.{CallFault}
 use Rattle.vac_judge.specs.declared.fault.CallFault.TheVariants.{BadCall, Line}
-use Rattle.vac_judge.specs.declared.call.TheConstants.{CALL_BYTES, MOST_CLIENT_DIGITS, MOST_CLIENT}
+use Rattle.vac_judge.specs.declared.call.TheConstants.{CALL_BYTES, MOST_CLIENT_DIGITS, MOST_CLIENT, NEVER}
 
 -- a call of a client, with readings of the clock before it began and after it was answered, the
--- task that was asked for, and the text of the reply
+-- task that was asked for, and the text of the reply; one that was never answered ends later than
+-- all times, and has no reply
 pub record Call : Type 0 where
   pub client : ℕ
   pub begin : ℕ
   pub end : ℕ
   pub task : Task
-  pub reply : List ℕ
+  pub reply : Option (List ℕ)
 
 -- the word between a task's line and its reply
 abbrev pub is_arrow : List ℕ → Bool
@@ -71,19 +73,50 @@ at_client word = ok_or (number_between MOST_CLIENT_DIGITS 0 MOST_CLIENT word) (L
 abbrev pub at_time : List ℕ → Result ℕ CallFault
 at_time word = ok_or (memory_word_of word) (Line BadNumber)
 
+-- the word in the place of END where there was no answer
+abbrev pub is_no_end : List ℕ → Bool
+is_no_end word = bytes_eq word (codes "-")
+
+-- the text in the place of REPLY where there was none
+abbrev pub is_no_reply : List ℕ → Bool
+is_no_reply text = bytes_eq text (codes "?")
+
+-- only one of END and REPLY says that there was no answer
+abbrev pub is_half : List ℕ → List ℕ → Bool
+is_half end reply = if is_no_end end then not (is_no_reply reply) else is_no_reply reply
+
+-- END of a call: later than all times where it was never answered
+abbrev pub at_end : List ℕ → Result ℕ CallFault
+at_end word = if is_no_end word then Ok NEVER else at_time word
+
+-- the text of the reply, where there was one
+abbrev pub reply_at : List ℕ → Option (List ℕ)
+reply_at text = if is_no_reply text then None else Some text
+
 -- a fault of the task's line is one of the call's line
 abbrev pub as_call_fault : {A : Type 0} → Result A LineFault → Result A CallFault
 as_call_fault (Ok x) = Ok x
 as_call_fault (Err fault) = Err (Line fault)
 
--- the call of these parts, or its first fault
-abbrev pub parts_call : Parts → Result Call CallFault
-parts_call parts = do
+-- the call of parts that are not half, or its first fault
+abbrev pub whole_call : Parts → Result Call CallFault
+whole_call parts = do
   client ← at_client parts.client
   begin ← at_time parts.begin
-  end ← at_time parts.end
+  end ← at_end parts.end
   task ← as_call_fault (line_task parts.line)
-  Ok (record { client = client; begin = begin; end = end; task = task; reply = parts.reply })
+  Ok (record {
+    client = client;
+    begin = begin;
+    end = end;
+    task = task;
+    reply = reply_at parts.reply;
+  })
+
+-- the call of these parts, or its first fault
+abbrev pub parts_call : Parts → Result Call CallFault
+parts_call parts =
+    if is_half parts.end parts.reply then Err BadCall else whole_call parts
 
 -- the call of a line, or its first fault
 abbrev pub line_call : List ℕ → Result Call CallFault

@@ -1,5 +1,5 @@
 -- The line that a writer of histories writes of a call, in its plain form.
-use Rattle.std.specs.Prelude.{◌≡◌, ◌↔◌, ◌≤◌, ◌<◌, ◌^◌, ⊤, ℕ, true, IfSome, Ok, All, List, ◌∷◌, [], ◌++◌, length, flat_map, codes, decimal, Option}
+use Rattle.std.specs.Prelude.{◌≡◌, ◌↔◌, ◌≤◌, ◌<◌, ◌^◌, ⊤, ℕ, ◌⊎◌, true, IfSome, Some, None, Ok, All, List, ◌∷◌, [], ◌++◌, length, flat_map, codes, decimal, Option}
 use Rattle.vac_model.specs.declared.limits.TheConstants.{MOST_PARTS}
 use Rattle.vac_model.specs.declared.tasks.Task.{Task}
 use Rattle.vac_model.specs.declared.replies.Reply.{Reply}
@@ -10,16 +10,27 @@ use Rattle.vac_lines.specs.declared.line.TheConstants.{LINE_BYTES}
 use Rattle.vac_lines.specs.Script.{as_line}
 use Rattle.vac_lines.specs.TaskText.{task_text}
 use Rattle.vac_lines.specs.Text.{reply_text}
-use Rattle.vac_judge.specs.declared.call.TheConstants.{CALL_BYTES, MOST_CLIENT}
+use Rattle.vac_judge.specs.declared.call.TheConstants.{CALL_BYTES, MOST_CLIENT, NEVER}
 use Rattle.vac_judge.specs.Call.{Call, line_call}
 use Rattle.vac_judge.specs.Verdict.{verdict_on, is_legal}
 use Rattle.vac_judge.specs.Laws.{Lists, IsLinearization}
 
+-- END of a call with such a reply: `-` where it was never answered
+abbrev pub end_text : Option (List ℕ) → ℕ → List ℕ
+end_text None end = codes "-"
+end_text (Some reply) end = decimal end
+
+-- REPLY: `?` where there was none
+abbrev pub answer_text : Option (List ℕ) → List ℕ
+answer_text None = codes "?"
+answer_text (Some reply) = reply
+
 -- CLIENT BEGIN END LINE -> REPLY, LINE being that of the task in its plain form
 abbrev pub call_text : Call → List ℕ
 call_text call =
-    decimal call.client ++ codes " " ++ decimal call.begin ++ codes " " ++ decimal call.end
-    ++ codes " " ++ task_text call.task ++ codes " -> " ++ call.reply
+    decimal call.client ++ codes " " ++ decimal call.begin ++ codes " "
+    ++ end_text call.reply call.end ++ codes " " ++ task_text call.task ++ codes " -> "
+    ++ answer_text call.reply
 
 -- each of these numbers has 64 bits
 abbrev pub AreWords : List ℕ → Type 0
@@ -48,7 +59,17 @@ pub record IsAnswered (call : Call) (answer : Reply) : Type 0 where
   pub task : is_task call.task ≡ true
   pub line : length (task_text call.task) ≤ LINE_BYTES
   pub numbers : IsReply answer
-  pub reply : call.reply ≡ reply_text answer
+  pub reply : call.reply ≡ Some (reply_text answer)
+
+-- a call that was never answered: its numbers are those of their types, its task can be asked for
+-- and has a line that is no longer than a line may be
+pub record IsUnanswered (call : Call) : Type 0 where
+  pub client : call.client ≤ MOST_CLIENT
+  pub begin : call.begin < 2 ^ 64
+  pub end : call.end ≡ NEVER
+  pub task : is_task call.task ≡ true
+  pub line : length (task_text call.task) ≤ LINE_BYTES
+  pub reply : call.reply ≡ None
 
 -- the call that this reply answers
 abbrev pub answered : ℕ → ℕ → ℕ → Task → Reply → Call
@@ -57,7 +78,17 @@ answered client begin end task answer = record {
   begin = begin;
   end = end;
   task = task;
-  reply = reply_text answer;
+  reply = Some (reply_text answer);
+}
+
+-- the call that was never answered
+abbrev pub unanswered : ℕ → ℕ → Task → Call
+unanswered client begin task = record {
+  client = client;
+  begin = begin;
+  end = NEVER;
+  task = task;
+  reply = None;
 }
 
 -- its line is no longer than a line of a history may be, and is read as that call
@@ -65,13 +96,17 @@ pub record IsReadBack (call : Call) : Type 0 where
   pub fits : length (call_text call) ≤ CALL_BYTES
   pub read : line_call (call_text call) ≡ Ok call
 
--- the line that is written of an answered call is read back as that call
-abbrev pub CallTextsAreRead : Type 0
-CallTextsAreRead = (call : Call) (answer : Reply) → IsAnswered call answer → IsReadBack call
+-- a call that some reply answers, or that was never answered
+abbrev pub IsWritten : Call → Type 0
+IsWritten call = ((answer : Reply) × IsAnswered call answer) ⊎ IsUnanswered call
 
--- each of these calls is answered by some reply
-abbrev pub AreAnswered : List Call → Type 0
-AreAnswered calls = All (λ call. (answer : Reply) × IsAnswered call answer) calls
+-- the line that is written of a call is read back as that call
+abbrev pub CallTextsAreRead : Type 0
+CallTextsAreRead = (call : Call) → IsWritten call → IsReadBack call
+
+-- each of these calls is answered by some reply, or was never answered
+abbrev pub AreWritten : List Call → Type 0
+AreWritten calls = All IsWritten calls
 
 -- the history that is written of calls, one a line
 abbrev pub history_text : List Call → List ℕ
@@ -83,6 +118,6 @@ pub record IsTheirHistory (calls : List Call) : Type 0 where
   pub judged : (n : ℕ) → (is_legal (verdict_on n (history_text calls)) ≡ true)
       ↔ IsLinearization n calls
 
--- the text of any answered calls is their history, and is judged as such
+-- the text of any such calls is their history, and is judged as such
 abbrev pub HistoriesAreRead : Type 0
-HistoriesAreRead = (calls : List Call) → AreAnswered calls → IsTheirHistory calls
+HistoriesAreRead = (calls : List Call) → AreWritten calls → IsTheirHistory calls

@@ -1,8 +1,10 @@
 -- The verdict is right: a history is legal exactly where the order in which its calls are given is
--- a linearization of it (Herlihy and Wing, TOPLAS 1990).
-use Rattle.std.specs.Prelude.{◌≡◌, ◌↔◌, ⊤, ℕ, ◌<◌, ◌≤◌, Some, Ok, List, [], ◌∷◌, map, slice_get, true, reverse}
+-- a linearization of it (Herlihy and Wing, TOPLAS 1990). A call that was never answered ends later
+-- than all times, and takes effect where it stands.
+use Rattle.std.specs.Prelude.{◌≡◌, ◌↔◌, ⊤, ℕ, ◌<◌, ◌≤◌, Option, Some, None, Ok, List, [], ◌∷◌, map, slice_get, true, reverse}
 use Rattle.vac_model.specs.State.{State, empty_state}
 use Rattle.vac_model.specs.Run.{run}
+use Rattle.vac_model.specs.declared.replies.Reply.{Reply}
 use Rattle.vac_lines.specs.Lines.{lines_of}
 use Rattle.vac_lines.specs.Text.{reply_text}
 use Rattle.vac_judge.specs.declared.verdict.Verdict.TheVariants.{Legal}
@@ -13,11 +15,16 @@ use Rattle.vac_judge.specs.Verdict.{verdict_on, is_legal, summary_of}
 abbrev pub IsAt : List Call → ℕ → Call → Type 0
 IsAt calls place call = slice_get calls place ≡ Some call
 
+-- a call may have been answered this: it was, or it was never answered
+abbrev pub IsAnswerOf : Reply → Option (List ℕ) → Type 0
+IsAnswerOf reply None = ⊤
+IsAnswerOf reply (Some text) = reply_text reply ≡ text
+
 -- run one after the other from a state, the calls give their replies
 abbrev pub GiveReplies : State → List Call → Type 0
 GiveReplies s [] = ⊤
 GiveReplies s (call ∷ rest) =
-    (reply_text (run s call.task).1 ≡ call.reply) × GiveReplies (run s call.task).0 rest
+    IsAnswerOf (run s call.task).1 call.reply × GiveReplies (run s call.task).0 rest
 
 -- no call ends before it begins
 abbrev pub TakeTime : List Call → Type 0

@@ -1,12 +1,13 @@
 -- When a call does not fit the calls before it. Earlier calls are listed from the newest on.
-use Rattle.std.specs.Prelude.{ℕ, ◌+◌, ◌==◌, ◌&&◌, ◌||◌, Bool, Option, Some, None, List, [], ◌∷◌, nat_lt, if◌then◌else◌}
+use Rattle.std.specs.Prelude.{ℕ, ◌+◌, ◌==◌, ◌&&◌, ◌||◌, Bool, true, Option, Some, None, List, [], ◌∷◌, nat_lt, if◌then◌else◌}
 use Rattle.std.specs.List.{list_any}
 use Rattle.std.specs.Str.{bytes_eq}
 use Rattle.vac_model.specs.State.{State}
 use Rattle.vac_model.specs.Run.{run}
+use Rattle.vac_model.specs.declared.replies.Reply.{Reply}
 use Rattle.vac_lines.specs.Text.{reply_text}
 use Rattle.vac_judge.specs.declared.verdict.Wrong.{Wrong}
-use Rattle.vac_judge.specs.declared.verdict.Wrong.TheVariants.{Client, Time, Reply}
+use Rattle.vac_judge.specs.declared.verdict.Wrong.TheVariants as wrong
 use Rattle.vac_judge.specs.Call.{Call}
 
 -- both calls are of one client
@@ -29,14 +30,19 @@ breaks_client earlier call = nat_lt call.end call.begin || list_any (overlaps ca
 abbrev pub breaks_time : List Call → Call → Bool
 breaks_time earlier call = list_any (ended_before call) earlier
 
+-- the text of a reply is the one expected; where there was none, any would be right
+abbrev pub is_right : Option (List ℕ) → Reply → Bool
+is_right None expected = true
+is_right (Some text) expected = bytes_eq text (reply_text expected)
+
 -- the first that is wrong with a call behind these earlier ones, which leave the state s
 abbrev pub wrong_of : State → List Call → Call → Option Wrong
 wrong_of s earlier call =
     let expected = (run s call.task).1 in
-    if breaks_client earlier call then Some Client
-    else if breaks_time earlier call then Some Time
-    else if bytes_eq call.reply (reply_text expected) then None
-    else Some (Reply expected)
+    if breaks_client earlier call then Some wrong.Client
+    else if breaks_time earlier call then Some wrong.Time
+    else if is_right call.reply expected then None
+    else Some (wrong.Reply expected)
 
 -- how many clients made these calls
 abbrev pub clients_of : List Call → ℕ

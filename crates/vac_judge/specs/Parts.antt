@@ -1,9 +1,11 @@
--- How a call's line is cut at its first arrow.
-use Rattle.std.specs.Prelude.{◌≡◌, ℕ, false, None, List, ◌∷◌, ◌++◌, codes}
+-- How a call's line is cut at its first arrow, and what its parts say.
+use Rattle.std.specs.Prelude.{◌≡◌, ℕ, false, Option, Some, None, List, ◌∷◌, ◌++◌, codes}
 use Rattle.std.specs.List.{list_any}
 use Rattle.vac_lines.specs.Lines.{words_of}
 use Rattle.vac_judge.specs.declared.arrow.CallParts.{CallParts}
+use Rattle.vac_judge.specs.declared.call.Answer.{Answer}
 use Rattle.vac_judge.specs.declared.call.CallLine.{CallLine}
+use Rattle.vac_judge.specs.declared.call.TheConstants.{NEVER}
 use Rattle.vac_judge.specs.Call.{Call, Parts, is_arrow, call_parts}
 
 -- these texts stand before and behind the first word that is an arrow
@@ -25,12 +27,22 @@ shown_parts parts = record {
   reply = parts.reply.now;
 }
 
+-- when a call ended
+abbrev pub shown_end : Option Answer → ℕ
+shown_end None = NEVER
+shown_end (Some answer) = answer.end
+
+-- the text of its reply
+abbrev pub shown_reply : Option Answer → Option (List ℕ)
+shown_reply None = None
+shown_reply (Some answer) = Some answer.reply.now
+
 -- the call of a line that is one
 abbrev pub shown_call : CallLine → Call
 shown_call line = record {
   client = line.client;
   begin = line.begin;
-  end = line.end;
+  end = shown_end line.answer;
   task = line.task;
-  reply = line.reply.now;
+  reply = shown_reply line.answer;
 }

@@ -1,4 +1,4 @@
-//! When each client's last call ended.
+//! When each client's last call ended: later than all times where it was never answered.
 
 ghost use Rattle.std.specs.Prelude.{◌≡◌, OnOk};
 ghost use Rattle.std.specs.FinMap as map;
@@ -7,10 +7,10 @@ use std::alloc::{AllocError, Global};
 use std::collections::BTreeMap;
 use std::marker::Model;
 
-/// A reading of the clock for each client that called.
+/// A reading of the clock, or a later time, for each client that called.
 #[derive(Drop)]
 pub(crate) struct Ends {
-    entries: BTreeMap<u32, u64>,
+    entries: BTreeMap<u32, u128>,
 }
 
 impl Model for Ends {
@@ -45,14 +45,14 @@ impl Ends {
         self.entries.len() as u64
     }
 
-    pub(crate) fn get(&self, client: u32) -> Option<u64>
+    pub(crate) fn get(&self, client: u32) -> Option<u128>
         ensures { result ≡ map.get self.now client }
     {
         self.entries.get(&client).copied()
     }
 
     /// Puts the end of a client's call in place of that of the one before.
-    pub(crate) fn insert(&mut self, client: u32, end: u64) -> Result<(), AllocError>
+    pub(crate) fn insert(&mut self, client: u32, end: u128) -> Result<(), AllocError>
         ensures { OnOk result (self.new ≡ map.insert self.old client end) }
     {
         self.entries.insert(client, end)?;

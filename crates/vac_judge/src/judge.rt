@@ -6,13 +6,13 @@ ghost use Rattle.vac_model.specs.Ranges.{is_task};
 ghost use Rattle.vac_model.specs.State.{State, empty_state};
 ghost use Rattle.vac_lines.specs.Text.{reply_text};
 ghost use Rattle.vac_judge.specs.Call.{Call, line_call};
-ghost use Rattle.vac_judge.specs.Parts.{shown_call};
-ghost use Rattle.vac_judge.specs.Order.{wrong_of};
+ghost use Rattle.vac_judge.specs.Parts.{shown_call, shown_reply};
+ghost use Rattle.vac_judge.specs.Order.{wrong_of, is_right};
 ghost use Rattle.vac_judge.specs.Judging.{Follows, JudgesTimes, Judges, Takes, Ends as IsEnd};
 ghost use Rattle.vac_judge.specs.Judging.{IsStop};
 ghost use Rattle.vac_judge.specs.Verdict.{summary_of};
 
-use crate::call::{CallLine, read_call};
+use crate::call::{Answer, CallLine, read_call};
 use crate::ends::Ends;
 use crate::fault::{CallFault, JudgeFault};
 use crate::verdict::{Summary, Verdict, Wrong};
@@ -49,6 +49,20 @@ fn is_text_of(buffer: &mut Vec<u8>, reply: &Reply, text: &[u8]) -> Result<bool, 
     Ok(text == buffer.as_slice())
 }
 
+/// Whether a call may have been answered so: any reply is right where it never was.
+fn is_right(
+    buffer: &mut Vec<u8>,
+    answer: Option<Answer<'_>>,
+    reply: &Reply,
+) -> Result<bool, AllocError>
+    ensures { IfOk result (λ right. right ≡ is_right (shown_reply answer.entry) reply.now) }
+{
+    match answer {
+        Some(answer) => is_text_of(buffer, reply, answer.reply),
+        None => Ok(true),
+    }
+}
+
 /// The fault of a line, where it is not want of memory.
 fn own_fault(fault: CallFault) -> Result<CallFault, JudgeFault>
     ensures own { IfOk result (λ found.
@@ -83,15 +97,17 @@ impl Judge {
         ensures { (s : State) (earlier : List Call) → Follows self.now s earlier →
             JudgesTimes earlier (shown_call call.now) result }
     {
-        if call.end < call.begin {
+        let begin = u128::from(call.begin);
+        let end = call.end();
+        if end < begin {
             return Some(Wrong::Client);
         }
-        if let Some(end) = self.ends.get(call.client) {
-            if call.begin < end {
+        if let Some(last) = self.ends.get(call.client) {
+            if begin < last {
                 return Some(Wrong::Client);
             }
         }
-        if call.end < self.latest {
+        if end < u128::from(self.latest) {
             return Some(Wrong::Time);
         }
         None
@@ -108,10 +124,10 @@ impl Judge {
             return Ok(Some(wrong));
         }
         let reply = self.heap.run(&call.task, FreeList::new(0));
-        if !is_text_of(&mut self.expected, &reply, call.reply)? {
+        if !is_right(&mut self.expected, call.answer, &reply)? {
             return Ok(Some(Wrong::Reply(reply)));
         }
-        self.ends.insert(call.client, call.end)?;
+        self.ends.insert(call.client, call.end())?;
         self.latest = self.latest.max(call.begin);
         self.calls = line;
         Ok(None)

@@ -4,7 +4,8 @@ ghost use Rattle.vac_judge.specs.Laws.{LegalIsLinearization, LegalSummary};
 ghost use Rattle.std.specs.Prelude.{◌≡◌, ◌≤◌, length, true};
 ghost use Rattle.vac_model.specs.Ranges.{is_task};
 ghost use Rattle.vac_lines.specs.TaskText.{task_text};
-ghost use Rattle.vac_judge.specs.CallText.{CallTextsAreRead, HistoriesAreRead, answered, IsReadBack};
+ghost use Rattle.vac_judge.specs.CallText.{CallTextsAreRead, HistoriesAreRead, IsReadBack};
+ghost use Rattle.vac_judge.specs.CallText.{answered, unanswered};
 
 use crate::answers::numbers_of_a_reply;
 use vac_lines::{LINE_BYTES, task_texts_are_read};
@@ -13,7 +14,7 @@ use vac_model::{Reply, Task};
 /// A history is legal exactly where each of its lines is a call and the order in which the calls
 /// are given is a linearization: run one after the other they give their replies, each client's
 /// calls do not overlap and stand in their order, and no call stands before one that had ended
-/// before it began.
+/// before it began. A call that was never answered ends later than all times and gives any reply.
 pub fn a_verdict_finds_the_linearizations()
     ensures { LegalIsLinearization }
 {}
@@ -26,7 +27,7 @@ pub fn a_legal_history_has_this_summary()
 
 /// The line `CLIENT BEGIN END LINE -> REPLY` of a call that was answered, with its task's line in
 /// its plain form and the text of its reply, is no longer than a line of a history may be, and is
-/// read as that call.
+/// read as that call; so is `CLIENT BEGIN - LINE -> ?` of one that was never answered.
 pub fn call_texts_are_read()
     ensures { CallTextsAreRead }
 {
@@ -43,8 +44,17 @@ pub fn an_answered_call_is_read(client: u32, begin: u64, end: u64, task: &Task, 
     call_texts_are_read();
 }
 
-/// The history of calls that were answered, one such line for each, has these calls and no other,
-/// and is legal exactly where their order is a linearization.
+/// So is the line of a call that was never answered.
+pub fn a_call_never_answered_is_read(client: u32, begin: u64, task: &Task)
+    requires in_range { is_task task.now ≡ true }
+    requires fits { length (task_text task.now) ≤ LINE_BYTES }
+    ensures { IsReadBack (unanswered client begin task.now) }
+{
+    call_texts_are_read();
+}
+
+/// The history of calls that were answered, or never were, one such line for each, has these calls
+/// and no other, and is legal exactly where their order is a linearization.
 pub fn histories_are_read()
     ensures { HistoriesAreRead }
 {

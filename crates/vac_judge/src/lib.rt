@@ -1,9 +1,9 @@
 //! A judge of histories: it says whether the order in which the calls of a transactional runtime
 //! are given is a linearization of them.
 //!
-//! A history is a text of lines `CLIENT BEGIN END LINE -> REPLY`, in the order in which the
-//! runtime claims that the calls took effect. The tasks are run over plain memory, one after the
-//! other in that order.
+//! A history is a text of lines `CLIENT BEGIN END LINE -> REPLY`, or `CLIENT BEGIN - LINE -> ?` of
+//! a call that was never answered, in the order in which the runtime claims that the calls took
+//! effect. The tasks are run over plain memory, one after the other in that order.
 #![tactic(auto)]
 
 mod answers;
@@ -17,12 +17,13 @@ mod reading;
 mod verdict;
 
 pub use answers::numbers_of_a_reply;
-pub use call::{CALL_BYTES, CallLine, read_call};
+pub use call::{Answer, CALL_BYTES, CallLine, NEVER, read_call};
 pub use fault::{CallFault, JudgeFault};
 pub use judge::Judge;
 pub use laws::{
-    a_legal_history_has_this_summary, a_verdict_finds_the_linearizations, an_answered_call_is_read,
-    call_texts_are_read, histories_are_read,
+    a_call_never_answered_is_read, a_legal_history_has_this_summary,
+    a_verdict_finds_the_linearizations, an_answered_call_is_read, call_texts_are_read,
+    histories_are_read,
 };
 pub use reading::judge_history;
 pub use verdict::{Summary, Verdict, Wrong, print_verdict};

@@ -1,4 +1,4 @@
-use Rattle.std.proofs.Common.{◌≤◌, ◌<◌, ◌^◌, refl, rules}
+use Rattle.std.proofs.Common.{◌≤◌, ◌<◌, ◌^◌, refl, rules, inl}
 use Rattle.vac_judge.specs.CallText.{answered}
 use Rattle.vac_judge.proofs.laws.an_answered_call_is_read.Goals as goal
 
@@ -8,12 +8,15 @@ returns c =
     let client : a.client ≤ 4294967295 = search rules in
     let begin : a.begin < 2 ^ 64 = search rules in
     let end : a.end < 2 ^ 64 = search rules in
-    c.call_texts_are_read.ensures (answered a.client a.begin a.end a.task.now a.reply.now) a.reply.now (record {
-      client = client;
-      begin = begin;
-      end = end;
-      task = c.requires.in_range;
-      line = c.requires.fits;
-      numbers = c.numbers_of_a_reply.ensures;
-      reply = refl;
-    })
+    c.call_texts_are_read.ensures (answered a.client a.begin a.end a.task.now a.reply.now) (inl (
+      a.reply.now,
+      record {
+        client = client;
+        begin = begin;
+        end = end;
+        task = c.requires.in_range;
+        line = c.requires.fits;
+        numbers = c.numbers_of_a_reply.ensures;
+        reply = refl;
+      },
+    ))

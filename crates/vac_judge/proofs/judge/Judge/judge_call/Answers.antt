@@ -1,9 +1,9 @@
 use Rattle.std.proofs.Common.{◌≡◌, true, false, Some, sym, ap, ◌∙◌}
-use Rattle.std.specs.Str.{bytes_eq}
+use Rattle.std.specs.FinMap.{insert}
 use Rattle.vac_model.specs.Run.{run}
-use Rattle.vac_lines.specs.Text.{reply_text}
 use Rattle.vac_judge.specs.declared.verdict.Wrong.TheVariants.{Reply}
 use Rattle.vac_judge.specs.Parts.{shown_call}
+use Rattle.vac_judge.specs.Order.{is_right}
 use Rattle.vac_judge.proofs.Keeping.{wrong_times, wrong_reply, no_wrong, keeps_more}
 use Rattle.vac_judge.proofs.judge.Judge.judge_call.Goals as goal
 
@@ -17,8 +17,8 @@ pub returns-then-not-branch : goal.returns-then-not-branch
 returns-then-not-branch c = λ s earlier f n.
     let call = shown_call c.args.call.now in
     let reply = c.run-reply.ensures.reply s f.heap in
-    let same : false ≡ bytes_eq call.reply (reply_text (run s call.task).1) =
-    sym c.if-not-branch.true ∙ c.in_ok-is_text_of.ensures ∙ ap (λ r. bytes_eq call.reply (reply_text r)) (sym reply) in
+    let same : false ≡ is_right call.reply (run s call.task).1 =
+    sym c.if-not-branch.true ∙ c.in_ok-is_right.ensures ∙ ap (is_right call.reply) (sym reply) in
     record {
       found_is = wrong_reply s earlier call false (c.in_default.ensures s earlier f) same ∙ ap (λ r. Some (Reply r)) reply;
       taken = λ e. absurd (no_wrong _ e);
@@ -29,12 +29,13 @@ returns c = λ s earlier f n.
     let call = shown_call c.args.call.now in
     let reply = c.run-reply.ensures.reply s f.heap in
     let times = c.in_default.ensures s earlier f in
-    let same : true ≡ bytes_eq call.reply (reply_text (run s call.task).1) =
-    sym c.if-not-branch.false ∙ c.in_ok-is_text_of.ensures ∙ ap (λ r. bytes_eq call.reply (reply_text r)) (sym reply) in
+    let same : true ≡ is_right call.reply (run s call.task).1 =
+    sym c.if-not-branch.false ∙ c.in_ok-is_right.ensures ∙ ap (is_right call.reply) (sym reply) in
+    let kept = c.in_ok-insert.ensures ∙ ap (insert c.args.self.now.ends call.client) c.end.ensures in
     record {
       found_is = wrong_reply s earlier call true times same;
       taken = λ e. record {
         heap = c.run-reply.ensures.state s f.heap;
-        keeps = keeps_more _ _ _ _ _ _ call earlier f.keeps times c.in_ok-insert.ensures c.max-self.ensures n;
+        keeps = keeps_more _ _ _ _ _ _ call earlier f.keeps times kept c.max-self.ensures n;
       };
     }
