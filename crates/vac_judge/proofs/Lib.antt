@@ -1,5 +1,6 @@
 pub mod Order
 pub mod Linearized
+pub mod FirstWrong
 pub mod Arrows
 pub mod Keeping
 pub mod Lines

@@ -17,7 +17,7 @@ use Rattle.vac_judge.specs.Laws.{IsAt, GiveReplies, TakeTime, AreSequential, Kee
 use Rattle.vac_judge.proofs.Order.{Each, FitsBefore, IsRight, right_of, wrong_none}
 
 -- each call is right behind those before it
-abbrev AllRight : State → List Call → List Call → Type 0
+abbrev pub AllRight : State → List Call → List Call → Type 0
 AllRight s earlier [] = ⊤
 AllRight s earlier (c ∷ cs) = IsRight s earlier c × AllRight (run s c.task).0 (c ∷ earlier) cs
 
@@ -153,7 +153,7 @@ pairwise_from (c ∷ cs) t s k = (
       (λ i j a b e f l. let far : suc i < suc j = k (suc i) (suc j) a b e f l in omega arith),
 )
 
-linearized : (n : ℕ) (calls : List Call) → AllRight (empty_state n) [] calls → IsLinearization n calls
+pub linearized : (n : ℕ) (calls : List Call) → AllRight (empty_state n) [] calls → IsLinearization n calls
 linearized n calls h =
     let p = pairwise_of (empty_state n) [] calls h in
     record {
@@ -163,7 +163,7 @@ linearized n calls h =
       precedence = precedence_of calls p;
     }
 
-right_from : (n : ℕ) (calls : List Call) → IsLinearization n calls → AllRight (empty_state n) [] calls
+pub right_from : (n : ℕ) (calls : List Call) → IsLinearization n calls → AllRight (empty_state n) [] calls
 right_from n calls h = right_all (empty_state n) [] calls h.replies (each_top calls) (pairwise_from calls h.times h.clients h.precedence)
 
 legal_history : (n : ℕ) (bytes : List ℕ) → is_legal (verdict_on n bytes) ≡ true → IsLegalHistory n bytes

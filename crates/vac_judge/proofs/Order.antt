@@ -30,16 +30,16 @@ pub record IsRight (s : State) (earlier : List Call) (c : Call) : Type 0 where
   pub fits : Each (λ e. FitsBefore e c) earlier
   pub reply : IsAnswerOf (run s c.task).1 c.reply
 
-turn_from : (a b x y : ℕ) → (a == b && nat_lt x y) ≡ false → a ≡ b → y ≤ x
+pub turn_from : (a b x y : ℕ) → (a == b && nat_lt x y) ≡ false → a ≡ b → y ≤ x
 turn_from a b x y h e = grind (arith, nat_tests)
 
-turn_test : (a b x y : ℕ) → (a ≡ b → y ≤ x) → (a == b && nat_lt x y) ≡ false
+pub turn_test : (a b x y : ℕ) → (a ≡ b → y ≤ x) → (a == b && nat_lt x y) ≡ false
 turn_test a b x y h = grind (arith, nat_tests)
 
-time_from : (x y : ℕ) → nat_lt x y ≡ false → y ≤ x
+pub time_from : (x y : ℕ) → nat_lt x y ≡ false → y ≤ x
 time_from x y h = grind (arith, nat_tests)
 
-time_test : (x y : ℕ) → y ≤ x → nat_lt x y ≡ false
+pub time_test : (x y : ℕ) → y ≤ x → nat_lt x y ≡ false
 time_test x y h = grind (arith, nat_tests)
 
 pub both_false : (a b : Bool) → (a || b) ≡ false → (a ≡ false) × (b ≡ false)
@@ -66,7 +66,7 @@ none_ended c [] h = refl
 none_ended c (e ∷ es) h = false_both (ended_before c e) (list_any (ended_before c) es) (time_test c.end e.begin h.0.time) (none_ended c es h.1)
 
 -- the order of the tests
-abbrev found : Bool → Bool → Bool → Option Wrong → Option Wrong
+abbrev pub found : Bool → Bool → Bool → Option Wrong → Option Wrong
 found client time reply last = cond client (Some wrong.Client) (cond time (Some wrong.Time) (cond reply None last))
 
 some_none : (w : Wrong) → Some w ≡ None → ⊥

@@ -3,6 +3,7 @@ pub mod Parts
 pub mod Order
 pub mod Verdict
 pub mod Laws
+pub mod Wrongs
 pub mod Follows
 pub mod Judging
 pub mod Reading

@@ -1,6 +1,7 @@
 //! Laws on verdicts. Each is the contract of a function that does nothing.
 
 ghost use Rattle.vac_judge.specs.Laws.{LegalIsLinearization, LegalSummary};
+ghost use Rattle.vac_judge.specs.Wrongs.{IllegalIsFirstWrong, FaultIsFirst};
 ghost use Rattle.std.specs.Prelude.{◌≡◌, ◌≤◌, length, true};
 ghost use Rattle.vac_model.specs.Ranges.{is_task};
 ghost use Rattle.vac_lines.specs.TaskText.{task_text};
@@ -23,6 +24,20 @@ pub fn a_verdict_finds_the_linearizations()
 /// of the state that the calls leave.
 pub fn a_legal_history_has_this_summary()
     ensures { LegalSummary }
+{}
+
+/// A history is illegal of a line exactly where the lines before it are calls whose order is a
+/// linearization, with the call of that line it is none, and this is the first cause: the calls of
+/// a client are not in turn; or they are, and the call had ended before one that stands before it
+/// began; or no time is broken, and the sequential manager answers another reply, which is named.
+pub fn an_illegal_verdict_names_the_first_wrong_line()
+    ensures { IllegalIsFirstWrong }
+{}
+
+/// The verdict is the fault of a line exactly where that line is no call by this fault, and those
+/// before it are calls whose order is a linearization.
+pub fn a_fault_names_the_first_line_that_is_no_call()
+    ensures { FaultIsFirst }
 {}
 
 /// The line `CLIENT BEGIN END LINE -> REPLY` of a call that was answered, with its task's line in

@@ -21,9 +21,9 @@ pub use call::{Answer, CALL_BYTES, CallLine, NEVER, read_call};
 pub use fault::{CallFault, JudgeFault};
 pub use judge::Judge;
 pub use laws::{
-    a_call_never_answered_is_read, a_legal_history_has_this_summary,
-    a_verdict_finds_the_linearizations, an_answered_call_is_read, call_texts_are_read,
-    histories_are_read,
+    a_call_never_answered_is_read, a_fault_names_the_first_line_that_is_no_call,
+    a_legal_history_has_this_summary, a_verdict_finds_the_linearizations, an_answered_call_is_read,
+    an_illegal_verdict_names_the_first_wrong_line, call_texts_are_read, histories_are_read,
 };
 pub use reading::judge_history;
 pub use verdict::{Summary, Verdict, Wrong, print_verdict};

@@ -1,0 +1,382 @@
+-- A verdict that is not legal names the first line that is not right, and why it is not.
+use Rattle.std.proofs.Common.{◌≡◌, ◌⊎◌, ℕ, ◌+◌, ◌<◌, ◌≤◌, suc, zero, Bool, true, false, List, [], ◌∷◌, ◌++◌, length, map, Option, Some, None, Result, Ok, Err, refl, sym, ap, ◌∙◌, subst, inl, inr, arith, nat_lt}
+use Rattle.std.specs.List.{list_any}
+use Rattle.std.proofs.lemmas.Bool.Decides.{nat_tests}
+use mathlib.Core.List.{reverse_aux}
+use Rattle.vac_model.specs.State.{State, empty_state}
+use Rattle.vac_model.specs.Run.{run}
+use Rattle.vac_model.specs.declared.replies.Reply.{Reply}
+use Rattle.vac_lines.specs.Lines.{lines_of}
+use Rattle.vac_judge.specs.declared.fault.CallFault.{CallFault}
+use Rattle.vac_judge.specs.declared.verdict.Wrong.{Wrong}
+use Rattle.vac_judge.specs.declared.verdict.Wrong.TheVariants as wrong
+use Rattle.vac_judge.specs.declared.verdict.Verdict.TheVariants.{Fault, Illegal}
+use Rattle.vac_judge.specs.Call.{Call, line_call}
+use Rattle.vac_judge.specs.Order.{overlaps, ended_before, breaks_client, breaks_time, is_right, wrong_of}
+use Rattle.vac_judge.specs.Verdict.{judged, unless_wrong, verdict_on}
+use Rattle.vac_judge.specs.Laws.{IsAt, IsAnswerOf, GiveReplies, KeepPrecedence, IsLinearization, state_after}
+use Rattle.vac_judge.specs.Wrongs.{TakeTurns, IsCause, IsFirstWrong, IsFirstFault, IllegalIsFirstWrong, FaultIsFirst}
+use Rattle.vac_judge.proofs.Order.{both_false, false_both, found, turn_from, turn_test, time_from, time_test, answer_of, of_answer, right_of, wrong_none}
+use Rattle.vac_judge.proofs.Linearized.{AllRight, linearized, right_from}
+
+-- ---- places of a list with one more call
+
+none_some : (c : Call) → None ≡ Some c → ⊥
+none_some c e = cc
+
+some_same : (a b : Call) → Some a ≡ Some b → a ≡ b
+some_same a b e = cc
+
+at_front : (cs ds : List Call) (i : ℕ) (a : Call) → IsAt cs i a → IsAt (cs ++ ds) i a
+at_front [] ds i a e = absurd (none_some a e)
+at_front (c ∷ cs) ds zero a e = e
+at_front (c ∷ cs) ds (suc i) a e = at_front cs ds i a e
+
+at_last : (cs : List Call) (c : Call) → IsAt (cs ++ c ∷ []) (length cs) c
+at_last [] c = refl
+at_last (d ∷ cs) c = at_last cs c
+
+at_inside : (cs : List Call) (i : ℕ) (a : Call) → IsAt cs i a → i < length cs
+at_inside [] i a e = absurd (none_some a e)
+at_inside (c ∷ cs) zero a e = omega arith
+at_inside (c ∷ cs) (suc i) a e = let h = at_inside cs i a e in omega (arith, h)
+
+-- it is one of them, or the last
+at_either : (cs : List Call) (c : Call) (i : ℕ) (a : Call) → IsAt (cs ++ c ∷ []) i a → IsAt cs i a ⊎ ((i ≡ length cs) × (c ≡ a))
+at_either [] c zero a e = inr (refl, some_same c a e)
+at_either [] c (suc i) a e = absurd (none_some a e)
+at_either (d ∷ cs) c zero a e = inl e
+at_either (d ∷ cs) c (suc i) a e =
+    elim (at_either cs c i a e) [
+      | inl h ↦ inl h
+      | inr h ↦ inr (ap suc h.0, h.1)
+    ]
+
+-- ---- tests on earlier calls, which are listed from the newest on
+
+none_back : (p : Call → Bool) (xs ys : List Call) → list_any p xs ≡ false → list_any p ys ≡ false → list_any p (reverse_aux xs ys) ≡ false
+none_back p [] ys h g = g
+none_back p (x ∷ xs) ys h g =
+    let both = both_false (p x) (list_any p xs) h in
+    none_back p xs (x ∷ ys) both.1 (false_both (p x) (list_any p ys) both.0 g)
+
+none_front : (p : Call → Bool) (xs ys : List Call) → list_any p (reverse_aux xs ys) ≡ false → (list_any p xs ≡ false) × (list_any p ys ≡ false)
+none_front p [] ys h = (refl, h)
+none_front p (x ∷ xs) ys h =
+    let both = none_front p xs (x ∷ ys) h in
+    let own = both_false (p x) (list_any p ys) both.1 in
+    (false_both (p x) (list_any p xs) own.0 both.0, own.1)
+
+none_at : (p : Call → Bool) (cs : List Call) (i : ℕ) (a : Call) → list_any p cs ≡ false → IsAt cs i a → p a ≡ false
+none_at p [] i a h e = absurd (none_some a e)
+none_at p (c ∷ cs) zero a h e = subst (λ d. p d ≡ false) (some_same c a e) (both_false (p c) (list_any p cs) h).0
+none_at p (c ∷ cs) (suc i) a h e = none_at p cs i a (both_false (p c) (list_any p cs) h).1 e
+
+none_from : (p : Call → Bool) (cs : List Call) → ((i : ℕ) (a : Call) → IsAt cs i a → p a ≡ false) → list_any p cs ≡ false
+none_from p [] h = refl
+none_from p (c ∷ cs) h = false_both (p c) (list_any p cs) (h 0 c refl) (none_from p cs (λ i a e. h (suc i) a e))
+
+false_true : false ≡ true → ⊥
+false_true e = cc
+
+-- a test that does not fail passes
+passes : (b : Bool) → (b ≡ false → ⊥) → b ≡ true
+passes true h = refl
+passes false h = absurd (h refl)
+
+fails : (b : Bool) → (b ≡ true → ⊥) → b ≡ false
+fails true h = absurd (h refl)
+fails false h = refl
+
+-- ---- clients and times of one more call
+
+turns_of : (cs : List Call) (c : Call) → TakeTurns cs → breaks_client (reverse_aux cs []) c ≡ false → TakeTurns (cs ++ c ∷ [])
+turns_of cs c t h =
+    let both = both_false (nat_lt c.end c.begin) (list_any (overlaps c) (reverse_aux cs [])) h in
+    let own = time_from c.end c.begin both.0 in
+    let none = (none_front (overlaps c) cs [] both.1).0 in
+    record {
+      times = λ i a e. elim (at_either cs c i a e) [
+        | inl h ↦ t.times i a h
+        | inr h ↦ subst (λ (d : Call). d.begin ≤ d.end) h.1 own
+      ];
+      clients = λ i j a b e f l same. elim (at_either cs c j b f) [
+        | inl g ↦ elim (at_either cs c i a e) [
+          | inl h ↦ t.clients i j a b h g l same
+          | inr h ↦ let inside = at_inside cs j b g in absurd (omega (arith, inside, l, h.0))
+        ]
+        | inr g ↦ elim (at_either cs c i a e) [
+          | inl h ↦
+              let test : overlaps c a ≡ false = none_at (overlaps c) cs i a none h in
+              let turn : a.end ≤ c.begin = turn_from a.client c.client c.begin a.end test (same ∙ ap (λ (d : Call). d.client) (sym g.1)) in
+              subst (λ (d : Call). a.end ≤ d.begin) g.1 turn
+          | inr h ↦ absurd (omega (arith, l, h.0, g.0))
+        ]
+      ];
+    }
+
+of_turns : (cs : List Call) (c : Call) → TakeTurns (cs ++ c ∷ []) → breaks_client (reverse_aux cs []) c ≡ false
+of_turns cs c t =
+    let own : c.begin ≤ c.end = t.times (length cs) c (at_last cs c) in
+    let none : list_any (overlaps c) cs ≡ false =
+    none_from (overlaps c) cs (λ i a e. turn_test a.client c.client c.begin a.end
+    (λ same. t.clients i (length cs) a c (at_front cs (c ∷ []) i a e) (at_last cs c) (at_inside cs i a e) same)) in
+    false_both (nat_lt c.end c.begin) (list_any (overlaps c) (reverse_aux cs [])) (time_test c.end c.begin own) (none_back (overlaps c) cs [] none refl)
+
+precedence_of : (cs : List Call) (c : Call) → TakeTurns (cs ++ c ∷ []) → KeepPrecedence cs → breaks_time (reverse_aux cs []) c ≡ false → KeepPrecedence (cs ++ c ∷ [])
+precedence_of cs c t k h i j a b e f less =
+    let own : c.begin ≤ c.end = t.times (length cs) c (at_last cs c) in
+    let none = (none_front (ended_before c) cs [] h).0 in
+    elim (at_either cs c i a e) [
+      | inl g ↦ elim (at_either cs c j b f) [
+        | inl x ↦ k i j a b g x less
+        | inr x ↦ let inside = at_inside cs i a g in omega (arith, inside, x.0)
+      ]
+      | inr g ↦ elim (at_either cs c j b f) [
+        | inl x ↦
+            let after : b.begin ≤ c.end = time_from c.end b.begin (none_at (ended_before c) cs j b none x) in
+            let same : c.end ≡ a.end = ap (λ (d : Call). d.end) g.1 in
+            absurd (omega (arith, after, same, less))
+        | inr x ↦
+            let first : c.end ≡ a.end = ap (λ (d : Call). d.end) g.1 in
+            let last : c.begin ≡ b.begin = ap (λ (d : Call). d.begin) x.1 in
+            absurd (omega (arith, own, first, last, less))
+      ]
+    ]
+
+of_precedence : (cs : List Call) (c : Call) → KeepPrecedence (cs ++ c ∷ []) → breaks_time (reverse_aux cs []) c ≡ false
+of_precedence cs c k =
+    none_back (ended_before c) cs []
+    (none_from (ended_before c) cs (λ i a e. fails (ended_before c a) (λ ended.
+    let less : c.end < a.begin = before_of c.end a.begin ended in
+    let back = k (length cs) i c a (at_last cs c) (at_front cs (c ∷ []) i a e) less in
+    let inside = at_inside cs i a e in
+    omega (arith, back, inside))))
+    refl
+  where
+    before_of : (x y : ℕ) → nat_lt x y ≡ true → x < y
+    before_of x y h = grind (arith, nat_tests)
+
+-- ---- which cause is found
+
+-- what the tests say where this is wrong
+abbrev Tests : Bool → Bool → Bool → Reply → Wrong → Type 0
+Tests client time reply r wrong.Client = client ≡ true
+Tests client time reply r wrong.Time = (client ≡ false) × (time ≡ true)
+Tests client time reply r (wrong.Reply e) = (client ≡ false) × (time ≡ false) × (reply ≡ false) × (e ≡ r)
+
+wrong_same : (x y : Wrong) → Some x ≡ Some y → x ≡ y
+wrong_same x y e = cc
+
+no_wrong : (w : Wrong) → None ≡ Some w → ⊥
+no_wrong w e = cc
+
+tests_of : (client time reply : Bool) (r : Reply) (w : Wrong) → found client time reply (Some (wrong.Reply r)) ≡ Some w → Tests client time reply r w
+tests_of true time reply r w h = subst (Tests true time reply r) (wrong_same wrong.Client w h) refl
+tests_of false true reply r w h = subst (Tests false true reply r) (wrong_same wrong.Time w h) (refl, refl)
+tests_of false false true r w h = absurd (no_wrong w h)
+tests_of false false false r w h = subst (Tests false false false r) (wrong_same (wrong.Reply r) w h) (refl, refl, refl, refl)
+
+of_tests : (client time reply : Bool) (r : Reply) (w : Wrong) → Tests client time reply r w → found client time reply (Some (wrong.Reply r)) ≡ Some w
+of_tests client time reply r wrong.Client h = ap (λ b. found b time reply (Some (wrong.Reply r))) h
+of_tests client time reply r wrong.Time h = ap (λ b. found b time reply (Some (wrong.Reply r))) h.0 ∙ ap (λ b. found false b reply (Some (wrong.Reply r))) h.1
+of_tests client time reply r (wrong.Reply e) h =
+    ap (λ b. found b time reply (Some (wrong.Reply r))) h.0 ∙ ap (λ b. found false b reply (Some (wrong.Reply r))) h.1
+    ∙ ap (λ b. found false false b (Some (wrong.Reply r))) h.2 ∙ ap (λ x. Some (wrong.Reply x)) (sym h.3)
+
+-- what the sequential manager answers to a call behind these
+abbrev expected : ℕ → List Call → Call → Reply
+expected n cs c = (run (state_after (empty_state n) cs) c.task).1
+
+-- the tests on a call behind calls in a legal order
+abbrev TestsOn : ℕ → List Call → Call → Wrong → Type 0
+TestsOn n cs c w = Tests (breaks_client (reverse_aux cs []) c) (breaks_time (reverse_aux cs []) c) (is_right c.reply (expected n cs c)) (expected n cs c) w
+
+cause_of : (n : ℕ) (cs : List Call) (c : Call) (w : Wrong) → IsLinearization n cs → TestsOn n cs c w → IsCause n cs c w
+cause_of n cs c wrong.Client l h = λ t. false_true (sym (of_turns cs c t) ∙ h)
+cause_of n cs c wrong.Time l h = (
+  turns_of cs c (record { times = l.times; clients = l.clients }) h.0,
+  λ k. false_true (sym (of_precedence cs c k) ∙ h.1),
+)
+cause_of n cs c (wrong.Reply e) l h =
+    let turns = turns_of cs c (record { times = l.times; clients = l.clients }) h.0 in (
+      turns,
+      precedence_of cs c turns l.precedence h.1,
+      h.3,
+      λ a. false_true (sym h.2 ∙ of_answer (expected n cs c) c.reply (subst (λ r. IsAnswerOf r c.reply) h.3 a)),
+    )
+
+of_cause : (n : ℕ) (cs : List Call) (c : Call) (w : Wrong) → IsLinearization n cs → IsCause n cs c w → TestsOn n cs c w
+of_cause n cs c wrong.Client l h =
+    passes (breaks_client (reverse_aux cs []) c) (λ e. h (turns_of cs c (record { times = l.times; clients = l.clients }) e))
+of_cause n cs c wrong.Time l h = (
+  of_turns cs c h.0,
+  passes (breaks_time (reverse_aux cs []) c) (λ e. h.1 (precedence_of cs c h.0 l.precedence e)),
+)
+of_cause n cs c (wrong.Reply e) l h = (
+  of_turns cs c h.0,
+  of_precedence cs c h.1,
+  fails (is_right c.reply (expected n cs c)) (λ r. h.3 (subst (λ x. IsAnswerOf x c.reply) (sym h.2) (answer_of (expected n cs c) c.reply r))),
+  h.2,
+)
+
+last_reply : (s : State) (cs : List Call) (c : Call) → GiveReplies s (cs ++ c ∷ []) → IsAnswerOf (run (state_after s cs) c.task).1 c.reply
+last_reply s [] c h = h.0
+last_reply s (d ∷ cs) c h = last_reply (run s d.task).0 cs c h.1
+
+-- with the call there is no linearization
+none_with : (n : ℕ) (cs : List Call) (c : Call) (w : Wrong) → IsCause n cs c w → IsLinearization n (cs ++ c ∷ []) → ⊥
+none_with n cs c wrong.Client h l = h (record { times = l.times; clients = l.clients })
+none_with n cs c wrong.Time h l = h.1 l.precedence
+none_with n cs c (wrong.Reply e) h l = h.3 (subst (λ r. IsAnswerOf r c.reply) (sym h.2) (last_reply (empty_state n) cs c l.replies))
+
+-- ---- the first line that is wrong
+
+-- such a line stands behind calls that are right
+record Found (s : State) (earlier : List Call) (lines : List (Result Call CallFault)) (line : ℕ) (w : Wrong) : Type 0 where
+  before : List Call
+  call : Call
+  rest : List (Result Call CallFault)
+  listed : lines ≡ map Ok before ++ Ok call ∷ rest
+  number : line ≡ length earlier + length before + 1
+  right : AllRight s earlier before
+  is : wrong_of (state_after s before) (reverse_aux before earlier) call ≡ Some w
+
+not_fault : (k line : ℕ) (f : CallFault) (w : Wrong) → Fault k f ≡ Illegal line w → ⊥
+not_fault k line f w e = cc
+
+illegal_same : (k line : ℕ) (v w : Wrong) → Illegal k v ≡ Illegal line w → (k ≡ line) × (v ≡ w)
+illegal_same k line v w e = (cc, cc)
+
+find : (s : State) (earlier : List Call) (lines : List (Result Call CallFault)) (line : ℕ) (w : Wrong) → judged s earlier lines ≡ Illegal line w → Found s earlier lines line w
+find s earlier [] line w h = absurd (let e = h in cc)
+find s earlier (Err fault ∷ rest) line w h = absurd (not_fault (length earlier + 1) line fault w h)
+find s earlier (Ok c ∷ rest) line w h = decide (λ g. find (run s c.task).0 (c ∷ earlier) rest line w g) (wrong_of s earlier c) refl h
+  where
+    decide : (judged (run s c.task).0 (c ∷ earlier) rest ≡ Illegal line w → Found (run s c.task).0 (c ∷ earlier) rest line w) → (found : Option Wrong) → wrong_of s earlier c ≡ found
+        → unless_wrong found (length earlier + 1) (judged (run s c.task).0 (c ∷ earlier) rest) ≡ Illegal line w → Found s earlier (Ok c ∷ rest) line w
+    decide next None e g =
+        let more = next g in
+        record {
+          before = c ∷ more.before;
+          call = more.call;
+          rest = more.rest;
+          listed = ap (λ t. Ok c ∷ t) more.listed;
+          number = omega (arith, more.number);
+          right = (right_of s earlier c e, more.right);
+          is = more.is;
+        }
+    decide next (Some x) e g =
+        let same = illegal_same (length earlier + 1) line x w g in
+        record {
+          before = [];
+          call = c;
+          rest = rest;
+          listed = refl;
+          number = omega (arith, same.0);
+          right = tt;
+          is = e ∙ ap Some same.1;
+        }
+
+-- so it is the verdict
+named : (s : State) (earlier before : List Call) (call : Call) (rest : List (Result Call CallFault)) (w : Wrong) → AllRight s earlier before
+    → wrong_of (state_after s before) (reverse_aux before earlier) call ≡ Some w → judged s earlier (map Ok before ++ Ok call ∷ rest) ≡ Illegal (length earlier + length before + 1) w
+named s earlier [] call rest w h e =
+    let same : length earlier + 1 ≡ length earlier + 0 + 1 = omega arith in
+    ap (λ x. unless_wrong x (length earlier + 1) (judged (run s call.task).0 (call ∷ earlier) rest)) e ∙ ap (λ k. Illegal k w) same
+named s earlier (c ∷ cs) call rest w h e =
+    let same : suc (length earlier) + length cs + 1 ≡ length earlier + suc (length cs) + 1 = omega arith in
+    ap (λ x. unless_wrong x (length earlier + 1) (judged (run s c.task).0 (c ∷ earlier) (map Ok cs ++ Ok call ∷ rest))) (wrong_none s earlier c h.0)
+    ∙ named (run s c.task).0 (c ∷ earlier) cs call rest w h.1 e ∙ ap (λ k. Illegal k w) same
+
+first_wrong : (n : ℕ) (bytes : List ℕ) (line : ℕ) (w : Wrong) → verdict_on n bytes ≡ Illegal line w → IsFirstWrong n bytes line w
+first_wrong n bytes line w h =
+    let f = find (empty_state n) [] (map line_call (lines_of bytes)) line w h in
+    let legal = linearized n f.before f.right in
+    let tests = tests_of (breaks_client (reverse_aux f.before []) f.call) (breaks_time (reverse_aux f.before []) f.call) (is_right f.call.reply (expected n f.before f.call)) (expected n f.before f.call) w f.is in
+    let cause = cause_of n f.before f.call w legal tests in
+    record {
+      before = f.before;
+      call = f.call;
+      rest = f.rest;
+      listed = f.listed;
+      number = omega (arith, f.number);
+      legal = legal;
+      illegal = none_with n f.before f.call w cause;
+      cause = cause;
+    }
+
+wrong_first : (n : ℕ) (bytes : List ℕ) (line : ℕ) (w : Wrong) → IsFirstWrong n bytes line w → verdict_on n bytes ≡ Illegal line w
+wrong_first n bytes line w f =
+    let tests = of_cause n f.before f.call w f.legal f.cause in
+    let is = of_tests (breaks_client (reverse_aux f.before []) f.call) (breaks_time (reverse_aux f.before []) f.call) (is_right f.call.reply (expected n f.before f.call)) (expected n f.before f.call) w tests in
+    let number : 0 + length f.before + 1 ≡ line = omega (arith, f.number) in
+    ap (judged (empty_state n) []) f.listed ∙ named (empty_state n) [] f.before f.call f.rest w (right_from n f.before f.legal) is ∙ ap (λ k. Illegal k w) number
+
+pub illegal_is_first_wrong : IllegalIsFirstWrong
+illegal_is_first_wrong n bytes line w = (first_wrong n bytes line w, wrong_first n bytes line w)
+
+-- ---- the first line that is no call
+
+record Faulty (s : State) (earlier : List Call) (lines : List (Result Call CallFault)) (line : ℕ) (fault : CallFault) : Type 0 where
+  before : List Call
+  rest : List (Result Call CallFault)
+  listed : lines ≡ map Ok before ++ Err fault ∷ rest
+  number : line ≡ length earlier + length before + 1
+  right : AllRight s earlier before
+
+fault_same : (k line : ℕ) (f g : CallFault) → Fault k f ≡ Fault line g → (k ≡ line) × (f ≡ g)
+fault_same k line f g e = (cc, cc)
+
+not_wrong : (k line : ℕ) (w : Wrong) (f : CallFault) → Illegal k w ≡ Fault line f → ⊥
+not_wrong k line w f e = cc
+
+find_fault : (s : State) (earlier : List Call) (lines : List (Result Call CallFault)) (line : ℕ) (fault : CallFault) → judged s earlier lines ≡ Fault line fault
+    → Faulty s earlier lines line fault
+find_fault s earlier [] line fault h = absurd (let e = h in cc)
+find_fault s earlier (Err f ∷ rest) line fault h =
+    let same = fault_same (length earlier + 1) line f fault h in
+    record {
+      before = [];
+      rest = rest;
+      listed = ap (λ x. Err x ∷ rest) same.1;
+      number = omega (arith, same.0);
+      right = tt;
+    }
+find_fault s earlier (Ok c ∷ rest) line fault h = decide (λ g. find_fault (run s c.task).0 (c ∷ earlier) rest line fault g) (wrong_of s earlier c) refl h
+  where
+    decide : (judged (run s c.task).0 (c ∷ earlier) rest ≡ Fault line fault → Faulty (run s c.task).0 (c ∷ earlier) rest line fault) → (found : Option Wrong) → wrong_of s earlier c ≡ found
+        → unless_wrong found (length earlier + 1) (judged (run s c.task).0 (c ∷ earlier) rest) ≡ Fault line fault → Faulty s earlier (Ok c ∷ rest) line fault
+    decide next None e g =
+        let more = next g in
+        record {
+          before = c ∷ more.before;
+          rest = more.rest;
+          listed = ap (λ t. Ok c ∷ t) more.listed;
+          number = omega (arith, more.number);
+          right = (right_of s earlier c e, more.right);
+        }
+    decide next (Some x) e g = absurd (not_wrong (length earlier + 1) line x fault g)
+
+named_fault : (s : State) (earlier before : List Call) (fault : CallFault) (rest : List (Result Call CallFault)) → AllRight s earlier before
+    → judged s earlier (map Ok before ++ Err fault ∷ rest) ≡ Fault (length earlier + length before + 1) fault
+named_fault s earlier [] fault rest h =
+    let same : length earlier + 1 ≡ length earlier + 0 + 1 = omega arith in
+    ap (λ k. Fault k fault) same
+named_fault s earlier (c ∷ cs) fault rest h =
+    let same : suc (length earlier) + length cs + 1 ≡ length earlier + suc (length cs) + 1 = omega arith in
+    ap (λ x. unless_wrong x (length earlier + 1) (judged (run s c.task).0 (c ∷ earlier) (map Ok cs ++ Err fault ∷ rest))) (wrong_none s earlier c h.0)
+    ∙ named_fault (run s c.task).0 (c ∷ earlier) cs fault rest h.1 ∙ ap (λ k. Fault k fault) same
+
+first_fault : (n : ℕ) (bytes : List ℕ) (line : ℕ) (fault : CallFault) → verdict_on n bytes ≡ Fault line fault → IsFirstFault n bytes line fault
+first_fault n bytes line fault h =
+    let f = find_fault (empty_state n) [] (map line_call (lines_of bytes)) line fault h in
+    record { before = f.before; rest = f.rest; listed = f.listed; number = omega (arith, f.number); legal = linearized n f.before f.right }
+
+fault_first : (n : ℕ) (bytes : List ℕ) (line : ℕ) (fault : CallFault) → IsFirstFault n bytes line fault → verdict_on n bytes ≡ Fault line fault
+fault_first n bytes line fault f =
+    let number : 0 + length f.before + 1 ≡ line = omega (arith, f.number) in
+    ap (judged (empty_state n) []) f.listed ∙ named_fault (empty_state n) [] f.before fault f.rest (right_from n f.before f.legal) ∙ ap (λ k. Fault k fault) number
+
+pub fault_is_first : FaultIsFirst
+fault_is_first n bytes line fault = (first_fault n bytes line fault, fault_first n bytes line fault)
