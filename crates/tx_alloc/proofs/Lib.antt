@@ -2,9 +2,13 @@ pub mod Sums
 pub mod Chains
 pub mod Moves
 mod Taking
+mod Walking
+mod Refilling
 mod Giving
 mod Written
 pub mod Empty
+mod Spreading
+pub mod Spread
 pub mod After
 pub mod Times
 pub mod Order

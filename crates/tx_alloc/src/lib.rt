@@ -12,10 +12,12 @@ mod fresh;
 mod list;
 pub mod place;
 mod pool;
+mod refill;
 mod rows;
 
 pub use block::Block;
-pub use fresh::fresh_words;
+pub use fresh::{fresh_words, spread_words};
 pub use list::FreeList;
 pub use pool::{give, take};
+pub use refill::take_refilling;
 pub use rows::rows_are_a_map;

@@ -2,8 +2,9 @@
 
 ghost use Rattle.std.specs.Prelude.{◌≡◌, ◌+◌, ◌%◌, ◌<◌};
 
-use crate::place::LISTS;
+use crate::place::{FIRST_HEAD, LISTS};
 use std::marker::Model;
+use stm_words::Addr;
 
 /// One of the eight lists of free blocks: in contracts its number, which is below 8.
 #[derive(Clone, Copy, Debug, PartialEq, Eq)]
@@ -51,5 +52,14 @@ impl FreeList {
         ensures small { result < LISTS }
     {
         self.number
+    }
+
+    /// The word that leads to the list's first block.
+    #[inline]
+    pub fn head(self) -> Addr
+        ensures word { result.0 ≡ FIRST_HEAD + self }
+        ensures small { self < LISTS }
+    {
+        Addr(FIRST_HEAD + self.number)
     }
 }

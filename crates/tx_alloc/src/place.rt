@@ -14,3 +14,7 @@ pub const BLOCK_WORDS: u32 = 8;
 
 /// The most blocks of a heap.
 pub const MOST_BLOCKS: usize = 262_144;
+
+/// The most blocks that leave a list at once: one that is taken, and those that go to the list that
+/// had none.
+pub const RUN_BLOCKS: u32 = 64;

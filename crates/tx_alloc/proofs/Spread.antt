@@ -1,0 +1,102 @@
+-- The words of a heap whose lists have a piece of it each are a pool of which every block is free.
+use Rattle.std.proofs.Common.{◌≡◌, ◌≢◌, inl, inr, ℕ, ◌+◌, ◌*◌, ◌<◌, ◌≤◌, List, nat_eq, nat_lt, true, false, length, slice_index, refl, arith, zero, suc}
+use Rattle.std.proofs.lemmas.Bool.Decides.{nat_tests}
+use Rattle.std.proofs.lemmas.Bool.{cases_lt, lt-ltb, le-ltb}
+use Rattle.stm_words.specs.Seen.{same_or}
+use Rattle.tx_alloc.specs.Pool.{Free, held, sum_below, IsPool, place_of}
+use Rattle.tx_alloc.specs.Spread.{IsSpreadHeap, share, spread_start, blocks_from, spread_lists}
+use Rattle.tx_alloc.proofs.Sums.{sum_one}
+use Rattle.tx_alloc.proofs.Spreading.{start_next, start_grows, start_all}
+
+abbrev words_of : List ℕ → ℕ → ℕ
+words_of xs a = slice_index xs a
+
+-- the blocks from b on, k of them, are linked
+piece_free : (xs : List ℕ) (n i k b : ℕ) → IsSpreadHeap xs n → i < 8 → spread_start n i ≤ b →
+    b + k ≡ spread_start n (i + 1) → Free (words_of xs) (length xs) (place_of (spread_start n (i + 1)) b)
+    (blocks_from k b)
+piece_free xs n i zero b h l ge e =
+    let t : nat_lt b (spread_start n (i + 1)) ≡ false = le-ltb b (spread_start n (i + 1)) (omega arith) in
+    rw t refl
+piece_free xs n i (suc k) b h l ge e =
+    let below : b < spread_start n (i + 1) = omega arith in
+    let t : nat_lt b (spread_start n (i + 1)) ≡ true = lt-ltb b (spread_start n (i + 1)) below in
+    rw t (
+      refl,
+      (b, (omega (arith, h.size, below, start_grows n (i + 1) 8 (omega arith), start_all n), refl)),
+      rw (h.nexts i b l ge below) (piece_free xs n i k (b + 1) h l (omega arith) (omega arith)),
+    )
+
+-- a block before the piece or behind it is not in it
+outside : (k s b : ℕ) → (b < s) → held (16 + 8 * b) (blocks_from k s) ≡ 0
+outside zero s b l = refl
+outside (suc k) s b l =
+    let ne : 16 + 8 * s ≢ 16 + 8 * b = omega arith in
+    let z : nat_eq (16 + 8 * s) (16 + 8 * b) ≡ false = grind (arith, nat_tests) in
+    rw z (omega (arith, outside k (s + 1) b (omega arith)))
+
+behind : (k s b : ℕ) → (s + k ≤ b) → held (16 + 8 * b) (blocks_from k s) ≡ 0
+behind zero s b l = refl
+behind (suc k) s b l =
+    let ne : 16 + 8 * s ≢ 16 + 8 * b = omega arith in
+    let z : nat_eq (16 + 8 * s) (16 + 8 * b) ≡ false = grind (arith, nat_tests) in
+    rw z (omega (arith, behind k (s + 1) b (omega arith)))
+
+-- one of the piece is there once
+inside : (k s b : ℕ) → s ≤ b → b < s + k → held (16 + 8 * b) (blocks_from k s) ≡ 1
+inside zero s b l l' = absurd (omega arith)
+inside (suc k) s b l l' =
+    elim (same_or s b) [
+      | inl same ↦ (
+          let z : nat_eq (16 + 8 * s) (16 + 8 * b) ≡ true = grind (arith, nat_tests) in
+          rw z (omega (arith, outside k (s + 1) b (omega arith))))
+      | inr apart ↦ (
+          let ne : 16 + 8 * s ≢ 16 + 8 * b = omega arith in
+          let z : nat_eq (16 + 8 * s) (16 + 8 * b) ≡ false = grind (arith, nat_tests) in
+          rw z (omega (arith, inside k (s + 1) b (omega arith) (omega arith))))
+    ]
+
+-- the list of a block
+record Owner (n b k : ℕ) : Type 0 where
+  list : ℕ
+  below : list < k
+  from : spread_start n list ≤ b
+  before : b < spread_start n (list + 1)
+
+owner : (n b k : ℕ) → b < spread_start n k → Owner n b k
+owner n b zero l = absurd (omega arith)
+owner n b (suc k) l =
+    elim (cases_lt b (spread_start n k)) [
+      | inl below ↦ (let o = owner n b k below in record
+          { list = o.list; below = omega (arith, o.below); from = o.from; before = o.before })
+      | inr here ↦ record { list = k; below = omega arith; from = here; before = omega (arith, l, start_next n k) }
+    ]
+
+length_piece : (k b : ℕ) → length (blocks_from k b) ≡ k
+length_piece zero b = refl
+length_piece (suc k) b = omega (arith, length_piece k (b + 1))
+
+once_there : (n b : ℕ) → b < n → sum_below 8 (λ i. held (16 + 8 * b) (spread_lists n i)) ≡ 1
+once_there n b l =
+    let o = owner n b 8 (omega (arith, start_all n)) in
+    sum_one 8 o.list (λ i. held (16 + 8 * b) (spread_lists n i)) o.below
+    (inside (share n o.list) (spread_start n o.list) b o.from (omega (arith, o.before, start_next n o.list)))
+    (λ i less ne. elim (cases_lt i o.list) [
+      | inl before ↦ behind (share n i) (spread_start n i) b
+          (omega (arith, o.from, start_next n i, start_grows n (i + 1) o.list (omega arith)))
+      | inr after ↦ outside (share n i) (spread_start n i) b
+          (omega (arith, o.before, start_grows n (o.list + 1) i (omega arith)))
+    ])
+
+pub spread_pool : (xs : List ℕ) (n : ℕ) → IsSpreadHeap xs n →
+    IsPool (λ (a : ℕ). slice_index xs a) (length xs) (spread_lists n) (λ (x : ℕ). 0) 0
+spread_pool xs n h = record {
+  lists = λ i l. rw (h.heads i l) (piece_free xs n i (share n i) (spread_start n i) h l (omega arith)
+      (omega (arith, start_next n i)));
+  once = λ x b.
+      let less : b.0 < n = omega (arith, h.size, b.1.0, b.1.1) in
+      rw b.1.1 (omega (arith, once_there n b.0 less));
+  all = let each : (i : ℕ) → length (spread_lists n i) ≡ share n i = λ i. length_piece (share n i) (spread_start n i)
+      in
+      omega (arith, h.size, start_all n, each 0, each 1, each 2, each 3, each 4, each 5, each 6, each 7);
+}

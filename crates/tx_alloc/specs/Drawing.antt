@@ -1,0 +1,92 @@
+-- A block is taken, and a list that has none gets a run of another one's blocks.
+use Rattle.std.specs.Prelude.{◌≡◌, ◌≢◌, ℕ, ◌+◌, ◌%◌, ◌<◌, ◌≤◌, List, [], ◌∷◌, ◌++◌, length}
+use Rattle.stm_words.specs.View.{View, Sees, Kept}
+use Rattle.tx_alloc.specs.Steps.{mem}
+use Rattle.tx_alloc.specs.Pool.{Free, IsBlock, IsPool, held, with_at, with_block}
+use Rattle.tx_alloc.specs.declared.place.TheConstants.{LISTS, FIRST_HEAD, BLOCK_WORDS, RUN_BLOCKS}
+
+-- b was first in list from, and was moved to the taken ones. The blocks behind it are those of list
+-- start now, in their order, as far as RUN_BLOCKS blocks go, and only the later ones stay.
+-- Not said: which words hold the two lists, but that no word of another block is written.
+pub record IsRefilling (m m' : ℕ → ℕ) (n : ℕ) (free : ℕ → List ℕ) (used : ℕ → ℕ)
+    (count start from b : ℕ) : Type 0 where
+  pub run : List ℕ
+  pub rest : List ℕ
+  pub first : free from ≡ b ∷ (run ++ rest)
+  pub few : length run < RUN_BLOCKS
+  pub whole : length run + 1 < RUN_BLOCKS → rest ≡ []
+  pub block : IsBlock n b
+  pub pool : IsPool m' n (with_at (with_at free from rest) start run) (with_block used b)
+      (count + 1)
+  pub others : (x : ℕ) → x ≢ FIRST_HEAD + from → x ≢ FIRST_HEAD + start →
+      ((a : ℕ) → 0 < held a run → x ≢ a) → m' x ≡ m x
+
+-- b was first in the first of the lists start, start + 1 and so on, modulo 8, that has a block, and
+-- was moved to the taken ones. Where that is another list than start, the blocks behind it are list
+-- start now, in their order, as far as RUN_BLOCKS blocks go, and only the later ones stay.
+pub record IsDrawing (m m' : ℕ → ℕ) (n : ℕ) (free : ℕ → List ℕ) (used : ℕ → ℕ)
+    (count start b : ℕ) : Type 0 where
+  pub steps : ℕ
+  pub earlier : (k : ℕ) → k < steps → free ((start + k) % LISTS) ≡ []
+  pub list : ℕ
+  pub is_list : list ≡ (start + steps) % LISTS
+  pub run : List ℕ
+  pub rest : List ℕ
+  pub first : free list ≡ b ∷ (run ++ rest)
+  pub own : steps ≡ 0 → rest ≡ []
+  pub few : steps ≢ 0 → length run < RUN_BLOCKS
+  pub whole : steps ≢ 0 → length run + 1 < RUN_BLOCKS → rest ≡ []
+  pub block : IsBlock n b
+  pub pool : IsPool m' n (with_at (with_at free list rest) start run) (with_block used b)
+      (count + 1)
+  pub others : (x : ℕ) → x ≢ FIRST_HEAD + list → x ≢ FIRST_HEAD + start →
+      ((a : ℕ) → 0 < held a run → x ≢ a) → m' x ≡ m x
+
+-- under each image b was free, and was taken
+pub record Drawn (s s' : View) (start b : ℕ) : Type 0 where
+  pub kept : Kept s s'
+  pub room : b + BLOCK_WORDS ≤ s'.size
+  pub drawing : (image : List ℕ) (free : ℕ → List ℕ) (used : ℕ → ℕ) (count : ℕ) → Sees s' image →
+      IsPool (mem s image) (length image) free used count →
+      IsDrawing (mem s image) (mem s' image) (length image) free used count start b
+
+-- b is the first block of a list, and next leads to the one behind it
+pub record Begins (s : View) (b next : ℕ) : Type 0 where
+  pub list : ℕ
+  pub small : list < LISTS
+  pub some : b ≢ 0
+  pub first : (image : List ℕ) → Sees s image → mem s image (FIRST_HEAD + list) ≡ b
+  pub next_is : (image : List ℕ) → Sees s image → mem s image b ≡ next
+
+-- the list start has no block, and the list from begins with b
+pub record IsDry (s : View) (start from b next : ℕ) : Type 0 where
+  pub begins : Begins s b next
+  pub is_from : begins.list ≡ from
+  pub small : start < LISTS
+  pub apart : from ≢ start
+  pub none : (image : List ℕ) → Sees s image → mem s image (FIRST_HEAD + start) ≡ 0
+
+-- under each image the blocks of list from, as far as the run goes, moved to list start
+pub record Refilled (s s' : View) (start from b : ℕ) : Type 0 where
+  pub kept : Kept s s'
+  pub refilling : (image : List ℕ) (free : ℕ → List ℕ) (used : ℕ → ℕ) (count : ℕ) → Sees s' image →
+      IsPool (mem s image) (length image) free used count →
+      IsRefilling (mem s image) (mem s' image) (length image) free used count start from b
+
+-- last is the last block of a run of a list's first blocks, and behind leads to the next one
+pub record IsRun (m : ℕ → ℕ) (n : ℕ) (bs : List ℕ) (last behind : ℕ) : Type 0 where
+  pub front : List ℕ
+  pub rest : List ℕ
+  pub is : bs ≡ front ++ (last ∷ rest)
+  pub few : length front < RUN_BLOCKS
+  pub whole : length front + 1 < RUN_BLOCKS → rest ≡ []
+  pub leads : m last ≡ behind
+  pub rest_is : Free m n behind rest
+
+-- only reads were made, and under each image a run of the list that begins with b was walked
+pub record Walked (s s' : View) (b last behind : ℕ) : Type 0 where
+  pub kept : Kept s s'
+  pub writes : s'.writes ≡ s.writes
+  pub run : (image : List ℕ) (free : ℕ → List ℕ) (used : ℕ → ℕ) (count : ℕ) → Sees s' image →
+      IsPool (mem s image) (length image) free used count → (i : ℕ) → i < LISTS →
+      mem s image (FIRST_HEAD + i) ≡ b → IsRun (mem s image) (length image) (free i) last behind
