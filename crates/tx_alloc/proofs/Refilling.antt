@@ -299,6 +299,7 @@ drawn_own s0 s3 start i b z ls first nz t = record {
       ] in
       let list_is : k.list ≡ start = k.is_list ∙ (let e : (start + k.steps) % 8 ≡ start = omega arith in e) in
       record {
+        small = ls;
         steps = k.steps;
         earlier = k.earlier;
         list = k.list;
@@ -340,6 +341,7 @@ drawn_other s0 s s1 s2 s3 start i from at b next k ni li ls q e nz has d d' ws r
           let same_m : (x : ℕ) → mem s2 image x ≡ m x = λ x. ap (λ (w : Words). memory image w x) same in
           let f = r.refilling image free used count seen (rw same h) in
           record {
+            small = ls;
             steps = i;
             earlier = λ j less. free_zero m (length image) (m (8 + (start + j) % 8)) (free ((start + j) % 8))
                 (h.lists ((start + j) % 8) (omega arith)) (k.empty image i0 j less);

@@ -26,6 +26,7 @@ pub record IsRefilling (m m' : ℕ → ℕ) (n : ℕ) (free : ℕ → List ℕ) 
 -- start now, in their order, as far as RUN_BLOCKS blocks go, and only the later ones stay.
 pub record IsDrawing (m m' : ℕ → ℕ) (n : ℕ) (free : ℕ → List ℕ) (used : ℕ → ℕ)
     (count start b : ℕ) : Type 0 where
+  pub small : start < LISTS
   pub steps : ℕ
   pub earlier : (k : ℕ) → k < steps → free ((start + k) % LISTS) ≡ []
   pub list : ℕ
