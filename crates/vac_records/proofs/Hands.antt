@@ -3,9 +3,9 @@ use Rattle.std.proofs.Common.{◌≡◌, ◌≢◌, inl, inr, ℕ, ◌+◌, List
 use Rattle.std.proofs.lemmas.Bool.{cases_lt}
 use Rattle.tx_alloc.specs.Pool.{IsBlock, held, with_at, with_block, IsUsed}
 use Rattle.vac_records.specs.Heap.{Parts, used_in, count_in, IsHeap}
-use Rattle.vac_records.specs.Laws.{BlockTaken, BlockGiven, BlockWritten}
+use Rattle.vac_records.specs.Laws.{BlockTaken, BlockDrawn, BlockGiven, BlockWritten}
 use Rattle.vac_records.proofs.Insert.{pool_as}
-use Rattle.vac_records.proofs.Take.{take_law, write_law, give_law}
+use Rattle.vac_records.proofs.Take.{take_law, draw_law, draw_same, write_law, give_law}
 use Rattle.vac_records.proofs.Shifts.{keeps, all_same, out_first}
 
 pub block_taken : BlockTaken
@@ -14,6 +14,16 @@ block_taken m m' n start b out s h t =
     let p = h.parts in
     let same = all_same m m' n p h.heap (λ x k bx _ _ less. t.write.others (x + k) (omega (arith, bx.1.1, t.is_list))) in
     let after = keeps m m' n out (b ∷ out) s h (record p { free = with_at p.free t.list t.rest; out = b ∷ p.out }) (take_law m m' n start b p h.heap t) (ap (λ (z : List ℕ). b ∷ z) h.held) same.0 same.1 in
+    record { after = after; tables = λ j lj. refl }
+
+pub block_drawn : BlockDrawn
+unfolding keeps
+block_drawn m m' n start b out s h t =
+    let p = h.parts in
+    let same = all_same m m' n p h.heap (λ x k bx o _ less. draw_same m m' n start b p h.heap t x k bx o less) in
+    let after = keeps m m' n out (b ∷ out) s h
+    (record p { free = with_at (with_at p.free t.list t.rest) start t.run; out = b ∷ p.out })
+    (draw_law m m' n start b p h.heap t) (ap (λ (z : List ℕ). b ∷ z) h.held) same.0 same.1 in
     record { after = after; tables = λ j lj. refl }
 
 pub block_written : BlockWritten

@@ -1,7 +1,8 @@
 -- A block is taken, and words of a block that is out are written.
-use Rattle.std.proofs.Common.{◌≡◌, ◌≢◌, ◌⊎◌, inl, inr, ℕ, ◌+◌, ◌<◌, ◌≤◌, List, ◌∷◌, refl, ap, arith, add-zero}
+use Rattle.std.proofs.Common.{◌≡◌, ◌≢◌, ◌⊎◌, inl, inr, ℕ, ◌+◌, ◌<◌, ◌≤◌, List, [], ◌∷◌, ◌++◌, refl, sym, ap, subst, arith, add-zero}
 use Rattle.std.proofs.lemmas.Bool.{cases_lt}
 use Rattle.tx_alloc.specs.Pool.{IsBlock, held, with_at, with_block, IsTaking, IsGiving}
+use Rattle.tx_alloc.specs.Drawing.{IsDrawing}
 use Rattle.tx_alloc.proofs.Sums.{sum_has}
 use Rattle.tx_alloc.proofs.Chains.{held_first, free_block}
 use Rattle.tx_alloc.specs.Rows.{times}
@@ -34,6 +35,50 @@ take_law m m' n start b p h t =
       tables = parts.0;
       lists = parts.1;
       pool = pool_as m' m' n (with_at p.free t.list t.rest) (with_block (used_in p) b) (used_in (record p { free = with_at p.free t.list t.rest; out = b ∷ p.out })) (count_in p + 1) (count_in (record p { free = with_at p.free t.list t.rest; out = b ∷ p.out }))
+          (λ i l. refl) (λ i x l o. refl) (λ x bx. omega arith) (omega arith) t.pool;
+    }
+
+held_both : (x : ℕ) (ys zs : List ℕ) → held x (ys ++ zs) ≡ held x ys + held x zs
+held_both x [] zs = omega arith
+held_both x (y ∷ ys) zs = omega (arith, held_both x ys zs)
+
+-- where a block is drawn, no word of a block that is in use is written
+pub draw_same : (m m' : ℕ → ℕ) (n start b : ℕ) (p : Parts) → IsHeap m n p →
+    IsDrawing m m' n p.free (used_in p) (count_in p) start b → (x k : ℕ) → IsBlock n x → 0 < used_in p x →
+    k < 8 → m' (x + k) ≡ m (x + k)
+draw_same m m' n start b p h t x k bx o less =
+    let l : t.list < 8 = omega (arith, t.is_list) in
+    t.others (x + k) (omega (arith, bx.1.1, l)) (omega (arith, bx.1.1, t.small)) (λ a moved q.
+    let free : 0 < held a (p.free t.list) = omega (arith, moved, ap (held a) t.first, held_both a t.run t.rest) in
+    let ba = free_block m n (m (8 + t.list)) a (p.free t.list) (h.pool.lists t.list l) free in
+    let same : x ≡ a = omega (arith, q, ba.1.1, bx.1.1) in
+    let used : 0 < used_in p a = subst (λ (z : ℕ). 0 < used_in p z) same o in
+    absurd (omega (arith, h.pool.once a ba, free, used, sum_has 8 t.list (λ z. held a (p.free z)) l)))
+
+-- nor one in front of the heads
+draw_low : (m m' : ℕ → ℕ) (n start b : ℕ) (p : Parts) → IsHeap m n p →
+    IsDrawing m m' n p.free (used_in p) (count_in p) start b → (x : ℕ) → x < 8 → m' x ≡ m x
+draw_low m m' n start b p h t x low =
+    let l : t.list < 8 = omega (arith, t.is_list) in
+    t.others x (omega arith) (omega arith) (λ a moved q.
+    let free : 0 < held a (p.free t.list) = omega (arith, moved, ap (held a) t.first, held_both a t.run t.rest) in
+    let ba = free_block m n (m (8 + t.list)) a (p.free t.list) (h.pool.lists t.list l) free in
+    absurd (omega (arith, q, ba.1.1)))
+
+pub draw_law : (m m' : ℕ → ℕ) (n start b : ℕ) (p : Parts) → IsHeap m n p →
+    (t : IsDrawing m m' n p.free (used_in p) (count_in p) start b) →
+    IsHeap m' n (record p { free = with_at (with_at p.free t.list t.rest) start t.run; out = b ∷ p.out })
+draw_law m m' n start b p h t =
+    let free = with_at (with_at p.free t.list t.rest) start t.run in
+    let parts = structures m m' n p h (λ i l. draw_low m m' n start b p h t (1 + i) (omega arith))
+    (λ x bx o _ k less. draw_same m m' n start b p h t x k bx o (omega arith)) in
+    record {
+      tables = parts.0;
+      lists = parts.1;
+      pool = pool_as m' m' n free (with_block (used_in p) b)
+          (used_in (record p { free = with_at (with_at p.free t.list t.rest) start t.run; out = b ∷ p.out }))
+          (count_in p + 1)
+          (count_in (record p { free = with_at (with_at p.free t.list t.rest) start t.run; out = b ∷ p.out }))
           (λ i l. refl) (λ i x l o. refl) (λ x bx. omega arith) (omega arith) t.pool;
     }
 

@@ -5,6 +5,8 @@ use Rattle.std.specs.FinMap.{empty, get, insert, remove, entries}
 use Rattle.vac_model.specs.declared.items.Kind.{Kind}
 use Rattle.vac_model.specs.State.{State, Bookings, Place, kind_number, empty_state, item_of, with_item, without_item, bookings_of, with_bookings, without_customer, size, bill_of}
 use Rattle.tx_alloc.specs.Pool.{IsBlock, IsTaking, IsGiving, IsUsed, IsPool, IsEmptyHeap, fresh_lists}
+use Rattle.tx_alloc.specs.Drawing.{IsDrawing}
+use Rattle.tx_alloc.specs.Spread.{IsSpreadHeap, spread_lists}
 use Rattle.tx_alloc.specs.declared.place.TheConstants.{MOST_BLOCKS}
 use Rattle.tx_alloc.specs.Rows.{Rows, put_row, cut_row, block_at, Relinks}
 use Rattle.tx_tree.specs.Table.{IsTable, Table}
@@ -101,6 +103,13 @@ FreshState =
     IsPool (λ (a : ℕ). slice_index words a) (length words) (fresh_lists blocks) (λ (x : ℕ). 0) 0 →
     Represents (λ (a : ℕ). slice_index words a) (length words) [] (empty_state blocks)
 
+-- and so do the words of one whose lists have a piece of it each
+abbrev pub SpreadState : Type 0
+SpreadState =
+    (words : List ℕ) (blocks : ℕ) → IsSpreadHeap words blocks →
+    IsPool (λ (a : ℕ). slice_index words a) (length words) (spread_lists blocks) (λ (x : ℕ). 0) 0 →
+    Represents (λ (a : ℕ). slice_index words a) (length words) [] (empty_state blocks)
+
 -- an item that is there, by its block
 abbrev pub ItemFound : Type 0
 ItemFound =
@@ -157,6 +166,13 @@ abbrev pub BlockTaken : Type 0
 BlockTaken =
     (m m' : ℕ → ℕ) (n start b : ℕ) (out : List ℕ) (s : State) (h : Represents m n out s) →
     IsTaking m m' n h.parts.free (used_in h.parts) (count_in h.parts) start b →
+    Stays h m' (b ∷ out) s
+
+-- a block is taken, and others may move to the list that was asked for it
+abbrev pub BlockDrawn : Type 0
+BlockDrawn =
+    (m m' : ℕ → ℕ) (n start b : ℕ) (out : List ℕ) (s : State) (h : Represents m n out s) →
+    IsDrawing m m' n h.parts.free (used_in h.parts) (count_in h.parts) start b →
     Stays h m' (b ∷ out) s
 
 -- a block in hand is given back

@@ -1,6 +1,6 @@
 //! Laws on memories that represent states. Each is the contract of a function that does nothing.
 
-ghost use Rattle.vac_records.specs.Laws.{OneState, OneShape, SameWords, FreshState, ItemFound, ItemMissing, CustomerFound, CustomerMissing, BookingFound, BookingMissing, NoneLeft, SomeLeft, BlockTaken, BlockGiven, BlockWritten, ItemInserted, ItemReplaced, ItemRemoved, CustomerInserted, CustomerRemoved, BookingInserted, BookingReplaced, BookingRemoved, PoolThere, HandThere, TableThere, ListThere, BillThere};
+ghost use Rattle.vac_records.specs.Laws.{OneState, OneShape, SameWords, FreshState, SpreadState, ItemFound, ItemMissing, CustomerFound, CustomerMissing, BookingFound, BookingMissing, NoneLeft, SomeLeft, BlockTaken, BlockDrawn, BlockGiven, BlockWritten, ItemInserted, ItemReplaced, ItemRemoved, CustomerInserted, CustomerRemoved, BookingInserted, BookingReplaced, BookingRemoved, PoolThere, HandThere, TableThere, ListThere, BillThere};
 
 /// A memory represents at most one state, and of a memory of n words no word behind them matters.
 pub fn one_state_for_a_memory()
@@ -11,7 +11,8 @@ pub fn one_state_for_a_memory()
 
 /// The words of an empty heap represent the state with no entries.
 pub fn empty_heaps_are_empty_states()
-    ensures { FreshState }
+    ensures fresh { FreshState }
+    ensures spread { SpreadState }
 {}
 
 /// An entry of the state is read off the block that its key leads to, and a key that leads to none
@@ -34,6 +35,7 @@ pub fn capacity_is_a_count_of_blocks()
 /// A block that is taken, given back, or written while it is in hand leaves the state as it is.
 pub fn blocks_in_hand_are_no_entries()
     ensures taken { BlockTaken }
+    ensures drawn { BlockDrawn }
     ensures given { BlockGiven }
     ensures written { BlockWritten }
 {}

@@ -1,5 +1,5 @@
-use Rattle.vac_records.proofs.Fresh.{fresh_state}
+use Rattle.vac_records.proofs.Fresh.{fresh_state, spread_state}
 use Rattle.vac_records.proofs.laws.empty_heaps_are_empty_states.Goals as goal
 
 pub returns : goal.returns
-returns c = fresh_state
+returns c = record { fresh = fresh_state; spread = spread_state }
