@@ -14,8 +14,10 @@ use Rattle.vac_model.specs.State.{State, Bookings, Place, item_of, with_item, wi
 use Rattle.vac_model.specs.Step.{done, refused, step, taken, new_booking}
 use Rattle.vac_model.proofs.States.{item_of-with_bookings}
 use Rattle.tx_alloc.specs.Pointer.{pointer}
-use Rattle.tx_alloc.specs.Pool.{IsTaking, NoneFree, Taken}
-use Rattle.tx_alloc.specs.Rows.{Rows, block_at}
+use Rattle.tx_alloc.specs.Drawing.{Drawn, IsDrawing}
+use Rattle.tx_alloc.specs.Pool.{NoneFree}
+use Rattle.tx_alloc.specs.Rows.{Rows, times, block_at}
+use Rattle.tx_alloc.proofs.Sums.{sum_has}
 use Rattle.tx_list.specs.declared.search.Spot.{Spot}
 use Rattle.tx_list.specs.Bookings.{IsList}
 use Rattle.tx_list.specs.Lists.{IsListAt}
@@ -34,14 +36,16 @@ use Rattle.vac_records.specs.Steps.{kept_both, stood}
 use Rattle.vac_records.proofs.Items.{item_replaced}
 use Rattle.vac_records.proofs.Booked.{booking_found, booking_inserted}
 use Rattle.vac_records.proofs.Bridges.{pool_there, list_there}
-use Rattle.vac_records.proofs.Hands.{block_taken, block_written}
+use Rattle.vac_records.proofs.Overs.{over_has}
+use Rattle.vac_records.proofs.Take.{draw_same}
+use Rattle.vac_records.proofs.Hands.{block_drawn, block_written}
 use Rattle.vac_records.proofs.Links.{list_one}
 use Rattle.vac_records.proofs.Single.{none_left, some_left}
 use Rattle.vac_commands.specs.declared.bookings.Offer.{Offer}
 use Rattle.vac_commands.specs.Entries.{ItemIsAt, CustomerIsAt}
 use Rattle.vac_commands.specs.BookingSteps.{booking_block, Here, AtSpot, HasSpot, IsOffered, Lands, Serves}
 use Rattle.vac_commands.proofs.Serving.{reads_serve}
-use Rattle.vac_commands.proofs.Owners.{here_at, owned, at_owner, its_list, at_item, its_item, not_booked, owner_is_block}
+use Rattle.vac_commands.proofs.Owners.{here_at, owned, at_owner, its_list, at_item, its_item, not_booked, owner_in_table, owner_is_block}
 use Rattle.vac_commands.proofs.InHand.{loose, outside, same_rows}
 use Rattle.vac_commands.proofs.Cancelling.{item_stays, item_words}
 use Rattle.vac_commands.proofs.Extending.{counts_fit}
@@ -92,9 +96,10 @@ module _ (m : ℕ → ℕ) (n : ℕ) (s : State) (h : IsState m n s) (customer o
       let t : is_full s ≡ true = has_no_room s (none_left m n s h.represents all) in
       rw ((owned m n s h customer owner kind id item e).there, there, f, missing, t) refl
 
-  module _ (m1 : ℕ → ℕ) (b start : ℕ) (t : IsTaking m m1 n h.represents.parts.free (used_in h.represents.parts) (count_in h.represents.parts) start b) where
+  module _ (m1 : ℕ → ℕ) (b start : ℕ) (t : IsDrawing m m1 n h.represents.parts.free (used_in h.represents.parts)
+      (count_in h.represents.parts) start b) where
     hand : Stays h.represents m1 (b ∷ []) s
-    hand = block_taken m m1 n start b [] s h.represents t
+    hand = block_drawn m m1 n start b [] s h.represents t
 
     at_hand : IsCustomerAt hand.after customer owner had
     at_hand = customer_stays m m1 n [] (b ∷ []) s h.represents customer owner had hand (at_owner m n s h customer owner kind id item e (owned m n s h customer owner kind id item e))
@@ -191,10 +196,13 @@ module _ (s : View) (customer owner : ℕ) (kind : Kind) (id item num : ℕ) (of
       no_place (mem s image) (length image) state h customer owner kind id item p.here (none image state h p)
       num (enough_at image (z.kept.seen image i)) (z.none image q.free (used_in q) (count_in q) i (pool_there (mem s image) (length image) [] state h.represents)))
 
-  module _ (s1 : View) (b start : ℕ) (t : Taken s s1 start b) where
+  module _ (s1 : View) (b start : ℕ) (t : Drawn s s1 start b) where
     its_taking : (image : List ℕ) (state : State) → Sees s1 image → (h : IsState (mem s image) (length image) state) →
-        IsTaking (mem s image) (mem s1 image) (length image) h.represents.parts.free (used_in h.represents.parts) (count_in h.represents.parts) start b
-    its_taking image state i h = let p = h.represents.parts in t.taking image p.free (used_in p) (count_in p) i (pool_there (mem s image) (length image) [] state h.represents)
+        IsDrawing (mem s image) (mem s1 image) (length image) h.represents.parts.free (used_in h.represents.parts)
+        (count_in h.represents.parts) start b
+    its_taking image state i h = let p = h.represents.parts in
+        t.drawing image p.free (used_in p) (count_in p) i
+        (pool_there (mem s image) (length image) [] state h.represents)
 
     pub block_node : HoldsState s → IsNode s1 b
     block_node held = record { inside = t.room; small = omega (arith, held.small, t.kept.size) }
@@ -218,11 +226,16 @@ module _ (s : View) (customer owner : ℕ) (kind : Kind) (id item num : ℕ) (of
           let now = rows_now m n state h customer owner kind id item p.here (none image state h p) m1 b start g in
           let listed = list_now m n state h customer owner kind id item p.here (none image state h p) m1 b start g in
           let owner_block = owner_is_block m n state h customer owner kind id item p.here in
+          let parts = h.represents.parts in
+          let inside : 0 < times owner (parts.tables 3) = owner_in_table m n state h customer owner kind id item
+          p.here in
           let still : Unmoved m m1 (head_of owner) rows = record {
-            start = g.write.others (head_of owner) (omega (arith, owner_block.1.1, g.is_list));
+            start = draw_same m m1 n start b parts h.represents.heap g owner 4 owner_block
+                (omega (arith, inside, sum_has 4 3 (λ z. times owner (parts.tables z)) (omega arith))) (omega arith);
             blocks = λ a o k less.
                 let ba = list_block m n (m (head_of owner)) a rows list.list o in
-                g.write.others (a + k) (omega (arith, ba.1.1, g.is_list));
+                draw_same m m1 n start b parts h.represents.heap g a k ba
+                (omega (arith, o, over_has (times a) owner (parts.tables 3) parts.lists inside)) (omega arith);
           } in
           let kept : IsList m1 n (m1 (head_of owner)) rows = rw still.start (list_frame m m1 n (m (head_of owner)) rows list.list still.blocks) in
           let same : rows ≡ now = list_one m1 n (m1 (head_of owner)) rows now kept listed.list in

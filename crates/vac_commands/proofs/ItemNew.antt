@@ -10,7 +10,8 @@ use Rattle.vac_model.specs.declared.commands.Why.TheVariants.{NeedsCountAndPrice
 use Rattle.vac_model.specs.Ranges.{is_command}
 use Rattle.vac_model.specs.State.{State, kind_number, item_of, with_item, is_full}
 use Rattle.vac_model.specs.Step.{step, new_item}
-use Rattle.tx_alloc.specs.Pool.{NoneFree, Taken, IsBlock}
+use Rattle.tx_alloc.specs.Drawing.{Drawn}
+use Rattle.tx_alloc.specs.Pool.{NoneFree, IsBlock}
 use Rattle.tx_alloc.specs.Rows.{Rows, block_at}
 use Rattle.tx_tree.specs.Table.{Fresh, Table, HasTable, IsFresh, Inserted}
 use Rattle.vac_records.specs.Items.{mem, item_in, IsNewItem, ItemMade}
@@ -20,7 +21,7 @@ use Rattle.vac_records.specs.Represents.{Represents, IsState}
 use Rattle.vac_records.specs.Laws.{Stays}
 use Rattle.vac_records.specs.InMemory.{HoldsState}
 use Rattle.vac_records.proofs.Bridges.{pool_there, table_there}
-use Rattle.vac_records.proofs.Hands.{block_taken, block_written}
+use Rattle.vac_records.proofs.Hands.{block_drawn, block_written}
 use Rattle.vac_records.proofs.Items.{item_inserted}
 use Rattle.vac_records.proofs.Shifts.{kind_small}
 use Rattle.vac_records.proofs.Single.{none_left, some_left}
@@ -73,7 +74,8 @@ pub record InHand {m : ℕ → ℕ} {n : ℕ} {state : State} (h : Represents m 
   pub block : IsBlock n b
   pub stays : Stays h m' (b ∷ []) state
 
-pub in_hand : (s s1 s2 : View) (id num p start b : ℕ) (image : List ℕ) (state : State) → Taken s s1 start b → ItemMade s1 s2 b id num p → Sees s2 image →
+pub in_hand : (s s1 s2 : View) (id num p start b : ℕ) (image : List ℕ) (state : State) → Drawn s s1 start b →
+    ItemMade s1 s2 b id num p → Sees s2 image →
     (h : Represents (mem s image) (length image) [] state) → InHand h (mem s2 image) b
 in_hand s s1 s2 id num p start b image state t w i h =
     let m = mem s image in
@@ -81,8 +83,9 @@ in_hand s s1 s2 id num p start b image state t w i h =
     let m2 = mem s2 image in
     let i1 = w.kept.seen image i in
     let made = w.made image i in
-    let taking = t.taking image h.parts.free (used_in h.parts) (count_in h.parts) i1 (pool_there m (length image) [] state h) in
-    let taken = block_taken m m1 (length image) start b [] state h taking in
+    let taking = t.drawing image h.parts.free (used_in h.parts) (count_in h.parts) i1
+    (pool_there m (length image) [] state h) in
+    let taken = block_drawn m m1 (length image) start b [] state h taking in
     let written = block_written m1 m2 (length image) b [] state taking.block taken.after (λ x far. elim far [
       | inl below ↦ made.others x (omega arith) (inl (omega arith))
       | inr above ↦ made.others x (omega arith) (inr above)
@@ -101,7 +104,8 @@ new_table m m2 n b state kind h hand =
     let same = hand.stays.tables k l in
     subst (λ (rows : Rows). Table m2 n (1 + k) rows) same (table_there m2 n (b ∷ []) state k hand.stays.after h.small.small l)
 
-pub table_in_hand : (s s1 s2 : View) (kind : Kind) (id num p start b root : ℕ) → root ≡ 1 + kind_number kind → HoldsState s → Taken s s1 start b → ItemMade s1 s2 b id num p → HasTable s2 root
+pub table_in_hand : (s s1 s2 : View) (kind : Kind) (id num p start b root : ℕ) → root ≡ 1 + kind_number kind →
+    HoldsState s → Drawn s s1 start b → ItemMade s1 s2 b id num p → HasTable s2 root
 table_in_hand s s1 s2 kind id num p start b root e held t w = record {
   small = omega (arith, held.small, t.kept.size, w.kept.size);
   room = omega (arith, held.inside, t.kept.size, w.kept.size);
@@ -113,7 +117,8 @@ table_in_hand s s1 s2 kind id num p start b root e held t w = record {
       record { entries = h.1.represents.parts.tables (kind_number kind); is = rw e table };
 }
 
-pub fresh_in_hand : (s s1 s2 : View) (kind : Kind) (id num p start b root : ℕ) → root ≡ 1 + kind_number kind → HoldsState s → LacksItem s kind id → Taken s s1 start b → ItemMade s1 s2 b id num p → IsFresh s2 root id b
+pub fresh_in_hand : (s s1 s2 : View) (kind : Kind) (id num p start b root : ℕ) → root ≡ 1 + kind_number kind →
+    HoldsState s → LacksItem s kind id → Drawn s s1 start b → ItemMade s1 s2 b id num p → IsFresh s2 root id b
 fresh_in_hand s s1 s2 kind id num p start b root e held l t w = record {
   under = λ image rows i other.
       let m2 = mem s2 image in
@@ -137,7 +142,8 @@ new_numbers : (m m' : ℕ → ℕ) (b id num p : ℕ) → IsNewItem m m' b id nu
 new_numbers m m' b id num p w = λ i. record { used = w.used_is i; free = w.free_is i; total = w.total_is i; price = w.price_is i }
 
 pub new_done : (s s1 s2 s3 : View) (kind : Kind) (id num p start b root : ℕ) → root ≡ 1 + kind_number kind → LacksItem s kind id → is_command (command.Add kind id num (Some p)) ≡ true → num ≢ 0 →
-    Taken s s1 start b → ItemMade s1 s2 b id num p → Inserted s2 s3 root id b → Ran s s3 (command.Add kind id num (Some p)) reply.Done
+    Drawn s s1 start b → ItemMade s1 s2 b id num p → Inserted s2 s3 root id b →
+    Ran s s3 (command.Add kind id num (Some p)) reply.Done
 new_done s s1 s2 s3 kind id num p start b root e l range nz t w v = record {
   kept = kept_both s s2 s3 (kept_both s s1 s2 t.kept w.kept) v.kept;
   untouched = tt;

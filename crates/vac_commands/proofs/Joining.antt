@@ -10,7 +10,8 @@ use Rattle.vac_model.specs.declared.replies.Reply.TheVariants as reply
 use Rattle.vac_model.specs.State.{State, Bookings, kind_number, bookings_of, with_bookings, size, is_full}
 use Rattle.vac_model.specs.Ranges.{is_command}
 use Rattle.vac_model.specs.Step.{step}
-use Rattle.tx_alloc.specs.Pool.{IsTaking, NoneFree, Taken}
+use Rattle.tx_alloc.specs.Drawing.{Drawn, IsDrawing}
+use Rattle.tx_alloc.specs.Pool.{NoneFree}
 use Rattle.tx_alloc.specs.Rows.{Rows, put_row, block_at}
 use Rattle.tx_alloc.proofs.Order.{at_put}
 use Rattle.tx_tree.specs.Table.{Table, HasTable, Fresh, IsFresh, Inserted}
@@ -23,7 +24,7 @@ use Rattle.vac_records.specs.Laws.{Stays, StaysBut}
 use Rattle.vac_records.specs.Steps.{kept_both, stood}
 use Rattle.vac_records.proofs.Bridges.{pool_there, table_there}
 use Rattle.vac_records.proofs.Customers.{customer_missing, customer_inserted}
-use Rattle.vac_records.proofs.Hands.{block_taken, block_written}
+use Rattle.vac_records.proofs.Hands.{block_drawn, block_written}
 use Rattle.vac_records.proofs.Shifts.{kind_small}
 use Rattle.vac_records.proofs.Single.{none_left, some_left, one_shape}
 use Rattle.vac_records.proofs.TableRows.{table_one}
@@ -68,19 +69,19 @@ none_left_over s s' id n = record {
 }
 
 -- the block that was taken
-taking : (s s1 : View) (start b : ℕ) (image : List ℕ) (state : State) → Taken s s1 start b →
+taking : (s s1 : View) (start b : ℕ) (image : List ℕ) (state : State) → Drawn s s1 start b →
     Sees s1 image → (h : IsState (mem s image) (length image) state) →
-    IsTaking (mem s image) (mem s1 image) (length image) h.represents.parts.free
+    IsDrawing (mem s image) (mem s1 image) (length image) h.represents.parts.free
     (used_in h.represents.parts) (count_in h.represents.parts) start b
 taking s s1 start b image state t i h =
-    t.taking image h.represents.parts.free (used_in h.represents.parts) (count_in h.represents.parts) i
+    t.drawing image h.represents.parts.free (used_in h.represents.parts) (count_in h.represents.parts) i
     (pool_there (mem s image) (length image) [] state h.represents)
 
-pub taken_node : (s s1 : View) (start b : ℕ) → HoldsState s → Taken s s1 start b → IsNode s1 b
+pub taken_node : (s s1 : View) (start b : ℕ) → HoldsState s → Drawn s s1 start b → IsNode s1 b
 taken_node s s1 start b h t = record { inside = t.room; small = omega (arith, h.small, t.kept.size) }
 
 -- the state while the block is in hand
-module _ (s s1 s2 : View) (id start b : ℕ) (t : Taken s s1 start b) (w : CustomerMade s1 s2 b id) where
+module _ (s s1 s2 : View) (id start b : ℕ) (t : Drawn s s1 start b) (w : CustomerMade s1 s2 b id) where
   in_hand : (image : List ℕ) (state : State) → Sees s2 image →
       (h : IsState (mem s image) (length image) state) →
       Stays h.represents (mem s2 image) (b ∷ []) state
@@ -89,7 +90,7 @@ module _ (s s1 s2 : View) (id start b : ℕ) (t : Taken s s1 start b) (w : Custo
       let n = length image in
       let k = taking s s1 start b image state t (w.kept.seen image i) h in
       let new = w.made image i in
-      let one = block_taken m (mem s1 image) n start b [] state h.represents k in
+      let one = block_drawn m (mem s1 image) n start b [] state h.represents k in
       let two = block_written (mem s1 image) (mem s2 image) n b [] state k.block one.after (λ x far.
       new.others x (elim far [ inl below ↦ omega arith | inr above ↦ omega arith ])
       (elim far [ inl below ↦ inl (omega arith) | inr above ↦ inr above ])) in

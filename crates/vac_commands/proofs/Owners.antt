@@ -6,6 +6,7 @@ use Rattle.vac_model.specs.declared.items.Kind.{Kind}
 use Rattle.vac_model.specs.State.{State, Place, item_of}
 use Rattle.tx_alloc.specs.Pointer.{pointer, IsWithin}
 use Rattle.tx_alloc.specs.Pool.{IsBlock}
+use Rattle.tx_alloc.specs.Rows.{times}
 use Rattle.tx_list.specs.declared.search.Spot.{Spot}
 use Rattle.tx_list.specs.Lists.{IsListAt, HasList}
 use Rattle.tx_list.specs.Search.{Sought, SpotAt}
@@ -77,10 +78,15 @@ module _ (m : ℕ → ℕ) (n : ℕ) (s : State) (h : IsState m n s) (customer o
       (row_times customer owner (p.tables 3) (row_at customer owner (p.tables 3) e.owner_is e.owner_some))
       (row_times (place_key (kind, id)) b (p.lists owner) (row_at (place_key (kind, id)) b (p.lists owner) is some))
 
+  pub owner_in_table : 0 < times owner (h.represents.parts.tables 3)
+  owner_in_table =
+      let p = h.represents.parts in
+      row_times customer owner (p.tables 3) (row_at customer owner (p.tables 3) e.owner_is e.owner_some)
+
   pub owner_is_block : IsBlock n owner
   owner_is_block =
       let p = h.represents.parts in
-      in_table m n p h.represents.heap 3 owner (omega arith) (row_times customer owner (p.tables 3) (row_at customer owner (p.tables 3) e.owner_is e.owner_some))
+      in_table m n p h.represents.heap 3 owner (omega arith) owner_in_table
 
 -- the customer's list of bookings
 pub owner_list : (m : ℕ → ℕ) (n : ℕ) (s : State) (h : IsState m n s) (customer owner : ℕ) → customer_block h customer ≡ owner → owner ≢ 0 → IsListAt m n (head_of owner) (h.represents.parts.lists owner)

@@ -9,7 +9,7 @@ ghost use Rattle.vac_commands.specs.BookingSteps.{AtBlocks, AtBooking, AtSpot, H
 
 use crate::find::{find_customer, find_item};
 use stm_words::TxMem;
-use tx_alloc::{Block, FreeList, give, take};
+use tx_alloc::{Block, FreeList, give, take_refilling};
 use tx_list::Spot;
 use vac_model::limits::MOST_UNITS;
 use vac_model::{Command, Kind, Reply, Why};
@@ -28,7 +28,8 @@ struct Offer {
 }
 
 /// Books units of an item for a customer, at the item's price of now. A booking that is there takes
-/// more units; a new one takes its block from the first free list that has one, from `start` on.
+/// more units; a new one takes its block from the first free list that has one, from `start` on,
+/// and refills list `start` where that had none.
 pub fn reserve<M: TxMem>(
     memory: &mut M,
     customer: u32,
@@ -147,7 +148,7 @@ fn add_booking<M: TxMem>(
         (Command.Reserve customer kind id num) reply
         (AtSpot customer owner kind id item spot)) }
 {
-    let Some(block) = take(memory, start)? else {
+    let Some(block) = take_refilling(memory, start)? else {
         return Ok(Reply::No(Why::Full));
     };
     book_at(memory, spot, block, kind, id, num, offer.price)?;

@@ -13,13 +13,13 @@ use crate::bookings::cancel_at;
 use crate::find::{find_customer, find_item};
 use stm_words::{TxMem, TxRead, load};
 use tx_alloc::place::MOST_BLOCKS;
-use tx_alloc::{Block, FreeList, give, take};
+use tx_alloc::{Block, FreeList, give, take_refilling};
 use tx_list::Spot;
 use vac_model::{Command, Kind, Reply, Why};
 use vac_records::{CUSTOMERS, init_customer, place};
 
 /// Makes a customer without bookings, in a block of the first free list that has one, from `start`
-/// on.
+/// on. List `start` is refilled where it had none.
 pub fn new_customer<M: TxMem>(memory: &mut M, id: u32, start: FreeList) -> Result<Reply, M::Stop>
     requires state { HoldsState (M.view memory.old) }
     requires range { is_command (Command.NewCustomer id) ≡ true }
@@ -55,7 +55,7 @@ pub fn add_customer<M: TxMem>(
         (λ c. HasSeat (M.view memory.old) (M.view memory.new) id c)) }
     ensures items { IfOk result (λ _. ItemsStayOn (M.view memory.old) (M.view memory.new) id 0) }
 {
-    let Some(block) = take(memory, start)? else {
+    let Some(block) = take_refilling(memory, start)? else {
         return Ok(None);
     };
     init_customer(memory, block, id)?;

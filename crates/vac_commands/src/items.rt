@@ -11,7 +11,7 @@ ghost use Rattle.vac_commands.specs.Ran.{Ran, Asked, ItemGone};
 
 use crate::find::find_item;
 use stm_words::{TxMem, TxRead};
-use tx_alloc::{Block, FreeList, give, take};
+use tx_alloc::{Block, FreeList, give, take_refilling};
 use vac_model::limits::MOST_TOTAL;
 use vac_model::{Command, Kind, Reply, Why};
 use vac_records::{
@@ -53,6 +53,7 @@ pub fn price<M: TxRead>(memory: &mut M, kind: Kind, id: u32) -> Result<Option<u6
 }
 
 /// Makes an item that is missing, in a block of the first free list that has one, from `start` on.
+/// List `start` is refilled where it had none.
 fn add_new<M: TxMem>(
     memory: &mut M,
     kind: Kind,
@@ -74,7 +75,7 @@ fn add_new<M: TxMem>(
     if num == 0 {
         return Ok(Reply::No(Why::NeedsCountAndPrice));
     }
-    let taken = take(memory, start)?;
+    let taken = take_refilling(memory, start)?;
     let Some(block) = taken else {
         return Ok(Reply::No(Why::Full));
     };
@@ -143,7 +144,7 @@ fn add_more<M: TxMem>(
 }
 
 /// Makes an item, or adds units to the one that is there. A new item takes its block from the
-/// first free list that has one, from `start` on.
+/// first free list that has one, from `start` on, and refills list `start` where that had none.
 pub fn add<M: TxMem>(
     memory: &mut M,
     kind: Kind,

@@ -3,8 +3,8 @@ use Rattle.vac_commands.proofs.Extending.{price_small, sum_small}
 use Rattle.vac_commands.proofs.AddingBookings.{no_block, block_node, spot_room, can_make, add_done}
 use Rattle.vac_commands.proofs.bookings.add_booking.Goals as goal
 
-pub take-requires : goal.take-requires
-take-requires g c = record { pool = pool_held _ c.requires.state }
+pub take_refilling-requires : goal.take_refilling-requires
+take_refilling-requires g c = record { pool = pool_held _ c.requires.state }
 
 pub returns-in_default-clause-answer : goal.returns-in_default-clause-answer
 returns-in_default-clause-answer g c = no_block _ c.args.customer c.args.owner c.args.kind c.args.id _ _ _ c.args.spot c.requires.offered c.requires.missing _ (rw c.in_default.is at c.in_ok-block.ensures.answer)
