@@ -1,0 +1,68 @@
+-- What a part of an input does, where a line has begun before it.
+use Rattle.std.specs.Prelude.{◌≡◌, ℕ, ◌+◌, ◌≤◌, Result, Ok, Err, List, ◌++◌, length}
+use Rattle.vac_lines.specs.Lines.{HasNo}
+use Rattle.vac_streams.specs.declared.fault.StreamFault.{StreamFault}
+use Rattle.vac_streams.specs.declared.next.Next.{Next}
+use Rattle.vac_streams.specs.declared.next.Next.TheVariants.{GoOn, Stop}
+use Rattle.vac_streams.specs.Told.{Told, told_lines, lines_in}
+use Rattle.vac_streams.specs.Heard.{ToldAll, ToldLast, AreFirst}
+
+-- what is kept of a line that has begun: enough to see that it is too long
+abbrev pub HasBegun : ℕ → List ℕ → Type 0
+HasBegun longest line = HasNo 10 line × (length line ≤ longest + 1)
+
+-- the sink was told the lines that end in a chunk: whatever follows it, those behind them are those
+-- of the line that has begun then
+pub record FedAll {S O : Type 0}
+    (hears : S → O → Told → Result Next StreamFault → S → O → Type 0) (longest : ℕ)
+    (line line' chunk : List ℕ) (s : S) (o : O) (t : S) (p : O) : Type 0 where
+  pub begun : HasBegun longest line'
+  pub told : List Told
+  pub heard : ToldAll hears s o told t p
+  pub same : (x : List ℕ) → told_lines longest (line ++ (chunk ++ x))
+      ≡ lines_in told ++ told_lines longest (line' ++ x)
+
+-- the sink was told some of them, and its answer to the last ended the reading
+pub record FedLast {S O : Type 0}
+    (hears : S → O → Told → Result Next StreamFault → S → O → Type 0) (longest : ℕ)
+    (answer : Result Next StreamFault) (line chunk : List ℕ) (s : S) (o : O) (t : S) (p : O) :
+    Type 0 where
+  pub told : List Told
+  pub heard : ToldLast hears s o told answer t p
+  pub first : (x : List ℕ) → AreFirst longest (lines_in told) (line ++ (chunk ++ x))
+
+-- what a chunk does
+abbrev pub Fed : {S O : Type 0}
+    → (S → O → Told → Result Next StreamFault → S → O → Type 0) → ℕ
+    → Result Next StreamFault → List ℕ → List ℕ → List ℕ → S → O → S → O → Type 0
+Fed hears longest (Ok GoOn) line line' chunk s o t p =
+    FedAll hears longest line line' chunk s o t p
+Fed hears longest (Ok Stop) line line' chunk s o t p =
+    FedLast hears longest (Ok Stop) line chunk s o t p
+Fed hears longest (Err fault) line line' chunk s o t p =
+    FedLast hears longest (Err fault) line chunk s o t p
+
+-- the sink was told the last line, where there is one
+pub record EndedAll {S O : Type 0}
+    (hears : S → O → Told → Result Next StreamFault → S → O → Type 0) (longest : ℕ)
+    (line : List ℕ) (s : S) (o : O) (t : S) (p : O) : Type 0 where
+  pub told : List Told
+  pub heard : ToldAll hears s o told t p
+  pub same : lines_in told ≡ told_lines longest line
+
+-- its answer to the last line ended the reading
+pub record EndedLast {S O : Type 0}
+    (hears : S → O → Told → Result Next StreamFault → S → O → Type 0) (longest : ℕ)
+    (answer : Result Next StreamFault) (line : List ℕ) (s : S) (o : O) (t : S) (p : O) :
+    Type 0 where
+  pub told : List Told
+  pub heard : ToldLast hears s o told answer t p
+  pub first : AreFirst longest (lines_in told) line
+
+-- what the end of the input does
+abbrev pub Ended : {S O : Type 0}
+    → (S → O → Told → Result Next StreamFault → S → O → Type 0) → ℕ
+    → Result Next StreamFault → List ℕ → S → O → S → O → Type 0
+Ended hears longest (Ok GoOn) line s o t p = EndedAll hears longest line s o t p
+Ended hears longest (Ok Stop) line s o t p = EndedLast hears longest (Ok Stop) line s o t p
+Ended hears longest (Err fault) line s o t p = EndedLast hears longest (Err fault) line s o t p

@@ -1,0 +1,86 @@
+-- What a sink has heard of an input. What a sink makes of being told something is a relation hears
+-- of its own: from a sink and an output, told this, with this answer, to a sink and an output.
+use Rattle.std.specs.Prelude.{◌≡◌, ◌≢◌, ◌⊎◌, ℕ, Option, Result, Ok, Err, List, [], ◌∷◌, ◌++◌}
+use Rattle.std.specs.Io.KnownBytes.{Consumes, IsAtEnd}
+use Rattle.vac_streams.specs.declared.fault.StreamFault.{StreamFault}
+use Rattle.vac_streams.specs.declared.fault.StreamFault.TheVariants.{Write}
+use Rattle.vac_streams.specs.declared.next.Next.{Next}
+use Rattle.vac_streams.specs.declared.next.Next.TheVariants.{GoOn, Stop}
+use Rattle.vac_streams.specs.Told.{Told, told_lines, lines_in}
+
+-- it was told all of this, one after the other, and wants more
+abbrev pub ToldAll : {S O : Type 0}
+    → (S → O → Told → Result Next StreamFault → S → O → Type 0)
+    → S → O → List Told → S → O → Type 0
+ToldAll hears s o [] t p = (t ≡ s) × (p ≡ o)
+ToldAll {S} {O} hears s o (x ∷ more) t p =
+    (u : S) × (q : O) × hears s o x (Ok GoOn) u q × ToldAll hears u q more t p
+
+-- it was told all of this, one after the other, and this was the answer to the last
+pub record ToldLast {S O : Type 0}
+    (hears : S → O → Told → Result Next StreamFault → S → O → Type 0)
+    (s : S) (o : O) (told : List Told) (answer : Result Next StreamFault) (t : S) (p : O) :
+    Type 0 where
+  pub before : List Told
+  pub last : Told
+  pub all : told ≡ before ++ last ∷ []
+  pub sink : S
+  pub output : O
+  pub first : ToldAll hears s o before sink output
+  pub then : hears sink output last answer t p
+
+-- these are the first lines of a text
+abbrev pub AreFirst : ℕ → List Told → List ℕ → Type 0
+AreFirst longest lines text = (more : List Told) × (told_lines longest text ≡ lines ++ more)
+
+-- these are the first lines of an input of which these bytes were read: of all of it, where it was
+-- read to its end, or whatever follows
+abbrev pub AreFirstOf : ℕ → List Told → List ℕ → Option (List ℕ) → Type 0
+AreFirstOf longest lines bytes left =
+    (IsAtEnd left × AreFirst longest lines bytes)
+    ⊎ ((x : List ℕ) → AreFirst longest lines (bytes ++ x))
+
+-- the input was read to its end, and the sink was told exactly its lines, in their order
+pub record HeardAll {S O : Type 0}
+    (hears : S → O → Told → Result Next StreamFault → S → O → Type 0) (longest : ℕ)
+    (unread left : Option (List ℕ)) (s : S) (o : O) (t : S) (p : O) : Type 0 where
+  pub bytes : List ℕ
+  pub consumed : Consumes unread left bytes
+  pub ended : IsAtEnd left
+  pub told : List Told
+  pub heard : ToldAll hears s o told t p
+  pub lines : lines_in told ≡ told_lines longest bytes
+
+-- the sink was told the first lines of the input, and its answer to the last ended the reading
+pub record HeardLast {S O : Type 0}
+    (hears : S → O → Told → Result Next StreamFault → S → O → Type 0) (longest : ℕ)
+    (answer : Result Next StreamFault)
+    (unread left : Option (List ℕ)) (s : S) (o : O) (t : S) (p : O) : Type 0 where
+  pub bytes : List ℕ
+  pub consumed : Consumes unread left bytes
+  pub told : List Told
+  pub heard : ToldLast hears s o told answer t p
+  pub first : AreFirstOf longest (lines_in told) bytes left
+
+-- the sink was told the first lines of the input, whatever follows what was read
+pub record HeardFirst {S O : Type 0}
+    (hears : S → O → Told → Result Next StreamFault → S → O → Type 0) (longest : ℕ)
+    (unread left : Option (List ℕ)) (s : S) (o : O) (t : S) (p : O) : Type 0 where
+  pub bytes : List ℕ
+  pub consumed : Consumes unread left bytes
+  pub told : List Told
+  pub heard : ToldAll hears s o told t p
+  pub first : (x : List ℕ) → AreFirst longest (lines_in told) (bytes ++ x)
+
+-- what reading an input for a sink leaves: the sink heard all of it; or it ended the reading; or
+-- the reading ended by a fault of its own, which is none of an output
+-- Not said: which fault of the reading is answered for which failure of the reader.
+abbrev pub Heard : {S O : Type 0}
+    → (S → O → Told → Result Next StreamFault → S → O → Type 0) → ℕ
+    → Result Next StreamFault → Option (List ℕ) → Option (List ℕ) → S → O → S → O → Type 0
+Heard hears longest (Ok GoOn) unread left s o t p = HeardAll hears longest unread left s o t p
+Heard hears longest (Ok Stop) unread left s o t p =
+    HeardLast hears longest (Ok Stop) unread left s o t p
+Heard hears longest (Err fault) unread left s o t p =
+    HeardLast hears longest (Err fault) unread left s o t p
+    ⊎ ((fault ≢ Write) × HeardFirst hears longest unread left s o t p)

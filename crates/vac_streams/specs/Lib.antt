@@ -1,0 +1,4 @@
+pub mod Told
+pub mod Heard
+pub mod Feeding
+pub mod Sent

@@ -1,0 +1,16 @@
+//! Texts over streams: what a reader gives is cut into lines, of which a sink is told; and text is
+//! gathered and written in chunks.
+#![tactic(auto)]
+
+mod fault;
+mod lines;
+mod next;
+mod reading;
+mod sink;
+mod writing;
+
+pub use fault::StreamFault;
+pub use next::Next;
+pub use reading::{MOST_LINES, read_lines};
+pub use sink::Sink;
+pub use writing::{send_all, send_chunk, send_rest};

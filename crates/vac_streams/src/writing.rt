@@ -1,0 +1,50 @@
+//! Writing text that is gathered first.
+
+ghost use Rattle.std.specs.Prelude.{◌≡◌, [], OnOk, OnErr, IfErr};
+ghost use Rattle.std.specs.Io.KnownBytes.{Appends};
+ghost use Rattle.vac_streams.specs.declared.fault.StreamFault.TheVariants.{Write};
+ghost use Rattle.vac_lines.specs.Writing.{AppendsPrefix};
+ghost use Rattle.vac_streams.specs.Sent.{Sent};
+
+use crate::fault::StreamFault;
+use std::io::Write;
+use vac_lines::{CHUNK_BYTES, write_all, write_and_flush};
+
+/// Writes what is at hand, where it is a chunk.
+pub fn send_chunk<W: Write>(output: &mut W, hand: &mut Vec<u8>) -> Result<(), StreamFault>
+    ensures ok { OnOk result (Sent (W.contents output.old) (W.contents output.new)
+        hand.old.items hand.new.items []) }
+    ensures err { OnErr result
+        (AppendsPrefix (W.contents output.old) (W.contents output.new) hand.old.items) }
+    ensures fault { IfErr result (λ fault. fault ≡ Write) }
+{
+    if hand.len() >= CHUNK_BYTES {
+        write_all(output, hand.as_slice())?;
+        hand.clear();
+    }
+    Ok(())
+}
+
+/// Writes what is at hand, however little it is.
+pub fn send_all<W: Write>(output: &mut W, hand: &mut Vec<u8>) -> Result<(), StreamFault>
+    ensures ok { OnOk result
+        (Appends (W.contents output.old) (W.contents output.new) hand.old.items) }
+    ensures empty { OnOk result (hand.new.items ≡ []) }
+    ensures err { OnErr result
+        (AppendsPrefix (W.contents output.old) (W.contents output.new) hand.old.items) }
+    ensures fault { IfErr result (λ fault. fault ≡ Write) }
+{
+    write_all(output, hand.as_slice())?;
+    hand.clear();
+    Ok(())
+}
+
+/// Writes the rest, and sees that all gets on its way.
+pub fn send_rest<W: Write>(output: &mut W, hand: &[u8]) -> Result<(), StreamFault>
+    ensures ok { OnOk result (Appends (W.contents output.old) (W.contents output.new) hand.now) }
+    ensures err { OnErr result
+        (AppendsPrefix (W.contents output.old) (W.contents output.new) hand.now) }
+    ensures fault { IfErr result (λ fault. fault ≡ Write) }
+{
+    Ok(write_and_flush(output, hand)?)
+}
