@@ -123,7 +123,7 @@ after_gathered t lk (validate k) n v =
 after_gathered t lk _ n v = refl
 
 -- the clients of a region beside those of the list
-pub mirrors_set : (vs ws : List Client) (m : Mirrors vs ws) (i : ℕ) (v v' w w' : Client) → get_elem? vs i ≡ some v → get_elem? ws (m.number i) ≡ some w → IsShadow v' w' → (w'.is_gathered ≡ true → w' ≡ gone) → Mirrors (set vs i v') (set ws (m.number i) w')
+unfoldable pub mirrors_set : (vs ws : List Client) (m : Mirrors vs ws) (i : ℕ) (v v' w w' : Client) → get_elem? vs i ≡ some v → get_elem? ws (m.number i) ≡ some w → IsShadow v' w' → (w'.is_gathered ≡ true → w' ≡ gone) → Mirrors (set vs i v') (set ws (m.number i) w')
 mirrors_set vs ws m i v v' w w' at to s left = record {
   number = m.number;
   each = λ j o e. ⊎_elim

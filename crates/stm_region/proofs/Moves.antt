@@ -28,7 +28,7 @@ use Rattle.stm_region.specs.Layout.{place, first_cell, InRange, IsLaid, IsStore}
 use Rattle.stm_region.specs.Findings.{IsLockWord, IsVersion, StandsOn, IsRightAfter, IsOneEvent, IsOfOneVersionAt, DecidesAt, Tells, Happens, acting, IsEarlier, AreEarlier}
 use Rattle.stm_region.specs.Traced.{IsTraced}
 use Rattle.stm_region.specs.Rule.{IsCoreState}
-use Rattle.stm_region.proofs.Tracing.{step_traced, step_listed, split_traced, gather_traced}
+use Rattle.stm_region.proofs.Tracing.{step_traced, step_listed, step_opened, step_numbers, split_traced, gather_traced}
 use Rattle.stm_region.proofs.Deciding.{Makes, tick_makes, validate_makes, finish_makes}
 use Rattle.stm_region.proofs.Places.{Stays, stays, found_there, left_there, in_table}
 
@@ -275,7 +275,7 @@ module _ (fits : List ℕ → Type 0) (lawful : RecordLaw) (law : Keeping fits l
         let m' : Matches o (stepped (unplaced r.renewal) lk e id v c) = record { last = st.last ∙ h.last; opening = st.opening ∙ h.opening; first = st.first ∙ h.first; renewal = st.renewal ∙ h.renewal; locks = st.locks ∙ h.locks } in
         let here : get_elem? (stepped (unplaced r.renewal) lk e id v c).clients id ≡ some (after (unplaced r.renewal) lk e (found lk c e) v) = in_clients c.clients id v _ at' in
         let traced' : IsTraced lawful o (stepped (unplaced r.renewal) lk e id v c) = step_traced lawful o c h.traced id v at' e may' r.renewal (sym h.renewal) in
-        let right : IsRightAfter lawful r e (found lk c e) v id (stepped (unplaced r.renewal) lk e id v c) = record { before = c; member = at'; finds = refl; now = refl; traced = h.traced; listed = traced'; last_event = step_listed lawful o c h.traced id v at' e may' r.renewal (sym h.renewal) } in
+        let right : IsRightAfter lawful r e (found lk c e) v id (stepped (unplaced r.renewal) lk e id v c) = record { before = c; member = at'; finds = refl; now = refl; traced = h.traced; listed = traced'; opened = step_opened lawful o c h.traced id v at' e may' r.renewal (sym h.renewal); numbers = step_numbers lawful o c h.traced id v at' e may' r.renewal (sym h.renewal); last_event = step_listed lawful o c h.traced id v at' e may' r.renewal (sym h.renewal) } in
         let does' : f (slice_index s.words word) ≡ left e (found lk c e) v = ap f there ∙ does c h.rule at' (subst (λ n. n < 18446744073709551616) there lt) in (
           after (unplaced r.renewal) lk e (slice_index s.words word) v,
           keeps,

@@ -104,6 +104,14 @@ module _ (lawful : RecordLaw) (o : Opened) (c : Core) (t : IsTraced lawful o c) 
         unfolding step_traced
         step_listed = refl
 
+        pub step_opened : step_traced.last ≡ t.last
+        unfolding step_traced
+        step_opened = refl
+
+        pub step_numbers : (i : ℕ) → step_traced.clients.number i ≡ t.clients.number i
+        unfolding step_traced mirrors mirrors_set
+        step_numbers i = refl
+
     -- a split
     pub split_traced : IsFreeHanded v → 0 < v.grants → IsTraced lawful o (divided id v c)
     split_traced free some' =

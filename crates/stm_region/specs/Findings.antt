@@ -52,9 +52,11 @@ pub record IsRightAfter (lawful : RecordLaw) (region : RegionShown) (step : Acti
   pub now : core
       ≡ stepped (unplaced region.renewal) (stripe_of region.stripes) step number was before
   -- the list of events that leads to this state is the one that leads to the state before, with
-  -- the step behind it
+  -- the step after it: both begin with one opening, and each client has one number in both
   pub traced : IsTraced lawful (opened_with region) before
   pub listed : IsTraced lawful (opened_with region) core
+  pub opened : listed.last ≡ traced.last
+  pub numbers : (place : ℕ) → listed.clients.number place ≡ traced.clients.number place
   pub last_event : listed.events
       ≡ traced.events ++ acts (suc (traced.clients.number number)) step ∷ []
 
