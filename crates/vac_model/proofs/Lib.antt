@@ -16,3 +16,5 @@ pub mod TasksKept
 pub mod Refused
 pub mod Totals
 pub mod Settled
+pub mod Woven
+pub mod Alike

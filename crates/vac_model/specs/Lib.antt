@@ -8,3 +8,4 @@ pub mod Fits
 pub mod Laws
 pub mod Code
 pub mod Coded
+pub mod Tries

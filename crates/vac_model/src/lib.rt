@@ -17,6 +17,7 @@ mod steps;
 mod tables;
 mod task_runs;
 mod tasks;
+mod tries;
 
 pub use commands::{Command, Why};
 pub use items::{Booking, Item, Kind};

@@ -1,12 +1,12 @@
 //! The plain manager: one task at a time, over ordered maps.
 
-ghost use Rattle.std.specs.Prelude.{◌≡◌, ◌≤◌, ◌<◌, ◌↔◌, false, IfOk, OnOk, OnErr};
+ghost use Rattle.std.specs.Prelude.{◌≡◌, ◌≤◌, ◌<◌, ◌↔◌, false, true, IfOk, OnOk, OnErr};
 
 use crate::limits::MOST_BLOCKS;
 use crate::replies::{Reply, Report};
 use crate::tables::Tables;
 use crate::tasks::Task;
-use std::alloc::Global;
+use std::alloc::{AllocError, Global};
 use std::marker::Model;
 use thiserror::Error;
 
@@ -60,6 +60,29 @@ impl Sequential {
         Ok(Sequential {
             tables: Tables::new(alloc, blocks as u64),
         })
+    }
+
+    /// The same state, which shares its entries. Nothing but memory can be refused.
+    pub fn copy(&self) -> Result<Sequential, AllocError>
+        ensures { IfOk result (λ copy. copy ≡ self.now) }
+    {
+        Ok(Sequential {
+            tables: self.tables.copy()?,
+        })
+    }
+
+    /// Whether two have the same state. It walks over all entries where they have.
+    pub fn is_same(&self, other: &Sequential) -> bool
+        ensures same { result ≡ true → self.now ≡ other.now }
+        ensures found { self.now ≡ other.now → result ≡ true }
+    {
+        self.tables.is_same(&other.tables)
+    }
+
+    /// A number for finding states that may be the same, at no cost.
+    /// Not said: anything. Two that are found the same have the same number, by tests alone.
+    pub fn hash(&self) -> u64 {
+        self.tables.hash()
     }
 
     /// Does a task. A task that cannot be asked for is refused before anything else; where memory

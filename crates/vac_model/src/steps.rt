@@ -33,7 +33,7 @@ impl Tables {
         ensures err { OnErr result (self.new ≡ self.old) }
     {
         match self.item(kind, id) {
-            Some(item) => Ok(self.add_more(kind, id, num, price, item)),
+            Some(item) => self.add_more(kind, id, num, price, item),
             None => self.add_new(kind, id, num, price),
         }
     }
@@ -63,48 +63,58 @@ impl Tables {
         Ok(Reply::Done)
     }
 
-    fn add_more(&mut self, kind: Kind, id: u32, num: u32, price: Option<u32>, item: Item) -> Reply
-        requires there { item_of self.old kind id ≡ Some item }
+    fn add_more(
+        &mut self,
+        kind: Kind,
+        id: u32,
+        num: u32,
+        price: Option<u32>,
+        item: Item,
+    ) -> Result<Reply, AllocError>
         requires range { IsItemInRange item }
-        ensures { rules.add_more self.old kind id num price item ≡ (self.new, result) }
+        ensures ok { IfOk result
+            (λ reply. rules.add_more self.old kind id num price item ≡ (self.new, reply)) }
+        ensures err { OnErr result (self.new ≡ self.old) }
     {
         if item.total + num as u64 > MOST_TOTAL {
-            return Reply::No(Why::TotalLimit);
+            return Ok(Reply::No(Why::TotalLimit));
         }
-        self.replace_item(kind, id, item.added(num, price));
-        Reply::Done
+        self.insert_item(kind, id, item.added(num, price))?;
+        Ok(Reply::Done)
     }
 
-    pub(crate) fn delete(&mut self, kind: Kind, id: u32, num: u32) -> Reply
+    pub(crate) fn delete(&mut self, kind: Kind, id: u32, num: u32) -> Result<Reply, AllocError>
         requires { IsSmall self.old }
-        ensures { rules.delete self.old kind id num ≡ (self.new, result) }
+        ensures ok { IfOk result (λ reply. rules.delete self.old kind id num ≡ (self.new, reply)) }
+        ensures err { OnErr result (self.new ≡ self.old) }
     {
         let Some(item) = self.item(kind, id) else {
-            return Reply::No(Why::NoItem);
+            return Ok(Reply::No(Why::NoItem));
         };
         if item.free < num as u64 {
-            return Reply::No(Why::NotFree);
+            return Ok(Reply::No(Why::NotFree));
         }
         if item.total == num as u64 {
-            self.remove_item(kind, id);
-        } else {
-            self.replace_item(kind, id, item.deleted(num));
+            self.remove_item(kind, id)?;
+            return Ok(Reply::Done);
         }
-        Reply::Done
+        self.insert_item(kind, id, item.deleted(num))?;
+        Ok(Reply::Done)
     }
 
-    pub(crate) fn drop_flight(&mut self, id: u32) -> Reply
+    pub(crate) fn drop_flight(&mut self, id: u32) -> Result<Reply, AllocError>
         requires { IsSmall self.old }
-        ensures { rules.drop_flight self.old id ≡ (self.new, result) }
+        ensures ok { IfOk result (λ reply. rules.drop_flight self.old id ≡ (self.new, reply)) }
+        ensures err { OnErr result (self.new ≡ self.old) }
     {
         let Some(item) = self.item(Kind::Flight, id) else {
-            return Reply::No(Why::NoItem);
+            return Ok(Reply::No(Why::NoItem));
         };
         if item.used > 0 {
-            return Reply::No(Why::InUse);
+            return Ok(Reply::No(Why::InUse));
         }
-        self.remove_item(Kind::Flight, id);
-        Reply::Done
+        self.remove_item(Kind::Flight, id)?;
+        Ok(Reply::Done)
     }
 
     pub(crate) fn new_customer(&mut self, id: u32) -> Result<Reply, AllocError>
@@ -133,7 +143,6 @@ impl Tables {
         requires count { num ≤ MOST_UNITS_AT_ONCE }
         ensures ok { IfOk result
             (λ reply. rules.reserve self.old customer kind id num ≡ (self.new, reply)) }
-        ensures err { OnErr result (self.new ≡ self.old) }
     {
         let Some(bookings) = self.bookings(customer) else {
             return Ok(Reply::No(Why::NoCustomer));
@@ -167,13 +176,12 @@ impl Tables {
         ensures ok { IfOk result (λ reply. (bookings : Bookings)
             → bookings_of self.old customer ≡ Some bookings
             → rules.book_new self.old customer kind id num bookings item ≡ (self.new, reply)) }
-        ensures err { OnErr result (self.new ≡ self.old) }
     {
         if self.is_full() {
             return Ok(Reply::No(Why::Full));
         }
         self.put_booking(customer, kind, id, Booking::new(num, item.price))?;
-        self.replace_item(kind, id, item.taken(num));
+        self.insert_item(kind, id, item.taken(num))?;
         Ok(Reply::Done)
     }
 
@@ -196,58 +204,59 @@ impl Tables {
             → bookings_of self.old customer ≡ Some bookings
             → rules.book_more self.old customer kind id num bookings item booking
             ≡ (self.new, reply)) }
-        ensures err { OnErr result (self.new ≡ self.old) }
     {
         if booking.units + num as u64 > MOST_UNITS {
             return Ok(Reply::No(Why::UnitLimit));
         }
         self.put_booking(customer, kind, id, booking.extended(num, item.price))?;
-        self.replace_item(kind, id, item.taken(num));
+        self.insert_item(kind, id, item.taken(num))?;
         Ok(Reply::Done)
     }
 
-    pub(crate) fn cancel(&mut self, customer: u32, kind: Kind, id: u32) -> Reply
+    pub(crate) fn cancel(&mut self, customer: u32, kind: Kind, id: u32) -> Result<Reply, AllocError>
         requires { IsSmall self.old }
-        ensures { rules.cancel self.old customer kind id ≡ (self.new, result) }
+        ensures { IfOk result
+            (λ reply. rules.cancel self.old customer kind id ≡ (self.new, reply)) }
     {
         let Some(bookings) = self.bookings(customer) else {
-            return Reply::No(Why::NoCustomer);
+            return Ok(Reply::No(Why::NoCustomer));
         };
         let booked = bookings.get(kind, id);
         let Some(item) = self.item(kind, id) else {
-            return Reply::No(Why::NoItem);
+            return Ok(Reply::No(Why::NoItem));
         };
         let Some(booking) = booked else {
-            return Reply::No(Why::NotBooked);
+            return Ok(Reply::No(Why::NotBooked));
         };
-        self.remove_booking(customer, kind, id);
-        self.replace_item(kind, id, item.given_back(booking.units));
-        Reply::Done
+        self.remove_booking(customer, kind, id)?;
+        self.insert_item(kind, id, item.given_back(booking.units))?;
+        Ok(Reply::Done)
     }
 
-    pub(crate) fn drop_customer(&mut self, id: u32) -> Reply
+    pub(crate) fn drop_customer(&mut self, id: u32) -> Result<Reply, AllocError>
         requires { IsSmall self.old }
-        ensures { rules.drop_customer self.old id ≡ (self.new, result) }
+        ensures { IfOk result (λ reply. rules.drop_customer self.old id ≡ (self.new, reply)) }
     {
-        match self.remove_customer(id) {
-            None => Reply::No(Why::NoCustomer),
-            Some(bookings) => {
-                self.give_back_all(bookings);
-                Reply::Done
-            }
-        }
+        let bookings = match self.bookings(id) {
+            None => return Ok(Reply::No(Why::NoCustomer)),
+            Some(bookings) => bookings.clone()?,
+        };
+        self.remove_customer(id)?;
+        self.give_back_all(bookings)?;
+        Ok(Reply::Done)
     }
 
-    fn give_back_all(&mut self, bookings: BookingMap)
+    fn give_back_all(&mut self, bookings: BookingMap) -> Result<(), AllocError>
         requires { CanGiveBack self.old (map.entries bookings) }
-        ensures { self.new ≡ rules.give_back_all self.old (map.entries bookings) }
+        ensures { OnOk result (self.new ≡ rules.give_back_all self.old (map.entries bookings)) }
     {
         let mut bookings = bookings;
         while let Some(((kind, id), booking)) = bookings.pop_first() {
             if let Some(item) = self.item(kind, id) {
-                self.replace_item(kind, id, item.given_back(booking.units));
+                self.insert_item(kind, id, item.given_back(booking.units))?;
             }
         }
+        Ok(())
     }
 
     fn free(&self, kind: Kind, id: u32) -> Option<u64>
@@ -294,10 +303,10 @@ impl Tables {
                 num,
                 price,
             } => self.add(kind, id, num, price),
-            Command::Delete { kind, id, num } => Ok(self.delete(kind, id, num)),
-            Command::DropFlight { id } => Ok(self.drop_flight(id)),
+            Command::Delete { kind, id, num } => self.delete(kind, id, num),
+            Command::DropFlight { id } => self.drop_flight(id),
             Command::NewCustomer { id } => self.new_customer(id),
-            Command::DropCustomer { id } => Ok(self.drop_customer(id)),
+            Command::DropCustomer { id } => self.drop_customer(id),
             Command::Free { kind, id } => Ok(Reply::Number(self.free(kind, id))),
             Command::Price { kind, id } => Ok(Reply::Number(self.price(kind, id))),
             Command::Bill { id } => Ok(Reply::Number(self.bill(id))),
@@ -307,7 +316,7 @@ impl Tables {
                 id,
                 num,
             } => self.reserve(customer, kind, id, num),
-            Command::Cancel { customer, kind, id } => Ok(self.cancel(customer, kind, id)),
+            Command::Cancel { customer, kind, id } => self.cancel(customer, kind, id),
             Command::Audit => Ok(Reply::Report(self.report())),
         }
     }

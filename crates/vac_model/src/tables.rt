@@ -3,10 +3,12 @@
 ghost use Rattle.std.specs.Prelude.{◌≡◌, ◌<◌, ◌≤◌, ◌^◌, IsSome, IfOk, OnOk, OnErr, Some, ℕ};
 ghost use Rattle.std.specs.Option.{option_copied};
 ghost use Rattle.std.specs.FinMap as map;
+ghost use Rattle.vac_model.specs.Tries.{TellsSame};
 
 use crate::items::{Booking, Item, Kind};
 use crate::maps::{BookingMap, IdMap};
 use crate::replies::Report;
+use crate::tries::mixed;
 use std::alloc::{AllocError, Global};
 use std::marker::Model;
 
@@ -68,6 +70,28 @@ impl Tables {
         })
     }
 
+    /// Whether two states are the same.
+    pub(crate) fn is_same(&self, other: &Self) -> bool
+        ensures { TellsSame self.now other.now result }
+    {
+        if self.capacity != other.capacity || !self.cars.is_same(&other.cars) {
+            return false;
+        }
+        if !self.flights.is_same(&other.flights) || !self.rooms.is_same(&other.rooms) {
+            return false;
+        }
+        self.customers.is_same(&other.customers)
+    }
+
+    /// A number of which nothing is promised; equal states have the same.
+    pub(crate) fn hash(&self) -> u64 {
+        let items = mixed(
+            self.cars.hash(),
+            mixed(self.flights.hash(), self.rooms.hash()),
+        );
+        mixed(items, self.customers.hash())
+    }
+
     pub(crate) fn item(&self, kind: Kind, id: u32) -> Option<Item>
         ensures { result ≡ item_of self.now kind id }
     {
@@ -114,7 +138,7 @@ impl Tables {
         }
     }
 
-    /// Puts an item. Only memory for a new one can be refused.
+    /// Puts an item, unless memory is refused.
     pub(crate) fn insert_item(&mut self, kind: Kind, id: u32, item: Item) -> Result<(), AllocError>
         ensures ok { OnOk result (self.new ≡ with_item self.old kind id item) }
         ensures err { OnErr result (self.new ≡ self.old) }
@@ -127,26 +151,17 @@ impl Tables {
         Ok(())
     }
 
-    /// Puts other numbers of an item that is there.
-    pub(crate) fn replace_item(&mut self, kind: Kind, id: u32, item: Item)
-        requires { IsSome (item_of self.old kind id) }
-        ensures { self.new ≡ with_item self.old kind id item }
+    /// Removes an item, unless memory is refused.
+    pub(crate) fn remove_item(&mut self, kind: Kind, id: u32) -> Result<(), AllocError>
+        ensures ok { OnOk result (self.new ≡ without_item self.old kind id) }
+        ensures err { OnErr result (self.new ≡ self.old) }
     {
         match kind {
-            Kind::Car => self.cars.replace(id, item),
-            Kind::Flight => self.flights.replace(id, item),
-            Kind::Room => self.rooms.replace(id, item),
+            Kind::Car => self.cars.remove(id)?,
+            Kind::Flight => self.flights.remove(id)?,
+            Kind::Room => self.rooms.remove(id)?,
         }
-    }
-
-    pub(crate) fn remove_item(&mut self, kind: Kind, id: u32)
-        ensures { self.new ≡ without_item self.old kind id }
-    {
-        match kind {
-            Kind::Car => self.cars.remove(id),
-            Kind::Flight => self.flights.remove(id),
-            Kind::Room => self.rooms.remove(id),
-        };
+        Ok(())
     }
 
     pub(crate) fn bookings(&self, customer: u32) -> Option<&BookingMap>
@@ -165,14 +180,15 @@ impl Tables {
         Ok(())
     }
 
-    pub(crate) fn remove_customer(&mut self, customer: u32) -> Option<BookingMap>
-        ensures removed { self.new ≡ without_customer self.old customer }
-        ensures value { result ≡ bookings_of self.old customer }
+    /// Removes a customer, unless memory is refused.
+    pub(crate) fn remove_customer(&mut self, customer: u32) -> Result<(), AllocError>
+        ensures ok { OnOk result (self.new ≡ without_customer self.old customer) }
+        ensures err { OnErr result (self.new ≡ self.old) }
     {
         self.customers.remove(customer)
     }
 
-    /// Puts a booking of a customer. Only memory for a new one can be refused.
+    /// Puts a booking of a customer, unless memory is refused.
     pub(crate) fn put_booking(
         &mut self,
         customer: u32,
@@ -190,13 +206,20 @@ impl Tables {
         self.customers.put_booking(customer, kind, id, booking)
     }
 
-    /// Removes a booking of a customer.
-    pub(crate) fn remove_booking(&mut self, customer: u32, kind: Kind, id: u32)
+    /// Removes a booking of a customer, unless memory is refused.
+    pub(crate) fn remove_booking(
+        &mut self,
+        customer: u32,
+        kind: Kind,
+        id: u32,
+    ) -> Result<(), AllocError>
         requires { IsSome (bookings_of self.old customer) }
-        ensures removed { (bookings : Bookings) → bookings_of self.old customer ≡ Some bookings
-            → self.new ≡ with_bookings self.old customer (map.remove bookings (kind, id)) }
+        ensures ok { OnOk result ((bookings : Bookings)
+            → bookings_of self.old customer ≡ Some bookings
+            → self.new ≡ with_bookings self.old customer (map.remove bookings (kind, id))) }
+        ensures err { OnErr result (self.new ≡ self.old) }
         ensures items { (k : Kind) (i : ℕ) → item_of self.new k i ≡ item_of self.old k i }
     {
-        self.customers.remove_booking(customer, kind, id);
+        self.customers.remove_booking(customer, kind, id)
     }
 }
