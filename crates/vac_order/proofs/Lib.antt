@@ -1,0 +1,12 @@
+pub mod Each
+pub mod Clients
+pub mod Places
+pub mod Left
+pub mod Completing
+pub mod Steps
+pub mod Walking
+pub mod Tries
+pub mod Sorted
+pub mod Marking
+pub mod Judged
+pub mod Points

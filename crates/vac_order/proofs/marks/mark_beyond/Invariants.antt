@@ -1,0 +1,8 @@
+use Rattle.std.proofs.Common.{◌≤◌, ◌-◌, length}
+use Rattle.vac_order.proofs.marks.mark_beyond.Given as goal
+
+abbrev pub invariant-marks : goal.invariant-marks
+invariant-marks l = l.number ≤ length l.beyond
+
+abbrev pub decreases-marks : goal.decreases-marks
+decreases-marks l = length l.beyond - l.number

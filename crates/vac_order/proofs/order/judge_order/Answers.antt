@@ -1,0 +1,27 @@
+use Rattle.std.proofs.Common.{◌≡◌, ℕ, Result, Ok, Err, IfOk, sym, ap, ◌∙◌, subst}
+use Rattle.vac_model.specs.State.{empty_state}
+use Rattle.vac_order.specs.Calls.{calls_of}
+use Rattle.vac_order.specs.Walk.{IsWhole}
+use Rattle.vac_order.specs.Walking.{Finds}
+use Rattle.vac_order.specs.Point.{point_at, point_views}
+use Rattle.vac_order.specs.Judging.{Judges}
+use Rattle.vac_order.proofs.Judged.{all_left, judges}
+use Rattle.vac_order.proofs.order.judge_order.Goals as goal
+
+if_ok : {X E : Type 0} (P Q : X → Type 0) → ((x : X) → P x → Q x) → (r : Result X E) → IfOk r P → IfOk r Q
+if_ok P Q f (Ok x) h = f x h
+if_ok P Q f (Err e) h = tt
+
+pub find_order-requires : goal.find_order-requires
+find_order-requires g c =
+    subst IsWhole (sym (all_left c.new.result.low c.new.result.beyond.items (calls_of c.args.calls.now.lines.items) c.new.ensures.low c.new.ensures.beyond)) c.requires
+
+pub returns : goal.returns
+returns g c =
+    let state = g.M.Machine.state in
+    let calls = c.args.calls.now in
+    if_ok (λ found. Finds (point_views state calls) (point_at state calls c.new.result) found)
+    (λ found. (n : ℕ) → state c.args.machine ≡ empty_state n → Judges (point_at state calls) n (calls_of calls.lines.items) found)
+    (λ found h n e.
+    judges state calls c.new.result n c.requires c.new.ensures.low c.new.ensures.beyond (ap state c.new.ensures.machine ∙ e) found h)
+    c.find_order.result c.find_order.ensures

@@ -1,0 +1,95 @@
+-- The calls of a history as they are kept, in the order in which they ended.
+use Rattle.std.specs.Prelude.{◌≡◌, ◌<◌, ◌+◌, ◌==◌, ◌&&◌, ◌||◌, ℕ, suc, Bool, true, Option, is_some, Some, None, List, [], ◌∷◌, ◌++◌, map, not, take, drop, get_or, length, nat_lt, nat_le, if◌then◌else◌}
+use Rattle.std.specs.List.{list_any}
+use Rattle.std.specs.Option.{option_map}
+use Rattle.std.specs.Global.{Vec}
+use Rattle.vac_model.specs.declared.tasks.Task.TheVariants as task
+use Rattle.vac_judge.specs.Call.{Call}
+use Rattle.vac_order.specs.declared.line.Line.{Line}
+
+-- the text of the answer, where there was one
+abbrev pub given_text : Option (Vec ℕ) → Option (List ℕ)
+given_text given = option_map (λ (text : Vec ℕ). text.items) given
+
+-- the call that a line is
+abbrev pub call_of : Line → Call
+call_of line = record {
+  client = line.client;
+  begin = line.begin;
+  end = line.end;
+  task = line.task;
+  reply = given_text line.reply;
+}
+
+abbrev pub calls_of : List Line → List Call
+calls_of lines = map call_of lines
+
+-- a line may stand after another: it does not end before that, says of no earlier begin, and was
+-- never answered where that was not
+abbrev pub follows : Line → Line → Bool
+follows line next =
+    nat_le line.end next.end && nat_le line.soonest next.soonest
+    && (is_some line.reply || not (is_some next.reply))
+
+-- the lines stand in the order in which they ended, and each says of no later begin than there is
+abbrev pub are_sorted : List Line → Bool
+are_sorted [] = true
+are_sorted (line ∷ []) = nat_le line.soonest line.begin
+are_sorted (line ∷ (next ∷ lines)) =
+    nat_le line.soonest line.begin && follows line next && are_sorted (next ∷ lines)
+
+-- the call that stands where there is none
+abbrev pub no_call : Call
+no_call = record {
+  client = 0;
+  begin = 0;
+  end = 0;
+  task = task.Leave 0;
+  reply = None;
+}
+
+-- those of the calls, of which the first stands at a place, that have no place in the order
+abbrev pub rest_of : (ℕ → Bool) → ℕ → List Call → List Call
+rest_of made place [] = []
+rest_of made place (call ∷ calls) =
+    if made place then rest_of made (suc place) calls
+    else call ∷ rest_of made (suc place) calls
+
+-- none that is left had ended when the call began, and none of its client stands before it
+abbrev pub may_next : List Call → List Call → Call → Bool
+may_next rest before call =
+    not (list_any (λ other. nat_lt other.end call.begin) rest)
+    && not (list_any (λ other. other.client == call.client) before)
+
+-- the call at a place may come next
+abbrev pub can_come : (ℕ → Bool) → List Call → ℕ → Bool
+can_come made calls place =
+    not (made place)
+    && may_next (rest_of made 0 calls) (rest_of made 0 (take place calls))
+    (get_or calls place no_call)
+
+-- the calls from a place on that may come next, those before it being given
+abbrev pub tries_of : (ℕ → Bool) → List Call → List Call → ℕ → List Call → List Call
+tries_of made rest before place [] = []
+tries_of made rest before place (call ∷ calls) =
+    if made place then tries_of made rest before (suc place) calls
+    else if may_next rest before call
+    then call ∷ tries_of made rest (before ++ call ∷ []) (suc place) calls
+    else tries_of made rest (before ++ call ∷ []) (suc place) calls
+
+-- the calls that may come next, from a place on
+abbrev pub tries_from : (ℕ → Bool) → List Call → ℕ → List Call
+tries_from made calls from =
+    tries_of made (rest_of made 0 calls) (rest_of made 0 (take from calls)) from (drop from calls)
+
+-- the next call from a place on that may come next stands there
+pub record IsTry (made : ℕ → Bool) (calls : List Call) (from place : ℕ) : Type 0 where
+  pub is : tries_from made calls from ≡
+      get_or calls place no_call ∷ tries_from made calls (place + 1)
+  pub can : can_come made calls place ≡ true
+  pub within : place < length calls
+
+-- where it stands, if there is one
+abbrev pub TellsTry : (ℕ → Bool) → List Call → ℕ → Option ℕ → Type 0
+TellsTry made calls from None = tries_from made calls from ≡ []
+TellsTry made calls from (Some place) = IsTry made calls from place

@@ -1,0 +1,9 @@
+pub mod Orders
+pub mod Configurations
+pub mod Views
+pub mod Walk
+pub mod Walking
+pub mod Marks
+pub mod Calls
+pub mod Point
+pub mod Judging

@@ -1,0 +1,37 @@
+-- How the worlds of a search are seen.
+use Rattle.std.specs.Prelude.{◌≡◌, ◌+◌, ◌<◌, ◌^◌, ℕ, Bool, true, false, Option, Some, None, List, [], ◌∷◌}
+use Rattle.vac_judge.specs.Call.{Call}
+use Rattle.vac_order.specs.Configurations.{Configuration, MayBegin, fits, after}
+
+-- where a world stands, how many places there are, the call that a place names, whether the call
+-- at a place may come next, and the calls that are left to try in a world from a place on
+pub record Views (W : Type 0) : Type 0 where
+  pub at : W → Configuration
+  pub count : ℕ
+  pub call : ℕ → Call
+  pub can : W → ℕ → Bool
+  pub tries : W → ℕ → List Call
+
+-- whether no answered call is left, of so many
+abbrev pub TellsLeft : ℕ → Bool → Type 0
+TellsLeft left done = (done ≡ true → left ≡ 0) × (done ≡ false → 0 < left)
+
+-- the next call to try from a place on stands there
+pub record IsNext {W : Type 0} (views : Views W) (world : W) (from place : ℕ) : Type 0 where
+  pub is : views.tries world from ≡ views.call place ∷ views.tries world (place + 1)
+  pub may : MayBegin (views.at world).rest (views.call place)
+  pub can : views.can world place ≡ true
+  pub within : place < views.count
+  pub small : place + 1 < 2 ^ 64
+
+-- what is left to try from a place on
+abbrev pub TellsNext : {W : Type 0} → Views W → W → ℕ → Option ℕ → Type 0
+TellsNext views world from None = views.tries world from ≡ []
+TellsNext views world from (Some place) = IsNext views world from place
+
+-- what a call led to: no world where it has another reply
+abbrev pub LedTo : {W : Type 0} → Views W → W → ℕ → Option W → Type 0
+LedTo views world place None = fits (views.at world).state (views.call place) ≡ false
+LedTo views world place (Some next) =
+    (fits (views.at world).state (views.call place) ≡ true)
+    × (views.at next ≡ after (views.at world) (views.call place))

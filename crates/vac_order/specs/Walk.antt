@@ -1,0 +1,89 @@
+-- A search as it runs: a path of calls from the start, at each place of the path the calls that are
+-- left to try, and the configurations from which it is known how many calls have a place at most.
+use Rattle.std.specs.Prelude.{◌≡◌, ◌+◌, ◌≤◌, ⊤, ℕ, false, Some, List, [], ◌∷◌, All, slice_get}
+use Rattle.std.specs.List.{Contains}
+use Rattle.vac_judge.specs.Call.{Call}
+use Rattle.vac_judge.specs.Follows.{IsBehind, EachCall}
+use Rattle.vac_order.specs.Orders.{is_answered}
+use Rattle.vac_order.specs.Configurations.{Configuration, MayBegin, Goes, Reaches, after, answered, PlacesAtMost, Deepest}
+
+-- each client's calls stand in their order, and take time
+abbrev pub InTurn : List Call → Type 0
+InTurn [] = ⊤
+InTurn (call ∷ calls) =
+    (call.begin ≤ call.end) × EachCall (λ later. IsBehind later call) calls × InTurn calls
+
+-- a call begins by the last moment, and one that was never answered does not end before it
+pub record IsTimed (last : ℕ) (call : Call) : Type 0 where
+  pub begins : call.begin ≤ last
+  pub ends : is_answered call ≡ false → last ≤ call.end
+
+-- both hold of the calls
+pub record IsWhole (calls : List Call) : Type 0 where
+  pub turn : InTurn calls
+  pub last : ℕ
+  pub timed : EachCall (IsTimed last) calls
+
+-- the calls that may come next are among these
+abbrev pub AreChoices : List Call → List Call → Type 0
+AreChoices rest calls = (call : Call) → MayBegin rest call → Contains calls call
+
+-- through this call no more than so many have a place
+abbrev pub IsLost : ℕ → ℕ → Configuration → Call → Type 0
+IsLost total most at call = Goes at call → PlacesAtMost total most (after at call)
+
+-- from a configuration no more than so many have a place, where that is so through these calls;
+-- this holds of each number from the least on
+abbrev pub HangsOn : ℕ → ℕ → Configuration → List Call → Type 0
+HangsOn total least at calls = (most : ℕ) → least ≤ most → All (IsLost total most at) calls →
+    total ≤ most + answered at.rest → PlacesAtMost total most at
+
+-- a place of the path: where it stands, how many answered calls have a place there, the call that
+-- was made there, and the calls that are left to try
+pub record Place : Type 0 where
+  pub at : Configuration
+  pub placed : ℕ
+  pub call : Call
+  pub others : List Call
+
+-- at this place this call was made
+pub record Made (total least : ℕ) (place : Place) : Type 0 where
+  pub goes : Goes place.at place.call
+  pub count : place.placed + answered place.at.rest ≡ total
+  pub hangs : (most : ℕ) → least ≤ most → PlacesAtMost total most (after place.at place.call) →
+      All (IsLost total most place.at) place.others → total ≤ most + answered place.at.rest →
+      PlacesAtMost total most place.at
+
+-- the path leads from one configuration to another
+abbrev pub Leads : ℕ → ℕ → Configuration → List Place → Configuration → Type 0
+Leads total least a [] b = a ≡ b
+Leads total least a (place ∷ path) b =
+    (a ≡ place.at) × Made total least place × Leads total least (after place.at place.call) path b
+
+-- a search that began at a configuration, and has seen so many answered calls placed
+pub record IsWalk (start : Configuration) (most : ℕ) (at : Configuration) (placed : ℕ)
+    (tries : List Call) (path : List Place) (known : List Configuration) : Type 0 where
+  pub whole : IsWhole start.rest
+  pub leads : Leads (answered start.rest) most start path at
+  pub hangs : HangsOn (answered start.rest) most at tries
+  pub dead : All (PlacesAtMost (answered start.rest) most) known
+  pub count : placed + answered at.rest ≡ answered start.rest
+  pub some : 1 ≤ answered at.rest
+
+-- the deepest of the configurations that are known, and its place among them
+pub record IsDeepest (start : Configuration) (most place : ℕ) (known : List Configuration) :
+    Type 0 where
+  pub at : Configuration
+  pub is : slice_get known place ≡ Some at
+  pub deepest : Deepest start most at
+
+-- none is known, or that is the deepest
+abbrev pub KeepsDeepest : Configuration → ℕ → ℕ → List Configuration → Type 0
+KeepsDeepest start most place [] = most ≡ 0
+KeepsDeepest start most place (at ∷ known) = IsDeepest start most place (at ∷ known)
+
+-- these calls, in this order, are an order of all, and each gives its reply
+pub record Completes (at : Configuration) (order : List Call) : Type 0 where
+  pub to : Configuration
+  pub reaches : Reaches at order to
+  pub done : answered to.rest ≡ 0

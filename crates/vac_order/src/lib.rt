@@ -1,0 +1,22 @@
+//! A judge of histories that finds the order: it says whether some order of the calls of several
+//! clients is a linearization of them.
+#![tactic(auto)]
+
+mod calls;
+mod known;
+mod line;
+mod machine;
+mod marks;
+mod order;
+mod path;
+mod point;
+mod walk;
+mod world;
+
+pub use calls::Calls;
+pub use line::Line;
+pub use machine::Machine;
+pub use order::judge_order;
+pub use point::Point;
+pub use walk::{Finding, find_order};
+pub use world::World;

@@ -1,0 +1,24 @@
+//! A call of a history, as a search keeps it.
+
+ghost use Rattle.std.specs.Prelude.{◌≡◌, true};
+ghost use Rattle.vac_model.specs.Ranges.{is_task};
+
+use vac_model::Task;
+
+/// A call of a client.
+#[derive(Drop)]
+pub struct Line {
+    /// Who called.
+    pub client: u32,
+    /// A reading of the clock before the call began.
+    pub begin: u64,
+    /// A reading of the clock after it was answered, or later than all where it never was.
+    pub end: u128,
+    /// What was asked for.
+    pub task: Task,
+    /// The text of the answer, where there was one.
+    pub reply: Option<Vec<u8>>,
+    /// None of the lines from this one on begins before.
+    pub soonest: u64,
+    ghost asked: { is_task task ≡ true },
+}

@@ -1,0 +1,27 @@
+//! What runs the tasks of calls.
+
+ghost use Rattle.std.specs.Prelude.{◌≡◌, IfOk, true};
+ghost use Rattle.vac_model.specs.Ranges.{is_task};
+ghost use Rattle.vac_model.specs.Run as tasks;
+ghost use Rattle.vac_model.specs.State.{State};
+
+use std::alloc::AllocError;
+use vac_model::{Reply, Task};
+
+/// What runs tasks, from state to state.
+pub trait Machine: Sized {
+    ghost state: { Self → State };
+
+    /// The machine after a task, and the reply.
+    fn make(&self, task: &Task) -> Result<(Self, Reply), AllocError>
+        requires { is_task task.now ≡ true }
+        ensures { IfOk result (λ next.
+            tasks.run (state self.now) task.now ≡ (state next.0, next.1)) };
+
+    /// Whether two are known to be in the same state.
+    fn is_same(&self, other: &Self) -> bool
+        ensures { result ≡ true → state self.now ≡ state other.now };
+
+    /// A number that is the same for the same states.
+    fn hash(&self) -> u64;
+}

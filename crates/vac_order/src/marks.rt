@@ -1,0 +1,71 @@
+//! Which calls have a place in the order: all before a place, and some beyond it.
+
+ghost use Rattle.std.specs.Prelude.{◌≡◌, ◌≤◌, ◌<◌, ℕ, IfOk, true, false};
+ghost use Rattle.vac_order.specs.Marks.{is_made, MarksOneMore};
+
+use std::alloc::{AllocError, Global};
+
+/// Whether the call at a place has one.
+pub(crate) fn is_made(low: usize, beyond: &[usize], place: usize) -> bool
+    ensures { result ≡ is_made low beyond.now place }
+{
+    place < low || beyond.contains(&place)
+}
+
+/// The first of so many places that has none.
+pub(crate) fn first_left(low: usize, beyond: &[usize], count: usize) -> usize
+    ensures within { result ≤ count }
+    ensures below { (place : ℕ) → place < result → is_made low beyond.now place ≡ true }
+    ensures left { result < count → is_made low beyond.now result ≡ false }
+{
+    'places: for place in low..count {
+        if !is_made(low, beyond, place) {
+            return place;
+        }
+    }
+    count
+}
+
+/// The marks with one more, where it is the first place that had none.
+fn mark_low(alloc: Global, low: usize, beyond: &[usize]) -> Result<(usize, Vec<usize>), AllocError>
+    requires { low < usize.MAX }
+    ensures { IfOk result (λ marks. MarksOneMore low beyond.now low (marks.0, marks.1.items)) }
+{
+    let mut next = low + 1;
+    let mut taken = 0;
+    'marks: while taken < beyond.len() && beyond[taken] == next && next < usize::MAX {
+        next += 1;
+        taken += 1;
+    }
+    Ok((next, Vec::from_slice(alloc, &beyond[taken..])?))
+}
+
+/// The marks with one more beyond the first place that has none.
+fn mark_beyond(alloc: Global, beyond: &[usize], place: usize) -> Result<Vec<usize>, AllocError>
+    ensures { IfOk result (λ marks. (low : ℕ) →
+        MarksOneMore low beyond.now place (low, marks.items)) }
+{
+    let mut number = 0;
+    'marks: while number < beyond.len() && beyond[number] < place {
+        number += 1;
+    }
+    let mut marks = Vec::from_slice(alloc, beyond)?;
+    marks.insert(number, place)?;
+    Ok(marks)
+}
+
+/// The marks with one more.
+pub(crate) fn mark(
+    alloc: Global,
+    low: usize,
+    beyond: &[usize],
+    place: usize,
+) -> Result<(usize, Vec<usize>), AllocError>
+    requires { place < usize.MAX }
+    ensures { IfOk result (λ marks. MarksOneMore low beyond.now place (marks.0, marks.1.items)) }
+{
+    if place == low {
+        return mark_low(alloc, low, beyond);
+    }
+    Ok((low, mark_beyond(alloc, beyond, place)?))
+}

@@ -1,0 +1,176 @@
+//! Where a search among the calls of a history stands.
+
+ghost use Rattle.std.specs.Prelude.{◌≡◌, ◌⊎◌, ◌==◌, [], ◌≤◌, ◌<◌, ℕ, IfOk, IfSome, length, take, true};
+ghost use Rattle.std.specs.List.{list_any};
+ghost use Rattle.vac_order.specs.Marks.{is_made};
+ghost use Rattle.vac_order.specs.Calls.{calls_of, given_text, are_sorted, rest_of, TellsTry};
+ghost use Rattle.vac_order.specs.Configurations.{answered};
+ghost use Rattle.vac_order.specs.Views.{TellsLeft};
+ghost use Rattle.vac_order.specs.Point.{point_views};
+ghost use Rattle.vac_judge.specs.Call.{Call};
+ghost use Rattle.vac_judge.specs.Order.{is_right};
+
+use crate::calls::Calls;
+use crate::line::Line;
+use crate::machine::Machine;
+use crate::marks::{first_left, is_made, mark};
+use crate::world::World;
+use std::alloc::{AllocError, Global};
+use vac_lines::print_reply;
+use vac_model::Reply;
+
+/// Which calls have a place in the order, and the machine that they leave.
+#[derive(Drop)]
+pub struct Point<M> {
+    /// All before this place.
+    low: usize,
+    /// And these, which ascend.
+    beyond: Vec<usize>,
+    machine: M,
+}
+
+impl<M: Drop> Point<M> {
+    /// None has, and the machine is this one.
+    pub(crate) fn new(alloc: Global, machine: M) -> Point<M>
+        ensures low { result.low ≡ 0 }
+        ensures beyond { result.beyond.items ≡ [] }
+        ensures machine { result.machine ≡ machine }
+    {
+        Point {
+            low: 0,
+            beyond: Vec::new(alloc),
+            machine,
+        }
+    }
+}
+
+/// Whether a call that has no place, from one place on and before another, is of a client.
+fn has_earlier(
+    low: usize,
+    beyond: &[usize],
+    lines: &[Line],
+    from: usize,
+    place: usize,
+    client: u32,
+) -> bool
+    requires within { place ≤ length lines.now }
+    requires made { (other : ℕ) → other < from → is_made low beyond.now other ≡ true }
+    ensures { result ≡ list_any (λ (other : Call). other.client == client)
+        (rest_of (is_made low beyond.now) 0 (take place (calls_of lines.now))) }
+{
+    'lines: for earlier in from..place {
+        if lines[earlier].client == client && !is_made(low, beyond, earlier) {
+            return true;
+        }
+    }
+    false
+}
+
+/// Whether no answered call is left.
+fn is_finished(low: usize, beyond: &[usize], lines: &[Line]) -> bool
+    requires { are_sorted lines.now ≡ true }
+    ensures { TellsLeft
+        (answered (rest_of (is_made low beyond.now) 0 (calls_of lines.now))) result }
+{
+    let first = first_left(low, beyond, lines.len());
+    if first == lines.len() {
+        return true;
+    }
+    !lines[first].reply.is_some()
+}
+
+/// Where to look for the next call: from a place on, but not before the first that is left.
+fn start_of(from: usize, first: usize) -> usize
+    ensures { (result ≡ from) ⊎ ((result ≡ first) × (from ≤ first)) }
+{
+    if from < first { first } else { from }
+}
+
+/// The first call from a place on that may come next.
+fn next_call(low: usize, beyond: &[usize], lines: &[Line], from: usize) -> Option<usize>
+    requires { are_sorted lines.now ≡ true }
+    ensures next { TellsTry (is_made low beyond.now) (calls_of lines.now) from result }
+    ensures small { IfSome result (λ place. place < usize.MAX) }
+{
+    let first = first_left(low, beyond, lines.len());
+    if first == lines.len() {
+        return None;
+    }
+    let end = lines[first].end;
+    'lines: for place in start_of(from, first)..lines.len() {
+        let line = &lines[place];
+        if end < u128::from(line.soonest) {
+            return None;
+        }
+        if is_made(low, beyond, place) || end < u128::from(line.begin) {
+            continue;
+        }
+        if !has_earlier(low, beyond, lines, first, place, line.client) {
+            return Some(place);
+        }
+    }
+    None
+}
+
+/// Whether a reply may have been given, which it may where none was.
+fn is_right(alloc: Global, given: &Option<Vec<u8>>, reply: &Reply) -> Result<bool, AllocError>
+    ensures { IfOk result (λ right. right ≡ is_right (given_text given.now) reply.now) }
+{
+    let Some(given) = given else {
+        return Ok(true);
+    };
+    let mut text = Vec::new(alloc);
+    print_reply(reply, &mut text)?;
+    Ok(given.as_slice() == text.as_slice())
+}
+
+impl<M: Machine + Drop> World for Point<M> {
+    type Ground = Calls;
+
+    ghost view = { λ calls. point_views M.state calls };
+
+    fn is_done(&self, calls: &Calls) -> bool {
+        is_finished(self.low, self.beyond.as_slice(), calls.as_slice())
+    }
+
+    fn next_try(&self, calls: &Calls, from: usize) -> Option<usize> {
+        next_call(self.low, self.beyond.as_slice(), calls.as_slice(), from)
+    }
+
+    fn after(
+        &self,
+        alloc: Global,
+        calls: &Calls,
+        place: usize,
+    ) -> Result<Option<Self>, AllocError> {
+        let line = &calls.as_slice()[place];
+        let (machine, reply) = self.machine.make(&line.task)?;
+        if !is_right(alloc, &line.reply, &reply)? {
+            return Ok(None);
+        }
+        let (low, beyond) = mark(alloc, self.low, self.beyond.as_slice(), place)?;
+        Ok(Some(Point {
+            low,
+            beyond,
+            machine,
+        }))
+    }
+
+    fn is_answered(&self, calls: &Calls, place: usize) -> bool {
+        calls.as_slice()[place].reply.is_some()
+    }
+
+    fn is_same(&self, _calls: &Calls, other: &Self) -> bool {
+        self.low == other.low
+            && self.beyond.as_slice() == other.beyond.as_slice()
+            && self.machine.is_same(&other.machine)
+    }
+
+    fn hash(&self, _calls: &Calls) -> u64 {
+        let mut hash = self.machine.hash() ^ self.low as u64;
+        for place in self.beyond.as_slice() {
+            hash = hash.wrapping_mul(0x9e37_79b9_7f4a_7c15) ^ *place as u64;
+        }
+        hash
+    }
+}

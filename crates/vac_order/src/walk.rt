@@ -1,0 +1,221 @@
+//! The search for an order: a walk through worlds, one call at a time, and back where nothing is
+//! left to try.
+
+ghost use Rattle.std.specs.Prelude.{◌≡◌, ◌⊎◌, ◌<◌, ◌≤◌, ◌+◌, ◌++◌, ◌∷◌, [], IfOk, IfSome, map, if◌then◌else◌};
+ghost use Rattle.vac_order.specs.Configurations.{Configuration, after};
+ghost use Rattle.vac_order.specs.Walk.{IsWhole};
+ghost use Rattle.vac_order.specs.Walking.{IsWithin, StaysWithin, Walks, WalksWith, Tries, StepsTo, Finds, places_of, best_of};
+
+use crate::known::Known;
+use crate::path::{Frame, Walk};
+use crate::world::World;
+use std::alloc::{AllocError, Global};
+
+/// What a step of the search comes to.
+#[derive(Drop)]
+pub(crate) enum Step<W> {
+    On(Walk<W>),
+    Found(Vec<usize>),
+    NoOrder(u64, W),
+}
+
+/// What the search found.
+#[derive(Drop)]
+pub enum Finding<W> {
+    /// An order, by the places of its calls.
+    Order(Vec<usize>),
+    /// There is none. The most answered calls have a place in this world, which is so many.
+    NoOrder(u64, W),
+    /// Neither is known after so many steps. Somewhere so many answered calls had a place.
+    Unknown(u64),
+}
+
+/// The places of the calls of a path, and a last one.
+fn places_of<W>(alloc: Global, path: &[Frame<W>], last: usize) -> Result<Vec<usize>, AllocError>
+    ensures { IfOk result (λ places. places.items ≡ places_of path.now ++ last ∷ []) }
+{
+    let mut places = Vec::new(alloc);
+    'path: for number in 0..path.len() {
+        places.push(path[number].place)?;
+    }
+    places.push(last)?;
+    Ok(places)
+}
+
+/// Which of the worlds that are known is the deepest, and how many answered calls have a place in
+/// it, where one more is known that has this number.
+fn best_of(number: usize, placed: u64, best: usize, most: u64) -> (usize, u64)
+    ensures best { result ≡ best_of number placed best most }
+    ensures within { best ≤ number → result.0 ≤ number }
+{
+    if number == 0 || most < placed {
+        (number, placed)
+    } else {
+        (best, most)
+    }
+}
+
+/// Goes back from a world from which nothing is left to try.
+fn go_back<W: World + Drop>(
+    alloc: Global,
+    ground: &W::Ground,
+    walk: Walk<W>,
+) -> Result<Step<W>, AllocError>
+    requires { IsWithin walk }
+    ensures within { IfOk result StaysWithin }
+    ensures steps { IfOk result (λ step. (start : Configuration)
+        → WalksWith (W.view ground.now) start walk [] → StepsTo (W.view ground.now) start step) }
+{
+    let Walk {
+        world,
+        placed,
+        next: _,
+        mut path,
+        mut known,
+        best,
+        most,
+    } = walk;
+    let number = known.len();
+    known.add(alloc, ground, world)?;
+    let (best, most) = best_of(number, placed, best, most);
+    let Some(frame) = path.pop() else {
+        return Ok(Step::NoOrder(most, known.take(best)));
+    };
+    Ok(Step::On(Walk {
+        world: frame.world,
+        placed: frame.placed,
+        next: frame.next,
+        path,
+        known,
+        best,
+        most,
+    }))
+}
+
+/// How many answered calls have a place, where one more call has.
+fn counted(placed: u64, answered: bool) -> Option<u64>
+    ensures { IfSome result (λ count. count ≡ placed + (if answered then 1 else 0)) }
+{
+    if answered {
+        placed.checked_add(1)
+    } else {
+        Some(placed)
+    }
+}
+
+/// Makes the call at a place, which leads to the next world.
+fn go_on<W: World + Drop>(
+    alloc: Global,
+    ground: &W::Ground,
+    walk: Walk<W>,
+    place: usize,
+    next: W,
+) -> Result<Step<W>, AllocError>
+    requires walk { IsWithin walk }
+    requires place { place < (W.view ground.now).count }
+    ensures within { IfOk result StaysWithin }
+    ensures steps { IfOk result (λ step. (start : Configuration)
+        → Tries (W.view ground.now) start walk place
+        → (W.view ground.now).at next ≡
+        after ((W.view ground.now).at walk.world) ((W.view ground.now).call place)
+        → StepsTo (W.view ground.now) start step) }
+{
+    if next.is_done(ground) {
+        return Ok(Step::Found(places_of(alloc, walk.path.as_slice(), place)?));
+    }
+    if walk.known.has(ground, &next) {
+        return Ok(Step::On(walk));
+    }
+    let Some(count) = counted(walk.placed, next.is_answered(ground, place)) else {
+        return Err(AllocError);
+    };
+    let Walk {
+        world,
+        placed,
+        next: others,
+        mut path,
+        known,
+        best,
+        most,
+    } = walk;
+    path.push(Frame {
+        world,
+        placed,
+        place,
+        next: others,
+    })?;
+    Ok(Step::On(Walk {
+        world: next,
+        placed: count,
+        next: 0,
+        path,
+        known,
+        best,
+        most,
+    }))
+}
+
+impl<W: World + Drop> Walk<W> {
+    /// One step of the search.
+    fn step(self, alloc: Global, ground: &W::Ground) -> Result<Step<W>, AllocError>
+        requires { IsWithin self }
+        ensures within { IfOk result StaysWithin }
+        ensures steps { IfOk result (λ step. (start : Configuration)
+            → Walks (W.view ground.now) start self → StepsTo (W.view ground.now) start step) }
+    {
+        let mut walk = self;
+        let Some(place) = walk.world.next_try(ground, walk.next) else {
+            return go_back(alloc, ground, walk);
+        };
+        walk.next = place + 1;
+        match walk.world.after(alloc, ground, place)? {
+            Some(next) => go_on(alloc, ground, walk, place, next),
+            None => Ok(Step::On(walk)),
+        }
+    }
+}
+
+/// How many answered calls have had a place at most.
+fn most_of<W>(walk: &Walk<W>) -> u64
+    ensures { (result ≡ walk.now.placed)
+        ⊎ ((result ≡ walk.now.most) × (walk.now.placed ≤ walk.now.most)) }
+{
+    if walk.placed <= walk.most {
+        walk.most
+    } else {
+        walk.placed
+    }
+}
+
+/// Looks for an order of the calls that are left in a world, in at most so many steps.
+pub fn find_order<W: World + Drop>(
+    alloc: Global,
+    ground: &W::Ground,
+    start: W,
+    steps: u64,
+) -> Result<Finding<W>, AllocError>
+    requires { IsWhole ((W.view ground.now).at start).rest }
+    ensures { IfOk result (λ found.
+        Finds (W.view ground.now) ((W.view ground.now).at start) found) }
+{
+    if start.is_done(ground) {
+        return Ok(Finding::Order(Vec::new(alloc)));
+    }
+    let mut walk = Walk {
+        world: start,
+        placed: 0,
+        next: 0,
+        path: Vec::new(alloc),
+        known: Known::new(alloc),
+        best: 0,
+        most: 0,
+    };
+    'walk: for _ in 0..steps {
+        match walk.step(alloc, ground)? {
+            Step::On(next) => walk = next,
+            Step::Found(places) => return Ok(Finding::Order(places)),
+            Step::NoOrder(most, world) => return Ok(Finding::NoOrder(most, world)),
+        }
+    }
+    Ok(Finding::Unknown(most_of(&walk)))
+}
