@@ -12,7 +12,7 @@ namespace vacation {
 enum class Kind : std::uint8_t { Car, Flight, Room };
 constexpr unsigned KINDS = 3;
 
-// Whether a command was done, or why it was refused. The numbers are those of docs/RULES.md.
+// Whether a command was done, or why it was refused.
 enum class Outcome : std::uint8_t {
     Done = 0,
     NeedsCountAndPrice = 1,
