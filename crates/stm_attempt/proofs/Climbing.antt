@@ -1,13 +1,16 @@
 -- Locks that are taken in ascending order.
-use Rattle.std.proofs.Common.{◌≡◌, refl, ap, subst, ◌∙◌, ℕ, zero, ◌<◌, false, eqb, List, [], ◌∷◌, arith}
+use Rattle.std.proofs.Common.{◌≡◌, refl, ap, subst, ◌∙◌, ℕ, zero, ◌+◌, ◌<◌, Bool, cond, false, eqb, eq-eqb, List, [], ◌∷◌, ◌++◌, arith}
 use Rattle.std.proofs.lemmas.Bool.{ne_eqb}
+use Rattle.std.proofs.lemmas.List.{map-append}
 use Rattle.stm_words.specs.Image.{In}
 use Rattle.stm_words.specs.LockWord.{free_word}
 use Rattle.stm_words.proofs.Paired.{in_later}
-use Rattle.stm_core.specs.Client.{Client, probed, writes_to, IsFree, Stamp, RecordLaw}
-use Rattle.stm_core.specs.Event.{probe, lock, after, Bounds}
+use Rattle.stm_core.specs.Client.{Client, probed, locked, writes_to, word_before, version_of, IsFree, Stamp, RecordLaw}
+use Rattle.stm_core.specs.Event.{probe, lock, after, stepping, holding, failing, Bounds}
 use Rattle.stm_attempt.specs.Conflicts.{IsHeld}
-use Rattle.stm_attempt.specs.CommitParts.{IsAbove}
+use Rattle.stm_attempt.specs.Begun.{address_of, addresses}
+use Rattle.stm_attempt.specs.Committing.{settling}
+use Rattle.stm_attempt.specs.CommitParts.{IsAbove, HasTaken}
 use Rattle.stm_core.proofs.Conditions.{IsReading, may_act_so}
 use Rattle.stm_core.specs.Guards.{May}
 
@@ -33,3 +36,20 @@ module _ (lawful : RecordLaw) (t : Stamp) (lk : ℕ → ℕ) (b : Bounds) (v w :
           λ j u' i. above j u' (subst (λ (h : List (ℕ × ℕ)). In (j, u') h) (ap (λ (x : Client). x.attempt.held) stepped) i),
         ),
       )
+
+  -- the lock was free as its probe found it: it is held, by the exchange of that word
+  module _ (d : Client) (exchanged : d ≡ after t lk (lock k) (word_before w.attempt.last) w) where
+    abbrev locked_word : ℕ
+    locked_word = word_before w.attempt.last
+
+    taken : d ≡ stepping (locked k locked_word locked_word) (holding k (version_of locked_word) w)
+    taken = exchanged ∙ ap (λ (won : Bool). stepping (locked k locked_word locked_word) (cond won (holding k (version_of locked_word) w) (failing w))) (eq-eqb locked_word locked_word refl)
+
+    pub has_taken : HasTaken v d k
+    has_taken = record {
+      same = ap settling taken ∙ ap settling stepped;
+      stored = ap (λ (x : Client). x.attempt.stored) taken ∙ ap (λ (x : Client). x.attempt.stored) stepped;
+      held = ap (λ (x : Client). addresses x.attempt.held) taken ∙ map-append address_of w.attempt.held ((k, version_of locked_word) ∷ []) ∙ ap (λ (x : Client). addresses x.attempt.held ++ k ∷ []) stepped;
+      won = (k, locked_word, ap (λ (x : Client). x.attempt.last) taken);
+      steps = let a : d.attempt.steps ≡ w.attempt.steps + 1 = ap (λ (x : Client). x.attempt.steps) taken in let b : w.attempt.steps ≡ v.attempt.steps + 1 = ap (λ (x : Client). x.attempt.steps) stepped in omega (arith, a, b);
+    }

@@ -1,6 +1,6 @@
 -- The parts of a commit put together.
-use Rattle.std.proofs.Common.{◌≡◌, ◌≢◌, inl, inr, refl, sym, ap, subst, ◌∙◌, ℕ, zero, suc, ◌+◌, ◌*◌, ◌<◌, ◌≤◌, Bool, true, false, ◌||◌, cond, eqb, List, [], ◌∷◌, ◌++◌, length, length-append, append_assoc, Result, Ok, Err, IfOk, IfErr, MatchResult, take, arith}
-use Rattle.std.specs.FinMap.{len, len-entries}
+use Rattle.std.proofs.Common.{◌≡◌, ◌≢◌, ◌⊎◌, ⊎_elim, inl, inr, refl, sym, ap, subst, ◌∙◌, ℕ, zero, suc, ◌+◌, ◌*◌, ◌<◌, ◌≤◌, Bool, true, false, ◌||◌, cond, eqb, List, [], ◌∷◌, ◌++◌, length, length-append, append_assoc, Option, Some, None, Result, Ok, Err, IfOk, IfErr, MatchResult, take, arith}
+use Rattle.std.specs.FinMap.{get, len, len-entries}
 use Rattle.std.proofs.lemmas.Bool.{ne_eqb}
 use Rattle.core.specs.Result.{IsErrAnd}
 use Rattle.std.specs.Result.{is_ok, is_err}
@@ -11,13 +11,15 @@ use Rattle.stm_core.specs.declared.limits.TheConstants.{MOST_TICKS}
 use Rattle.stm_core.specs.Client.{Client, Record, RecordLaw, inserted, committed, running, is_committed, decided}
 use Rattle.stm_core.specs.Event.{Action, is_empty, after, finish, decision, writer_record, reader_record}
 use Rattle.stm_logs.specs.Log.{LogValue, SameAddresses, log_pairs, log_locks}
-use Rattle.stm_logs.proofs.LockLemmas.{locks_few}
+use Rattle.stm_logs.proofs.LockLemmas.{locks_few, in_locks}
+use Rattle.stm_logs.proofs.TableLemmas.{some_none}
+use Rattle.stm_logs.proofs.RisingLemmas.{In as Among, in_get}
 use Rattle.stm_region.specs.Findings.{StandsOn, Decides, DecidesAt}
 use Rattle.stm_region.specs.Shown.{RegionShown, unplaced}
 use Rattle.stm_core.specs.Guards.{stripe_of}
 use Rattle.stm_attempt.specs.Begun.{addresses, IsBegun, AreInside}
 use Rattle.stm_attempt.specs.Conflicts.{IsLockConflict, IsValidateConflict, IsTickConflict, IsReadLock, IsCommitConflict}
-use Rattle.stm_attempt.specs.Committing.{IsSameAttempt, settling, ticked_record, commit_record, IsCommitVersion, IsCommitStop, IsCounted, HasCommitted, HasStopped, DecidesWith, WasDecided}
+use Rattle.stm_attempt.specs.Committing.{IsSameAttempt, settling, ticked_record, commit_record, IsCommitVersion, IsCommitStop, IsCounted, GaveBack, HasCommitted, HasStopped, DecidesWith, WasDecided}
 use Rattle.stm_attempt.specs.CommitParts.{IsReady, CanValidate, returned, is_at_once, HasFailed, HasTaken, IsClimbing, HasFailedLocking, HasFailedDeciding, HasFailedValidating, HasTicked, HasValidated, IsDecided, HasSettled}
 use Rattle.stm_attempt.proofs.Named.{apart, same_attempt, same_on}
 use Rattle.stm_attempt.specs.declared.conflict.Conflict.{Conflict}
@@ -184,6 +186,7 @@ climbing_none v taken rest all none zero_taken e = record {
   stored = refl;
   held = ap (λ (held : List (ℕ × ℕ)). addresses held ++ rest) none ∙ e;
   count = zero_taken ∙ sym (ap (λ (held : List (ℕ × ℕ)). length (addresses held)) none);
+  won = λ some. absurd (omega (arith, some, zero_taken));
   steps = omega (arith, zero_taken);
 }
 
@@ -195,6 +198,7 @@ module _ (v w d : Client) (taken : ℕ) (left all : List ℕ) (climbing : IsClim
     stored = more.stored ∙ climbing.stored;
     held = ap (λ (xs : List ℕ). xs ++ rest) more.held ∙ append_assoc (addresses w.attempt.held) (k ∷ []) rest ∙ ap (λ (xs : List ℕ). addresses w.attempt.held ++ xs) (sym next) ∙ climbing.held;
     count = let a = climbing.count in let b : length (addresses d.attempt.held) ≡ length (addresses w.attempt.held ++ k ∷ []) = ap length more.held in let n = length-append (addresses w.attempt.held) (k ∷ []) in omega (arith, a, b, n);
+    won = λ _. more.won;
     steps = let a = climbing.steps in let b = more.steps in omega (arith, a, b);
   }
 
@@ -304,6 +308,7 @@ module _ (region : RegionShown) (tag : List ℕ) (writes : List (ℕ × ℕ)) (v
     known = ap (λ (x : Client). x.floor) settled.same ∙ decided.known;
     free = settled.free;
     same = same_on v l e (same_attempt v l (ap apart locked)) (same_on l d e decided.same (same_attempt d e (ap apart settled.same)));
+    steps = λ none. absurd (some none);
   }
 
   module _ (w : LogValue) (taken : ℕ) (pairs : writes ≡ log_pairs w) (addressed : SameAddresses w) (holds : addresses l.attempt.held ≡ take taken (log_locks w)) (all : taken ≡ length (log_locks w)) (stepped : l.attempt.steps ≡ v.attempt.steps + 2 * taken) where
@@ -345,7 +350,14 @@ conflict_kept lk log c l g e (inr (inr i)) = inr (inr (tick_kept c l g e i))
 stop_kept : (region : RegionShown) (log : LogValue) (stop : Stop) (l g : Client) → returned g ≡ returned l → IsCommitStop region log stop l → IsCommitStop region log stop g
 stop_kept region log Memory l g e i = absurd i
 stop_kept region log (Conflicting c) l g e i = conflict_kept (stripe_of region.stripes) log c l g e i
-stop_kept region log (Spent version) l g e i = (i.0, ap (λ (x : Client). x.attempt.next_from) e ∙ i.1, subst (λ (n : ℕ). n < MOST_TICKS) (sym (ap (λ (x : Client). x.attempt.ticks) e)) i.2)
+stop_kept region log (Spent version) l g e i = (
+  i.0,
+  ap (λ (x : Client). x.attempt.next_from) e ∙ i.1,
+  subst (λ (n : ℕ). n < MOST_TICKS) (sym (ap (λ (x : Client). x.attempt.ticks) e)) i.2,
+  ⊎_elim
+      (λ won. inl (won.0, won.1, ap (λ (x : Client). x.attempt.last) e ∙ won.2))
+      (λ lost. inr (lost.0, ap (λ (x : Client). x.attempt.last) e ∙ lost.1, lost.2)) i.3,
+)
 
 -- the steps of a spent clock are counted on where so many locks are given back
 counted_kept : (stop : Stop) (locks : ℕ) (v l f g : Client) → l.attempt.steps ≡ v.attempt.steps + 2 * locks → returned g ≡ returned f → g.attempt.steps ≡ f.attempt.steps + locks → IsCounted stop l.attempt.steps f → IsCounted stop (v.attempt.steps + 3 * locks) g
@@ -353,12 +365,39 @@ counted_kept Memory locks v l f g up back down i = tt
 counted_kept (Conflicting c) locks v l f g up back down i = tt
 counted_kept (Spent version) locks v l f g up back down i = let ticks : g.attempt.ticks ≡ f.attempt.ticks = ap (λ (x : Client). x.attempt.ticks) back in omega (arith, up, down, ticks, i)
 
+gave_back_at : (stop : Stop) (g : Client) → g.attempt.gave_back ≡ true → GaveBack stop g
+gave_back_at Memory g gave = tt
+gave_back_at (Conflicting c) g gave = tt
+gave_back_at (Spent version) g gave = gave
+
+-- who writes needs a lock
+some_first : (xs : List (ℕ × ℕ)) → xs ≢ [] → (p : ℕ × ℕ) × Among p xs
+some_first [] some = absurd (some refl)
+some_first (p ∷ ps) some = (p, inl refl)
+
+some_among : (k : ℕ) (xs : List ℕ) → Among k xs → 0 < length xs
+some_among k [] among = absurd among
+some_among k (x ∷ xs) among = omega arith
+
+lock_or : (o : Option ℕ) → (o ≡ None) ⊎ ((k : ℕ) × (o ≡ Some k))
+lock_or None = inl refl
+lock_or (Some k) = inr (k, refl)
+
+pub some_locks : (w : LogValue) → len w.words ≢ 0 → SameAddresses w → 0 < length (log_locks w)
+some_locks w some same =
+    let first = some_first (log_pairs w) (some_pairs w some) in
+    let a : ℕ = first.0.0 in
+    let there : get w.words a ≡ Some first.0.1 = in_get w.words a first.0.1 first.1 in
+    ⊎_elim (λ none. absurd (some_none first.0.1 (sym there ∙ (same a).1 none)))
+    (λ p. some_among p.0 (log_locks w) (in_locks w a p.0 p.1)) (lock_or (get w.locks a))
+
 module _ (region : RegionShown) (log : LogValue) (v l : Client) (some : log_pairs log ≢ []) where
   -- a lock was not taken, and all others were given back
   pub stopped_locking : (c : Conflict) (g : Client) (taken : ℕ) → HasFailedLocking v l taken → IsCommitConflict (stripe_of region.stripes) log c l → returned g ≡ returned l → g.attempt.held ≡ [] → HasStopped region log (Conflicting c) v g
   stopped_locking c g taken failed shown back free = record {
     written = some;
     shown = conflict_kept (stripe_of region.stripes) log c l g back shown;
+    gave_back = tt;
     counted = tt;
     free = free;
     floor = let a : g.floor ≡ l.floor = ap (λ (x : Client). x.floor) back in omega (arith, a, failed.floor);
@@ -367,8 +406,9 @@ module _ (region : RegionShown) (log : LogValue) (v l : Client) (some : log_pair
   }
 
   -- the attempt was not decided, and all locks were given back
-  pub stopped_deciding : (stop : Stop) (f g : Client) → settling l ≡ settling v → l.attempt.steps ≡ v.attempt.steps + 2 * length (log_locks log) → HasFailedDeciding region log stop l f → returned g ≡ returned f → g.attempt.steps ≡ f.attempt.steps + length (log_locks log) → g.attempt.held ≡ [] → HasStopped region log stop v g
-  stopped_deciding stop f g locked up failed back down free = record {
+  pub stopped_deciding : (stop : Stop) (f g : Client) → settling l ≡ settling v → l.attempt.steps ≡ v.attempt.steps + 2 * length (log_locks log) → HasFailedDeciding region log stop l f → returned g ≡ returned f → g.attempt.steps ≡ f.attempt.steps + length (log_locks log) → g.attempt.gave_back ≡ true → g.attempt.held ≡ [] → HasStopped region log stop v g
+  stopped_deciding stop f g locked up failed back down gave free = record {
+    gave_back = gave_back_at stop g gave;
     written = some;
     shown = stop_kept region log stop f g back failed.shown;
     counted = counted_kept stop (length (log_locks log)) v l f g up back down failed.counted;
@@ -386,5 +426,6 @@ has_finished region tag [] v e rv found none begun is = record {
   known = ap (λ (x : Client). x.floor) is ∙ begun.known;
   free = ap (λ (x : Client). x.attempt.held) is ∙ begun.free;
   same = same_attempt v e (ap apart is);
+  steps = λ _. ap (λ (x : Client). x.attempt.steps) is;
 }
 has_finished region tag (p ∷ ps) v e rv found none begun is = cc

@@ -36,5 +36,6 @@ module _ (lawful : RecordLaw) (t : Stamp) (lk : ℕ → ℕ) (b : Bounds) (w : L
     able = (ap (λ (x : Client). x.is_gathered) e ∙ returning.able.0, inr (ap (λ (x : Client). x.attempt.phase) e));
     held = ap (λ (x : Client). addresses x.attempt.held) e ∙ first.1;
     few = let l : length now ≡ suc (length rest) = ap length next in omega (arith, l, returning.few, some_left);
+    gave_back = λ _. ap (λ (x : Client). x.attempt.gave_back) e;
     steps = let s : v'.attempt.steps ≡ v.attempt.steps + 1 = ap (λ (x : Client). x.attempt.steps) e in omega (arith, s, some_left, returning.steps);
   }

@@ -1,12 +1,12 @@
 -- Ticks that were lost, and the one that is won.
-use Rattle.std.proofs.Common.{◌≡◌, ◌≢◌, inl, refl, sym, ap, ◌∙◌, ℕ, ◌+◌, ◌<◌, Bool, true, false, cond, List, eq-eqb, arith}
+use Rattle.std.proofs.Common.{◌≡◌, ◌≢◌, ◌⊎◌, inl, inr, zero, suc, refl, sym, ap, ◌∙◌, ℕ, ◌+◌, ◌<◌, Bool, true, false, cond, List, eq-eqb, arith}
 use Rattle.std.proofs.lemmas.Bool.{ne_eqb}
 use Rattle.stm_core.specs.Client.{Client, running, committed, is_committed, ticked, inserted}
 use Rattle.stm_core.specs.Event.{tick, after, won, versioned, committed_by, stepping, with_ticks, forgetting}
 use Rattle.stm_region.specs.Shown.{RegionShown, unplaced}
 use Rattle.stm_core.specs.Guards.{stripe_of}
 use Rattle.stm_region.specs.Findings.{IsLoneOpen}
-use Rattle.stm_attempt.specs.Committing.{ticked_record}
+use Rattle.stm_attempt.specs.Committing.{HasWonLock, HasLostTick, ticked_record}
 use Rattle.stm_attempt.specs.CommitParts.{HasTicked, HasFailed, is_at_once}
 use Rattle.stm_attempt.proofs.Named.{apart, same_attempt}
 use Rattle.stm_core.proofs.Conditions.{IsReading}
@@ -22,6 +22,7 @@ pub record IsTicking (v v' : Client) (count from : ℕ) : Type 0 where
   pub next : v'.attempt.next_from ≡ from
   pub steps : v'.attempt.steps ≡ v.attempt.steps + count
   pub lost : 0 < count → (before : ℕ) × (v'.attempt.last ≡ ticked before from) × (before ≢ from)
+  pub unlost : count ≡ 0 → v'.attempt.last ≡ v.attempt.last
 
 -- the tick was won
 module _ (region : RegionShown) (tag : List ℕ) (writes : List (ℕ × ℕ)) (v w : Client) (count from : ℕ) (ticking : IsTicking v w count from) (reading : IsReading v.attempt) where
@@ -68,6 +69,7 @@ ticking_none v from none next = record {
   next = next;
   steps = omega arith;
   lost = λ some. absurd (omega (arith, some));
+  unlost = λ _. refl;
 }
 
 -- no tick was won
@@ -92,6 +94,7 @@ lost_on region tag writes v w d count from found ticking other e =
       next = ap (λ (x : Client). x.attempt.next_from) stepped;
       steps = let a : d.attempt.steps ≡ w.attempt.steps + 1 = ap (λ (x : Client). x.attempt.steps) stepped in let b = ticking.steps in omega (arith, a, b);
       lost = λ _. (from, ap (λ (x : Client). x.attempt.last) stepped, λ same. other (sym same));
+      unlost = λ none. absurd (omega (arith, none));
     }
 
 -- a lone attempt is not decided before a tick is won
@@ -101,3 +104,8 @@ still_open v w count from ticking reading lone = (ap (λ (x : Client). x.attempt
 -- what was lost was not won
 pub not_won : {A : Type 0} → false ≡ true → A
 not_won e = cc
+
+-- a clock that was found at this version was found by a lock's exchange, or by a tick that lost
+pub spent_shown : (v w : Client) (count from : ℕ) → IsTicking v w count from → HasWonLock v → HasWonLock w ⊎ HasLostTick from w
+spent_shown v w zero from ticking won = inl (won.0, won.1, ticking.unlost refl ∙ won.2)
+spent_shown v w (suc n) from ticking won = inr (ticking.lost (omega arith))

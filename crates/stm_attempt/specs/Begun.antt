@@ -1,8 +1,8 @@
 -- What an attempt that has begun is, in terms of its client's value.
-use Rattle.std.specs.Prelude.{◌≡◌, ℕ, ◌+◌, ◌*◌, ◌<◌, ◌≤◌, Bool, List, [], ◌∷◌, ◌++◌, length, map, true, false, Option, None, Some}
+use Rattle.std.specs.Prelude.{◌≡◌, ◌==◌, ℕ, ◌+◌, ◌*◌, ◌<◌, ◌≤◌, Bool, List, [], ◌∷◌, ◌++◌, length, map, true, false, Option, None, Some}
 use Rattle.std.specs.FinMap.{get}
 use Rattle.stm_words.specs.Image.{In}
-use Rattle.stm_core.specs.Client.{Client, Phase, idle, running, ending, committed, finished}
+use Rattle.stm_core.specs.Client.{Client, Phase, idle, running, ending, committed, finished, Step, nothing, began, probed, fetched, checked, locked, ticked, validated, ended}
 use Rattle.stm_core.specs.Event.{forgetting}
 use Rattle.stm_logs.specs.Log.{LogValue}
 use Rattle.stm_region.specs.Shown.{RegionShown}
@@ -26,10 +26,28 @@ pub record IsBegun (v : Client) (rv : ℕ) : Type 0 where
   pub unticked : v.attempt.ticks ≡ 0
   pub from : v.attempt.next_from ≡ rv
 
+-- a step that shows no conflict: the begin of an attempt, or the second look at a lock, where both
+-- looks found one word
+abbrev pub is_quiet : Step → Bool
+is_quiet nothing = false
+is_quiet (began version) = true
+is_quiet (probed lock word) = false
+is_quiet (fetched address word value) = false
+is_quiet (checked address first second) = first == second
+is_quiet (locked lock word now) = false
+is_quiet (ticked version now) = false
+is_quiet (validated lock word) = false
+is_quiet (ended version) = false
+
+-- so is the client's last step
+abbrev pub IsQuiet : Client → Type 0
+IsQuiet v = is_quiet v.attempt.last ≡ true
+
 -- the value is as before, but that x was read at the address, in three steps
 pub record HasReadWord (v v' : Client) (address x : ℕ) : Type 0 where
   pub reads : v'.attempt.reads ≡ v.attempt.reads ++ (address, x) ∷ []
   pub runs : v'.attempt.phase ≡ running
+  pub quiet : IsQuiet v'
   pub steps : v'.attempt.steps ≡ v.attempt.steps + 3
 
 -- an attempt that is lone was not stopped
@@ -71,5 +89,6 @@ pub record IsRunning (region : RegionShown) (v : Client) (rv : ℕ)
   pub begun : IsBegun v rv
   pub runs : stopped ≡ None → v.attempt.phase ≡ running
   pub shown : HasMet (stripe_of region.stripes) stopped v
+  pub quiet : stopped ≡ None → IsQuiet v
   pub lone : IsUnstopped v stopped
   pub steps : v.attempt.steps ≤ 1 + 3 * (length v.attempt.reads + refused stopped)

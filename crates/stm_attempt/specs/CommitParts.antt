@@ -8,7 +8,7 @@ use Rattle.stm_core.specs.Event.{is_empty}
 use Rattle.stm_logs.specs.Log.{LogValue, log_pairs, log_locks}
 use Rattle.stm_region.specs.Shown.{RegionShown}
 use Rattle.stm_attempt.specs.Begun.{AreInside, IsPlaced, addresses}
-use Rattle.stm_attempt.specs.Committing.{IsSameAttempt, settling, ticked_record, IsCommitStop, IsCounted}
+use Rattle.stm_attempt.specs.Committing.{IsSameAttempt, settling, ticked_record, HasWonLock, IsCommitStop, IsCounted}
 use Rattle.stm_attempt.specs.declared.conflict.Stop.{Stop}
 
 -- the attempt may commit what it wrote: it has begun at rv and only read, inside the region
@@ -65,6 +65,7 @@ pub record HasTaken (v v' : Client) (lock : ℕ) : Type 0 where
   pub same : settling v' ≡ settling v
   pub stored : v'.attempt.stored ≡ v.attempt.stored
   pub held : addresses v'.attempt.held ≡ addresses v.attempt.held ++ lock ∷ []
+  pub won : HasWonLock v'
   pub steps : v'.attempt.steps ≡ v.attempt.steps + 2
 
 -- all locks of the log are held, so many
@@ -72,6 +73,7 @@ pub record HasTakenAll (v v' : Client) (log : LogValue) (taken : ℕ) : Type 0 w
   pub same : settling v' ≡ settling v
   pub stored : v'.attempt.stored ≡ v.attempt.stored
   pub count : taken ≡ length (log_locks log)
+  pub won : 0 < taken → HasWonLock v'
   pub steps : v'.attempt.steps ≡ v.attempt.steps + 2 * taken
 
 -- it may give back what it holds
@@ -102,6 +104,7 @@ pub record IsClimbing (v v' : Client) (taken : ℕ) (rest all : List ℕ) : Type
   pub stored : v'.attempt.stored ≡ v.attempt.stored
   pub held : addresses v'.attempt.held ++ rest ≡ all
   pub count : taken ≡ length (addresses v'.attempt.held)
+  pub won : 0 < taken → HasWonLock v'
   pub steps : v'.attempt.steps ≡ v.attempt.steps + 2 * taken
 
 -- the client's value without what giving back changes
@@ -127,6 +130,7 @@ pub record IsReturning (v v' : Client) (count left : ℕ) (rest all : List ℕ) 
   pub able : CanGiveBack v'
   pub held : addresses v'.attempt.held ≡ take left rest
   pub few : left ≤ length rest
+  pub gave_back : left < count → v'.attempt.gave_back ≡ true
   pub steps : v'.attempt.steps + left ≡ v.attempt.steps + count
 
 -- a won tick decides at once where nothing was read, or where the write version is the next after

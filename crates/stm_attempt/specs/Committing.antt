@@ -1,7 +1,7 @@
 -- What a commit leaves.
-use Rattle.std.specs.Prelude.{◌≡◌, ◌≢◌, ℕ, ◌+◌, ◌*◌, ◌<◌, ◌≤◌, List, [], ◌∷◌, length}
+use Rattle.std.specs.Prelude.{◌≡◌, ◌≢◌, ◌⊎◌, ℕ, ◌+◌, ◌*◌, ◌<◌, ◌≤◌, true, List, [], ◌∷◌, length}
 use Rattle.stm_core.specs.declared.limits.TheConstants.{MOST_TICKS}
-use Rattle.stm_core.specs.Client.{Client, Record, inserted, RecordLaw}
+use Rattle.stm_core.specs.Client.{Client, Record, locked, ticked, inserted, RecordLaw}
 use Rattle.stm_core.specs.Event.{forgetting, versioned, writer_record, reader_record}
 use Rattle.stm_logs.specs.Log.{LogValue, log_pairs, log_locks}
 use Rattle.stm_region.specs.Shown.{RegionShown, unplaced}
@@ -43,20 +43,37 @@ abbrev pub IsCommitVersion : Client → List (ℕ × ℕ) → ℕ → Type 0
 IsCommitVersion v [] version = version ≡ v.attempt.rv
 IsCommitVersion v (p ∷ ps) version = v.attempt.rv < version
 
+-- the last step, a give back apart, won a lock
+abbrev pub HasWonLock : Client → Type 0
+HasWonLock v = (lock word : ℕ) × (v.attempt.last ≡ locked lock word word)
+
+-- the last step, a give back apart, was a tick that lost to this version
+abbrev pub HasLostTick : ℕ → Client → Type 0
+HasLostTick version v =
+    (from : ℕ) × (v.attempt.last ≡ ticked from version) × (from ≢ version)
+
 -- why a commit stopped: a conflict that is shown, or a clock that was found at the last version
--- while ticks were left, so that no tick is made from it
+-- while ticks were left, so that no tick is made from it: the last step won a lock, or is the tick
+-- that lost to that version
 abbrev pub IsCommitStop : RegionShown → LogValue → Stop → Client → Type 0
 IsCommitStop region log Memory v = ⊥
 IsCommitStop region log (Conflicting conflict) v =
     IsCommitConflict (stripe_of region.stripes) log conflict v
 IsCommitStop region log (Spent version) v =
     (version ≡ region.last) × (v.attempt.next_from ≡ region.last) × (v.attempt.ticks < MOST_TICKS)
+    × (HasWonLock v ⊎ HasLostTick version v)
 
 -- a spent clock was found after these steps and the lost ticks alone
 abbrev pub IsCounted : Stop → ℕ → Client → Type 0
 IsCounted Memory steps v = Unit {0}
 IsCounted (Conflicting conflict) steps v = Unit {0}
 IsCounted (Spent version) steps v = v.attempt.steps ≡ steps + v.attempt.ticks
+
+-- at a spent clock the locks were given back
+abbrev pub GaveBack : Stop → Client → Type 0
+GaveBack Memory v = Unit {0}
+GaveBack (Conflicting conflict) v = Unit {0}
+GaveBack (Spent version) v = v.attempt.gave_back ≡ true
 
 -- the commit added exactly one record, and no lock is held
 -- Not said: that the values stand in the shared words: a lock is released only once all its words
@@ -68,6 +85,8 @@ pub record HasCommitted (region : RegionShown) (tag : List ℕ) (writes : List (
   pub known : v'.floor ≡ version
   pub free : v'.attempt.held ≡ []
   pub same : IsSameAttempt v v'
+  -- where nothing was written it is one step
+  pub steps : writes ≡ [] → v'.attempt.steps ≡ v.attempt.steps + 1
 
 -- the commit was refused: it added no record, and no lock is held. Something was written. A spent
 -- clock is answered after as many steps as each lock costs, two to take it and one to give it
@@ -77,6 +96,7 @@ pub record HasStopped (region : RegionShown) (log : LogValue) (stop : Stop)
     (v v' : Client) : Type 0 where
   pub written : log_pairs log ≢ []
   pub shown : IsCommitStop region log stop v'
+  pub gave_back : GaveBack stop v'
   pub counted : IsCounted stop (v.attempt.steps + 3 * length (log_locks log)) v'
   pub free : v'.attempt.held ≡ []
   pub floor : v.floor ≤ v'.floor

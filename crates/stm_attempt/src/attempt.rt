@@ -6,7 +6,7 @@ ghost use Rattle.stm_core.specs.Event.{begin as begins};
 ghost use Rattle.stm_region.specs.declared.limits.TheConstants.{MOST_GRANTS};
 ghost use Rattle.stm_region.specs.Shown.{acted};
 ghost use Rattle.stm_region.specs.Findings.{AreEarlier};
-ghost use Rattle.stm_attempt.specs.Begun.{AreInside, IsPlaced, IsRunning, IsUnstopped, addresses};
+ghost use Rattle.stm_attempt.specs.Begun.{AreInside, IsPlaced, IsQuiet, IsRunning, IsUnstopped, addresses};
 ghost use Rattle.stm_attempt.specs.Conflicts.{HasMet};
 ghost use Rattle.stm_attempt.specs.Meaning.{IsStanding};
 
@@ -101,6 +101,7 @@ impl<'a, L: Law, R: Allocator, A: Allocator + Copy> Attempt<'a, L, R, A> {
         requires { runs self.now ≡ true }
         ensures value { result ≡ self.now.stopped }
         ensures shown { HasMet (lock_of self.now) result (client_of self.now) }
+        ensures quiet { result ≡ None → IsQuiet (client_of self.now) }
         ensures lone { IsUnstopped (client_of self.now) result }
     {
         let Self { stopped, .. } = self;

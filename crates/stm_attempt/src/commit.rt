@@ -7,7 +7,7 @@ ghost use Rattle.stm_logs.specs.Log.{SameAddresses, log_pairs, log_locks};
 ghost use Rattle.stm_attempt.specs.Begun.{AreInside, IsPlaced, IsRunning, addresses};
 ghost use Rattle.stm_attempt.specs.Conflicts.{HasMet};
 ghost use Rattle.stm_attempt.specs.Answers.{IsSpent};
-ghost use Rattle.stm_attempt.specs.Committing.{HasCommitted, HasStopped, DecidesWith, WasDecided};
+ghost use Rattle.stm_attempt.specs.Committing.{HasWonLock, HasCommitted, HasStopped, DecidesWith, WasDecided};
 ghost use Rattle.stm_attempt.specs.Committing.{commit_record, ticked_record};
 ghost use Rattle.stm_attempt.specs.Attempt.{AreEmpty};
 ghost use Rattle.stm_attempt.specs.CommitParts.{IsReady, IsLogged, IsDecided, HasFailedDeciding, CanSettle, HasSettled, commit_bound};
@@ -50,6 +50,7 @@ fn decide<L: Law, R: Allocator, A: Allocator + Copy, T: Tag, G: Gate>(
     requires lawful { L.lawful (T.numbers tag.now) client.old.value.attempt.reads
         (log_pairs logs.now.writes) }
     requires held { addresses client.old.value.attempt.held ≡ log_locks logs.now.writes }
+    requires locked { HasWonLock client.old.value }
     requires same { SameAddresses logs.now.writes }
     ensures own { client.new.table ≡ client.old.table }
     ensures ok { IfOk result (λ version. IsDecided region.now (T.numbers tag.now)

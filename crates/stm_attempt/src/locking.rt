@@ -90,6 +90,7 @@ pub(crate) fn give_back_first<L: Law, R: Allocator, A: Allocator + Copy>(
     ensures own { client.new.table ≡ client.old.table }
     ensures free { client.new.value.attempt.held ≡ [] }
     ensures same { returned client.new.value ≡ returned client.old.value }
+    ensures gave_back { 0 < count → client.new.value.attempt.gave_back ≡ true }
     ensures steps { client.new.value.attempt.steps ≡ client.old.value.attempt.steps + count }
 {
     let mut left = count;

@@ -6,7 +6,7 @@ ghost use Rattle.stm_core.specs.Guards.{may_write, stripe_of};
 ghost use Rattle.stm_logs.specs.Log.{log_pairs};
 ghost use Rattle.stm_region.specs.Findings.{Decides};
 ghost use Rattle.stm_attempt.specs.Answers.{IsSpent};
-ghost use Rattle.stm_attempt.specs.Committing.{IsCommitStop, IsCounted};
+ghost use Rattle.stm_attempt.specs.Committing.{HasWonLock, IsCommitStop, IsCounted};
 ghost use Rattle.stm_attempt.specs.CommitParts.{IsReady, HasTicked, HasFailed};
 
 use crate::conflict::{Conflict, Stop};
@@ -26,6 +26,7 @@ pub(crate) fn tick<L: Law, R: Allocator, A: Allocator + Copy, T: Tag>(
 ) -> Result<Version, Stop>
     requires own { client.old.table ≡ region.now.table }
     requires ready { IsReady region.now client.old.value rv }
+    requires locked { HasWonLock client.old.value }
     requires writes { may_write (stripe_of region.now.stripes) region.now.size
         client.old.value.attempt.held (log_pairs writes.now) ≡ true }
     requires lawful { L.lawful (T.numbers tag.now) client.old.value.attempt.reads

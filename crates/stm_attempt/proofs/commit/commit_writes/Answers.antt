@@ -9,7 +9,7 @@ use Rattle.stm_attempt.specs.Begun.{addresses}
 use Rattle.stm_attempt.specs.Committing.{HasCommitted, HasStopped, DecidesWith, WasDecided, commit_record, ticked_record}
 use Rattle.stm_attempt.specs.Answers.{IsSpent}
 use Rattle.stm_attempt.specs.CommitParts.{IsDecided, CanSettle, CanGiveBack, HasSettled, HasFailedDeciding, returned}
-use Rattle.stm_attempt.proofs.Parts.{still_ready, some_pairs, map_ok, map_err, ok_of, err_of, record_on, has_committed, steps_committed, stopped_locking, stopped_deciding, err_not_ok, none_answered, none_refused}
+use Rattle.stm_attempt.proofs.Parts.{still_ready, some_pairs, map_ok, map_err, ok_of, err_of, record_on, has_committed, steps_committed, some_locks, stopped_locking, stopped_deciding, err_not_ok, none_answered, none_refused}
 use Rattle.stm_attempt.proofs.commit.commit_writes.Goals as goal
 use Rattle.stm_attempt.proofs.commit.commit_writes.Goals.{in-Ok, in-Err}
 
@@ -23,6 +23,10 @@ decide-answer-requires-clause-logged g c = record {
   placed = c.requires.logged.placed;
   written = c.requires.logged.written;
 }
+
+pub decide-answer-requires-clause-locked : goal.decide-answer-requires-clause-locked
+decide-answer-requires-clause-locked g c =
+    c.in-Ok.ensures.all.won (let there = some_locks c.args.logs.now.writes c.requires.logged.written c.same_addresses.ensures in omega (arith, there, c.in-Ok.ensures.all.count))
 
 pub settle-requires-clause-decided : goal.settle-requires-clause-decided
 settle-requires-clause-decided g c =
@@ -176,6 +180,7 @@ returns-else-is_ok-clause-stopped g c =
           (w.in-Ok.ensures.all.steps ∙ ap (λ n. v.attempt.steps + 2 * n) w.in-Ok.ensures.all.count) failed
           (subst (λ (s : ClientShown). returned e ≡ returned s.value) w.client-is c.give_back_first.ensures.same)
           (c.give_back_first.ensures.steps ∙ ap (λ (s : ClientShown). s.value.attempt.steps + c.lock_all.new.taken) w.client-is ∙ ap (λ n. w.decide-answer.new.client.value.attempt.steps + n) w.in-Ok.ensures.all.count)
+          (c.give_back_first.ensures.gave_back (let there = some_locks log c.requires.logged.written c.same_addresses.ensures in omega (arith, there, w.in-Ok.ensures.all.count)))
           c.give_back_first.ensures.free)
           w.decide-answer.ensures.failed)
       | in-Err w ↦ subst (λ r. IfErr r (λ stop. HasStopped region log stop v e)) (sym w.answer-is)

@@ -1,4 +1,4 @@
-use Rattle.std.proofs.Common.{refl, sym, ap, subst, ◌∙◌, ◌≤◌, ℕ, List, [], length, take}
+use Rattle.std.proofs.Common.{arith, refl, sym, ap, subst, ◌∙◌, ◌≤◌, ℕ, List, [], length, take}
 use Rattle.stm_region.specs.Shown.{ClientShown, bounds, unplaced}
 use Rattle.stm_core.specs.Guards.{stripe_of}
 use Rattle.stm_attempt.proofs.Returning.{may_return, return_logged, returned_one}
@@ -17,6 +17,7 @@ loop-lock-init g c =
         able = c.requires.able;
         held = c.requires.held ∙ ap (take c.args.count) (sym all);
         few = subst (λ (xs : List ℕ). c.args.count ≤ length xs) (sym all) c.requires.few;
+        gave_back = λ some. absurd (omega (arith, some));
         steps = refl;
       },
     )
