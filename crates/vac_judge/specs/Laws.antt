@@ -58,8 +58,6 @@ pub record IsLegalHistory (n : ℕ) (bytes : List ℕ) : Type 0 where
   pub linearization : IsLinearization n calls
 
 -- the verdict is legal exactly for such a history
--- Not said: in these words, of a history that is not legal, which line is the first wrong one and
--- what is wrong with it: the definition `verdict_on` says that.
 abbrev pub LegalIsLinearization : Type 0
 LegalIsLinearization = (n : ℕ) (bytes : List ℕ) →
     (is_legal (verdict_on n bytes) ≡ true) ↔ IsLegalHistory n bytes
