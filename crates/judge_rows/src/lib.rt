@@ -3,3 +3,5 @@
 
 #[cfg(test)]
 mod verdicts;
+#[cfg(test)]
+mod work;

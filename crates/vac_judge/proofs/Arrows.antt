@@ -181,7 +181,7 @@ few_three line before behind client rest begin last cut h e g f k =
     ∙ ap (λ t. parts_of t (words_of behind)) (word_first before client rest h e ∙ ap (λ t. client ∷ t) (word_first rest begin last g f ∙ ap (λ t. begin ∷ t) (one_word last k)))
 
 -- a text is its words, joined again
-text_is : (text : List ℕ) → joined (words_of text) ≡ text
+pub text_is : (text : List ℕ) → joined (words_of text) ≡ text
 text_is text = join_with_byte-slice_split 32 text
 
 -- the parts of the words, joined again

@@ -7,5 +7,6 @@ pub mod Lines
 pub mod Cutting
 pub mod Texts
 pub mod CallText
+pub mod Handed
 pub mod Histories
 pub mod Stops

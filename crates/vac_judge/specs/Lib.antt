@@ -8,3 +8,6 @@ pub mod Follows
 pub mod Judging
 pub mod Reading
 pub mod CallText
+pub mod Work
+pub mod Holding
+pub mod HeldReading

@@ -65,7 +65,7 @@ impl CallLine<'_> {
 }
 
 /// The client that a word names.
-fn client_at(word: &[u8]) -> Result<u32, CallFault>
+pub(crate) fn client_at(word: &[u8]) -> Result<u32, CallFault>
     ensures { result ≡ at_client word.now }
 {
     if word.len() > MOST_CLIENT_DIGITS {

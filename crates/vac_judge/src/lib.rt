@@ -8,17 +8,22 @@
 
 mod answers;
 mod arrow;
+mod by_client;
 mod call;
 mod ends;
 mod fault;
+mod held;
+mod holding;
 mod judge;
 mod laws;
 mod reading;
 mod verdict;
+mod work;
 
 pub use answers::numbers_of_a_reply;
 pub use call::{Answer, CALL_BYTES, CallLine, NEVER, read_call};
 pub use fault::{CallFault, JudgeFault};
+pub use held::{HeldVerdict, judge_work, print_held};
 pub use judge::Judge;
 pub use laws::{
     a_call_never_answered_is_read, a_fault_names_the_first_line_that_is_no_call,

@@ -114,7 +114,11 @@ impl History {
 
 /// The verdict on a history: reads the lines to the end of the input, or to the first that is not
 /// right.
-fn judge_input<R: Read>(alloc: Global, blocks: u32, input: &mut R) -> Result<Verdict, JudgeFault>
+pub(crate) fn judge_input<R: Read>(
+    alloc: Global,
+    blocks: u32,
+    input: &mut R,
+) -> Result<Verdict, JudgeFault>
     requires some { 1 ≤ blocks }
     requires most { blocks ≤ MOST_BLOCKS }
     ensures judged { IfOk result (λ verdict.

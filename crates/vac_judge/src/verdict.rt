@@ -43,7 +43,7 @@ pub enum Verdict {
 }
 
 /// Appends a text and a number in decimal.
-fn append_counted(out: &mut Vec<u8>, text: &[u8], number: u64) -> Result<(), AllocError>
+pub(crate) fn append_counted(out: &mut Vec<u8>, text: &[u8], number: u64) -> Result<(), AllocError>
     ensures { OnOk result (out.new.items ≡ out.old.items ++ field_text text.now number) }
 {
     out.extend_from_slice(text)?;

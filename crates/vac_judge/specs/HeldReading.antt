@@ -1,0 +1,39 @@
+-- What judging a history that is held against work writes, as a function of all bytes of both.
+use Rattle.std.specs.Prelude.{◌≡◌, ℕ, Bool, Option, List, []}
+use Rattle.std.specs.Io.KnownBytes.{Appends, Consumes, IsAtEnd}
+use Rattle.vac_lines.specs.Writing.{AppendsPrefix}
+use Rattle.vac_judge.specs.declared.fault.JudgeFault.{JudgeFault}
+use Rattle.vac_judge.specs.declared.fault.JudgeFault.TheVariants as fault
+use Rattle.vac_judge.specs.Work.{held_verdict, held_text, is_whole}
+
+-- an input was read to its end, and these are its bytes
+pub record IsReadWhole (unread left : Option (List ℕ)) (bytes : List ℕ) : Type 0 where
+  pub consumed : Consumes unread left bytes
+  pub at_end : IsAtEnd left
+
+-- the work and the history were read, the verdict on both was written and nothing else, and this
+-- says whether the history is legal, and of all the work
+pub record HasHeld (n : ℕ) (legal : Bool) (tasks tasks_left unread left held holds
+    : Option (List ℕ)) : Type 0 where
+  pub work : List ℕ
+  pub bytes : List ℕ
+  pub work_read : IsReadWhole tasks tasks_left work
+  pub history_read : IsReadWhole unread left bytes
+  pub answered : legal ≡ is_whole (held_verdict n work bytes)
+  pub written : Appends held holds (held_text (held_verdict n work bytes))
+
+-- both were read, and the verdict was written in part
+pub record HasHeldInPart (n : ℕ) (tasks tasks_left unread left held holds : Option (List ℕ))
+    : Type 0 where
+  pub work : List ℕ
+  pub bytes : List ℕ
+  pub work_read : IsReadWhole tasks tasks_left work
+  pub history_read : IsReadWhole unread left bytes
+  pub written : AppendsPrefix held holds (held_text (held_verdict n work bytes))
+
+-- a fault ended it: one of the output while the verdict was written, any other before
+abbrev pub HasHeldStopped : ℕ → JudgeFault → Option (List ℕ) → Option (List ℕ) → Option (List ℕ)
+    → Option (List ℕ) → Option (List ℕ) → Option (List ℕ) → Type 0
+HasHeldStopped n fault.Write tasks tasks_left unread left held holds =
+    HasHeldInPart n tasks tasks_left unread left held holds
+HasHeldStopped n fault tasks tasks_left unread left held holds = Appends held holds []

@@ -1,0 +1,152 @@
+//! Judging a history that is held against the work that was handed out.
+
+ghost use Rattle.std.specs.Prelude.{◌≡◌, ◌≢◌, ◌≤◌, ◌++◌, IfOk, OnOk, IfErr};
+ghost use Rattle.vac_lines.specs.Text.{field_text};
+ghost use Rattle.vac_lines.specs.Script.{as_line};
+ghost use Rattle.vac_judge.specs.Work.{comes_first, held_verdict, held_text, is_whole};
+ghost use Rattle.vac_judge.specs.HeldReading.{IsReadWhole, HasHeld, HasHeldStopped};
+
+use crate::fault::JudgeFault;
+use crate::holding::{first_missing, hold_calls};
+use crate::reading::judge_input;
+use crate::verdict::{Verdict, append_counted, print_verdict};
+use crate::work::read_work;
+use std::alloc::{AllocError, Global};
+use std::io::{ErrorKind, Read, Write};
+use vac_lines::write_and_flush;
+use vac_model::limits::MOST_BLOCKS;
+
+/// What is said of a history that is held against work. Lines are numbered from 1.
+#[derive(Clone, Copy, Debug, PartialEq, Eq)]
+pub enum HeldVerdict {
+    /// The order decides: where it is legal, so is the history, and it is of all the work.
+    Judged(Verdict),
+    /// This line of the work hands out no task.
+    BadTasks { line: u64 },
+    /// This line's task is not the next that its client was handed.
+    Foreign { line: u64 },
+    /// The task with this number among those of a client, counted from 1, was not asked for.
+    Missing { client: u32, number: u64 },
+}
+
+/// Whether a line comes before the one that a verdict names, or is that line.
+fn comes_first(line: u64, verdict: &Verdict) -> bool
+    ensures { result ≡ comes_first line verdict.now }
+{
+    match verdict {
+        Verdict::Legal(_) => true,
+        Verdict::Fault { line: named, .. } => line <= *named,
+        Verdict::Illegal { line: named, .. } => line <= *named,
+    }
+}
+
+/// The verdict on a history, held against the text of the work.
+fn hold(alloc: Global, blocks: u32, tasks: &[u8], history: &[u8]) -> Result<HeldVerdict, JudgeFault>
+    requires some { 1 ≤ blocks }
+    requires most { blocks ≤ MOST_BLOCKS }
+    ensures held { IfOk result (λ verdict. verdict ≡ held_verdict blocks tasks.now history.now) }
+    ensures fault { IfErr result (λ fault. fault ≢ JudgeFault.Write) }
+{
+    let work = match read_work(alloc, tasks)? {
+        Ok(work) => work,
+        Err(line) => return Ok(HeldVerdict::BadTasks { line }),
+    };
+    let mut input = history;
+    let verdict = judge_input(alloc, blocks, &mut input)?;
+    let (held, foreign) = hold_calls(alloc, &work, history)?;
+    if let Some(line) = foreign {
+        if comes_first(line, &verdict) {
+            return Ok(HeldVerdict::Foreign { line });
+        }
+        return Ok(HeldVerdict::Judged(verdict));
+    }
+    if let Verdict::Legal(_) = verdict {
+        if let Some((client, number)) = first_missing(alloc, &work, &held)? {
+            return Ok(HeldVerdict::Missing { client, number });
+        }
+    }
+    Ok(HeldVerdict::Judged(verdict))
+}
+
+/// Appends a line of a text and a number.
+fn append_line(out: &mut Vec<u8>, text: &[u8], number: u64) -> Result<(), AllocError>
+    ensures { OnOk result (out.new.items ≡ out.old.items ++ as_line (field_text text.now number)) }
+{
+    append_counted(out, text, number)?;
+    out.extend_from_slice(b"\n")
+}
+
+/// Appends that a client's task with this number is missing.
+fn append_missing(out: &mut Vec<u8>, client: u32, number: u64) -> Result<(), AllocError>
+    ensures { OnOk result
+        (out.new.items ≡ out.old.items ++ held_text (HeldVerdict.Missing client number)) }
+{
+    append_counted(out, b"illegal missing ", u64::from(client))?;
+    append_line(out, b" ", number)
+}
+
+/// Appends the text of a verdict.
+pub fn print_held(verdict: &HeldVerdict, out: &mut Vec<u8>) -> Result<(), AllocError>
+    ensures { OnOk result (out.new.items ≡ out.old.items ++ held_text verdict.now) }
+{
+    match verdict {
+        HeldVerdict::Judged(verdict) => print_verdict(verdict, out),
+        HeldVerdict::BadTasks { line } => append_line(out, b"fault bad-tasks ", *line),
+        HeldVerdict::Foreign { line } => append_line(out, b"illegal task ", *line),
+        HeldVerdict::Missing { client, number } => append_missing(out, *client, *number),
+    }
+}
+
+/// Whether a verdict is that a history is legal, and of all the work.
+fn is_whole(verdict: &HeldVerdict) -> bool
+    ensures { result ≡ is_whole verdict.now }
+{
+    matches!(verdict, HeldVerdict::Judged(Verdict::Legal(_)))
+}
+
+/// All that an input has.
+fn read_all<R: Read>(alloc: Global, input: &mut R) -> Result<Vec<u8>, JudgeFault>
+    ensures bytes { IfOk result (λ bytes.
+        IsReadWhole (R.remaining input.old) (R.remaining input.new) bytes.items) }
+    ensures fault { IfErr result (λ fault. fault ≢ JudgeFault.Write) }
+{
+    let mut bytes = Vec::new(alloc);
+    match input.read_to_end(&mut bytes) {
+        Ok(_) => Ok(bytes),
+        Err(error) if error.kind() == ErrorKind::OutOfMemory => Err(JudgeFault::Memory),
+        Err(_) => Err(JudgeFault::Read),
+    }
+}
+
+/// Judges a history of a system of so many blocks, and holds it against the work that was handed
+/// out, lines `CLIENT LINE`: reads both to their ends, and writes the verdict. Answers whether the
+/// history is legal, and of all the work.
+///
+/// After a fault of the output a prefix of the verdict's text was written, after any other nothing.
+/// Both texts are in memory whole.
+pub fn judge_work<V: Read, R: Read, W: Write>(
+    alloc: Global,
+    blocks: u32,
+    tasks: &mut V,
+    input: &mut R,
+    output: &mut W,
+) -> Result<bool, JudgeFault>
+    requires some { 1 ≤ blocks }
+    requires most { blocks ≤ MOST_BLOCKS }
+    ensures ok { IfOk result (λ legal. HasHeld blocks legal
+        (V.remaining tasks.old) (V.remaining tasks.new)
+        (R.remaining input.old) (R.remaining input.new)
+        (W.contents output.old) (W.contents output.new)) }
+    ensures err { IfErr result (λ fault. HasHeldStopped blocks fault
+        (V.remaining tasks.old) (V.remaining tasks.new)
+        (R.remaining input.old) (R.remaining input.new)
+        (W.contents output.old) (W.contents output.new)) }
+{
+    let work = read_all(alloc, tasks)?;
+    let history = read_all(alloc, input)?;
+    let verdict = hold(alloc, blocks, work.as_slice(), history.as_slice())?;
+    let mut text = Vec::new(alloc);
+    print_held(&verdict, &mut text)?;
+    write_and_flush(output, text.as_slice())?;
+    Ok(is_whole(&verdict))
+}

@@ -1,0 +1,174 @@
+//! Holding the calls of a history against the work.
+
+ghost use Rattle.std.specs.Prelude.{◌≡◌, ◌≢◌, ◌∷◌, ◌+◌, ◌||◌, is_none, true, [], IfOk, OnOk, IfErr, None, List, map};
+ghost use Rattle.std.specs.Str.{bytes_eq};
+ghost use Rattle.vac_lines.specs.Lines.{lines_of};
+ghost use Rattle.vac_lines.specs.TaskText.{task_text};
+ghost use Rattle.vac_judge.specs.Call.{Call, line_call};
+ghost use Rattle.vac_judge.specs.Parts.{shown_call};
+ghost use Rattle.vac_judge.specs.Work.{Asked, is_next, first_foreign, first_missing, calls_in};
+ghost use Rattle.vac_judge.specs.Holding.{IsWork, Counts, IsProgress};
+
+use crate::by_client::ByClient;
+use crate::call::{CallLine, read_call};
+use crate::fault::{CallFault, JudgeFault};
+use crate::work::{Work, next_line};
+use std::alloc::{AllocError, Global};
+use vac_lines::{LineFault, print_task};
+use vac_model::Task;
+
+/// How far a client is.
+#[derive(Clone, Copy, Drop)]
+pub(crate) struct Progress {
+    /// How many calls it made.
+    made: usize,
+    /// Whether one of them was never answered.
+    stopped: bool,
+}
+
+/// The calls of each client, counted.
+#[derive(Drop)]
+pub(crate) struct Holding {
+    clients: ByClient<Progress>,
+    /// How many calls there are.
+    count: u64,
+}
+
+/// Whether two tasks have one plain form.
+fn have_one_form(alloc: Global, wanted: &Task, given: &Task) -> Result<bool, AllocError>
+    ensures { IfOk result (λ same. same ≡ bytes_eq (task_text wanted.now) (task_text given.now)) }
+{
+    let mut wanted_text = Vec::new(alloc);
+    print_task(wanted, &mut wanted_text)?;
+    let mut given_text = Vec::new(alloc);
+    print_task(given, &mut given_text)?;
+    Ok(wanted_text.as_slice() == given_text.as_slice())
+}
+
+/// How far a client is after a call more.
+fn progress_after(progress: Progress, call: &CallLine<'_>) -> Result<Progress, JudgeFault>
+    ensures made { IfOk result (λ next. next.made ≡ progress.made + 1) }
+    ensures stopped { IfOk result (λ next.
+        next.stopped ≡ (is_none (shown_call call.now).reply || progress.stopped)) }
+    ensures fault { IfErr result (λ fault. fault ≢ JudgeFault.Write) }
+{
+    let made = progress.made.checked_add(1).ok_or(JudgeFault::Bound)?;
+    let stopped = call.answer.is_none() || progress.stopped;
+    Ok(Progress { made, stopped })
+}
+
+impl Holding {
+    /// No calls.
+    fn new(alloc: Global) -> Holding
+        ensures { Counts result [] }
+    {
+        Holding {
+            clients: ByClient::new(alloc),
+            count: 0,
+        }
+    }
+
+    /// How far a client is.
+    fn progress(&self, client: u32) -> Progress
+        ensures { (calls : List Call) → Counts self.now calls → IsProgress result client calls }
+    {
+        match self.clients.get(client) {
+            Some(progress) => *progress,
+            None => Progress {
+                made: 0,
+                stopped: false,
+            },
+        }
+    }
+
+    /// Counts a call more.
+    fn count(&mut self, call: &CallLine<'_>, progress: Progress) -> Result<(), JudgeFault>
+        ensures counts { OnOk result ((calls : List Call) → Counts self.old calls →
+            IsProgress progress call.now.client calls →
+            Counts self.new (shown_call call.now ∷ calls)) }
+        ensures fault { IfErr result (λ fault. fault ≢ JudgeFault.Write) }
+    {
+        let next = progress_after(progress, call)?;
+        let count = self.count.checked_add(1).ok_or(JudgeFault::Bound)?;
+        self.clients.insert(call.client, next)?;
+        self.count = count;
+        Ok(())
+    }
+
+    /// Whether a call asks for the task that comes next for its client. Where it does, it counts.
+    fn take(&mut self, alloc: Global, work: &Work, call: &CallLine<'_>) -> Result<bool, JudgeFault>
+        ensures next { IfOk result (λ next. (asked : List Asked) (calls : List Call) →
+            IsWork work.now asked → Counts self.old calls →
+            next ≡ is_next asked calls (shown_call call.now)) }
+        ensures counts { IfOk result (λ next. next ≡ true → (calls : List Call) →
+            Counts self.old calls → Counts self.new (shown_call call.now ∷ calls)) }
+        ensures fault { IfErr result (λ fault. fault ≢ JudgeFault.Write) }
+    {
+        let progress = self.progress(call.client);
+        let Some(wanted) = work.get(call.client, progress.made) else {
+            return Ok(false);
+        };
+        if !have_one_form(alloc, wanted, &call.task)? {
+            return Ok(false);
+        }
+        self.count(call, progress)?;
+        Ok(true)
+    }
+}
+
+/// The calls of a history, counted, and the first line whose call is not its client's next task.
+/// Where there is one, the calls behind it do not count.
+pub(crate) fn hold_calls(
+    alloc: Global,
+    work: &Work,
+    text: &[u8],
+) -> Result<(Holding, Option<u64>), JudgeFault>
+    ensures line { IfOk result (λ found. (asked : List Asked) → IsWork work.now asked →
+        found.1 ≡ first_foreign asked [] (map line_call (lines_of text.now))) }
+    ensures counts { IfOk result (λ found. found.1 ≡ None →
+        Counts found.0 (calls_in [] (map line_call (lines_of text.now)))) }
+    ensures fault { IfErr result (λ fault. fault ≢ JudgeFault.Write) }
+{
+    let mut held = Holding::new(alloc);
+    let mut rest = text;
+    while let Some((line, behind)) = next_line(rest) {
+        let number = held.count.checked_add(1).ok_or(JudgeFault::Bound)?;
+        let call = match read_call(alloc, line) {
+            Ok(call) => call,
+            Err(CallFault::Line(LineFault::Memory)) => return Err(JudgeFault::Memory),
+            Err(_) => return Ok((held, None)),
+        };
+        if !held.take(alloc, work, &call)? {
+            return Ok((held, Some(number)));
+        }
+        rest = behind;
+    }
+    Ok((held, None))
+}
+
+/// The first task of the work that no call asks for: its client, and its number among that
+/// client's.
+pub(crate) fn first_missing(
+    alloc: Global,
+    work: &Work,
+    held: &Holding,
+) -> Result<Option<(u32, u64)>, JudgeFault>
+    ensures missing { IfOk result (λ found. (asked : List Asked) (calls : List Call) →
+        IsWork work.now asked → Counts held.now calls → found ≡ first_missing calls [] asked) }
+    ensures fault { IfErr result (λ fault. fault ≢ JudgeFault.Write) }
+{
+    let mut seen: ByClient<usize> = ByClient::new(alloc);
+    let mut rest = work.clients();
+    while let Some((client, behind)) = rest.split_first() {
+        let client = *client;
+        let before = seen.get(client).copied().unwrap_or(0);
+        let number = before.checked_add(1).ok_or(JudgeFault::Bound)?;
+        let progress = held.progress(client);
+        if progress.made <= before && !progress.stopped {
+            return Ok(Some((client, number as u64)));
+        }
+        seen.insert(client, number)?;
+        rest = behind;
+    }
+    Ok(None)
+}
