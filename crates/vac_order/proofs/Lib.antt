@@ -10,3 +10,4 @@ pub mod Sorted
 pub mod Marking
 pub mod Judged
 pub mod Points
+pub mod StuckCalls

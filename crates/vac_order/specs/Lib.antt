@@ -6,4 +6,5 @@ pub mod Walking
 pub mod Marks
 pub mod Calls
 pub mod Point
+pub mod Stuck
 pub mod Judging

@@ -10,6 +10,7 @@ mod marks;
 mod order;
 mod path;
 mod point;
+mod stuck;
 mod walk;
 mod world;
 
@@ -18,5 +19,6 @@ pub use line::Line;
 pub use machine::Machine;
 pub use order::judge_order;
 pub use point::Point;
+pub use stuck::{Stuck, stuck_calls};
 pub use walk::{Finding, find_order};
 pub use world::World;

@@ -23,10 +23,10 @@ use vac_model::Reply;
 #[derive(Drop)]
 pub struct Point<M> {
     /// All before this place.
-    low: usize,
+    pub(crate) low: usize,
     /// And these, which ascend.
-    beyond: Vec<usize>,
-    machine: M,
+    pub(crate) beyond: Vec<usize>,
+    pub(crate) machine: M,
 }
 
 impl<M: Drop> Point<M> {
@@ -81,16 +81,18 @@ fn is_finished(low: usize, beyond: &[usize], lines: &[Line]) -> bool
 
 /// Where to look for the next call: from a place on, but not before the first that is left.
 fn start_of(from: usize, first: usize) -> usize
-    ensures { (result ≡ from) ⊎ ((result ≡ first) × (from ≤ first)) }
+    ensures either { (result ≡ from) ⊎ ((result ≡ first) × (from ≤ first)) }
+    ensures later { from ≤ result }
 {
     if from < first { first } else { from }
 }
 
 /// The first call from a place on that may come next.
-fn next_call(low: usize, beyond: &[usize], lines: &[Line], from: usize) -> Option<usize>
+pub(crate) fn next_call(low: usize, beyond: &[usize], lines: &[Line], from: usize) -> Option<usize>
     requires { are_sorted lines.now ≡ true }
     ensures next { TellsTry (is_made low beyond.now) (calls_of lines.now) from result }
     ensures small { IfSome result (λ place. place < usize.MAX) }
+    ensures after { IfSome result (λ place. from ≤ place) }
 {
     let first = first_left(low, beyond, lines.len());
     if first == lines.len() {

@@ -17,7 +17,7 @@ returns-then-first-lines-clause-next c =
 
 pub lines-init : goal.lines-init
 lines-init c =
-    tries_start (is_made c.args.low c.args.beyond.now) (calls_of c.args.lines.now) c.args.from c.first_left-first.result c.start_of-place.result c.first_left-first.ensures.below c.start_of-place.ensures
+    tries_start (is_made c.args.low c.args.beyond.now) (calls_of c.args.lines.now) c.args.from c.first_left-first.result c.start_of-place.result c.first_left-first.ensures.below c.start_of-place.ensures.either
 
 pub returns-then-end-from-clause-next : goal.returns-then-end-from-clause-next
 returns-then-end-from-clause-next c =

@@ -1,0 +1,27 @@
+-- The calls that are stuck where a search stands.
+use Rattle.std.specs.Prelude.{◌≡◌, ℕ, Bool, List, map, filter, get_or}
+use Rattle.vac_model.specs.State.{State}
+use Rattle.vac_model.specs.Run.{run}
+use Rattle.vac_model.specs.declared.replies.Reply.{Reply}
+use Rattle.vac_judge.specs.Call.{Call}
+use Rattle.vac_order.specs.declared.stuck.Stuck.{Stuck}
+use Rattle.vac_order.specs.Orders.{is_answered}
+use Rattle.vac_order.specs.Calls.{no_call, tries_from}
+
+-- the call at the place, and the reply that was expected
+abbrev pub told : List Call → Stuck → Call × Reply
+told calls stuck = (get_or calls stuck.place no_call, stuck.expected)
+
+-- a call, and what the manager would answer
+abbrev pub with_reply : State → Call → Call × Reply
+with_reply s call = (call, (run s call.task).1)
+
+-- the answered calls that may come next, from a place on, each with what the manager would answer
+abbrev pub expected_from : State → (ℕ → Bool) → List Call → ℕ → List (Call × Reply)
+expected_from s made calls from =
+    map (with_reply s) (filter is_answered (tries_from made calls from))
+
+-- these are the answered calls that may come next, in the order in which they ended, each with what
+-- the manager would answer
+abbrev pub AreStuck : State → (ℕ → Bool) → List Call → List Stuck → Type 0
+AreStuck s made calls found = map (told calls) found ≡ expected_from s made calls 0
