@@ -1,0 +1,244 @@
+#!/usr/bin/env python3
+"""Packs a program that is built already, with its pages, its manual and the harnesses, as a tarball and as a
+package for Debian, with their sums. Its arguments are the program and the folder that gets them. The same
+commit and the same program give the same bytes: owners, modes, times and orders are fixed."""
+
+import gzip
+import hashlib
+import io
+import os
+import re
+import subprocess
+import sys
+import tarfile
+import tempfile
+import time
+from pathlib import Path
+from shutil import which
+
+import manual
+
+ROOT = Path(__file__).resolve().parent.parent
+PAGES = ("JUDGE.md", "USING.md", "RULES.md")
+LICENSES = ("LICENSE-MIT", "LICENSE-APACHE")
+PEER = "mutex.cpp"
+# Debian has a package named vacation already, which answers letters.
+DEBIAN_NAME = "pighvelo"
+PROGRAM_MODE, TEXT_MODE = 0o755, 0o644
+
+
+def said(*words):
+    """What a command writes to standard output."""
+    return subprocess.run(words, cwd=ROOT, stdin=subprocess.DEVNULL, stdout=subprocess.PIPE, text=True,
+                          check=True).stdout
+
+
+def page(name):
+    return (ROOT / name).read_text(encoding="utf-8")
+
+
+class Release:
+    """What is packed: the program, what it says of itself, and the commit."""
+
+    def __init__(self, program):
+        self.program = Path(program).resolve()
+        self.bytes = self.program.read_bytes()
+        first, *kit = said(self.program, "--version").splitlines()
+        self.title, self.version, self.kit = first, first.split()[-1], " ".join(kit)
+        git = ("git", "-c", f"safe.directory={ROOT}")
+        self.commit, seconds = said(*git, "log", "-1", "--format=%H %ct").split()
+        self.seconds = int(seconds)
+        self.is_changed = said(*git, "status", "--porcelain") != ""
+        self.whole = manual.read_help(said(self.program, "--help"))
+        self.commands = {name: manual.read_help(said(self.program, name, "--help"))
+                         for name, _ in self.whole.commands if name != "help"}
+
+    def library(self):
+        """The version of the C library that the program asks for."""
+        asked = re.findall(rb"\0GLIBC_(\d+)\.(\d+)", self.bytes)
+        return "{}.{}".format(*max((int(major), int(minor)) for major, minor in asked))
+
+
+def proved(release):
+    """What the program was made of, what is promised of it, and on what that rests."""
+    changed = ", with changes that are not committed" if release.is_changed else ""
+    text = "\n".join([release.title, f"commit {release.commit}{changed}", release.kit,
+                      f"sha256 {hashlib.sha256(release.bytes).hexdigest()}", ""])
+    text += "\n" + manual.wrapped(
+        "The program tells its version, and that of the prover and its logic, itself (`vacation --version`). That"
+        " it was built in the tree of this commit is the word of whoever packed it. Promises and assumptions are"
+        " those of the first page (`README.md`) of that tree; pages named here that are not beside this file"
+        " stand there.") + "\n"
+    for heading in ("## What is promised", "## What is trusted"):
+        title = heading.removeprefix("## ")
+        text += f"\n\n{title}\n{'=' * len(title)}\n"
+        before = None
+        for kind, block in manual.blocks(manual.section(page("README.md"), heading)):
+            text += "\n" if kind != "item" or before != "item" else ""
+            before = kind
+            if kind == "item":
+                text += manual.wrapped(block, "- ") + "\n"
+            elif kind == "text":
+                text += manual.wrapped(block) + "\n"
+            elif kind == "table":
+                _, *rows = block
+                text += "".join(manual.wrapped(f"{what}. Why: {why}. If it fails: {otherwise}.", "- ") + "\n"
+                                for what, why, otherwise in rows)
+    return text
+
+
+def peer_files():
+    """The peer that is an example, and the headers that it and they include."""
+    found, left = [], [PEER]
+    while left:
+        name = left.pop()
+        if name not in found:
+            found.append(name)
+            left += re.findall(r'^#include "(.+)"$', page(f"benchmark/peers/{name}"), flags=re.M)
+    return [f"benchmark/peers/{name}" for name in sorted(found)]
+
+
+def harness_files():
+    """The files of both harnesses, each with whether it is a program."""
+    databases = sorted(file.relative_to(ROOT) for file in (ROOT / "benchmark/databases").glob("*.py"))
+    return {str(name): os.access(ROOT / name, os.X_OK) for name in [*peer_files(), *databases]}
+
+
+def texts(release):
+    """What goes beside the program, by its place in the tarball: bytes and mode."""
+    day = time.strftime("%Y-%m-%d", time.gmtime(release.seconds))
+    using, rules = page("docs/USING.md"), page("docs/RULES.md")
+    share = {
+        "man/man1/vacation.1": manual.program_page(
+            release.whole, release.commands, using, release.title, day),
+        "man/man5/vacation-history.5": manual.history_page(rules, using, release.title, day),
+        "bash-completion/completions/vacation": manual.completions(release.whole, release.commands),
+    }
+    made = {f"share/{name}": text.encode() for name, text in share.items()}
+    made["PROVED"] = proved(release).encode()
+    files = {name: (data, TEXT_MODE) for name, data in made.items()}
+    for name in [*LICENSES, *[f"docs/{name}" for name in PAGES]]:
+        files[name] = ((ROOT / name).read_bytes(), TEXT_MODE)
+    for name, is_program in harness_files().items():
+        files[name] = ((ROOT / name).read_bytes(), PROGRAM_MODE if is_program else TEXT_MODE)
+    return files
+
+
+def folders_of(names):
+    """All folders above the files, each above those in it."""
+    return sorted({str(folder) for name in names for folder in Path(name).parents if str(folder) != "."})
+
+
+def zipped(data, seconds):
+    """Compressed, without the name of a file."""
+    out = io.BytesIO()
+    with gzip.GzipFile(filename="", mode="wb", compresslevel=9, fileobj=out, mtime=seconds) as file:
+        file.write(data)
+    return out.getvalue()
+
+
+def tarball(files, seconds):
+    """A tarball of files by name, with their bytes and modes."""
+    out = io.BytesIO()
+    with tarfile.open(fileobj=out, mode="w", format=tarfile.USTAR_FORMAT) as tar:
+        for name in sorted([*files, *folders_of(files)]):
+            entry = tarfile.TarInfo(name)
+            entry.uname = entry.gname = "root"
+            entry.mtime = seconds
+            if name in files:
+                data, entry.mode = files[name]
+                entry.size = len(data)
+                tar.addfile(entry, io.BytesIO(data))
+            else:
+                entry.type, entry.mode = tarfile.DIRTYPE, PROGRAM_MODE
+                tar.addfile(entry)
+    return zipped(out.getvalue(), seconds)
+
+
+COPYRIGHT = """Format: https://www.debian.org/doc/packaging-manuals/copyright-format/1.0/
+
+Files: *
+Copyright: {holder}
+License: MIT or Apache-2.0
+ As the user likes: LICENSE-MIT and LICENSE-APACHE stand beside this file.
+"""
+
+CONTROL = """Package: {name}
+Version: {version}
+Architecture: amd64
+Maintainer: the Pighvelo authors <pighvelo@localhost>
+Installed-Size: {size}
+Depends: libc6 (>= {library})
+Conflicts: vacation
+Section: devel
+Priority: optional
+Description: {about}, and a proved judge of histories
+ A program that is proved from the atomic step up to the bytes of a reply. Its
+ subcommand judge says whether the calls that another runtime or database has
+ logged are right: whether their order is a linearization of them.
+"""
+
+
+def debian_files(release, files):
+    """Where Debian has each file of the tarball."""
+    documents = f"usr/share/doc/{DEBIAN_NAME}"
+    holder = re.search(r"^Copyright \(c\) (.+)$", page("LICENSE-MIT"), flags=re.M).group(1)
+    found = {"usr/bin/vacation": (release.bytes, PROGRAM_MODE),
+             f"{documents}/copyright": (COPYRIGHT.format(holder=holder).encode(), TEXT_MODE)}
+    for name, (data, mode) in files.items():
+        if name.startswith("share/man/"):
+            found[f"usr/{name}.gz"] = (zipped(data, release.seconds), mode)
+        else:
+            found[f"usr/{name}" if name.startswith("share/") else f"{documents}/{name}"] = (data, mode)
+    return found
+
+
+def debian(release, files, place):
+    """Has Debian's own program make the package."""
+    size = sum(-(-len(data) // 1024) for data, _ in files.values())
+    sums = "".join(f"{hashlib.md5(data).hexdigest()}  {name}\n" for name, (data, _) in sorted(files.items()))
+    control = CONTROL.format(name=DEBIAN_NAME, version=release.version, size=size, library=release.library(),
+                             about=release.whole.about)
+    files = {**files, "DEBIAN/control": (control.encode(), TEXT_MODE), "DEBIAN/md5sums": (sums.encode(), TEXT_MODE)}
+    with tempfile.TemporaryDirectory() as temporary:
+        tree = Path(temporary) / "tree"
+        for name, (data, mode) in files.items():
+            (tree / name).parent.mkdir(parents=True, exist_ok=True)
+            (tree / name).write_bytes(data)
+            (tree / name).chmod(mode)
+        for name in [*files, *reversed(folders_of(files)), "."]:
+            if (tree / name).is_dir():
+                (tree / name).chmod(PROGRAM_MODE)
+            os.utime(tree / name, (release.seconds, release.seconds))
+        subprocess.run(["dpkg-deb", "--root-owner-group", "-Zgzip", "--build", tree, place],
+                       stdout=subprocess.DEVNULL, check=True,
+                       env={**os.environ, "SOURCE_DATE_EPOCH": str(release.seconds)})
+
+
+def main():
+    program, folder = sys.argv[1], Path(sys.argv[2])
+    release = Release(program)
+    files = texts(release)
+    name = f"vacation-{release.version}-x86_64-linux"
+    folder.mkdir(parents=True, exist_ok=True)
+    made = {f"{name}.tar.gz": tarball(
+        {f"{name}/{file}": entry
+         for file, entry in {**files, "vacation": (release.bytes, PROGRAM_MODE)}.items()}, release.seconds)}
+    package = f"vacation_{release.version}_amd64.deb"
+    (folder / package).unlink(missing_ok=True)
+    if which("dpkg-deb"):
+        debian(release, debian_files(release, files), folder / package)
+        made[package] = (folder / package).read_bytes()
+    else:
+        print("package: dpkg-deb is missing: there is no package for Debian", file=sys.stderr)
+    (folder / f"{name}.tar.gz").write_bytes(made[f"{name}.tar.gz"])
+    sums = "".join(f"{hashlib.sha256(data).hexdigest()}  {file}\n" for file, data in sorted(made.items()))
+    (folder / "SHA256SUMS").write_text(sums, encoding="ascii")
+    print(sums, end="")
+
+
+if __name__ == "__main__":
+    try:
+        main()
+    except (OSError, ValueError, StopIteration, AttributeError, subprocess.CalledProcessError) as fault:
+        sys.exit(f"package: {fault}")
