@@ -73,9 +73,12 @@ def blocks(text):
             yield "text", line
 
 
-def first(kind, text):
-    """The first block of a kind."""
-    return next(block for found, block in blocks(text) if found == kind)
+def first(kind, text, having=""):
+    """The first block of a kind that has a text."""
+    for found, block in blocks(text):
+        if found == kind and having in str(block):
+            return block
+    raise ValueError(f"no {kind} with '{having}' where one was looked for")
 
 
 # Plain text.
@@ -185,7 +188,7 @@ def program_page(whole, commands, using, version, day):
     lines = [head("VACATION", 1, version, day, "User Commands"),
              ".SH NAME", f"vacation \\- {marked(about)}", ".SH SYNOPSIS"]
     usages = [usage_of(command.usage) for command in commands.values()]
-    lines += ["\n.br\n".join(usages), ".SH DESCRIPTION", marked(using.split("\n")[2].split(". ")[0] + ".")]
+    lines += ["\n.br\n".join(usages), ".SH DESCRIPTION", marked(first("text", using).split(". ")[0] + ".")]
     lines += [".SH COMMANDS"]
     for name, text in whole.commands:
         lines += [f".SS {literal(name)}", marked(text) + "."]
@@ -203,7 +206,7 @@ def program_page(whole, commands, using, version, day):
 def history_page(rules, using, version, day):
     """The manual page on the format of histories, from the pages on the rules and on the lines."""
     run = section(using, "## `run`: commands and their replies")
-    words = next(block for kind, block in blocks(run) if kind == "text" and "KIND is" in block)
+    words = first("text", run, "KIND is")
     lines = [head("VACATION-HISTORY", 5, version, day, "File Formats"),
              ".SH NAME", "vacation-history \\- calls with their replies, as vacation judge reads them",
              ".SH DESCRIPTION", roff(section(rules, "### Histories")),

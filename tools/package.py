@@ -240,5 +240,5 @@ def main():
 if __name__ == "__main__":
     try:
         main()
-    except (OSError, ValueError, StopIteration, AttributeError, subprocess.CalledProcessError) as fault:
+    except (OSError, ValueError, AttributeError, subprocess.CalledProcessError) as fault:
         sys.exit(f"package: {fault}")
