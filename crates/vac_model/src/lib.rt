@@ -3,7 +3,7 @@
 //!
 //! The types of commands, tasks and replies stand here with the definitions of what they mean
 //! (`specs/`), below all other crates. [`Sequential`] is the plain program that computes them: one
-//! call at a time, over ordered maps.
+//! call at a time, over maps whose versions share their entries.
 #![tactic(auto)]
 
 mod commands;

@@ -1,4 +1,4 @@
-//! The plain manager: one task at a time, over ordered maps.
+//! The plain manager: one task at a time, over maps whose versions share their entries.
 
 ghost use Rattle.std.specs.Prelude.{◌≡◌, ◌≤◌, ◌<◌, ◌↔◌, false, true, IfOk, OnOk, OnErr};
 
@@ -79,8 +79,8 @@ impl Sequential {
         self.tables.is_same(&other.tables)
     }
 
-    /// A number for finding states that may be the same, at no cost.
-    /// Not said: anything. Two that are found the same have the same number, by tests alone.
+    /// A number that is kept, for finding states that may be the same.
+    /// Not said: anything of it.
     pub fn hash(&self) -> u64 {
         self.tables.hash()
     }
