@@ -1,6 +1,10 @@
 -- Accounts, and what the bank's transactions do to them.
-use Rattle.std.specs.Prelude.{◌≡◌, ℕ, ◌+◌, ◌-◌, ◌<◌, ◌≤◌, true, false, cond, List, [], ◌∷◌, length, slice_index, slice_set, sum}
+use Rattle.std.specs.Prelude.{◌≡◌, ℕ, ◌+◌, ◌-◌, ◌<◌, ◌≤◌, ◌^◌, true, false, cond, List, [], ◌∷◌, length, slice_index, slice_set, sum}
+use Rattle.stm_core.specs.Client.{Client}
+use Rattle.stm_region.specs.Shown.{RegionShown}
+use Rattle.stm_object.specs.History.{Closes as ClosesObject}
 use Rattle.bank.specs.declared.entry.Entry.{Entry}
+use Rattle.bank.specs.declared.law.TheConstants.{ACCOUNTS}
 use Rattle.bank.specs.declared.entry.Entry.TheVariants.{Transfer, Sum}
 
 -- the balances after an amount was taken from one account and then put to another
@@ -22,7 +26,22 @@ Finds (Transfer from to amount true) xs =
 Finds (Transfer from to amount false) xs = slice_index xs from < amount
 Finds (Sum total) xs = total ≡ sum xs
 
+-- an image is all balances, which add up to a number that a word can hold
+pub record IsBank (image : List ℕ) : Type 0 where
+  pub size : length image ≡ ACCOUNTS
+  pub small : sum image < 2 ^ 64
+
+-- no entry changes the sum of all balances
+abbrev pub KeepsSum : Type 0
+KeepsSum = (e : Entry) (xs : List ℕ) → Finds e xs → sum (after e xs) ≡ sum xs
+
 -- an entry as numbers
 abbrev pub code : Entry → List ℕ
 code (Transfer from to amount moved) = 0 ∷ from ∷ to ∷ amount ∷ cond moved 1 0 ∷ []
 code (Sum total) = 1 ∷ total ∷ []
+
+-- the closing teller's records are a history that leads from the opening to the words, which add up
+-- to the same
+pub record Closes (region : RegionShown) (v : Client) (words : List ℕ) (version : ℕ) : Type 0 where
+  pub closes : ClosesObject IsBank code Finds after region v words version
+  pub total : sum words ≡ sum region.first

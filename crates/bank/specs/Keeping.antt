@@ -1,11 +1,9 @@
 -- The law's one proof: no entry changes the number of accounts, or the sum of all balances.
-use Rattle.std.proofs.Common.{◌≡◌, ℕ, ◌+◌, ◌-◌, ◌<◌, ◌≤◌, true, false, List, length, slice_index, slice_set, sum, refl, sym, ◌∙◌, subst, arith, length-set}
+use Rattle.std.proofs.Common.{◌≡◌, ℕ, ◌+◌, ◌-◌, ◌<◌, ◌≤◌, true, false, List, length, slice_index, slice_set, sum, refl, ◌∙◌, arith, length-set}
 use Rattle.std.proofs.lemmas.List.Sums.{sum_by-set}
-use Rattle.stm_words.specs.Image.{Agrees, laid}
 use Rattle.bank.specs.declared.entry.Entry.{Entry}
 use Rattle.bank.specs.declared.entry.Entry.TheVariants.{Transfer, Sum}
-use Rattle.bank.specs.Accounts.{moving, after, Finds}
-use Rattle.bank.specs.Law.{IsBank, IsLawful}
+use Rattle.bank.specs.Accounts.{moving, after, Finds, IsBank}
 
 pub sum_set : (xs : List ℕ) (i y : ℕ) → i < length xs →
     sum (slice_set xs i y) + slice_index xs i ≡ sum xs + y
@@ -22,8 +20,8 @@ sum_moving : (xs : List ℕ) (from to amount : ℕ) → from < length xs → to 
     amount ≤ slice_index xs from → sum (moving xs from to amount) ≡ sum xs
 sum_moving xs from to amount f t enough =
     let taken = slice_set xs from (slice_index xs from - amount) in
-    let long = length-set xs from (slice_index xs from - amount) in
     let s = sum_taken xs from amount f enough in
+    let long = length-set xs from (slice_index xs from - amount) in
     let p = sum_set taken to (slice_index taken to + amount) (omega (arith, long, t)) in
     omega (arith, s, p)
 
@@ -33,10 +31,7 @@ same_sum (Transfer from to amount false) xs h = refl
 same_sum (Sum total) xs h = refl
 
 pub same_length : (e : Entry) (xs : List ℕ) → length (after e xs) ≡ length xs
-same_length (Transfer from to amount true) xs =
-    let taken = slice_set xs from (slice_index xs from - amount) in
-    length-set taken to (slice_index taken to + amount)
-    ∙ length-set xs from (slice_index xs from - amount)
+same_length (Transfer from to amount true) xs = length-set _ _ _ ∙ length-set _ _ _
 same_length (Transfer from to amount false) xs = refl
 same_length (Sum total) xs = refl
 
@@ -45,9 +40,3 @@ bank_after e xs b h = record {
   size = same_length e xs ∙ b.size;
   small = let s = same_sum e xs h in omega (arith, s, b.small);
 }
-
-pub keeps_fitting : (tag image : List ℕ) (reads writes : List (ℕ × ℕ)) → IsBank image →
-    Agrees image reads → IsLawful tag reads writes → IsBank (laid image writes)
-keeps_fitting tag image reads writes b agrees l =
-    let d = l.does image b agrees in
-    subst IsBank (sym d.1) (bank_after l.entry image b d.0)

@@ -1,62 +1,39 @@
 //! The bank and its tellers.
 
-ghost use Rattle.std.specs.Prelude.{◌≡◌, ◌*◌, ◌<◌, ◌≤◌, true, IfOk, IfErr, IsOk, replicate, sum};
-ghost use Rattle.stm_core.specs.Core.{IsFreeHanded};
+ghost use Rattle.std.specs.Prelude.{◌≡◌, ◌*◌, ◌<◌, ◌≤◌, IfOk, IfErr, replicate, sum};
 ghost use Rattle.stm_core.specs.Event.{opener};
 ghost use Rattle.stm_region.specs.Shown.{HasSplit, joined, opened_on};
 ghost use Rattle.stm_region.specs.Refused.{ClosesNot, IsLast, OpensNot};
 ghost use Rattle.stm_region.specs.declared.fault.RegionFault.TheVariants.{Clients};
+ghost use Rattle.stm_object.specs.History.{HasRun, HasAsked, IsAlone};
 ghost use Rattle.bank.specs.declared.entry.Entry.TheVariants.{Transfer, Sum};
 ghost use Rattle.bank.specs.declared.law.TheConstants.{ACCOUNTS};
-ghost use Rattle.bank.specs.History.{Records, WasInOrder, Closes, IsAlone, IsNoConflict};
-ghost use Rattle.bank.specs.History.{AreAttempts, IsStop, IsConflict};
+ghost use Rattle.bank.specs.Accounts.{IsBank, Finds, after, code, Closes};
 
-use crate::attempts::{try_sum, try_transfer};
-use crate::law::{ACCOUNTS, BankLaw};
-use crossbeam_utils::Backoff;
+use crate::bodies::{AddUp, Move};
+use crate::law::{ACCOUNTS, BankObject};
 use std::alloc::Global;
 use std::marker::Model;
-use stm_attempt::{Conflict, Logs, Stop};
-use stm_region::{Client, Region, RegionFault};
+use stm_attempt::{Conflict, Stop};
+use stm_object::{Shared, User};
+use stm_region::RegionFault;
 use stm_words::Version;
 
-/// A bank that was not closed, with its teller and the reason.
-type Kept = (Bank, Teller, RegionFault);
+/// A teller: the right to use the bank, from one thread at a time. Between calls it holds no lock.
+pub type Teller = User<BankObject>;
 
 /// A bank, which many tellers use at once. Contracts see its region.
 #[derive(Drop)]
 pub struct Bank {
-    alloc: Global,
-    region: Region<BankLaw>,
+    shared: Shared<BankObject>,
 }
 
 impl Model for Bank {
     ghost use Rattle.stm_region.specs.Shown.{RegionShown};
-    ghost use Rattle.bank.specs.History.{IsOpened};
 
     ghost Value = { RegionShown };
 
-    ghost view = { λ b. b.region };
-
-    ghost invariant = { λ b. IsOpened b.region };
-}
-
-/// A teller: the right to use the bank, from one thread at a time. Between calls it holds no lock.
-#[derive(Drop)]
-pub struct Teller {
-    client: Client<BankLaw>,
-    logs: Logs,
-}
-
-impl Model for Teller {
-    ghost use Rattle.stm_core.specs.Core.{IsFreeHanded};
-    ghost use Rattle.stm_region.specs.Shown.{ClientShown};
-
-    ghost Value = { ClientShown };
-
-    ghost view = { λ t. t.client };
-
-    ghost invariant = { λ t. IsFreeHanded t.client.value };
+    ghost view = { λ b. b.shared };
 }
 
 impl Bank {
@@ -73,12 +50,8 @@ impl Bank {
         ensures refused { IfErr result (λ fault. OpensNot ACCOUNTS last ACCOUNTS fault) }
     {
         let image = [u64::from(each); ACCOUNTS as usize];
-        let (region, client) = Region::new(alloc, &image, last, ACCOUNTS)?;
-        let teller = Teller {
-            client,
-            logs: Logs::new(alloc),
-        };
-        Ok((Bank { alloc, region }, teller))
+        let (shared, teller) = Shared::new(alloc, &image, last, ACCOUNTS)?;
+        Ok((Bank { shared }, teller))
     }
 
     /// Moves an amount from one account to another as a transaction, by at most so many attempts,
@@ -95,25 +68,11 @@ impl Bank {
         requires range { (from < ACCOUNTS) × (to < ACCOUNTS) }
         requires tries { 1 ≤ tries }
         ensures own { teller.new.table ≡ teller.old.table }
-        ensures grants { teller.new.value.grants ≡ teller.old.value.grants }
-        ensures records { Records (λ moved. Transfer from to amount moved) result
-            teller.old.value teller.new.value }
-        ensures order { IfOk result (λ _. WasInOrder self.now teller.new.value) }
-        ensures alone { IsAlone teller.old.value → IfErr result (λ stop. IsNoConflict stop) }
-        ensures attempts { AreAttempts tries teller.old.value teller.new.value }
-        ensures stopped { IfErr result (λ stop. IsStop self.now (Transfer from to amount true)
-            tries stop teller.old.value teller.new.value) }
+        ensures call { HasRun IsBank code Finds after self.now
+            (λ moved. Transfer from to amount moved) tries result teller.old.value
+            teller.new.value }
     {
-        let backoff = Backoff::new();
-        let mut left = tries;
-        'tries: loop {
-            left -= 1;
-            let client = &mut teller.client;
-            match try_transfer(&self.region, client, &mut teller.logs, from, to, amount) {
-                Err(Stop::Conflict(_)) if left > 0 => backoff.snooze(),
-                answer => return answer,
-            }
-        }
+        self.shared.run(teller, &Move { from, to, amount }, tries)
     }
 
     /// Adds up all balances as a transaction, by at most so many attempts. Whatever the other
@@ -122,25 +81,11 @@ impl Bank {
         requires own { teller.old.table ≡ self.now.table }
         requires tries { 1 ≤ tries }
         ensures own { teller.new.table ≡ teller.old.table }
-        ensures grants { teller.new.value.grants ≡ teller.old.value.grants }
-        ensures records { Records (λ total. Sum total) result
-            teller.old.value teller.new.value }
-        ensures order { IfOk result (λ _. WasInOrder self.now teller.new.value) }
+        ensures call { HasAsked IsBank code Finds after self.now (λ total. Sum total) tries
+            result teller.old.value teller.new.value }
         ensures total { IfOk result (λ total. total ≡ sum self.now.first) }
-        ensures alone { IsAlone teller.old.value → IsOk result }
-        ensures attempts { AreAttempts tries teller.old.value teller.new.value }
-        ensures stopped { IfErr result (λ conflict. IsConflict self.now tries
-            conflict teller.old.value teller.new.value) }
     {
-        let backoff = Backoff::new();
-        let mut left = tries;
-        'tries: loop {
-            left -= 1;
-            match try_sum(&self.region, &mut teller.client) {
-                Err(_) if left > 0 => backoff.snooze(),
-                answer => return answer,
-            }
-        }
+        self.shared.ask(teller, &AddUp, tries)
     }
 
     /// Splits off a new teller, which costs a grant: 63 times in all.
@@ -150,11 +95,7 @@ impl Bank {
         ensures refused { IfErr result (λ fault.
             (fault ≡ Clients) × (teller.old.value.grants ≡ 0) × (teller.new ≡ teller.old)) }
     {
-        let client = self.region.split(&mut teller.client)?;
-        Ok(Teller {
-            client,
-            logs: Logs::new(self.alloc),
-        })
+        self.shared.split(teller)
     }
 
     /// Takes in another teller: its records, its grants and one grant more.
@@ -163,27 +104,23 @@ impl Bank {
         ensures { teller.new
             ≡ record teller.old { value = joined teller.old.value other.value } }
     {
-        let Teller { client, logs: _ } = other;
-        self.region.gather(&mut teller.client, client);
+        self.shared.gather(teller, other)
     }
 
     /// Closes the bank: its balances and its clock, once every other teller was gathered. The
     /// teller's records are then one order of all transactions that were answered. A refusal gives
     /// the bank and the teller back as they were.
-    pub fn close(self, teller: Teller) -> Result<(Vec<u64>, Version), Kept>
+    pub fn close(self, teller: Teller) -> Result<(Vec<u64>, Version), (Bank, Teller, RegionFault)>
         requires { teller.table ≡ self.table }
         ensures closes { IfOk result (λ r. Closes self teller.value r.0.items r.1) }
         ensures alone { IfOk result (λ _. IsAlone teller.value) }
         ensures kept { IfErr result
             (λ r. (r.0 ≡ self) × (r.1 ≡ teller) × ClosesNot teller.value.grants r.2) }
     {
-        let Bank { alloc, region } = self;
-        let Teller { client, logs } = teller;
-        match region.close(alloc, client) {
+        let Bank { shared } = self;
+        match shared.close(teller) {
             Ok(closed) => Ok(closed),
-            Err((region, client, fault)) => {
-                Err((Bank { alloc, region }, Teller { client, logs }, fault))
-            }
+            Err((shared, teller, fault)) => Err((Bank { shared }, teller, fault)),
         }
     }
 }

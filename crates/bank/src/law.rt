@@ -1,22 +1,37 @@
-//! The law of the bank's records.
+//! The bank as an object.
 
-use stm_words::Law;
+ghost use Rattle.std.specs.Prelude.{◌≡◌, List, ℕ, sum};
+ghost use Rattle.bank.specs.Accounts.{KeepsSum};
+
+use crate::entry::Entry;
+use stm_object::Object;
 
 /// How many accounts a bank has. Each is one word, its balance.
 pub const ACCOUNTS: u32 = 64;
 
-/// The law of the bank: an image fits where it has the accounts, and their balances add up to less
-/// than 2^64; a record is lawful where it does what its entry says on every fitting image that
-/// agrees with its reads.
-pub struct BankLaw;
+/// The bank as an object: an image fits where it has the accounts, and their balances add up to
+/// less than 2^64.
+pub struct BankObject;
 
-impl Law for BankLaw {
-    ghost use Rattle.bank.specs.Law.{IsBank, IsLawful};
-    ghost use Rattle.bank.specs.Keeping.{keeps_fitting};
+impl Object for BankObject {
+    ghost use Rattle.bank.specs.Accounts.{IsBank, Finds, after};
+    ghost use Rattle.bank.specs.Keeping.{bank_after};
+    ghost use Rattle.bank.specs.declared.law.TheConstants.{ACCOUNTS};
+
+    type Entry = Entry;
+
+    ghost size = { ACCOUNTS };
 
     ghost fits = { λ image. IsBank image };
 
-    ghost lawful = { λ tag reads writes. IsLawful tag reads writes };
+    ghost finds = { λ e image. Finds e image };
 
-    ghost keeps = { λ tag image reads writes f a l. keeps_fitting tag image reads writes f a l };
+    ghost after = { λ e image. after e image };
+
+    ghost keeps = { λ e image b h. bank_after e image b h };
 }
+
+/// No record changes the sum of all balances, as a contract.
+pub fn keeps_sum()
+    ensures { KeepsSum }
+{}

@@ -2,7 +2,6 @@
 //! tellers move money from one account to another while others add up all of them.
 #![tactic(auto)]
 
-mod attempts;
 mod bank;
 mod bodies;
 mod entry;
@@ -10,4 +9,4 @@ mod law;
 
 pub use bank::{Bank, Teller};
 pub use entry::Entry;
-pub use law::{ACCOUNTS, BankLaw};
+pub use law::{ACCOUNTS, BankObject, keeps_sum};

@@ -1,8 +1,5 @@
-use Rattle.std.proofs.Common.{rules}
-use Rattle.bank.proofs.Stopping.{last_stop}
+use Rattle.std.proofs.Common.{sym}
 use Rattle.bank.proofs.bank.Bank.transfer.Goals as goal
 
-pub returns-in_default-clause-stopped : goal.returns-in_default-clause-stopped
-returns-in_default-clause-stopped c =
-    last_stop c.args.self.now _ _ c.args.tries c.tries.left c.args.teller.now.value c.tries.teller-inside.client.value _ _ _ _ c.self.view_is (search rules) (search rules) (search rules)
-    (λ conflict is. search rules) c.try_transfer.ensures.stopped
+pub returns-clause-call : goal.returns-clause-call
+returns-clause-call c = rw (sym c.self.view_is) c.run.ensures.call

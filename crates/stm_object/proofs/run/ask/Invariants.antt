@@ -1,0 +1,18 @@
+use Rattle.std.proofs.Common.{◌≡◌, ◌≤◌}
+use Rattle.stm_core.specs.Core.{IsFreeHanded}
+use Rattle.stm_object.specs.History.{WasRead}
+use Rattle.stm_object.proofs.Stopping.{Trying}
+use Rattle.stm_object.proofs.run.ask.Given as goal
+
+abbrev pub invariant-tries : goal.invariant-tries
+invariant-tries g l = record {
+  own : l.client.table ≡ l.region.table;
+  free : IsFreeHanded l.client.value;
+  some : 1 ≤ l.left;
+  trying : Trying (λ conflict v. WasRead l.region conflict v) l.tries l.left l.initial.client.value l.client.value;
+  grants : l.client.value.grants ≡ l.initial.client.value.grants;
+  records : l.client.value.records ≡ l.initial.client.value.records;
+}
+
+abbrev pub decreases-tries : goal.decreases-tries
+decreases-tries g l = l.left

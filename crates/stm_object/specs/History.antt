@@ -1,0 +1,175 @@
+-- What is known of the records of all clients, told by an object's entries, and of a call's tries.
+use Rattle.std.specs.Prelude.{◌≡◌, ◌≢◌, ◌⊎◌, ℕ, zero, suc, ◌+◌, List, [], ◌∷◌, Result, Ok, Err, IfOk, IfErr, IsOk}
+use Rattle.stm_words.specs.Image.{In}
+use Rattle.stm_core.specs.Client.{Client, Record, inserted}
+use Rattle.stm_core.specs.History.{Sub, all_records}
+use Rattle.stm_core.specs.Guards.{stripe_of}
+use Rattle.stm_logs.specs.Log.{LogValue, log_pairs}
+use Rattle.stm_region.specs.Shown.{RegionShown}
+use Rattle.stm_region.specs.Closed.{Ends}
+use Rattle.stm_region.specs.declared.limits.TheConstants.{MOST_GRANTS}
+use Rattle.stm_attempt.specs.Begun.{IsPlaced}
+use Rattle.stm_attempt.specs.Conflicts.{IsReadConflict, IsCommitConflict}
+use Rattle.stm_attempt.specs.Committing.{WasDecided}
+use Rattle.stm_attempt.specs.declared.conflict.Conflict.{Conflict as ConflictMet}
+use Rattle.stm_attempt.specs.declared.conflict.Stop.{Stop}
+use Rattle.stm_attempt.specs.declared.conflict.Stop.TheVariants.{Memory, Conflict, Spent}
+use Rattle.stm_object.specs.Object.{IsLawful}
+
+-- one after the other, the records tell these entries, each finds what it says, and the last words
+-- are these
+abbrev pub IsHistory : {E : Type 0} → (E → List ℕ) → (E → List ℕ → Type 0) → (E → List ℕ → List ℕ) →
+    List ℕ → List Record → List E → List ℕ → Type 0
+IsHistory code finds after xs [] [] last = xs ≡ last
+IsHistory code finds after xs [] (e ∷ es) last = ⊥
+IsHistory code finds after xs (r ∷ rs) [] last = ⊥
+IsHistory code finds after xs (r ∷ rs) (e ∷ es) last =
+    (r.tag ≡ code e) × finds e xs × IsHistory code finds after (after e xs) rs es last
+
+-- a region of this size that was opened on a fitting image
+pub record IsOpened (fits : List ℕ → Type 0) (size : ℕ) (region : RegionShown) : Type 0 where
+  pub size_is : region.size ≡ size
+  pub first : fits region.first
+
+-- this is the record of the entry, by the client's last attempt, and exactly it was added
+pub record Adds {E : Type 0} (code : E → List ℕ) (region : RegionShown) (entry : E) (v v' : Client)
+    : Type 0 where
+  pub made : Record
+  pub tag_is : made.tag ≡ code entry
+  pub attempt_is : made.attempt ≡ v'.attempt.number
+  pub renewal_is : made.renewal ≡ region.renewal
+  pub records : v'.records ≡ inserted made v.records
+
+-- at an answer the record of its entry was added, at a refusal none
+abbrev pub Records : {E A X : Type 0} → (E → List ℕ) → RegionShown → (A → E) → Result A X →
+    Client → Client → Type 0
+Records code region entry (Ok a) v v' = Adds code region (entry a) v v'
+Records code region entry (Err e) v v' = v'.records ≡ v.records
+
+-- the client's last attempt added the record of the entry; and in the core state of the region
+-- right after the step that decided it, the records of all clients were a history from the opening,
+-- and the client's own, this very record among them, stood in it, each once and in their order
+pub record WasInOrder {E : Type 0} (fits : List ℕ → Type 0) (code : E → List ℕ)
+    (finds : E → List ℕ → Type 0) (after : E → List ℕ → List ℕ)
+    (region : RegionShown) (entry : E) (v v' : Client) : Type 0 where
+  pub adds : Adds code region entry v v'
+  pub decided : WasDecided fits (IsLawful fits code finds after) region adds.made v'
+  pub entries : List E
+  pub last : List ℕ
+  pub history : IsHistory code finds after region.first (all_records decided.decides.core.clients)
+      entries last
+  pub own : In adds.made (all_records decided.decides.core.clients)
+  pub among : Sub v'.records (all_records decided.decides.core.clients)
+
+-- the words and the version are the last ones of the region, and the closing client's records are a
+-- history that leads from the opening to the words
+pub record Closes {E : Type 0} (fits : List ℕ → Type 0) (code : E → List ℕ)
+    (finds : E → List ℕ → Type 0) (after : E → List ℕ → List ℕ)
+    (region : RegionShown) (v : Client) (words : List ℕ) (version : ℕ) : Type 0 where
+  pub ends : Ends (IsLawful fits code finds after) region v words version
+  pub entries : List E
+  pub history : IsHistory code finds after region.first v.records entries words
+
+-- no other client is out
+abbrev pub IsAlone : Client → Type 0
+IsAlone v = v.grants ≡ MOST_GRANTS
+
+-- it was no conflict
+abbrev pub IsNoConflict : Stop → Type 0
+IsNoConflict Memory = Unit {0}
+IsNoConflict (Conflict conflict) = ⊥
+IsNoConflict (Spent version) = Unit {0}
+
+-- the client's last step showed the conflict, in a read
+abbrev pub WasRead : RegionShown → ConflictMet → Client → Type 0
+WasRead region conflict v =
+    ∥ ((address : ℕ) × IsReadConflict (stripe_of region.stripes) address conflict v) ∥₁
+
+-- the client's attempt was to write what this log has, which is not nothing: the record of some
+-- answer's entry, with what the attempt has read and these writes, would have been lawful
+pub record WouldWrite {E A : Type 0} (fits : List ℕ → Type 0) (code : E → List ℕ)
+    (finds : E → List ℕ → Type 0) (after : E → List ℕ → List ℕ) (region : RegionShown)
+    (entry : A → E) (log : LogValue) (v : Client) : Type 0 where
+  pub answer : A
+  pub some : log_pairs log ≢ []
+  pub placed : IsPlaced region log
+  pub lawful : IsLawful fits code finds after (code (entry answer)) v.attempt.reads (log_pairs log)
+
+-- the client's last step, but for giving back its locks, showed the conflict: in a read, or in a
+-- commit, over the lock of an address that it has read or was to write, or over the clock
+abbrev pub WasShown : {E A : Type 0} → (List ℕ → Type 0) → (E → List ℕ) → (E → List ℕ → Type 0) →
+    (E → List ℕ → List ℕ) → RegionShown → (A → E) → ConflictMet → Client → Type 0
+WasShown fits code finds after region entry conflict v = WasRead region conflict v
+    ⊎ ((log : LogValue) × (WouldWrite fits code finds after region entry log v
+    × IsCommitConflict (stripe_of region.stripes) log conflict v))
+
+-- one attempt was made, which left no record, and showed a conflict
+pub record Missed (Shows : ConflictMet → Client → Type 0) (v v' : Client) : Type 0 where
+  pub next : v'.attempt.number ≡ v.attempt.number + 1
+  pub records : v'.records ≡ v.records
+  pub conflict : ConflictMet
+  pub shown : Shows conflict v'
+
+-- so many attempts, one after the other, each of which showed a conflict
+abbrev pub Misses : (ConflictMet → Client → Type 0) → ℕ → Client → Client → Type 0
+Misses Shows zero v v' = v' ≡ v
+Misses Shows (suc n) v v' = (w : Client) × (Misses Shows n v w × Missed Shows w v')
+
+-- at most so many attempts were made, one after the other, each of which but the last showed a
+-- conflict: `left` were not made
+pub record AreTries (Shows : ConflictMet → Client → Type 0) (tries : ℕ) (v v' : Client)
+    : Type 0 where
+  pub missed : ℕ
+  pub left : ℕ
+  pub count : missed + 1 + left ≡ tries
+  pub before : Client
+  pub misses : Misses Shows missed v before
+  pub next : v'.attempt.number ≡ before.attempt.number + 1
+  pub number : v'.attempt.number ≡ v.attempt.number + missed + 1
+
+-- all tries were made
+abbrev pub AreAllTries : ℕ → Client → Client → Type 0
+AreAllTries tries v v' = v'.attempt.number ≡ v.attempt.number + tries
+
+-- why a transaction of such an entry stopped: a log could not grow; or all tries were made, and the
+-- last one showed the conflict; or the clock was found at the last version, with something to write
+-- Not said: which growth of a log was refused
+abbrev pub IsStop : {E A : Type 0} → (List ℕ → Type 0) → (E → List ℕ) → (E → List ℕ → Type 0) →
+    (E → List ℕ → List ℕ) → RegionShown → (A → E) → ℕ → Stop → Client → Client → Type 0
+IsStop fits code finds after region entry tries Memory v v' = Unit {0}
+IsStop fits code finds after region entry tries (Conflict conflict) v v' =
+    AreAllTries tries v v' × WasShown fits code finds after region entry conflict v'
+IsStop fits code finds after region entry tries (Spent version) v v' =
+    (version ≡ region.last) × (v'.attempt.next_from ≡ region.last)
+    × ((log : LogValue) × WouldWrite fits code finds after region entry log v')
+
+-- why a transaction that only reads stopped: all tries were made, and the last one showed the
+-- conflict
+abbrev pub IsConflict : RegionShown → ℕ → ConflictMet → Client → Client → Type 0
+IsConflict region tries conflict v v' =
+    AreAllTries tries v v' × WasRead region conflict v'
+
+-- what a call of a transaction does, by at most so many tries: what it records and where, how many
+-- attempts it makes, and why it stops
+-- Not said: that it is answered in the end, however many tries it has; how long a try takes
+pub record HasRun {E A : Type 0} (fits : List ℕ → Type 0) (code : E → List ℕ)
+    (finds : E → List ℕ → Type 0) (after : E → List ℕ → List ℕ) (region : RegionShown)
+    (entry : A → E) (tries : ℕ) (result : Result A Stop) (v v' : Client) : Type 0 where
+  pub grants : v'.grants ≡ v.grants
+  pub records : Records code region entry result v v'
+  pub order : IfOk result (λ a. WasInOrder fits code finds after region (entry a) v v')
+  pub alone : IsAlone v → IfErr result (λ stop. IsNoConflict stop)
+  pub attempts : AreTries (λ conflict w. WasShown fits code finds after region entry conflict w)
+      tries v v'
+  pub stopped : IfErr result (λ stop. IsStop fits code finds after region entry tries stop v v')
+
+-- the same of a transaction that only reads: a conflict alone stops it
+pub record HasAsked {E A : Type 0} (fits : List ℕ → Type 0) (code : E → List ℕ)
+    (finds : E → List ℕ → Type 0) (after : E → List ℕ → List ℕ) (region : RegionShown)
+    (entry : A → E) (tries : ℕ) (result : Result A ConflictMet) (v v' : Client) : Type 0 where
+  pub grants : v'.grants ≡ v.grants
+  pub records : Records code region entry result v v'
+  pub order : IfOk result (λ a. WasInOrder fits code finds after region (entry a) v v')
+  pub alone : IsAlone v → IsOk result
+  pub attempts : AreTries (λ conflict w. WasRead region conflict w) tries v v'
+  pub stopped : IfErr result (λ conflict. IsConflict region tries conflict v v')

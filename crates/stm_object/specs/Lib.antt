@@ -1,0 +1,5 @@
+pub mod Object
+pub mod Bodies
+pub mod History
+pub mod Steps
+pub mod Keeping

@@ -1,0 +1,181 @@
+//! The transactions of an object, and their attempts.
+
+ghost use Rattle.std.specs.Prelude.{◌≡◌, ◌+◌, ◌≤◌, IfOk, IfErr, IsOk};
+ghost use Rattle.stm_core.specs.Core.{IsFreeHanded};
+ghost use Rattle.stm_object.specs.Bodies.{HasFitting, Did};
+ghost use Rattle.stm_object.specs.History.{IsOpened, Records, WasInOrder, IsAlone, IsNoConflict};
+ghost use Rattle.stm_object.specs.History.{IsConflict, IsStop, HasRun, HasAsked};
+
+use crate::object::{Object, ObjectLaw};
+use crossbeam_utils::Backoff;
+use stm_attempt::{Attempt, Conflict, Logs, NoGate, ReadAttempt, Stop};
+use stm_region::{Client, Region};
+use stm_words::{TxMem, TxRead};
+
+/// What a transaction does, over any memory, and what it tells of its answer.
+pub trait Body<S: Object> {
+    /// What it answers.
+    type Answer: Drop;
+
+    ghost entry_of: { Self → Self.Answer → S.Entry };
+
+    /// Reads and writes the memory.
+    fn run<M: TxMem>(&self, memory: &mut M) -> Result<Self::Answer, M::Stop>
+        requires { HasFitting S.fits S.size (M.view memory.old) }
+        ensures origin { M.origin memory.new ≡ M.origin memory.old }
+        ensures answer { IfOk result (λ a. Did S.fits S.finds S.after
+            (M.view memory.old) (M.view memory.new) (entry_of self.now a)) };
+
+    /// The entry of an answer.
+    fn entry(&self, answer: &Self::Answer) -> S::Entry
+        ensures { result ≡ entry_of self.now answer.now };
+}
+
+/// One attempt of a transaction.
+pub fn attempt_once<S: Object, B: Body<S>>(
+    region: &Region<ObjectLaw<S>>,
+    client: &mut Client<ObjectLaw<S>>,
+    logs: &mut Logs,
+    body: &B,
+) -> Result<B::Answer, Stop>
+    requires own { client.old.table ≡ region.now.table }
+    requires free_handed { IsFreeHanded client.old.value }
+    requires opened { IsOpened S.fits S.size region.now }
+    ensures own { client.new.table ≡ client.old.table }
+    ensures grants { client.new.value.grants ≡ client.old.value.grants }
+    ensures free_handed { IsFreeHanded client.new.value }
+    ensures records { Records S.Entry.numbers region.now (λ a. B.entry_of body.now a) result
+        client.old.value client.new.value }
+    ensures order { IfOk result (λ a. WasInOrder S.fits S.Entry.numbers S.finds S.after region.now
+        (B.entry_of body.now a) client.old.value client.new.value) }
+    ensures alone { IsAlone client.old.value → IfErr result (λ stop. IsNoConflict stop) }
+    ensures attempt { client.new.value.attempt.number ≡ client.old.value.attempt.number + 1 }
+    ensures stopped { IfErr result (λ stop. IsStop S.fits S.Entry.numbers S.finds S.after region.now
+        (λ a. B.entry_of body.now a) 1 stop client.old.value client.new.value) }
+{
+    let mut attempt = Attempt::begin(region, client, logs);
+    let answer = body.run(&mut attempt);
+    if let Some(conflict) = attempt.stopped() {
+        attempt.drop_it();
+        return Err(Stop::Conflict(conflict));
+    }
+    let Ok(found) = answer else {
+        attempt.drop_it();
+        return Err(Stop::Memory);
+    };
+    let entry = body.entry(&found);
+    match attempt.commit(&entry, &mut NoGate) {
+        Ok(_) => Ok(found),
+        Err(stop) => Err(stop),
+    }
+}
+
+/// A transaction, by at most so many attempts.
+pub fn transact<S: Object, B: Body<S>>(
+    region: &Region<ObjectLaw<S>>,
+    client: &mut Client<ObjectLaw<S>>,
+    logs: &mut Logs,
+    body: &B,
+    tries: u32,
+) -> Result<B::Answer, Stop>
+    requires own { client.old.table ≡ region.now.table }
+    requires free_handed { IsFreeHanded client.old.value }
+    requires opened { IsOpened S.fits S.size region.now }
+    requires tries { 1 ≤ tries }
+    ensures own { client.new.table ≡ client.old.table }
+    ensures free_handed { IsFreeHanded client.new.value }
+    ensures call { HasRun S.fits S.Entry.numbers S.finds S.after region.now
+        (λ a. B.entry_of body.now a) tries result client.old.value client.new.value }
+{
+    let backoff = Backoff::new();
+    let mut left = tries;
+    'tries: loop {
+        left -= 1;
+        match attempt_once(region, client, logs, body) {
+            Err(Stop::Conflict(_)) if left > 0 => backoff.snooze(),
+            answer => return answer,
+        }
+    }
+}
+
+/// What a transaction that only reads does, over any memory, and what it tells of its answer.
+pub trait Query<S: Object> {
+    /// What it answers.
+    type Answer: Drop;
+
+    ghost entry_of: { Self → Self.Answer → S.Entry };
+
+    /// Reads the memory.
+    fn run<M: TxRead>(&self, memory: &mut M) -> Result<Self::Answer, M::Stop>
+        requires { HasFitting S.fits S.size (M.view memory.old) }
+        ensures origin { M.origin memory.new ≡ M.origin memory.old }
+        ensures answer { IfOk result (λ a. Did S.fits S.finds S.after
+            (M.view memory.old) (M.view memory.new) (entry_of self.now a)) }
+        ensures stopped { IfErr result (λ stop. M.stopped_for memory.new stop) };
+
+    /// The entry of an answer.
+    fn entry(&self, answer: &Self::Answer) -> S::Entry
+        ensures { result ≡ entry_of self.now answer.now };
+}
+
+/// One attempt of a transaction that only reads.
+pub fn ask_once<S: Object, B: Query<S>>(
+    region: &Region<ObjectLaw<S>>,
+    client: &mut Client<ObjectLaw<S>>,
+    body: &B,
+) -> Result<B::Answer, Conflict>
+    requires own { client.old.table ≡ region.now.table }
+    requires free_handed { IsFreeHanded client.old.value }
+    requires opened { IsOpened S.fits S.size region.now }
+    ensures own { client.new.table ≡ client.old.table }
+    ensures grants { client.new.value.grants ≡ client.old.value.grants }
+    ensures free_handed { IsFreeHanded client.new.value }
+    ensures records { Records S.Entry.numbers region.now (λ a. B.entry_of body.now a) result
+        client.old.value client.new.value }
+    ensures order { IfOk result (λ a. WasInOrder S.fits S.Entry.numbers S.finds S.after region.now
+        (B.entry_of body.now a) client.old.value client.new.value) }
+    ensures alone { IsAlone client.old.value → IsOk result }
+    ensures attempt { client.new.value.attempt.number ≡ client.old.value.attempt.number + 1 }
+    ensures stopped { IfErr result (λ conflict. IsConflict region.now 1
+        conflict client.old.value client.new.value) }
+{
+    let mut attempt = ReadAttempt::begin(region, client);
+    let answer = body.run(&mut attempt);
+    if let Some(conflict) = attempt.stopped() {
+        attempt.drop_it();
+        return Err(conflict);
+    }
+    let Ok(found) = answer else {
+        unreachable!();
+    };
+    let entry = body.entry(&found);
+    attempt.finish(&entry);
+    Ok(found)
+}
+
+/// A transaction that only reads, by at most so many attempts.
+pub fn ask<S: Object, B: Query<S>>(
+    region: &Region<ObjectLaw<S>>,
+    client: &mut Client<ObjectLaw<S>>,
+    body: &B,
+    tries: u32,
+) -> Result<B::Answer, Conflict>
+    requires own { client.old.table ≡ region.now.table }
+    requires free_handed { IsFreeHanded client.old.value }
+    requires opened { IsOpened S.fits S.size region.now }
+    requires tries { 1 ≤ tries }
+    ensures own { client.new.table ≡ client.old.table }
+    ensures free_handed { IsFreeHanded client.new.value }
+    ensures call { HasAsked S.fits S.Entry.numbers S.finds S.after region.now
+        (λ a. B.entry_of body.now a) tries result client.old.value client.new.value }
+{
+    let backoff = Backoff::new();
+    let mut left = tries;
+    'tries: loop {
+        left -= 1;
+        match ask_once(region, client, body) {
+            Err(_) if left > 0 => backoff.snooze(),
+            answer => return answer,
+        }
+    }
+}
