@@ -1,7 +1,7 @@
 //! Finite maps of ids that share what they have in common: a trie of four ways, by the digits of an
 //! id from the last. A map is changed by making the nodes on the way to the id anew, and all others
-//! stay shared with the map of before. No trie is empty, so the shape of a map depends on its entries
-//! alone.
+//! stay shared with the map of before. No trie is empty, so the shape of a map depends on its
+//! entries alone.
 
 ghost use Rattle.std.specs.Prelude.{◌≡◌, ◌↔◌, ◌+◌, ◌*◌, ◌<◌, ◌^◌, ℕ, IfOk, true, sum_by};
 ghost use Rattle.std.specs.Option.{option_copied};
@@ -28,8 +28,8 @@ pub(crate) trait Entry: Sized {
     fn hash(&self) -> u64;
 }
 
-/// The value at 0, and the maps of the ids above 0 by their digit: id `n` is at `(n - 1) / 4` in the
-/// map of the digit `(n - 1) % 4`. Contracts see the map and the depth.
+/// The value at 0, and the maps of the ids above 0 by their digit: id `n` is at `(n - 1) / 4` in
+/// the map of the digit `(n - 1) % 4`. Contracts see the map and the depth.
 #[derive(Drop)]
 pub(crate) struct Trie<V> {
     value: Option<Rc<V>>,
