@@ -57,10 +57,10 @@ get_left m a b ne =
     rw (get-remove nat_cmp_total m a b, t) refl
 
 -- of two numbers, whether they are equal
-abbrev Test : ℕ → ℕ → Type 0
+abbrev pub Test : ℕ → ℕ → Type 0
 Test a b = ((a == b) ≡ true × (a ≡ b)) ⊎ ((a == b) ≡ false × (b ≢ a))
 
-test : (a b : ℕ) → Test a b
+pub test : (a b : ℕ) → Test a b
 test a b =
     elim (same_or a b) [
       | inl e ↦ inl (let t : (a == b) ≡ true = grind (arith, nat_tests) in t, e)

@@ -8,5 +8,6 @@ pub mod Cutting
 pub mod Texts
 pub mod CallText
 pub mod Handed
+pub mod Done
 pub mod Histories
 pub mod Stops

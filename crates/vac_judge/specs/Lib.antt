@@ -11,3 +11,4 @@ pub mod CallText
 pub mod Work
 pub mod Holding
 pub mod HeldReading
+pub mod Whole

@@ -2,6 +2,7 @@
 
 ghost use Rattle.vac_judge.specs.Laws.{LegalIsLinearization, LegalSummary};
 ghost use Rattle.vac_judge.specs.Wrongs.{IllegalIsFirstWrong, FaultIsFirst};
+ghost use Rattle.vac_judge.specs.Whole.{LegalIsWhole};
 ghost use Rattle.std.specs.Prelude.{◌≡◌, ◌≤◌, length, true};
 ghost use Rattle.vac_model.specs.Ranges.{is_task};
 ghost use Rattle.vac_lines.specs.TaskText.{task_text};
@@ -39,6 +40,15 @@ pub fn an_illegal_verdict_names_the_first_wrong_line()
 pub fn a_fault_names_the_first_line_that_is_no_call()
     ensures { FaultIsFirst }
 {}
+
+/// Held against work, a history is legal exactly where each line of the work hands out a task, the
+/// history is legal by itself, and each client's calls ask for just its tasks, in their order; of a
+/// client one of whose calls was never answered, for the first of them.
+pub fn a_whole_history_is_of_all_the_work()
+    ensures { LegalIsWhole }
+{
+    a_verdict_finds_the_linearizations();
+}
 
 /// The line `CLIENT BEGIN END LINE -> REPLY` of a call that was answered, with its task's line in
 /// its plain form and the text of its reply, is no longer than a line of a history may be, and is

@@ -27,7 +27,8 @@ pub use held::{HeldVerdict, judge_work, print_held};
 pub use judge::Judge;
 pub use laws::{
     a_call_never_answered_is_read, a_fault_names_the_first_line_that_is_no_call,
-    a_legal_history_has_this_summary, a_verdict_finds_the_linearizations, an_answered_call_is_read,
+    a_legal_history_has_this_summary, a_verdict_finds_the_linearizations,
+    a_whole_history_is_of_all_the_work, an_answered_call_is_read,
     an_illegal_verdict_names_the_first_wrong_line, call_texts_are_read, histories_are_read,
 };
 pub use reading::judge_history;
