@@ -11,3 +11,5 @@ pub mod Marking
 pub mod Judged
 pub mod Points
 pub mod StuckCalls
+pub mod Stable
+pub mod Soonest

@@ -1,5 +1,5 @@
 -- The calls of a history as they are kept, in the order in which they ended.
-use Rattle.std.specs.Prelude.{◌≡◌, ◌<◌, ◌+◌, ◌==◌, ◌&&◌, ◌||◌, ℕ, suc, Bool, true, Option, is_some, Some, None, List, [], ◌∷◌, ◌++◌, map, not, take, drop, get_or, length, nat_lt, nat_le, if◌then◌else◌}
+use Rattle.std.specs.Prelude.{◌≡◌, ◌<◌, ◌+◌, ◌-◌, ◌^◌, ◌==◌, ◌&&◌, ◌||◌, ℕ, suc, Bool, true, Option, is_some, Some, None, List, [], ◌∷◌, ◌++◌, map, not, take, drop, get_or, length, nat_lt, nat_le, if◌then◌else◌}
 use Rattle.std.specs.List.{list_any}
 use Rattle.std.specs.Option.{option_map}
 use Rattle.std.specs.Global.{Vec}
@@ -37,6 +37,18 @@ are_sorted [] = true
 are_sorted (line ∷ []) = nat_le line.soonest line.begin
 are_sorted (line ∷ (next ∷ lines)) =
     nat_le line.soonest line.begin && follows line next && are_sorted (next ∷ lines)
+
+-- the least moment at which one of these begins, or the greatest moment
+abbrev pub least_begin : List Line → ℕ
+least_begin [] = 2 ^ 64 - 1
+least_begin (line ∷ lines) =
+    if nat_lt line.begin (least_begin lines) then line.begin else least_begin lines
+
+-- each line says from when on it and those after it begin
+abbrev pub soonest_of : List Line → List Line
+soonest_of [] = []
+soonest_of (line ∷ lines) =
+    record line { soonest = least_begin (line ∷ lines) } ∷ soonest_of lines
 
 -- the call that stands where there is none
 abbrev pub no_call : Call

@@ -10,6 +10,7 @@ mod marks;
 mod order;
 mod path;
 mod point;
+mod sorting;
 mod stuck;
 mod walk;
 mod world;

@@ -1,7 +1,8 @@
 //! A call of a history, as a search keeps it.
 
-ghost use Rattle.std.specs.Prelude.{◌≡◌, true};
+ghost use Rattle.std.specs.Prelude.{◌≡◌, true, nat_lt, is_some};
 ghost use Rattle.vac_model.specs.Ranges.{is_task};
+ghost use Rattle.vac_judge.specs.declared.call.TheConstants.{NEVER};
 
 use vac_model::Task;
 
@@ -21,4 +22,5 @@ pub struct Line {
     /// None of the lines from this one on begins before.
     pub soonest: u64,
     ghost asked: { is_task task ≡ true },
+    ghost ended: { nat_lt end NEVER ≡ is_some reply },
 }
