@@ -1,0 +1,97 @@
+//! The transactions of the ring.
+
+ghost use Rattle.std.specs.Prelude.{◌≡◌, ◌%◌};
+
+use crate::entry::Entry;
+use crate::law::{HEAD, RingObject, SLOTS, TAIL};
+use stm_object::{Body, Query};
+use stm_words::{Addr, TxMem, TxRead, load, store};
+
+/// The slot of the value of this number.
+fn slot(number: u64) -> Addr
+    ensures { result.0 ≡ number % SLOTS }
+{
+    Addr((number % u64::from(SLOTS)) as u32)
+}
+
+/// Puts this value after the others where there is room, and answers whether there was.
+#[derive(Drop)]
+pub struct Push(pub u64);
+
+impl Body<RingObject> for Push {
+    ghost use Rattle.ring.specs.declared.entry.Entry.TheVariants.{Push as Pushed};
+
+    type Answer = bool;
+
+    ghost entry_of = { λ s room. Pushed s.0 room };
+
+    fn run<M: TxMem>(&self, memory: &mut M) -> Result<bool, M::Stop> {
+        let head = load(memory, Addr(HEAD))?;
+        let tail = load(memory, Addr(TAIL))?;
+        if tail - head >= u64::from(SLOTS) || tail == u64::MAX {
+            return Ok(false);
+        }
+        store(memory, slot(tail), self.0)?;
+        store(memory, Addr(TAIL), tail + 1)?;
+        Ok(true)
+    }
+
+    fn entry(&self, room: &bool) -> Entry {
+        Entry::Push {
+            value: self.0,
+            room: *room,
+        }
+    }
+}
+
+/// Takes out the foremost value, where there is one.
+#[derive(Drop)]
+pub struct Pop;
+
+impl Body<RingObject> for Pop {
+    ghost use Rattle.ring.specs.Queue.{popping};
+
+    type Answer = Option<u64>;
+
+    ghost entry_of = { λ s taken. popping taken };
+
+    fn run<M: TxMem>(&self, memory: &mut M) -> Result<Option<u64>, M::Stop> {
+        let head = load(memory, Addr(HEAD))?;
+        let tail = load(memory, Addr(TAIL))?;
+        if head >= tail {
+            return Ok(None);
+        }
+        let value = load(memory, slot(head))?;
+        store(memory, Addr(HEAD), head + 1)?;
+        Ok(Some(value))
+    }
+
+    fn entry(&self, taken: &Option<u64>) -> Entry {
+        match *taken {
+            Some(value) => Entry::Pop { value },
+            None => Entry::Empty,
+        }
+    }
+}
+
+/// Counts the values.
+#[derive(Drop)]
+pub struct Count;
+
+impl Query<RingObject> for Count {
+    ghost use Rattle.ring.specs.declared.entry.Entry.TheVariants.{Len};
+
+    type Answer = u64;
+
+    ghost entry_of = { λ s count. Len count };
+
+    fn run<M: TxRead>(&self, memory: &mut M) -> Result<u64, M::Stop> {
+        let head = load(memory, Addr(HEAD))?;
+        let tail = load(memory, Addr(TAIL))?;
+        Ok(tail - head)
+    }
+
+    fn entry(&self, count: &u64) -> Entry {
+        Entry::Len { count: *count }
+    }
+}

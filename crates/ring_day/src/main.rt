@@ -1,0 +1,166 @@
+//! A day at a queue: two users put numbers in, each in a thread of its own, and a third takes them
+//! out. However the threads meet, all come out, and those of each user in the order in which it put
+//! them in.
+#![tactic(auto)]
+
+ghost use Rattle.std.specs.Prelude.{◌≡◌};
+
+use crossbeam_utils::Backoff;
+use ring::{Count, Pop, Push, Ring, RingUser, close_ring, new_ring};
+use std::process::ExitCode;
+use std::thread;
+use std::thread::Threads;
+
+/// How many numbers each of the two puts in.
+const NUMBERS: u32 = 1_000;
+
+/// The first number of the second user. The first user's begin at 0.
+const SECOND: u64 = NUMBERS as u64;
+
+/// The most attempts of a transaction.
+const TRIES: u32 = 1 << 20;
+
+/// How often a full or an empty queue is asked again.
+const PATIENCE: u32 = 1 << 24;
+
+/// What was done in a day: how many numbers were put in, and how many came out in their turn.
+#[derive(Clone, Copy)]
+struct Day {
+    put: u32,
+    in_turn: u32,
+}
+
+/// Puts a number in once there is room, and answers whether it did.
+fn put(ring: &Ring, user: &mut RingUser, value: u64) -> bool
+    requires { user.old.table ≡ ring.now.table }
+    ensures { user.new.table ≡ user.old.table }
+{
+    let backoff = Backoff::new();
+    for _ in 0..PATIENCE {
+        if ring.run(user, &Push(value), TRIES) == Ok(true) {
+            return true;
+        }
+        backoff.snooze();
+    }
+    false
+}
+
+/// Takes a number out once there is one.
+fn take(ring: &Ring, user: &mut RingUser) -> Option<u64>
+    requires { user.old.table ≡ ring.now.table }
+    ensures { user.new.table ≡ user.old.table }
+{
+    let backoff = Backoff::new();
+    for _ in 0..PATIENCE {
+        if let Ok(Some(value)) = ring.run(user, &Pop, TRIES) {
+            return Some(value);
+        }
+        backoff.snooze();
+    }
+    None
+}
+
+/// Puts numbers in, from this one on, and counts them.
+fn put_many(ring: &Ring, mut user: RingUser, first: u64) -> (RingUser, u32)
+    requires { user.table ≡ ring.now.table }
+    ensures { result.0.table ≡ ring.now.table }
+{
+    let mut done = 0u32;
+    for i in 0..NUMBERS {
+        if put(ring, &mut user, first.saturating_add(u64::from(i))) {
+            done = done.saturating_add(1);
+        }
+    }
+    (user, done)
+}
+
+/// Takes out what both put in, and counts the numbers that come in their turn.
+fn take_many(ring: &Ring, mut user: RingUser) -> (RingUser, u32)
+    requires { user.table ≡ ring.now.table }
+    ensures { result.0.table ≡ ring.now.table }
+{
+    let mut in_turn = 0u32;
+    let mut first = 0u64;
+    let mut second = SECOND;
+    for _ in 0..2 * NUMBERS {
+        let value = take(ring, &mut user);
+        if value == Some(first) {
+            first = first.saturating_add(1);
+            in_turn = in_turn.saturating_add(1);
+        } else if value == Some(second) {
+            second = second.saturating_add(1);
+            in_turn = in_turn.saturating_add(1);
+        }
+    }
+    (user, in_turn)
+}
+
+/// Both put their numbers in, side by side. Gives back the one, who has taken in the other.
+fn put_both<R: Threads + Sync>(
+    rt: &R,
+    ring: &Ring,
+    one: RingUser,
+    other: RingUser,
+) -> (RingUser, u32)
+    requires { (one.table ≡ ring.now.table) × (other.table ≡ ring.now.table) }
+    ensures { result.0.table ≡ ring.now.table }
+{
+    let put_first = move || -> (RingUser, u32)
+        requires { one.table ≡ ring.now.table }
+        ensures { result.0.table ≡ ring.entry.now.table }
+    { put_many(ring, one, 0) };
+    let put_second = move || -> (RingUser, u32)
+        requires { other.table ≡ ring.now.table }
+        ensures { result.0.table ≡ ring.entry.now.table }
+    { put_many(ring, other, SECOND) };
+    let ((mut one, some), (other, more)) = thread::join(rt, put_first, put_second);
+    ring.gather(&mut one, other);
+    (one, some.saturating_add(more))
+}
+
+/// A day: one takes out while the others put in. Gives back the user, who has taken in all others.
+fn spend<R: Threads + Sync>(rt: &R, ring: &Ring, mut user: RingUser) -> (RingUser, Day)
+    requires { user.table ≡ ring.now.table }
+    ensures { result.0.table ≡ ring.now.table }
+{
+    let none = Day { put: 0, in_turn: 0 };
+    let Ok(one) = ring.split(&mut user) else {
+        return (user, none);
+    };
+    let Ok(other) = ring.split(&mut user) else {
+        ring.gather(&mut user, one);
+        return (user, none);
+    };
+    let put_in = move || -> (RingUser, u32)
+        requires { (one.table ≡ ring.now.table) × (other.table ≡ ring.now.table) }
+        ensures { result.0.table ≡ ring.entry.now.table }
+    { put_both(rt, ring, one, other) };
+    let take_out = move || -> (RingUser, u32)
+        requires { user.table ≡ ring.now.table }
+        ensures { result.0.table ≡ ring.entry.now.table }
+    { take_many(ring, user) };
+    let ((one, put), (mut user, in_turn)) = thread::join(rt, put_in, take_out);
+    ring.gather(&mut user, one);
+    (user, Day { put, in_turn })
+}
+
+fn main(rt: HostRuntime) -> ExitCode {
+    let Ok((ring, user)) = new_ring(rt.alloc(), 1 << 40) else {
+        let _ = eprintln!(rt; "the queue could not be opened");
+        return ExitCode::FAILURE;
+    };
+    let (mut user, day) = spend(&rt, &ring, user);
+    let left = ring.ask(&mut user, &Count, TRIES).unwrap_or(u64::MAX);
+    let Ok(_) = close_ring(ring, user) else {
+        let _ = eprintln!(rt; "the queue could not be closed");
+        return ExitCode::FAILURE;
+    };
+    let told = println!(rt;
+        "{} numbers were put in\n{} came out in their turn\nthe queue closed with {left}",
+        day.put, day.in_turn
+    );
+    match told {
+        Ok(()) => ExitCode::SUCCESS,
+        Err(_) => ExitCode::FAILURE,
+    }
+}
