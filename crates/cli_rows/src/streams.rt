@@ -4,7 +4,7 @@ use crate::example::{ANSWERS, DUMP, SCRIPT};
 use crate::failing::{NEVER, Pieces, Sink, Stop};
 use std::alloc::Global;
 use std::io::{ErrorKind, Read, Write};
-use vac_cli::{RunFault, check_words, dump_script, run_script};
+use vac_cli::{StreamFault, check_words, dump_script, run_script};
 
 /// What is called.
 #[derive(Clone, Copy, Debug, PartialEq, Eq)]
@@ -82,7 +82,7 @@ fn play<R: Read, W: Write>(
     call: Call,
     input: &mut R,
     output: &mut W,
-) -> Result<bool, RunFault> {
+) -> Result<bool, StreamFault> {
     match call {
         Call::Run => run_script(alloc, 1024, input, output).map(|()| true),
         Call::Dump => dump_script(alloc, 1, input, output).map(|()| true),
@@ -109,7 +109,7 @@ fn readers_that_fail(rt: HostRuntime) {
             let mut out = Vec::new(rt.alloc());
             let ended = play(rt.alloc(), row.call, &mut input, &mut out);
             let wants = if fails_at < row.reads {
-                (Err(RunFault::Read), written_before(row.call, fails_at))
+                (Err(StreamFault::Read), written_before(row.call, fails_at))
             } else {
                 (Ok(row.answer), row.output)
             };
@@ -158,7 +158,7 @@ fn writers_that_fail(rt: HostRuntime) {
                     (Ok(row.answer), row.output)
                 } else {
                     (
-                        Err(RunFault::Write),
+                        Err(StreamFault::Write),
                         &row.output[..stops_at.min(row.output.len())],
                     )
                 };
@@ -179,7 +179,7 @@ fn flushes_that_fail(rt: HostRuntime) {
         let mut input = row.input;
         let mut out = Sink::without_flush(rt.alloc());
         let ended = play(rt.alloc(), row.call, &mut input, &mut out);
-        let wants = (Err(RunFault::Write), row.output);
+        let wants = (Err(StreamFault::Write), row.output);
         assert_eq!(rt; (ended, out.taken.as_slice()), wants, "{:?}", row.call);
     }
 }

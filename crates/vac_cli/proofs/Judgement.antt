@@ -5,7 +5,7 @@ use Rattle.vac_lines.specs.Writing.{AppendsPrefix}
 use Rattle.vac_judge.specs.declared.fault.JudgeFault.{JudgeFault}
 use Rattle.vac_judge.specs.declared.fault.JudgeFault.TheVariants as judge
 use Rattle.vac_judge.specs.Reading.{HasStopped}
-use Rattle.vac_cli.specs.Ending.{as_run_fault, fault_line}
+use Rattle.vac_cli.specs.Ending.{as_stream_fault, fault_line}
 use Rattle.vac_cli.specs.Program.{JudgeStopped}
 use Rattle.vac_cli.proofs.Ending.{nothing_then}
 
@@ -27,7 +27,7 @@ bound_is e = absurd cc
 
 -- the line of the fault was written in part
 pub judge_stopped : (blocks : ℕ) (fault : JudgeFault) (unread left held middle holds : Option (List ℕ)) → HasStopped blocks fault unread left held middle
-    → AppendsPrefix middle holds (fault_line (as_run_fault fault)) → JudgeStopped blocks unread left held holds
+    → AppendsPrefix middle holds (fault_line (as_stream_fault fault)) → JudgeStopped blocks unread left held holds
 judge_stopped blocks judge.Read unread left held middle holds none line = inr (judge.Read, read_is, nothing_then held middle holds _ none line)
 judge_stopped blocks judge.Write unread left held middle holds part line =
     inl (record { verdict = part.verdict; is = part.is; written = then_nothing held middle holds _ part.written line })

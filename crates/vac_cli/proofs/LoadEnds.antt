@@ -9,8 +9,8 @@ use Rattle.vac_history.specs.History.{notes_of, kept_by, WroteHistory, WroteHist
 use Rattle.vac_load.specs.declared.load.LoadFault.TheVariants as load
 use Rattle.vac_load.specs.declared.load.LoadReport.{LoadReport}
 use Rattle.vac_load.specs.Streams.{LoadedBySeed}
-use Rattle.vac_script.specs.declared.fault.RunFault.{RunFault}
-use Rattle.vac_script.specs.declared.fault.RunFault.TheVariants as run
+use Rattle.vac_streams.specs.declared.fault.StreamFault.{StreamFault}
+use Rattle.vac_streams.specs.declared.fault.StreamFault.TheVariants as stream
 use Rattle.std.specs.Io.KnownBytes.{Appends}
 use Rattle.vac_lines.specs.Writing.{AppendsPrefix}
 use Rattle.vac_cli.specs.Ending.{load_fault_line, fault_line, CanStopWriting}
@@ -45,7 +45,7 @@ ended_for_memory history s status held holds fits low high refused line =
 
 -- the load was run to its end, and its two lines were written, in whole or in part, or memory was refused for them
 pub ended_with_lines : (s : Settings) (load : LoadReport) (status : ℕ) (held holds : Option (List ℕ)) → is_settings s ≡ true → LoadedBySeed s load.tally load.report → status ≤ 1 → (status ≡ 0 → Appends held holds (load_text load))
-    → (status ≡ 1 → AppendsPrefix held holds (fault_line run.Memory) ⊎ AppendsPrefix held holds (load_text load)) → Loads false status s held holds
+    → (status ≡ 1 → AppendsPrefix held holds (fault_line stream.Memory) ⊎ AppendsPrefix held holds (load_text load)) → Loads false status s held holds
 ended_with_lines s load zero held holds fits loaded low done stopped = inl (fits, inl (refl, record { load = load; loaded = loaded; written = done refl }))
 ended_with_lines s load (suc zero) held holds fits loaded low done stopped =
     elim (stopped refl) [
@@ -73,7 +73,7 @@ wrote_calls s opening clients held holds fits has wrote = inl (
 )
 
 -- a prefix of it was written, and then one of the line of a fault
-pub stopped_calls : {C : Type 0} (s : Settings) (opening : Journal C) (clients : List (Journal C)) (status : ℕ) (fault : RunFault) (held middle holds : Option (List ℕ)) → is_settings s ≡ true → status ≡ 1 → HasNoted s (notes_of opening) (map notes_of clients) → WroteHistoryPrefix (kept_by opening clients) held middle → CanStopWriting fault → AppendsPrefix middle holds (fault_line fault) → Loads true status s held holds
+pub stopped_calls : {C : Type 0} (s : Settings) (opening : Journal C) (clients : List (Journal C)) (status : ℕ) (fault : StreamFault) (held middle holds : Option (List ℕ)) → is_settings s ≡ true → status ≡ 1 → HasNoted s (notes_of opening) (map notes_of clients) → WroteHistoryPrefix (kept_by opening clients) held middle → CanStopWriting fault → AppendsPrefix middle holds (fault_line fault) → Loads true status s held holds
 stopped_calls s opening clients status fault held middle holds fits one has wrote can_stop line = inl (
   fits,
   inr (

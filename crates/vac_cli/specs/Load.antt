@@ -19,7 +19,7 @@ use Rattle.vac_load.specs.Lists.{Paired}
 use Rattle.vac_load.specs.Load.{IsLoadFault}
 use Rattle.vac_load.specs.Streams.{LoadedBySeed}
 use Rattle.vac_lines.specs.Writing.{AppendsPrefix}
-use Rattle.vac_cli.specs.Ending.{NamedAfter, CanStopWriting, load_fault_line}
+use Rattle.vac_cli.specs.Ending.{NamedAfterWriting, load_fault_line}
 
 -- how many tasks were answered, and how many met other clients in each try
 abbrev pub tried_text : Tally → List ℕ
@@ -112,5 +112,5 @@ LoadWrote false s held holds = WroteLoad s held holds
 -- a load that is to write the history, or the two lines, ended by a fault
 abbrev pub LoadEnded : Bool → Settings → Option (List ℕ) → Option (List ℕ) → Type 0
 LoadEnded true s held holds =
-    NamedFault s held holds ⊎ NamedAfter CanStopWriting (WroteCallsInPart s held) holds
+    NamedFault s held holds ⊎ NamedAfterWriting (WroteCallsInPart s held) holds
 LoadEnded false s held holds = LoadStopped s held holds

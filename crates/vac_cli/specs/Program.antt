@@ -11,7 +11,7 @@ use Rattle.vac_load.specs.declared.load.LoadFault.TheVariants.{Arguments}
 use Rattle.vac_options.specs.declared.asked.Asked.{Asked}
 use Rattle.vac_options.specs.declared.asked.Asked.TheVariants.{Run, Dump, Check, Judge, Load, Tasks}
 use Rattle.vac_lines.specs.Script.{as_line}
-use Rattle.vac_script.specs.declared.fault.RunFault.TheVariants.{Memory}
+use Rattle.vac_streams.specs.declared.fault.StreamFault.TheVariants.{Memory}
 use Rattle.vac_lines.specs.Writing.{AppendsPrefix}
 use Rattle.vac_script.specs.Script.{WroteAll, WrotePrefix}
 use Rattle.vac_script.specs.Dump.{Dumped, DumpStopped}
@@ -21,8 +21,8 @@ use Rattle.vac_judge.specs.declared.fault.JudgeFault.{JudgeFault}
 use Rattle.vac_judge.specs.declared.fault.JudgeFault.TheVariants as judge
 use Rattle.vac_worklist.specs.Worklist.{WroteTasks, WroteTasksPrefix}
 use Rattle.vac_cli.specs.Load.{LoadWrote, LoadEnded}
-use Rattle.vac_cli.specs.Ending.{NamedAfter, CanStopReading, CanStopWriting, fault_line}
-use Rattle.vac_cli.specs.Ending.{as_run_fault, load_fault_line}
+use Rattle.vac_cli.specs.Ending.{NamedAfter, NamedAfterWriting, fault_line, as_stream_fault}
+use Rattle.vac_cli.specs.Ending.{load_fault_line}
 use Rattle.vac_options.specs.CommandLine.{vacation, AsksFor}
 
 -- status 0 where this was done, 1 where that stopped it
@@ -46,7 +46,7 @@ Loads history status s held holds =
 abbrev pub Lists : ℕ → Settings → Option (List ℕ) → Option (List ℕ) → Type 0
 Lists status s held holds =
     ((is_settings s ≡ true) × Ends status (WroteTasks s held holds)
-    (NamedAfter CanStopWriting (WroteTasksPrefix s held) holds))
+    (NamedAfterWriting (WroteTasksPrefix s held) holds))
     ⊎ ((is_settings s ≡ false) × (status ≡ 2)
     × AppendsPrefix held holds (load_fault_line Arguments))
 
@@ -58,21 +58,21 @@ abbrev pub JudgeStopped : ℕ → Option (List ℕ) → Option (List ℕ) → Op
 JudgeStopped blocks unread left held holds =
     HasJudgedInPart blocks unread left held holds
     ⊎ ((fault : JudgeFault) × (fault ≢ judge.Write)
-    × AppendsPrefix held holds (fault_line (as_run_fault fault)))
+    × AppendsPrefix held holds (fault_line (as_stream_fault fault)))
 
 -- what the program does where its words ask for this
 abbrev pub Does : Asked → ℕ → Option (List ℕ) → Option (List ℕ) → Option (List ℕ)
     → Option (List ℕ) → Type 0
 Does (Run blocks) status unread left held holds =
     Ends status (WroteAll blocks unread left held holds)
-    (NamedAfter CanStopReading (WrotePrefix blocks unread left held) holds)
+    (NamedAfter (WrotePrefix blocks unread left held) holds)
 Does (Dump blocks) status unread left held holds =
     Ends status (Dumped blocks unread left held holds)
-    (NamedAfter CanStopReading (DumpStopped blocks unread left held) holds)
+    (NamedAfter (DumpStopped blocks unread left held) holds)
 Does Check status unread left held holds =
     Ends status (Checked true unread left held holds)
     (Checked false unread left held holds
-    ⊎ NamedAfter CanStopReading (CheckStopped unread left held) holds)
+    ⊎ NamedAfter (CheckStopped unread left held) holds)
 Does (Judge blocks) status unread left held holds =
     Ends status (HasJudged blocks true unread left held holds)
     (HasJudged blocks false unread left held holds

@@ -12,4 +12,5 @@ mod telling;
 
 pub use program::{refuse_words, run_words};
 pub use vac_lines::{LineFault, print_reply, read_line};
-pub use vac_script::{RunFault, check_words, dump_script, run_script};
+pub use vac_script::{check_words, dump_script, run_script};
+pub use vac_streams::StreamFault;

@@ -7,7 +7,7 @@ ghost use Rattle.vac_cli.specs.Load.{tried_text, wanting_text};
 ghost use Rattle.vac_cli.specs.Load.{tally_text, load_text};
 ghost use Rattle.vac_cli.specs.Program.{Loads};
 ghost use Rattle.std.specs.Io.KnownBytes.{Appends};
-ghost use Rattle.vac_script.specs.declared.fault.RunFault.TheVariants.{Memory};
+ghost use Rattle.vac_streams.specs.declared.fault.StreamFault.TheVariants.{Memory};
 ghost use Rattle.vac_cli.specs.Ending.{fault_line};
 ghost use Rattle.vac_lines.specs.Script.{as_line};
 ghost use Rattle.vac_lines.specs.Writing.{AppendsPrefix};
@@ -25,7 +25,7 @@ use vac_lines::{print_reply, write_and_flush};
 use vac_load::{LoadFault, LoadReport, Settings, Tally, no_keepers};
 use vac_model::{Reply, Report};
 use vac_options::How;
-use vac_script::RunFault;
+use vac_streams::StreamFault;
 
 /// Runs a load, writes its two lines, or the history of its calls, and answers the status. Where
 /// that is asked for, tells on `errors` how far it is, and in the end how long its clients took and
@@ -96,7 +96,7 @@ fn write_load<W: Write>(alloc: Global, report: &LoadReport, output: &mut W) -> u
 {
     let mut text = Vec::new(alloc);
     if append_load(&mut text, report).is_err() {
-        return end_by(RunFault::Memory, output);
+        return end_by(StreamFault::Memory, output);
     }
     match write_and_flush(output, text.as_slice()) {
         Ok(()) => DONE,

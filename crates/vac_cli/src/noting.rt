@@ -20,7 +20,7 @@ use vac_history::{HistoryFault, Journal, are_whole, write_history};
 use vac_load::{Efforts, Keepers, LoadFault, LoadReport, Settings, run_load_kept};
 use vac_manager::Keep;
 use vac_options::How;
-use vac_script::RunFault;
+use vac_streams::StreamFault;
 
 /// An empty journal for each client, with one clock and one start.
 fn journals<'a, T: Clock>(
@@ -103,7 +103,7 @@ pub(crate) fn load_noted<T: Threads + Wait + Clock + Sync + AllocGlobal, W: Writ
     tell_load(alloc, &report, errors);
     match write_history(alloc, &kept.opening, kept.clients.as_slice(), output) {
         Ok(()) => DONE,
-        Err(HistoryFault::Memory) => end_by(RunFault::Memory, output),
-        Err(HistoryFault::Write) => end_by(RunFault::Write, output),
+        Err(HistoryFault::Memory) => end_by(StreamFault::Memory, output),
+        Err(HistoryFault::Write) => end_by(StreamFault::Write, output),
     }
 }

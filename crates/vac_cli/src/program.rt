@@ -5,7 +5,7 @@ ghost use Rattle.std.specs.Io.KnownBytes.{Appends};
 ghost use Rattle.clap.specs.Words.{kind_of};
 ghost use Rattle.clap.specs.declared.error.kind.ErrorKind.TheVariants.{DisplayVersion};
 ghost use Rattle.vac_model.specs.Ranges.{is_block_count};
-ghost use Rattle.vac_cli.specs.Ending.{as_run_fault, CanStopReading};
+ghost use Rattle.vac_cli.specs.Ending.{as_stream_fault};
 ghost use Rattle.vac_cli.specs.Program.{Does, Lists, Shows, Serves};
 
 use crate::load::load;
@@ -21,7 +21,8 @@ use vac_judge::{JudgeFault, judge_history};
 use vac_lines::write_and_flush;
 use vac_load::{LoadFault, Settings};
 use vac_options::{Asked, VERSION, read_asked};
-use vac_script::{RunFault, check_words, dump_script, run_script};
+use vac_script::{check_words, dump_script, run_script};
+use vac_streams::StreamFault;
 use vac_worklist::{TasksFault, write_tasks};
 
 /// Runs the program on a command line, of which the first word is the program's name, and answers
@@ -117,20 +118,19 @@ fn judge<R: Read, W: Write>(alloc: Global, blocks: u32, input: &mut R, output: &
     match judge_history(alloc, blocks, input, output) {
         Ok(true) => DONE,
         Ok(false) => FAULT,
-        Err(fault) => end_by(as_run_fault(fault), output),
+        Err(fault) => end_by(as_stream_fault(fault), output),
     }
 }
 
 /// The fault of the same name.
-fn as_run_fault(fault: JudgeFault) -> RunFault
-    ensures name { result ≡ as_run_fault fault }
-    ensures can_stop { CanStopReading result }
+fn as_stream_fault(fault: JudgeFault) -> StreamFault
+    ensures { result ≡ as_stream_fault fault }
 {
     match fault {
-        JudgeFault::Read => RunFault::Read,
-        JudgeFault::Write => RunFault::Write,
-        JudgeFault::Memory => RunFault::Memory,
-        JudgeFault::Bound => RunFault::Bound,
+        JudgeFault::Read => StreamFault::Read,
+        JudgeFault::Write => StreamFault::Write,
+        JudgeFault::Memory => StreamFault::Memory,
+        JudgeFault::Bound => StreamFault::Bound,
     }
 }
 
@@ -142,8 +142,8 @@ fn list_tasks<W: Write>(alloc: Global, settings: &Settings, output: &mut W) -> u
     match write_tasks(alloc, settings, output) {
         Ok(()) => DONE,
         Err(TasksFault::Arguments) => end_load_by(LoadFault::Arguments, output),
-        Err(TasksFault::Memory) => end_by(RunFault::Memory, output),
-        Err(TasksFault::Write) => end_by(RunFault::Write, output),
+        Err(TasksFault::Memory) => end_by(StreamFault::Memory, output),
+        Err(TasksFault::Write) => end_by(StreamFault::Write, output),
     }
 }
 
@@ -153,7 +153,7 @@ fn show<W: Write, E: Write>(alloc: Global, error: &Error, output: &mut W, errors
     ensures { Shows (kind_of error.now) result (W.contents output.old) (W.contents output.new) }
 {
     match error.kind() {
-        ErrorKind::OutOfMemory => end_by(RunFault::Memory, output),
+        ErrorKind::OutOfMemory => end_by(StreamFault::Memory, output),
         ErrorKind::DisplayHelp => show_help(alloc, error, output),
         ErrorKind::DisplayVersion => show_version(output),
         _ => {
@@ -179,7 +179,7 @@ fn show_help<W: Write>(alloc: Global, help: &Error, output: &mut W) -> u8
     ensures text { (text : List ℕ) × Appends (W.contents output.old) (W.contents output.new) text }
 {
     let Ok(text) = format!(in alloc; "{help}") else {
-        return end_by(RunFault::Memory, output);
+        return end_by(StreamFault::Memory, output);
     };
     match write_and_flush(output, text.as_bytes()) {
         Ok(()) => DONE,

@@ -7,7 +7,7 @@ ghost use Rattle.vac_cli.specs.Ending.{fault_line, load_fault_line};
 use std::io::Write;
 use vac_lines::write_and_flush;
 use vac_load::LoadFault;
-use vac_script::RunFault;
+use vac_streams::StreamFault;
 
 /// The status of a program that did its work or showed its help.
 pub(crate) const DONE: u8 = 0;
@@ -27,23 +27,21 @@ fn write_last<W: Write>(line: &[u8], output: &mut W)
 }
 
 /// The last line of a program that met a fault. There is none where the output failed.
-fn fault_line(fault: RunFault) -> &'static [u8]
+fn fault_line(fault: StreamFault) -> &'static [u8]
     ensures { result.now ≡ fault_line fault }
 {
     match fault {
-        RunFault::Read => b"fault read\n",
-        RunFault::Write => b"",
-        RunFault::Memory => b"fault memory\n",
-        RunFault::Spent => b"fault spent\n",
-        RunFault::Busy => b"fault busy\n",
-        RunFault::Bound => b"fault bound\n",
+        StreamFault::Read => b"fault read\n",
+        StreamFault::Write => b"",
+        StreamFault::Memory => b"fault memory\n",
+        StreamFault::Bound => b"fault bound\n",
     }
 }
 
 /// Writes the last line of a program that met a fault, and answers its status. A failed write of
 /// that line changes nothing.
 #[tactic(auto, using(crate::proofs::Ending::nothing))]
-pub(crate) fn end_by<W: Write>(fault: RunFault, output: &mut W) -> u8
+pub(crate) fn end_by<W: Write>(fault: StreamFault, output: &mut W) -> u8
     ensures status { result ≡ 1 }
     ensures line { AppendsPrefix (W.contents output.old) (W.contents output.new)
         (fault_line fault) }

@@ -15,7 +15,7 @@ use Rattle.vac_audit.specs.declared.Flaw.{Flaw}
 use Rattle.vac_audit.specs.declared.audit.AuditFault.{AuditFault}
 use Rattle.vac_audit.specs.declared.audit.AuditFault.TheVariants.{Size, Memory, Flaw as HasOne}
 use Rattle.vac_audit.proofs.Whole.{heap_size}
-use Rattle.vac_script.specs.declared.fault.RunFault.{RunFault}
+use Rattle.vac_streams.specs.declared.fault.StreamFault.{StreamFault}
 use Rattle.vac_script.specs.declared.check.Verdict.{Verdict}
 use Rattle.vac_script.specs.declared.check.Verdict.TheVariants.{Sound, Flawed, BadWords}
 use Rattle.vac_lines.specs.Writing.{AppendsPrefix}
@@ -109,7 +109,7 @@ words_verdict unread left words (Sound report) r j = record { bytes = r.bytes; c
 words_verdict unread left words (Flawed flaw) r j = record { bytes = r.bytes; consumed = r.consumed; ended = r.ended; words = words; words_are = r.words_are; judged = j }
 words_verdict unread left words BadWords r j = record { bytes = r.bytes; consumed = r.consumed; none = inl (r.ended, subst NoHeapOf (sym r.words_are) j) }
 
-pub verdict_of : (unread left : Option (List ℕ)) (words given : List ℕ) (r : Result Verdict RunFault) → ReadWords unread left words → given ≡ words
+pub verdict_of : (unread left : Option (List ℕ)) (words given : List ℕ) (r : Result Verdict StreamFault) → ReadWords unread left words → given ≡ words
     → IfOk r (λ verdict. Judged given verdict) → IfOk r (λ verdict. IsVerdict unread left verdict)
 verdict_of unread left words given (Err fault) read e j = tt
 verdict_of unread left words given (Ok verdict) read e j = words_verdict unread left words verdict read (subst (λ w. Judged w verdict) e j)

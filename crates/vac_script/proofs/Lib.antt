@@ -1,10 +1,7 @@
-pub mod Cutting
-pub mod Progress
 pub mod Running
 pub mod Opening
 pub mod Applying
 pub mod Answering
-pub mod Ending
 pub mod Closing
 pub mod Dumping
 pub mod WordLines

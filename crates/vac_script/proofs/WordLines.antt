@@ -1,18 +1,30 @@
--- How a text is cut into the words of a memory while it is read.
-use Rattle.std.proofs.Common.{◌≡◌, ◌≢◌, ◌⊎◌, ℕ, ◌<◌, ◌≤◌, true, false, cond, List, [], ◌∷◌, ◌++◌, length, take, map, refl, ap, sym, ◌∙◌, inl, inr, arith, append-nil, append_assoc, length-append, length-take-le, eqb, ne_eqb, subst, Option, Some, None, option_map, nat_le, MatchOption}
-use Rattle.std.proofs.lemmas.List.{take_all}
-use Rattle.std.proofs.lemmas.List.Elements.{All-append}
+-- How a text is read as the words of a memory, line by line.
+use Rattle.std.proofs.Common.{◌≡◌, ◌⊎◌, ℕ, ◌<◌, ◌≤◌, true, false, List, [], ◌∷◌, ◌++◌, length, map, refl, ap, sym, ◌∙◌, inl, inr, arith, append-nil, append_assoc, length-append, subst, Option, Some, None, option_map, nat_le, nat_lt, lt-ltb, Result, Ok}
 use Rattle.std.proofs.lemmas.Bool.{cases_lt}
+use Rattle.std.proofs.lemmas.Iterator.Adapters.{option_map_id}
+use Rattle.std.specs.Io.KnownBytes.{IsAtEnd}
 use Rattle.vac_lines.specs.Lines.{lines_of}
 use Rattle.vac_lines.specs.Words.{memory_word_of}
 use Rattle.vac_lines.specs.Memory.{word_before, words_of_lines, memory_words}
 use Rattle.vac_audit.specs.declared.audit.TheConstants.{MOST_HEAP_WORDS}
-use Rattle.vac_script.specs.Script.{HasNoEnd}
-use Rattle.std.specs.Io.KnownBytes.{Consumes, IsAtEnd, Keeps}
-use Rattle.std.proofs.KnownBytes.{Consumes-nil, Consumes-trans, Consumes-kept}
-use Rattle.std.proofs.lemmas.Iterator.Adapters.{option_map_id}
-use Rattle.vac_script.specs.Reading.{NoneOrMany, words_behind, TookLine, RefusedLine, Took, TookNone, TookLast, TookNoLast, ReadWords, ReadNone}
-use Rattle.vac_script.proofs.Cutting.{lines_cut, lines_last, lines_kept}
+use Rattle.vac_streams.specs.declared.fault.StreamFault.{StreamFault}
+use Rattle.vac_streams.specs.declared.next.Next.{Next}
+use Rattle.vac_streams.specs.declared.next.Next.TheVariants.{GoOn, Stop}
+use Rattle.vac_streams.specs.Told.{Told, Line, LongLine, Pause, told_of, told_lines, lines_in}
+use Rattle.vac_streams.specs.Heard.{ToldAll, ToldLast, AreFirst, AreFirstOf, HeardAll, HeardLast, Heard}
+use Rattle.vac_streams.proofs.Telling.{lines_both}
+use Rattle.vac_script.specs.Reading.{NoneOrMany, TookLine, RefusedLine, HearsWord, ReadWords, ReadNone}
+
+-- the word of a line that was told
+abbrev word_told : Told → Option ℕ
+word_told (Line line) = memory_word_of line
+word_told LongLine = None
+word_told Pause = None
+
+-- the words of these, where each is one
+all_words : List (Option ℕ) → Option (List ℕ)
+all_words [] = Some []
+all_words (word ∷ more) = word_before word (all_words more)
 
 -- a line that is too long is no word
 long_word : (line : List ℕ) → 1024 < length line → memory_word_of line ≡ None
@@ -21,175 +33,167 @@ long_word line h =
     let many : nat_le (length line) 20 ≡ false = grind (arith) in
     rw (some, many) refl
 
--- of a line that is too long it matters only that it is
-pub kept_word : (line : List ℕ) → memory_word_of (take 1025 line) ≡ memory_word_of line
-kept_word line =
-    elim (cases_lt 1025 (length line)) [
-      | inl h ↦ let kept : length (take 1025 line) ≡ 1025 = length-take-le 1025 line (omega arith) in long_word (take 1025 line) (omega arith) ∙ sym (long_word line (omega arith))
-      | inr h ↦ ap memory_word_of (take_all 1025 line h)
+one_word : (line : List ℕ) → memory_word_of line ≡ word_told (told_of 1024 line)
+one_word line =
+    elim (cases_lt 1024 (length line)) [
+      | inl h ↦ long_word line h ∙ (rw (lt-ltb 1024 (length line) h) refl)
+      | inr h ↦ let short : nat_lt 1024 (length line) ≡ false = grind (arith) in rw short refl
     ]
 
--- the words of lines, as a map over them
-all_words : List (Option ℕ) → Option (List ℕ)
-all_words [] = Some []
-all_words (word ∷ more) = word_before word (all_words more)
-
-as_map : (lines : List (List ℕ)) → words_of_lines lines ≡ all_words (map memory_word_of lines)
+words_told : (lines : List (List ℕ)) → words_of_lines lines ≡ all_words (map word_told (map (told_of 1024) lines))
 unfolding all_words
-as_map [] = refl
-as_map (line ∷ more) = ap (word_before (memory_word_of line)) (as_map more)
+words_told [] = refl
+words_told (line ∷ more) = ap (λ w. word_before w (words_of_lines more)) (one_word line)
+    ∙ ap (word_before (word_told (told_of 1024 line))) (words_told more)
 
-pub words_kept : (line text : List ℕ) → HasNoEnd line → memory_words (take 1025 line ++ text) ≡ memory_words (line ++ text)
-words_kept line text h =
-    as_map (lines_of (take 1025 line ++ text)) ∙ ap all_words (lines_kept memory_word_of None long_word line text h) ∙ sym (as_map (lines_of (line ++ text)))
+-- the words of what was told
+abbrev words_in : List Told → Option (List ℕ)
+words_in told = all_words (map word_told told)
 
--- a line end is known
-words_cut : (line text : List ℕ) → HasNoEnd line → memory_words (line ++ 10 ∷ text) ≡ word_before (memory_word_of line) (memory_words text)
-words_cut line text h = ap words_of_lines (lines_cut line text h)
+-- these words, and behind them those of what was told
+abbrev behind : List ℕ → List Told → Option (List ℕ)
+behind words told = option_map (λ more. words ++ more) (words_in told)
 
--- the words of a text behind others, where a line end is known
-behind_cut : (words start line behind rest text : List ℕ) → HasNoEnd start → HasNoEnd line → rest ≡ line ++ 10 ∷ behind
-    → words_behind words (start ++ (rest ++ text)) ≡ option_map (λ m. words ++ m) (word_before (memory_word_of (start ++ line)) (memory_words (behind ++ text)))
-behind_cut words start line behind rest text h g e =
-    ap (λ t. words_behind words (start ++ (t ++ text))) e ∙ ap (λ t. words_behind words (start ++ t)) (append_assoc line (10 ∷ behind) text)
-    ∙ ap (words_behind words) (sym (append_assoc start line (10 ∷ (behind ++ text))))
-    ∙ ap (option_map (λ m. words ++ m)) (words_cut (start ++ line) (behind ++ text) (All-append (λ x. x ≢ 10) start line h g))
+some_none : (word : ℕ) → Some word ≡ None → ⊥
+some_none word e = cc
 
 -- a word between others
 between : (words words' : List ℕ) (word : ℕ) (more : Option (List ℕ)) → words' ≡ words ++ word ∷ []
     → option_map (λ m. words ++ m) (word_before (Some word) more) ≡ option_map (λ m. words' ++ m) more
 between words words' word None e = refl
-between words words' word (Some more) e = ap Some (sym (append_assoc words (word ∷ []) more) ∙ ap (λ t. t ++ more) (sym e))
-
-some_none : (word : ℕ) → Some word ≡ None → ⊥
-some_none word e = cc
+between words words' word (Some more) e = ap Some (sym (append_assoc words (word ∷ []) more)
+    ∙ ap (λ t. t ++ more) (sym e))
 
 -- a line that is no word, or one too many
-refused : (words : List ℕ) (word : Option ℕ) (more : Option (List ℕ)) → (word ≡ None) ⊎ (MOST_HEAP_WORDS ≤ length words) → NoneOrMany (option_map (λ m. words ++ m) (word_before word more))
+refused : (words : List ℕ) (word : Option ℕ) (more : Option (List ℕ))
+    → (word ≡ None) ⊎ (MOST_HEAP_WORDS ≤ length words)
+    → NoneOrMany (option_map (λ m. words ++ m) (word_before word more))
 refused words None more h = tt
 refused words (Some word) None h = tt
 refused words (Some word) (Some more) (inl e) = absurd (some_none word e)
 refused words (Some word) (Some more) (inr h) = omega (arith, h, length-append words (word ∷ more))
 
--- of a chunk this rest is still to be taken
-pub record TookTo (first words line0 line chunk rest : List ℕ) : Type 0 where
-  pub same : (x : List ℕ) → words_behind first (line0 ++ (chunk ++ x)) ≡ words_behind words (line ++ (rest ++ x))
-  pub few : length words ≤ MOST_HEAP_WORDS
+-- one more word was taken
+behind_line : (words words' : List ℕ) (line : List ℕ) (more : List Told) → TookLine words words' line
+    → behind words (Line line ∷ more) ≡ behind words' more
+unfolding all_words
+behind_line words words' line more t = ap (λ w. option_map (λ m. words ++ m) (word_before w (words_in more))) t.is
+    ∙ between words words' t.word (words_in more) t.more
 
--- one more line is taken
-pub took_line : (first words words' line0 start after chunk line behind rest : List ℕ) → TookTo first words line0 start chunk rest → HasNoEnd start → HasNoEnd line
-    → rest ≡ line ++ 10 ∷ behind → TookLine words words' (start ++ line) → after ≡ [] → TookTo first words' line0 after chunk behind
-took_line first words words' line0 start after chunk line behind rest t h g e w z = record {
-  same = λ x. t.same x ∙ behind_cut words start line behind rest x h g e ∙ ap (λ o. option_map (λ m. words ++ m) (word_before o (memory_words (behind ++ x)))) w.is
-      ∙ between words words' w.word (memory_words (behind ++ x)) w.more ∙ ap (λ l. words_behind words' (l ++ (behind ++ x))) (sym z);
-  few = w.few;
-}
+-- a line was refused
+refused_line : (words : List ℕ) (line : List ℕ) (more : List Told) → RefusedLine words line
+    → NoneOrMany (behind words (Line line ∷ more))
+unfolding all_words
+refused_line words line more h = refused words (memory_word_of line) (words_in more) h
 
--- a line is refused
-pub took_none : (first words line0 start chunk line behind rest : List ℕ) → TookTo first words line0 start chunk rest → HasNoEnd start → HasNoEnd line
-    → rest ≡ line ++ 10 ∷ behind → RefusedLine words (start ++ line) → TookNone first line0 chunk
-took_none first words line0 start chunk line behind rest t h g e w = λ x.
-    subst NoneOrMany (sym (t.same x ∙ behind_cut words start line behind rest x h g e)) (refused words (memory_word_of (start ++ line)) (memory_words (behind ++ x)) w)
+refused_long : (words : List ℕ) (more : List Told) → NoneOrMany (behind words (LongLine ∷ more))
+unfolding all_words
+refused_long words more = tt
 
--- the rest of the chunk is kept
-pub took_kept : (first words line0 start after chunk rest : List ℕ) → TookTo first words line0 start chunk rest → HasNoEnd start → HasNoEnd rest
-    → after ≡ take 1025 (start ++ rest) → Took first words line0 after chunk
-took_kept first words line0 start after chunk rest t h g k = record {
-  same = λ x. t.same x ∙ ap (words_behind words) (sym (append_assoc start rest x))
-      ∙ ap (option_map (λ m. words ++ m)) (sym (words_kept (start ++ rest) x (All-append (λ y. y ≢ 10) start rest h g)) ∙ ap (λ l. memory_words (l ++ x)) (sym k));
-  few = t.few;
-}
+go_stop : GoOn ≡ Stop → ⊥
+go_stop e = cc
 
--- the words of a last line without its end
-last_is : (line : List ℕ) → HasNoEnd line → 0 < length line → memory_words line ≡ word_before (memory_word_of line) (Some [])
-last_is line h n =
-    let some : eqb (length line) 0 ≡ false = ne_eqb (length line) 0 (λ z. omega arith) in
-    ap words_of_lines (lines_last line h ∙ ap (λ v. cond v [] (line ∷ [])) some)
+-- the words of a whole text
+whole_words : (text : List ℕ) → memory_words text ≡ behind [] (told_lines 1024 text)
+whole_words text = words_told (lines_of text) ∙ sym (option_map_id (words_in (told_lines 1024 text)))
 
--- the last line is refused
-pub last_refused : (words line : List ℕ) → HasNoEnd line → 0 < length line → RefusedLine words (line ++ []) → TookNoLast words line
-last_refused words line h n w =
-    subst NoneOrMany (sym (ap (option_map (λ m. words ++ m)) (last_is line h n)))
-    (refused words (memory_word_of line) (Some []) (subst (RefusedLine words) (append-nil line) w))
+none_behind : (w : List ℕ) → behind w [] ≡ Some w
+unfolding all_words
+none_behind w = ap Some (append-nil w)
 
--- the last line is taken
-pub last_taken : (words words' line : List ℕ) → HasNoEnd line → 0 < length line → TookLine words words' (line ++ []) → TookLast words words' line
-last_taken words words' line h n w = record {
-  same = ap (option_map (λ m. words ++ m)) (last_is line h n ∙ ap (λ l. word_before (memory_word_of l) (Some [])) (sym (append-nil line))
-      ∙ ap (λ o. word_before o (Some [])) w.is) ∙ ap Some (sym w.more);
-  few = w.few;
-}
+module _ {S : Type 0} (words : S → List ℕ) where
+  -- these were taken: whatever follows, the words are the same
+  record Taken (x : S) (lines : List Told) (y : S) : Type 0 where
+    pub same : (more : List Told) → behind (words x) (lines ++ more) ≡ behind (words y) more
+    pub few : length (words x) ≤ MOST_HEAP_WORDS → length (words y) ≤ MOST_HEAP_WORDS
 
--- some bytes were read: whatever follows, the words are those that were taken, and those behind the line that has begun
-pub record TextRead (unread left : Option (List ℕ)) (words line : List ℕ) : Type 0 where
-  pub bytes : List ℕ
-  pub consumed : Consumes unread left bytes
-  pub same : (x : List ℕ) → memory_words (bytes ++ x) ≡ words_behind words (line ++ x)
-  pub few : length words ≤ MOST_HEAP_WORDS
+  taken_line : (x : S) (line : List ℕ) (lines : List Told) (u y : S) → TookLine (words x) (words u) line
+      → Taken u lines y → Taken x (Line line ∷ lines) y
+  taken_line x line lines u y t r = record {
+    same = λ more. behind_line (words x) (words u) line (lines ++ more) t ∙ r.same more;
+    few = λ h. r.few t.few;
+  }
 
--- nothing was read
-pub read_first : (unread : Option (List ℕ)) (words line : List ℕ) → words ≡ [] → line ≡ [] → TextRead unread unread words line
-read_first unread words line e f = record {
-  bytes = [];
-  consumed = Consumes-nil unread;
-  same = λ x. sym (ap (λ w. words_behind w (line ++ x)) e ∙ ap (λ l. words_behind [] (l ++ x)) f ∙ option_map_id (memory_words x));
-  few = omega (arith, ap length e);
-}
+  taken_pause : (x : S) (lines : List Told) (u y : S) → words u ≡ words x → Taken u lines y → Taken x lines y
+  taken_pause x lines u y e r = record {
+    same = λ more. ap (λ w. behind w (lines ++ more)) (sym e) ∙ r.same more;
+    few = λ h. r.few (subst (λ w. length w ≤ MOST_HEAP_WORDS) (sym e) h);
+  }
 
--- a chunk was read and taken
-pub read_on : (unread left now : Option (List ℕ)) (words words' line line' chunk : List ℕ) → TextRead unread left words line → Consumes left now chunk
-    → Took words words' line line' chunk → TextRead unread now words' line'
-read_on unread left now words words' line line' chunk p c t = record {
-  bytes = p.bytes ++ chunk;
-  consumed = Consumes-trans unread left now p.bytes chunk p.consumed c;
-  same = λ x. ap memory_words (append_assoc p.bytes chunk x) ∙ p.same (chunk ++ x) ∙ t.same x;
-  few = t.few;
-}
+module _ {S O : Type 0} (words : S → List ℕ) where
+  abbrev hears : S → O → Told → Result Next StreamFault → S → O → Type 0
+  hears x o told answer y p = HearsWord (words x) told answer (words y)
 
--- nothing more was read
-pub read_kept : (unread left now : Option (List ℕ)) (words line : List ℕ) → TextRead unread left words line → Keeps left now → TextRead unread now words line
-read_kept unread left now words line p k = record {
-  bytes = p.bytes;
-  consumed = Consumes-kept unread left now p.bytes p.consumed k;
-  same = p.same;
-  few = p.few;
-}
+  taken_told : (x : S) (o : O) (told : List Told) (y : S) (p : O) → ToldAll hears x o told y p
+      → Taken words x (lines_in told) y
+  taken_told x o [] y p h = subst (λ z. Taken words x [] z) (sym h.0) (record { same = λ more. refl; few = λ f. f })
+  taken_told x o (Line line ∷ told) y p h = taken_line words x line (lines_in told) h.0 y h.2
+      (taken_told h.0 h.1 told y p h.3)
+  taken_told x o (LongLine ∷ told) y p h = absurd (go_stop h.2)
+  taken_told x o (Pause ∷ told) y p h = taken_pause words x (lines_in told) h.0 y h.2.1
+      (taken_told h.0 h.1 told y p h.3)
 
--- a chunk was read and refused
-pub read_refused : (unread left now : Option (List ℕ)) (words line chunk : List ℕ) → TextRead unread left words line → Consumes left now chunk
-    → TookNone words line chunk → ReadNone unread now
-read_refused unread left now words line chunk p c t = record {
-  bytes = p.bytes ++ chunk;
-  consumed = Consumes-trans unread left now p.bytes chunk p.consumed c;
-  none = inr (λ x. subst NoneOrMany (sym (ap memory_words (append_assoc p.bytes chunk x) ∙ p.same (chunk ++ x))) (t x));
-}
+  -- the input was read to its end
+  pub read_words : (unread left : Option (List ℕ)) (x : S) (o : O) (y : S) (p : O) → words x ≡ []
+      → HeardAll hears 1024 unread left x o y p → ReadWords unread left (words y)
+  read_words unread left x o y p e h =
+      let t = taken_told x o h.told y p h.heard in
+      record {
+        bytes = h.bytes;
+        consumed = h.consumed;
+        ended = h.ended;
+        words_are = whole_words h.bytes ∙ ap (λ w. behind w (told_lines 1024 h.bytes)) (sym e)
+            ∙ ap (behind (words x)) (sym h.lines ∙ sym (append-nil (lines_in h.told))) ∙ t.same []
+            ∙ none_behind (words y);
+        few = t.few (omega (arith, ap length e));
+      }
 
--- the words of all that was read
-whole_is : (unread left : Option (List ℕ)) (words line : List ℕ) (p : TextRead unread left words line) → memory_words p.bytes ≡ words_behind words line
-whole_is unread left words line p = ap memory_words (sym (append-nil p.bytes)) ∙ p.same [] ∙ ap (words_behind words) (append-nil line)
+  -- the last line that was told is refused, whatever follows
+  stopped : (u : S) (q : O) (last : Told) (y : S) (p : O) (more : List Told) → hears u q last (Ok Stop) y p
+      → NoneOrMany (behind (words u) (lines_in (last ∷ []) ++ more))
+  stopped u q (Line line) y p more h = refused_line (words u) line more h
+  stopped u q LongLine y p more h = refused_long (words u) more
+  stopped u q Pause y p more h = absurd (go_stop (sym h.0))
 
--- the input was read to its end
-pub read_ended : (unread left now : Option (List ℕ)) (words words' line : List ℕ) → TextRead unread left words line → Consumes left now [] → IsAtEnd now
-    → TookLast words words' line → ReadWords unread now words'
-read_ended unread left now words words' line p c e t = record {
-  bytes = p.bytes;
-  consumed = subst (Consumes unread now) (append-nil p.bytes) (Consumes-trans unread left now p.bytes [] p.consumed c);
-  ended = e;
-  words_are = whole_is unread left words line p ∙ t.same;
-  few = t.few;
-}
+  no_words : (x : S) (o : O) (told : List Told) (y : S) (p : O) (more : List Told)
+      → ToldLast hears x o told (Ok Stop) y p → NoneOrMany (behind (words x) (lines_in told ++ more))
+  no_words x o told y p more h =
+      let t = taken_told x o h.before h.sink h.output h.first in
+      let lines : lines_in told ++ more ≡ lines_in h.before ++ (lines_in (h.last ∷ []) ++ more) =
+      ap (λ l. lines_in l ++ more) h.all ∙ ap (λ l. l ++ more) (lines_both h.before (h.last ∷ []))
+      ∙ append_assoc (lines_in h.before) (lines_in (h.last ∷ [])) more in
+      subst NoneOrMany (sym (ap (behind (words x)) lines ∙ t.same (lines_in (h.last ∷ []) ++ more)))
+      (stopped h.sink h.output h.last y p more h.then)
 
--- the input was read to its end, and its last line is refused
-pub read_end_refused : (unread left now : Option (List ℕ)) (words line : List ℕ) → TextRead unread left words line → Consumes left now [] → IsAtEnd now
-    → TookNoLast words line → ReadNone unread now
-read_end_refused unread left now words line p c e t = record {
-  bytes = p.bytes;
-  consumed = subst (Consumes unread now) (append-nil p.bytes) (Consumes-trans unread left now p.bytes [] p.consumed c);
-  none = inl (e, subst NoneOrMany (sym (whole_is unread left words line p)) t);
-}
+  none_of : (x : S) (o : O) (told : List Told) (y : S) (p : O) (text : List ℕ) → words x ≡ []
+      → ToldLast hears x o told (Ok Stop) y p → AreFirst 1024 (lines_in told) text → NoneOrMany (memory_words text)
+  none_of x o told y p text e h f =
+      subst NoneOrMany (sym (whole_words text ∙ ap (λ w. behind w (told_lines 1024 text)) (sym e)
+      ∙ ap (behind (words x)) f.1)) (no_words x o told y p f.0 h)
 
--- the input was read to its end: its words are there, or its last line is refused
-pub read_finished : {V : Type 0} (items : V → List ℕ) (found : Option V) (unread left now : Option (List ℕ)) (words line : List ℕ) → TextRead unread left words line → Consumes left now [] → IsAtEnd now
-    → MatchOption found (TookNoLast words line) (λ v. TookLast words (items v) line) → MatchOption found (ReadNone unread now) (λ v. ReadWords unread now (items v))
-read_finished items None unread left now words line p c e t = read_end_refused unread left now words line p c e t
-read_finished items (Some v) unread left now words line p c e t = read_ended unread left now words (items v) line p c e t
+  none_of_first : (x : S) (o : O) (told : List Told) (y : S) (p : O) (bytes : List ℕ) (left : Option (List ℕ))
+      → words x ≡ [] → ToldLast hears x o told (Ok Stop) y p → AreFirstOf 1024 (lines_in told) bytes left
+      → (IsAtEnd left × NoneOrMany (memory_words bytes)) ⊎ ((x : List ℕ) → NoneOrMany (memory_words (bytes ++ x)))
+  none_of_first x o told y p bytes left e h (inl f) = inl (f.0, none_of x o told y p bytes e h f.1)
+  none_of_first x o told y p bytes left e h (inr f) = inr (λ z. none_of x o told y p (bytes ++ z) e h (f z))
+
+  -- the reading ended at a line that is refused
+  pub read_none : (unread left : Option (List ℕ)) (x : S) (o : O) (y : S) (p : O) → words x ≡ []
+      → HeardLast hears 1024 (Ok Stop) unread left x o y p → ReadNone unread left
+  read_none unread left x o y p e h = record {
+    bytes = h.bytes;
+    consumed = h.consumed;
+    none = none_of_first x o h.told
+        y p h.bytes left e h.heard h.first;
+  }
+
+  -- what was read, by what the reading answered
+  pub words_heard : (next : Next) (unread left : Option (List ℕ)) (x : S) (o : O) (y : S) (p : O) → next ≡ GoOn
+      → words x ≡ [] → Heard hears 1024 (Ok next) unread left x o y p → ReadWords unread left (words y)
+  words_heard next unread left x o y p e n h = read_words unread left x o y p n
+      (subst (λ z. Heard hears 1024 (Ok z) unread left x o y p) e h)
+
+  pub none_heard : (next : Next) (unread left : Option (List ℕ)) (x : S) (o : O) (y : S) (p : O) → next ≡ Stop
+      → words x ≡ [] → Heard hears 1024 (Ok next) unread left x o y p → ReadNone unread left
+  none_heard next unread left x o y p e n h = read_none unread left x o y p n
+      (subst (λ z. Heard hears 1024 (Ok z) unread left x o y p) e h)

@@ -1,18 +1,19 @@
 -- What reading the words of a memory answers, as a function of all its bytes.
-use Rattle.std.specs.Prelude.{◌≡◌, ℕ, ◌<◌, ◌≤◌, ◌⊎◌, ⊤, Option, Some, None, List, [], ◌∷◌, ◌++◌, length, option_map}
+use Rattle.std.specs.Prelude.{◌≡◌, ℕ, ◌<◌, ◌≤◌, ◌⊎◌, ⊤, Option, Some, None, Result, Ok, Err}
+use Rattle.std.specs.Prelude.{List, [], ◌∷◌, ◌++◌, length}
 use Rattle.std.specs.Io.KnownBytes.{Consumes, IsAtEnd}
 use Rattle.vac_lines.specs.Words.{memory_word_of}
 use Rattle.vac_lines.specs.Memory.{memory_words}
 use Rattle.vac_audit.specs.declared.audit.TheConstants.{MOST_HEAP_WORDS}
+use Rattle.vac_streams.specs.declared.fault.StreamFault.{StreamFault}
+use Rattle.vac_streams.specs.declared.next.Next.{Next}
+use Rattle.vac_streams.specs.declared.next.Next.TheVariants.{GoOn, Stop}
+use Rattle.vac_streams.specs.Told.{Told, Line, LongLine, Pause}
 
 -- there are no words, or more than a memory has
 abbrev pub NoneOrMany : Option (List ℕ) → Type 0
 NoneOrMany None = ⊤
 NoneOrMany (Some words) = MOST_HEAP_WORDS < length words
-
--- these words, and behind them those of a text
-abbrev pub words_behind : List ℕ → List ℕ → Option (List ℕ)
-words_behind words text = option_map (λ more. words ++ more) (memory_words text)
 
 -- the input was read to its end, and these are its words
 pub record ReadWords (unread left : Option (List ℕ)) (words : List ℕ) : Type 0 where
@@ -40,22 +41,12 @@ pub record TookLine (words words' line : List ℕ) : Type 0 where
 abbrev pub RefusedLine : List ℕ → List ℕ → Type 0
 RefusedLine words line = (memory_word_of line ≡ None) ⊎ (MOST_HEAP_WORDS ≤ length words)
 
--- some lines were taken: whatever follows the chunk, the words are the same
-pub record Took (words words' line line' chunk : List ℕ) : Type 0 where
-  pub same : (x : List ℕ) →
-      words_behind words (line ++ (chunk ++ x)) ≡ words_behind words' (line' ++ x)
-  pub few : length words' ≤ MOST_HEAP_WORDS
-
--- whatever follows the chunk, there are no words, or too many
-abbrev pub TookNone : List ℕ → List ℕ → List ℕ → Type 0
-TookNone words line chunk =
-    (x : List ℕ) → NoneOrMany (words_behind words (line ++ (chunk ++ x)))
-
--- the last line was taken
-pub record TookLast (words words' line : List ℕ) : Type 0 where
-  pub same : words_behind words line ≡ Some words'
-  pub few : length words' ≤ MOST_HEAP_WORDS
-
--- the last line was refused
-abbrev pub TookNoLast : List ℕ → List ℕ → Type 0
-TookNoLast words line = NoneOrMany (words_behind words line)
+-- what being told a line makes of the words: it is one more; or they are no memory's
+abbrev pub HearsWord : List ℕ → Told → Result Next StreamFault → List ℕ → Type 0
+HearsWord words (Line line) (Ok GoOn) words' = TookLine words words' line
+HearsWord words (Line line) (Ok Stop) words' = RefusedLine words line
+HearsWord words (Line line) (Err fault) words' = ⊤
+HearsWord words LongLine (Ok next) words' = next ≡ Stop
+HearsWord words LongLine (Err fault) words' = ⊤
+HearsWord words Pause (Ok next) words' = (next ≡ GoOn) × (words' ≡ words)
+HearsWord words Pause (Err fault) words' = ⊤

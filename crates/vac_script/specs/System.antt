@@ -1,6 +1,6 @@
 -- A manager with its one client, and what running lines on it does. What is said of a state holds
 -- of each state to which the client's records lead: there is one.
-use Rattle.std.specs.Prelude.{◌≡◌, ◌≤◌, ◌+◌, ℕ, List, [], ◌++◌, length, Result, Option}
+use Rattle.std.specs.Prelude.{◌≡◌, ◌≤◌, ◌+◌, ℕ, List, ◌++◌, Result, Option}
 use Rattle.std.specs.Io.KnownBytes.{Appends, Consumes, IsAtEnd}
 use Rattle.vac_model.specs.State.{State, empty_state}
 use Rattle.vac_model.specs.declared.tasks.Task.{Task}
@@ -11,7 +11,6 @@ use Rattle.vac_manager.specs.Legal.{IsHistory, capacity_of}
 use Rattle.vac_manager.specs.Called.{HasAllGrants}
 use Rattle.vac_manager.specs.Session.{SessionShown, IsOwn}
 use Rattle.vac_script.specs.declared.system.TheConstants.{LAST_VERSION}
-use Rattle.vac_script.specs.Script.{pending, leaves, LeavesSame}
 
 -- the client is alone: it has all grants. The clock ends at the last version that there is
 pub record IsAlone (y : SessionShown) : Type 0 where
@@ -55,53 +54,6 @@ pub record Answered (y y' : SessionShown) (out out' : List ℕ) (line : Result T
 pub record AnsweredInPart (y : SessionShown) (out out' : List ℕ) (line : Result Task LineFault) :
     Type 0 where
   pub text : (s : State) → StandsAt y s → Extends out' (out ++ (answer s line).1)
-
--- a chunk was run: whatever follows it, what is in the output and what is still to be written are
--- together the same, and so is the state that is left; the clock ticked once a byte at most
-pub record Ran (y y' : SessionShown) (line line' out out' chunk : List ℕ) : Type 0 where
-  pub on : (s : State) → StandsAt y s → (t : State) × StandsAt y' t
-      × ((x : List ℕ) → out ++ pending s line (chunk ++ x) ≡ out' ++ pending t line' x)
-      × LeavesSame s line chunk t line'
-  pub goes : GoesOnBy y y' (length chunk)
-
--- whatever follows the chunk, the output is a prefix of what is to be written
-pub record RanInPart (y : SessionShown) (line out out' chunk : List ℕ) : Type 0 where
-  pub on : (s : State) → StandsAt y s → (x : List ℕ)
-      → Extends out' (out ++ pending s line (chunk ++ x))
-
--- a chunk was run, and its output was written; the clock ticked once a byte at most
-pub record Wrote (y y' : SessionShown) (line line' chunk : List ℕ) (held holds : Option (List ℕ)) :
-    Type 0 where
-  pub text : List ℕ
-  pub written : Appends held holds text
-  pub on : (s : State) → StandsAt y s → (t : State) × StandsAt y' t
-      × ((x : List ℕ) → pending s line (chunk ++ x) ≡ text ++ pending t line' x)
-      × LeavesSame s line chunk t line'
-  pub goes : GoesOnBy y y' (length chunk)
-
--- a prefix of the output was written, whatever follows the chunk
-pub record WroteInPart (y : SessionShown) (line chunk : List ℕ) (held holds : Option (List ℕ)) :
-    Type 0 where
-  pub text : List ℕ
-  pub written : Appends held holds text
-  pub on : (s : State) → StandsAt y s → (x : List ℕ) → Extends text (pending s line (chunk ++ x))
-
--- the rest of the output was written, and the system stands at the state that is left; it is the
--- same manager
-pub record WroteEnd (y y' : SessionShown) (line : List ℕ) (held holds : Option (List ℕ)) :
-    Type 0 where
-  pub text : List ℕ
-  pub written : Appends held holds text
-  pub on : (s : State) → StandsAt y s →
-      (text ≡ pending s line []) × StandsAt y' (leaves s line [])
-  pub same : y'.manager ≡ y.manager
-
--- a prefix of the rest was written
-pub record WroteEndInPart (y : SessionShown) (line : List ℕ) (held holds : Option (List ℕ)) :
-    Type 0 where
-  pub text : List ℕ
-  pub written : Appends held holds text
-  pub on : (s : State) → StandsAt y s → Extends text (pending s line [])
 
 -- the input was read to its end, its script output was written, and the system stands at the state
 -- that the script leaves

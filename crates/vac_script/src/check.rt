@@ -1,19 +1,18 @@
 //! The audit of words that are read as text.
 
-ghost use Rattle.std.specs.Prelude.{◌≡◌, ◌≢◌, ◌++◌, OnOk, OnErr, IfOk, IfErr};
-ghost use Rattle.vac_script.specs.declared.fault.RunFault.TheVariants.{Busy, Spent};
+ghost use Rattle.std.specs.Prelude.{◌≡◌, ◌++◌, OnOk, OnErr, IfOk};
 ghost use Rattle.vac_script.specs.Check.{flaw_name, flaw_text, verdict_text, is_sound};
 ghost use Rattle.vac_script.specs.Check.{Judged, IsVerdict, Checked, CheckStopped};
 ghost use Rattle.vac_audit.specs.Laws.{word_of};
 ghost use Rattle.vac_lines.specs.Script.{as_line};
 
-use crate::fault::RunFault;
 use crate::memory::read_memory;
 use std::alloc::{AllocError, Global};
 use std::io::{Read, Write};
 use vac_audit::{AuditFault, Flaw, audit_words};
 use vac_lines::{print_reply, write_and_flush};
 use vac_model::{Reply, Report};
+use vac_streams::StreamFault;
 
 /// What is said of a text of words.
 #[derive(Clone, Copy)]
@@ -92,26 +91,22 @@ fn is_sound(verdict: Verdict) -> bool
 }
 
 /// Audits words.
-fn judge(alloc: Global, words: &[u64]) -> Result<Verdict, RunFault>
-    ensures judged { IfOk result (λ verdict. Judged words.now verdict) }
-    ensures not_busy { IfErr result (λ fault. fault ≢ Busy) }
-    ensures not_spent { IfErr result (λ fault. fault ≢ Spent) }
+fn judge(alloc: Global, words: &[u64]) -> Result<Verdict, StreamFault>
+    ensures { IfOk result (λ verdict. Judged words.now verdict) }
 {
     match audit_words(alloc, words) {
         Ok(report) => Ok(Verdict::Sound(report)),
         Err(AuditFault::Flaw(flaw)) => Ok(Verdict::Flawed(flaw)),
         Err(AuditFault::Size) => Ok(Verdict::BadWords),
-        Err(AuditFault::Memory) => Err(RunFault::Memory),
+        Err(AuditFault::Memory) => Err(StreamFault::Memory),
     }
 }
 
 /// Reads words and audits them.
 #[tactic(auto, using(crate::proofs::Checking::no_words, crate::proofs::Checking::verdict_of))]
-fn read_verdict<R: Read>(alloc: Global, input: &mut R) -> Result<Verdict, RunFault>
-    ensures ok { IfOk result (λ verdict.
+fn read_verdict<R: Read>(alloc: Global, input: &mut R) -> Result<Verdict, StreamFault>
+    ensures { IfOk result (λ verdict.
         IsVerdict (R.remaining input.old) (R.remaining input.new) verdict) }
-    ensures not_busy { IfErr result (λ fault. fault ≢ Busy) }
-    ensures not_spent { IfErr result (λ fault. fault ≢ Spent) }
 {
     match read_memory(alloc, input)? {
         None => Ok(Verdict::BadWords),
@@ -131,14 +126,12 @@ pub fn check_words<R: Read, W: Write>(
     alloc: Global,
     input: &mut R,
     output: &mut W,
-) -> Result<bool, RunFault>
+) -> Result<bool, StreamFault>
     ensures ok { IfOk result (λ sound. Checked sound
         (R.remaining input.old) (R.remaining input.new)
         (W.contents output.old) (W.contents output.new)) }
     ensures err { OnErr result (CheckStopped (R.remaining input.old) (R.remaining input.new)
         (W.contents output.old) (W.contents output.new)) }
-    ensures not_busy { IfErr result (λ fault. fault ≢ Busy) }
-    ensures not_spent { IfErr result (λ fault. fault ≢ Spent) }
 {
     let verdict = read_verdict(alloc, input)?;
     let mut line = Vec::new(alloc);

@@ -1,20 +1,19 @@
 //! Dumps: the words of the memory that a script leaves, one a line.
 
-ghost use Rattle.std.specs.Prelude.{◌≡◌, ◌≢◌, true, OnOk, OnErr, IfErr};
+ghost use Rattle.std.specs.Prelude.{◌≡◌, true, OnOk, OnErr};
 ghost use Rattle.std.specs.Io.KnownBytes.{Appends};
 ghost use Rattle.vac_model.specs.Ranges.{is_block_count};
 ghost use Rattle.vac_lines.specs.Memory.{dump_text};
-ghost use Rattle.vac_script.specs.declared.fault.RunFault.TheVariants.{Busy, Spent};
 ghost use Rattle.vac_lines.specs.Writing.{AppendsPrefix};
 ghost use Rattle.vac_script.specs.Dump.{Dumped, DumpStopped};
 
-use crate::fault::RunFault;
 use crate::script::run_input;
 use crate::system::{System, close, open};
 use std::alloc::Global;
 use std::io;
 use std::io::{Read, Write};
-use vac_lines::{CHUNK_BYTES, print_word, write_all, write_and_flush};
+use vac_lines::print_word;
+use vac_streams::{StreamFault, send_chunk, send_rest};
 
 /// Runs a script for a system of so many blocks, 1 to 262,144, and dumps its memory: reads the
 /// lines to the end of the input, writes no reply, closes the system and writes its words in
@@ -26,15 +25,13 @@ pub fn dump_script<R: Read, W: Write>(
     blocks: u32,
     input: &mut R,
     output: &mut W,
-) -> Result<(), RunFault>
+) -> Result<(), StreamFault>
     requires { is_block_count blocks ≡ true }
     ensures ok { OnOk result (Dumped blocks (R.remaining input.old) (R.remaining input.new)
         (W.contents output.old) (W.contents output.new)) }
     ensures err { OnErr result (DumpStopped blocks
         (R.remaining input.old) (R.remaining input.new)
         (W.contents output.old) (W.contents output.new)) }
-    ensures not_busy { IfErr result (λ fault. fault ≢ Busy) }
-    ensures not_spent { IfErr result (λ fault. fault ≢ Spent) }
 {
     let mut replies = io::sink();
     let (manager, client) = open(alloc, blocks)?;
@@ -44,22 +41,16 @@ pub fn dump_script<R: Read, W: Write>(
 }
 
 /// Writes words in order, each in decimal on a line of its own.
-fn write_words<W: Write>(alloc: Global, words: &[u64], output: &mut W) -> Result<(), RunFault>
+fn write_words<W: Write>(alloc: Global, words: &[u64], output: &mut W) -> Result<(), StreamFault>
     ensures ok { OnOk result
         (Appends (W.contents output.old) (W.contents output.new) (dump_text words.now)) }
     ensures err { OnErr result
         (AppendsPrefix (W.contents output.old) (W.contents output.new) (dump_text words.now)) }
-    ensures not_busy { IfErr result (λ fault. fault ≢ Busy) }
-    ensures not_spent { IfErr result (λ fault. fault ≢ Spent) }
 {
     let mut text = Vec::new(alloc);
     for word in words {
         print_word(*word, &mut text)?;
-        if text.len() >= CHUNK_BYTES {
-            write_all(output, text.as_slice())?;
-            text.clear();
-        }
+        send_chunk(output, &mut text)?;
     }
-    write_and_flush(output, text.as_slice())?;
-    Ok(())
+    send_rest(output, text.as_slice())
 }

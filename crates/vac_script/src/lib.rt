@@ -3,12 +3,10 @@
 
 mod check;
 mod dump;
-mod fault;
 mod memory;
 mod script;
 mod system;
 
 pub use check::check_words;
 pub use dump::dump_script;
-pub use fault::RunFault;
 pub use script::run_script;

@@ -1,42 +1,28 @@
 //! Running a script: lines in, output lines out.
 
-ghost use Rattle.std.specs.Prelude.{◌≡◌, ◌≢◌, ◌≤◌, ◌+◌, [], ◌++◌, length, take, true};
-ghost use Rattle.std.specs.Prelude.{OnOk, OnErr, IfOk, IfErr};
-ghost use Rattle.std.specs.Io.KnownBytes.{Appends};
-ghost use Rattle.vac_model.specs.State.{State};
+ghost use Rattle.std.specs.Prelude.{◌≡◌, ◌≤◌, true, OnOk, OnErr, IfOk, IfErr, IsErr, []};
 ghost use Rattle.vac_model.specs.Ranges.{is_block_count, is_task};
 ghost use Rattle.vac_manager.specs.Called.{HasAllGrants};
 ghost use Rattle.vac_manager.specs.Legal.{capacity_of};
-ghost use Rattle.vac_lines.specs.Text.{Extends};
 ghost use Rattle.vac_lines.specs.LineTable.{line_task};
-ghost use Rattle.vac_script.specs.declared.fault.RunFault.TheVariants.{Busy, Memory, Spent, Write};
-ghost use Rattle.vac_script.specs.System.{StandsAt, Answered, AnsweredInPart, Ran, RanInPart};
-ghost use Rattle.vac_script.specs.System.{Wrote, WroteInPart, WroteEnd, WroteEndInPart, RanAll};
-ghost use Rattle.vac_script.specs.System.{IsNew, Lasts};
 ghost use Rattle.vac_lines.specs.Writing.{AppendsPrefix};
-ghost use Rattle.vac_script.specs.Script.{pending, leaves, HasBegun};
+ghost use Rattle.vac_streams.specs.declared.fault.StreamFault.TheVariants.{Memory};
+ghost use Rattle.vac_script.specs.System.{Answered, AnsweredInPart, RanAll, IsNew, Lasts};
 ghost use Rattle.vac_script.specs.Script.{WroteAll, WrotePrefix};
 
-use crate::fault::RunFault;
 use crate::system::{System, open};
 use std::alloc::{AllocError, Global};
-use std::io::{ErrorKind, Read, Write};
-use vac_lines::{
-    CHUNK_BYTES, LINE_BYTES, LineFault, MOST_READS, cut_at, print_fault, print_reply, read_line,
-    write_all,
-};
+use std::io::{Read, Write};
+use vac_lines::{CHUNK_BYTES, LINE_BYTES, LineFault, print_fault, print_reply, read_line};
 use vac_manager::Client;
 use vac_model::Task;
-
-/// How much is kept of a line that has not ended: enough to see that it is too long.
-const KEPT_BYTES: usize = LINE_BYTES + 1;
+use vac_streams::{Next, Sink, StreamFault, read_lines, send_all, send_rest};
 
 /// A script that runs.
 #[derive(Drop)]
 struct Script<'a> {
+    alloc: Global,
     system: System<'a>,
-    /// The line that has begun, up to [`KEPT_BYTES`] of it.
-    line: Vec<u8>,
     /// The output lines that are not yet written.
     out: Vec<u8>,
 }
@@ -46,7 +32,7 @@ fn run_read(
     system: &mut System<'_>,
     read: &Result<Task, LineFault>,
     out: &mut Vec<u8>,
-) -> Result<(), RunFault>
+) -> Result<(), StreamFault>
     requires in_range { IfOk read.now (λ task. is_task task ≡ true) }
     requires lasts { Lasts system.old 1 }
     ensures ok { OnOk result
@@ -72,7 +58,7 @@ fn run_line(
     system: &mut System<'_>,
     line: &[u8],
     out: &mut Vec<u8>,
-) -> Result<(), RunFault>
+) -> Result<(), StreamFault>
     requires lasts { Lasts system.old 1 }
     ensures ok { OnOk result
         (Answered system.old system.new out.old.items out.new.items (line_task line.now)) }
@@ -82,162 +68,63 @@ fn run_line(
 {
     let read = read_line(alloc, line);
     if matches!(read, Err(LineFault::Memory)) {
-        return Err(RunFault::Memory);
+        return Err(StreamFault::Memory);
     }
     run_read(system, &read, out)
 }
 
-/// Keeps what follows of a line that has begun, as far as there is need.
-pub(crate) fn keep_start(line: &mut Vec<u8>, more: &[u8]) -> Result<(), AllocError>
-    requires { length line.old.items ≤ LINE_BYTES + 1 }
-    ensures line { OnOk result
-        (line.new.items ≡ take (LINE_BYTES + 1) (line.old.items ++ more.now)) }
+/// Writes what is at hand before a fault ends the script.
+fn halt<W: Write>(
+    out: &mut Vec<u8>,
+    fault: StreamFault,
+    output: &mut W,
+) -> Result<Next, StreamFault>
+    ensures written { AppendsPrefix (W.contents output.old) (W.contents output.new)
+        out.old.items }
+    ensures err { IsErr result }
 {
-    let room = KEPT_BYTES - line.len();
-    let kept = room.min(more.len());
-    line.extend_from_slice(&more[..kept])
+    send_all(output, out)?;
+    Err(fault)
 }
 
 impl<'a> Script<'a> {
     /// A script of which nothing was read.
     fn new(alloc: Global, system: System<'a>) -> Result<Script<'a>, AllocError>
         ensures system { IfOk result (λ script. script.system ≡ system.entry) }
-        ensures line { IfOk result (λ script. script.line.items ≡ []) }
         ensures out { IfOk result (λ script. script.out.items ≡ []) }
     {
-        let line = Vec::with_capacity(alloc, KEPT_BYTES)?;
         let out = Vec::with_capacity(alloc, CHUNK_BYTES)?;
-        Ok(Script { system, line, out })
+        Ok(Script { alloc, system, out })
     }
+}
 
-    /// Keeps what follows of the line that has begun, as far as there is need.
-    fn keep(&mut self, more: &[u8]) -> Result<(), AllocError>
-        requires { length self.old.line.items ≤ LINE_BYTES + 1 }
-        ensures line { OnOk result
-            (self.new.line.items ≡ take (LINE_BYTES + 1) (self.old.line.items ++ more.now)) }
-        ensures others { self.new ≡ record self.old { line = self.new.line } }
-    {
-        keep_start(&mut self.line, more)
-    }
+impl<'a, W: Write> Sink<W> for Script<'a> {
+    ghost use Rattle.std.specs.Prelude.{◌-◌};
+    ghost use Rattle.vac_script.specs.declared.system.TheConstants.{LAST_VERSION};
+    ghost use Rattle.vac_script.specs.Hearing.{Hears};
 
-    /// Runs the line that has begun, of which this is the rest.
-    fn end_line(&mut self, alloc: Global, rest: &[u8]) -> Result<(), RunFault>
-        requires short { length self.old.line.items ≤ LINE_BYTES + 1 }
-        requires lasts { Lasts self.old.system 1 }
-        ensures ok { OnOk result (Answered self.old.system self.new.system
-            self.old.out.items self.new.out.items (line_task (self.old.line.items ++ rest.now))) }
-        ensures line { OnOk result (self.new.line.items ≡ []) }
-        ensures err { OnErr result (AnsweredInPart self.old.system
-            self.old.out.items self.new.out.items (line_task (self.old.line.items ++ rest.now))) }
-        ensures memory { IfErr result (λ fault. fault ≡ Memory) }
-    {
-        if self.line.is_empty() {
-            return run_line(alloc, &mut self.system, rest, &mut self.out);
+    ghost room = { λ script. LAST_VERSION - script.system.client.value.floor };
+
+    ghost hears = { λ x o told answer y p. Hears x.system x.out.items (W.contents o) told answer
+        y.system y.out.items (W.contents p) };
+
+    fn line(&mut self, line: &[u8], output: &mut W) -> Result<Next, StreamFault> {
+        match run_line(self.alloc, &mut self.system, line, &mut self.out) {
+            Ok(()) => Ok(Next::GoOn),
+            Err(fault) => halt(&mut self.out, fault, output),
         }
-        self.keep(rest)?;
-        run_line(alloc, &mut self.system, self.line.as_slice(), &mut self.out)?;
-        self.line.clear();
-        Ok(())
     }
 
-    /// Runs the lines that end in a chunk of the input, and keeps what follows them.
-    fn feed(&mut self, alloc: Global, chunk: &[u8]) -> Result<(), RunFault>
-        requires begun { HasBegun self.old.line.items }
-        requires lasts { Lasts self.old.system (length chunk.now) }
-        ensures begun { OnOk result (HasBegun self.new.line.items) }
-        ensures ok { OnOk result (Ran self.old.system self.new.system
-            self.old.line.items self.new.line.items
-            self.old.out.items self.new.out.items chunk.now) }
-        ensures err { OnErr result (RanInPart self.old.system
-            self.old.line.items self.old.out.items self.new.out.items chunk.now) }
-        ensures memory { IfErr result (λ fault. fault ≡ Memory) }
-    {
-        let mut rest = chunk;
-        while let Some((line, behind)) = cut_at(b'\n', rest) {
-            self.end_line(alloc, line)?;
-            rest = behind;
+    fn long_line(&mut self, output: &mut W) -> Result<Next, StreamFault> {
+        match run_read(&mut self.system, &Err(LineFault::LongLine), &mut self.out) {
+            Ok(()) => Ok(Next::GoOn),
+            Err(fault) => halt(&mut self.out, fault, output),
         }
-        self.keep(rest)?;
-        Ok(())
     }
 
-    /// Runs the last line, where it has begun and has no end.
-    fn finish(&mut self, alloc: Global) -> Result<(), RunFault>
-        requires begun { HasBegun self.old.line.items }
-        requires lasts { Lasts self.old.system 1 }
-        ensures ok { OnOk result ((s : State) → StandsAt self.old.system s
-            → self.new.out.items ≡ self.old.out.items ++ pending s self.old.line.items []) }
-        ensures state { OnOk result ((s : State) → StandsAt self.old.system s
-            → StandsAt self.new.system (leaves s self.old.line.items [])) }
-        ensures same { OnOk result (self.new.system.manager ≡ self.old.system.manager) }
-        ensures err { OnErr result ((s : State) → StandsAt self.old.system s
-            → Extends self.new.out.items
-            (self.old.out.items ++ pending s self.old.line.items [])) }
-        ensures memory { IfErr result (λ fault. fault ≡ Memory) }
-    {
-        if self.line.is_empty() {
-            return Ok(());
-        }
-        self.end_line(alloc, &[])
-    }
-
-    /// Writes the output lines that are not yet written.
-    fn write_out<W: Write>(&mut self, output: &mut W) -> Result<(), RunFault>
-        ensures ok { OnOk result
-            (Appends (W.contents output.old) (W.contents output.new) self.old.out.items) }
-        ensures empty { OnOk result (self.new.out.items ≡ []) }
-        ensures others { self.new ≡ record self.old { out = self.new.out } }
-        ensures err { OnErr result
-            (AppendsPrefix (W.contents output.old) (W.contents output.new) self.old.out.items) }
-        ensures fault { IfErr result (λ fault. fault ≡ Write) }
-    {
-        write_all(output, self.out.as_slice())?;
-        self.out.clear();
-        Ok(())
-    }
-
-    /// Runs a chunk of the input, and writes the output lines of the lines that end in it.
-    #[tactic(auto, using(crate::proofs::Running::wrote))]
-    fn run_chunk<W: Write>(
-        &mut self,
-        alloc: Global,
-        chunk: &[u8],
-        output: &mut W,
-    ) -> Result<(), RunFault>
-        requires begun { HasBegun self.old.line.items }
-        requires empty { self.old.out.items ≡ [] }
-        requires lasts { Lasts self.old.system (length chunk.now) }
-        ensures begun { OnOk result (HasBegun self.new.line.items) }
-        ensures empty { OnOk result (self.new.out.items ≡ []) }
-        ensures ok { OnOk result (Wrote self.old.system self.new.system
-            self.old.line.items self.new.line.items chunk.now
-            (W.contents output.old) (W.contents output.new)) }
-        ensures err { OnErr result (WroteInPart self.old.system
-            self.old.line.items chunk.now (W.contents output.old) (W.contents output.new)) }
-        ensures not_busy { IfErr result (λ fault. fault ≢ Busy) }
-        ensures not_spent { IfErr result (λ fault. fault ≢ Spent) }
-    {
-        let fed = self.feed(alloc, chunk);
-        self.write_out(output)?;
-        fed
-    }
-
-    /// Runs the end of the input, and writes the rest of the output.
-    fn run_end<W: Write>(&mut self, alloc: Global, output: &mut W) -> Result<(), RunFault>
-        requires begun { HasBegun self.old.line.items }
-        requires empty { self.old.out.items ≡ [] }
-        requires lasts { Lasts self.old.system 1 }
-        ensures ok { OnOk result (WroteEnd self.old.system self.new.system self.old.line.items
-            (W.contents output.old) (W.contents output.new)) }
-        ensures err { OnErr result (WroteEndInPart self.old.system self.old.line.items
-            (W.contents output.old) (W.contents output.new)) }
-        ensures not_busy { IfErr result (λ fault. fault ≢ Busy) }
-        ensures not_spent { IfErr result (λ fault. fault ≢ Spent) }
-    {
-        let finished = self.finish(alloc);
-        self.write_out(output)?;
-        finished?;
-        output.flush().map_err(|_| RunFault::Write)
+    fn pause(&mut self, output: &mut W) -> Result<Next, StreamFault> {
+        send_all(output, &mut self.out)?;
+        Ok(Next::GoOn)
     }
 }
 
@@ -248,7 +135,7 @@ pub(crate) fn run_input<R: Read, W: Write>(
     system: System<'_>,
     input: &mut R,
     output: &mut W,
-) -> Result<Client, RunFault>
+) -> Result<Client, StreamFault>
     requires fresh { IsNew system }
     ensures own { IfOk result (λ client. client.table ≡ system.entry.manager.table) }
     ensures alone { IfOk result (λ client. HasAllGrants client.value) }
@@ -259,27 +146,11 @@ pub(crate) fn run_input<R: Read, W: Write>(
     ensures err { OnErr result (WrotePrefix (capacity_of system.entry.manager)
         (R.remaining input.old) (R.remaining input.new)
         (W.contents output.old) (W.contents output.new)) }
-    ensures not_busy { IfErr result (λ fault. fault ≢ Busy) }
-    ensures not_spent { IfErr result (λ fault. fault ≢ Spent) }
 {
     let mut script = Script::new(alloc, system)?;
-    let mut buffer = vec![in alloc; 0; CHUNK_BYTES]?;
-    let chunk = buffer.as_mut_slice();
-    'reads: for _ in 0..=MOST_READS {
-        match input.read(chunk) {
-            Ok(0) => {
-                script.run_end(alloc, output)?;
-                return Ok(script.system.into_client());
-            }
-            Ok(count) => script.run_chunk(alloc, &chunk[..count], output)?,
-            Err(error) => {
-                if error.kind() != ErrorKind::Interrupted {
-                    return Err(RunFault::Read);
-                }
-            }
-        }
-    }
-    Err(RunFault::Bound)
+    let _next = read_lines(alloc, LINE_BYTES, input, &mut script, output)?;
+    send_rest(output, script.out.as_slice())?;
+    Ok(script.system.into_client())
 }
 
 /// Runs a script for a system of so many blocks: reads its lines to the end of the input and
@@ -292,14 +163,12 @@ pub fn run_script<R: Read, W: Write>(
     blocks: u32,
     input: &mut R,
     output: &mut W,
-) -> Result<(), RunFault>
+) -> Result<(), StreamFault>
     requires { is_block_count blocks ≡ true }
     ensures ok { OnOk result (WroteAll blocks (R.remaining input.old) (R.remaining input.new)
         (W.contents output.old) (W.contents output.new)) }
     ensures err { OnErr result (WrotePrefix blocks (R.remaining input.old) (R.remaining input.new)
         (W.contents output.old) (W.contents output.new)) }
-    ensures not_busy { IfErr result (λ fault. fault ≢ Busy) }
-    ensures not_spent { IfErr result (λ fault. fault ≢ Spent) }
 {
     let (manager, client) = open(alloc, blocks)?;
     run_input(alloc, System::of(&manager, client), input, output)?;

@@ -7,15 +7,15 @@ ghost use Rattle.vac_model.specs.Ranges.{is_block_count, is_task};
 ghost use Rattle.vac_manager.specs.Called.{HasAllGrants};
 ghost use Rattle.vac_manager.specs.Law.{Shows};
 ghost use Rattle.vac_manager.specs.Legal.{IsHistory};
-ghost use Rattle.vac_script.specs.declared.fault.RunFault.TheVariants.{Memory};
+ghost use Rattle.vac_streams.specs.declared.fault.StreamFault.TheVariants.{Memory};
 ghost use Rattle.vac_script.specs.System.{IsAlone, OpensAlone, StandsAt, Lasts, GoesOnBy};
 
-use crate::fault::RunFault;
 use std::alloc::Global;
 use std::marker::Model;
 use stm_region::{RegionFault, VERSION_LIMIT};
 use vac_manager::{Client, Fault, Manager, Session};
 use vac_model::{Reply, Task};
+use vac_streams::StreamFault;
 
 /// The version that the clock ends at: the last one that there is.
 pub(crate) const LAST_VERSION: u64 = VERSION_LIMIT - 1;
@@ -60,7 +60,7 @@ impl<'a> System<'a> {
     /// Runs a task as a transaction and answers its reply. A client that is alone meets no
     /// conflict, and while the clock has a version left it does not end.
     #[tactic(auto, using(crate::proofs::Causes::only_memory))]
-    pub(crate) fn apply(&mut self, task: &Task) -> Result<Reply, RunFault>
+    pub(crate) fn apply(&mut self, task: &Task) -> Result<Reply, StreamFault>
         requires in_range { is_task task.now ≡ true }
         requires lasts { Lasts self.old 1 }
         ensures reply { IfOk result (λ reply. (s : State) → StandsAt self.old s
@@ -72,14 +72,14 @@ impl<'a> System<'a> {
     {
         match self.session.call(task, 1) {
             Ok(reply) => Ok(reply),
-            Err(Fault::Memory) => Err(RunFault::Memory),
+            Err(Fault::Memory) => Err(StreamFault::Memory),
             Err(_) => unreachable!(),
         }
     }
 }
 
 /// Opens a manager without entries, with its one client.
-pub(crate) fn open(alloc: Global, blocks: u32) -> Result<(Manager, Client), RunFault>
+pub(crate) fn open(alloc: Global, blocks: u32) -> Result<(Manager, Client), StreamFault>
     requires { is_block_count blocks ≡ true }
     ensures opened { IfOk result (λ r.
         OpensAlone blocks (record { manager = r.0; client = r.1 })) }
@@ -89,14 +89,14 @@ pub(crate) fn open(alloc: Global, blocks: u32) -> Result<(Manager, Client), RunF
         Ok(opened) => Ok(opened),
         Err(fault) => {
             prove!(fault == Fault::Memory);
-            Err(RunFault::Memory)
+            Err(StreamFault::Memory)
         }
     }
 }
 
 /// Ends a manager with its one client, and answers the words of its memory. That is refused for
 /// want of memory alone.
-pub(crate) fn close(manager: Manager, client: Client) -> Result<Vec<u64>, RunFault>
+pub(crate) fn close(manager: Manager, client: Client) -> Result<Vec<u64>, StreamFault>
     requires own { client.table ≡ manager.table }
     requires alone { HasAllGrants client.value }
     ensures words { IfOk result (λ words. (s : State)
@@ -107,7 +107,7 @@ pub(crate) fn close(manager: Manager, client: Client) -> Result<Vec<u64>, RunFau
         Ok((words, _version)) => Ok(words),
         Err((_, _, fault)) => {
             prove!(fault == RegionFault::Memory);
-            Err(RunFault::Memory)
+            Err(StreamFault::Memory)
         }
     }
 }

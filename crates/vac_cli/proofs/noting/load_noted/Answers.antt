@@ -1,6 +1,6 @@
 use Rattle.std.proofs.Common.{rules, refl, inl, inr, ◌≡◌, ◌≤◌, true, length, arith}
 use Rattle.vac_draws.specs.Setting.{is_settings}
-use Rattle.vac_script.specs.declared.fault.RunFault.TheVariants as run
+use Rattle.vac_streams.specs.declared.fault.StreamFault.TheVariants as stream
 use Rattle.vac_cli.proofs.Journals.{noted, same_clients}
 use Rattle.vac_cli.proofs.LoadEnds.{ended_for_memory, wrote_calls, stopped_calls, few_clients}
 use Rattle.vac_cli.proofs.noting.load_noted.Goals as goal
@@ -39,7 +39,7 @@ returns-in-Ok-write_history g c =
 pub returns-in-Err-Memory : goal.returns-in-Err-Memory
 returns-in-Err-Memory g c =
     let k = c.in-Ok-run_told.loaded.2 in
-    stopped_calls c.args.settings.now k.opening k.clients.items c.end_by.result run.Memory (g.W.Write.contents c.args.output.now) (g.W.Write.contents c.write_history.new.output) (g.W.Write.contents c.end_by.new.output) (search rules) c.end_by.ensures.status
+    stopped_calls c.args.settings.now k.opening k.clients.items c.end_by.result stream.Memory (g.W.Write.contents c.args.output.now) (g.W.Write.contents c.write_history.new.output) (g.W.Write.contents c.end_by.new.output) (search rules) c.end_by.ensures.status
     (noted c.args.settings.now c.in-Ok-run_told.loaded.0 (record { opening = c.new.result; clients = c.in-Ok.clients }) k c.new.ensures.empty c.in-Ok.ensures.empty c.in-Ok-run_told.ensures.kept)
     (search rules) (inl refl) c.end_by.ensures.line
 
@@ -47,6 +47,6 @@ returns-in-Err-Memory g c =
 pub returns : goal.returns
 returns g c =
     let k = c.in-Ok-run_told.loaded.2 in
-    stopped_calls c.args.settings.now k.opening k.clients.items c.end_by-in-Err-Write.result run.Write (g.W.Write.contents c.args.output.now) (g.W.Write.contents c.write_history.new.output) (g.W.Write.contents c.end_by-in-Err-Write.new.output) (search rules) c.end_by-in-Err-Write.ensures.status
+    stopped_calls c.args.settings.now k.opening k.clients.items c.end_by-in-Err-Write.result stream.Write (g.W.Write.contents c.args.output.now) (g.W.Write.contents c.write_history.new.output) (g.W.Write.contents c.end_by-in-Err-Write.new.output) (search rules) c.end_by-in-Err-Write.ensures.status
     (noted c.args.settings.now c.in-Ok-run_told.loaded.0 (record { opening = c.new.result; clients = c.in-Ok.clients }) k c.new.ensures.empty c.in-Ok.ensures.empty c.in-Ok-run_told.ensures.kept)
     (search rules) (inr refl) c.end_by-in-Err-Write.ensures.line

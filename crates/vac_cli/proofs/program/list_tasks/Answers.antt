@@ -1,6 +1,6 @@
 use Rattle.std.proofs.Common.{◌≡◌, true, rules, refl, inl, inr}
 use Rattle.vac_draws.specs.Setting.{is_settings}
-use Rattle.vac_script.specs.declared.fault.RunFault.TheVariants.{Memory, Write}
+use Rattle.vac_streams.specs.declared.fault.StreamFault.TheVariants.{Memory, Write}
 use Rattle.vac_cli.proofs.program.list_tasks.Goals as goal
 
 pub returns-in-Err-Memory : goal.returns-in-Err-Memory

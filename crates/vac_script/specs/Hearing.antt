@@ -1,0 +1,54 @@
+-- What being told a line makes of a script that runs, and of its output.
+use Rattle.std.specs.Prelude.{◌≡◌, ℕ, List, [], ◌++◌, Option, Result, Ok, Err}
+use Rattle.std.specs.Io.KnownBytes.{Appends}
+use Rattle.vac_model.specs.State.{State}
+use Rattle.vac_model.specs.declared.tasks.Task.{Task}
+use Rattle.vac_lines.specs.declared.fault.LineFault.{LineFault}
+use Rattle.vac_lines.specs.declared.fault.LineFault.TheVariants as fault
+use Rattle.vac_lines.specs.LineTable.{line_task}
+use Rattle.vac_lines.specs.Script.{answer}
+use Rattle.vac_lines.specs.Text.{Extends}
+use Rattle.vac_lines.specs.Writing.{AppendsPrefix}
+use Rattle.vac_manager.specs.Session.{SessionShown}
+use Rattle.vac_streams.specs.declared.fault.StreamFault.{StreamFault}
+use Rattle.vac_streams.specs.declared.next.Next.{Next}
+use Rattle.vac_streams.specs.declared.next.Next.TheVariants.{GoOn}
+use Rattle.vac_streams.specs.Told.{Told, Line, LongLine, Pause}
+use Rattle.vac_script.specs.System.{StandsAt, Answered}
+
+-- the task of a line that was told, or its fault; a pause is none
+abbrev pub told_task : Told → Result Task LineFault
+told_task (Line text) = line_task text
+told_task LongLine = Err fault.LongLine
+told_task Pause = Err fault.BadCommand
+
+-- no more was written than what was at hand and a part of the output line
+pub record AnsweredCut (y : SessionShown) (out : List ℕ) (held holds : Option (List ℕ))
+    (line : Result Task LineFault) : Type 0 where
+  pub text : List ℕ
+  pub written : Appends held holds text
+  pub on : (s : State) → StandsAt y s → Extends text (out ++ (answer s line).1)
+
+-- a line was answered and its output line came to hand; or memory was refused, and what was at hand
+-- was written
+abbrev pub HearsLine : SessionShown → List ℕ → Option (List ℕ) → Result Task LineFault
+    → Result Next StreamFault → SessionShown → List ℕ → Option (List ℕ) → Type 0
+HearsLine y out held line (Ok next) y' out' holds =
+    (next ≡ GoOn) × Answered y y' out out' line × (holds ≡ held)
+HearsLine y out held line (Err fault) y' out' holds = AnsweredCut y out held holds line
+
+-- what was at hand was written, or a part of it
+abbrev pub HearsPause : SessionShown → List ℕ → Option (List ℕ)
+    → Result Next StreamFault → SessionShown → List ℕ → Option (List ℕ) → Type 0
+HearsPause y out held (Ok next) y' out' holds =
+    (next ≡ GoOn) × (y' ≡ y) × (out' ≡ []) × Appends held holds out
+HearsPause y out held (Err fault) y' out' holds = AppendsPrefix held holds out
+
+-- what being told this makes of the system, of what is at hand and of the output
+abbrev pub Hears : SessionShown → List ℕ → Option (List ℕ) → Told
+    → Result Next StreamFault → SessionShown → List ℕ → Option (List ℕ) → Type 0
+Hears y out held (Line text) answer y' out' holds =
+    HearsLine y out held (told_task (Line text)) answer y' out' holds
+Hears y out held LongLine answer y' out' holds =
+    HearsLine y out held (told_task LongLine) answer y' out' holds
+Hears y out held Pause answer y' out' holds = HearsPause y out held answer y' out' holds
