@@ -1,5 +1,5 @@
--- Held against the work, a history is legal exactly where it is a legal history in which each client
--- was asked for just its tasks.
+-- Held against the work, a history is legal exactly where it is a legal history in which each
+-- client was asked for just its tasks.
 use Rattle.std.specs.Prelude.{◌≡◌, ◌↔◌, ℕ, ◌==◌, true, false, Ok, List, [], ◌∷◌, ◌++◌, map, if◌then◌else◌}
 use Rattle.vac_model.specs.declared.tasks.Task.{Task}
 use Rattle.vac_lines.specs.Lines.{lines_of}
