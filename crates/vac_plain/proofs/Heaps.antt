@@ -1,5 +1,5 @@
 -- Plain memory that holds a state.
-use Rattle.std.proofs.Common.{List, Option, Some, ap, arith, inl, inr, length, slice_index, subst, sym, unwrap_or, ℕ, ◌∙◌, ◌≡◌, ◌≤◌}
+use Rattle.std.proofs.Common.{List, [], ◌+◌, ◌*◌, Option, Some, ap, arith, inl, inr, length, slice_index, subst, sym, unwrap_or, ℕ, ◌∙◌, ◌≡◌, ◌≤◌}
 use Rattle.std.proofs.lemmas.List.{get_or_past, ext_get_or}
 use Rattle.std.proofs.lemmas.Bool.{cases_lt}
 use Rattle.std.specs.FinMap.{get}
@@ -12,10 +12,11 @@ use Rattle.vac_model.specs.declared.tasks.Task.{Task}
 use Rattle.vac_model.specs.State.{State, empty_state, report}
 use Rattle.vac_model.specs.Run.{run}
 use Rattle.vac_model.proofs.Empty.{empty-small}
-use Rattle.tx_alloc.specs.Pool.{IsEmptyHeap, IsPool, fresh_lists}
+use Rattle.tx_alloc.specs.Pool.{IsPool}
+use Rattle.tx_alloc.specs.Spread.{IsSpreadHeap, spread_lists}
 use Rattle.vac_records.specs.Items.{mem}
-use Rattle.vac_records.specs.Represents.{IsState}
-use Rattle.vac_records.proofs.Fresh.{fresh_state}
+use Rattle.vac_records.specs.Represents.{Represents, IsState}
+use Rattle.vac_records.proofs.Fresh.{spread_state}
 use Rattle.vac_commands.specs.Ran.{IsOutcome}
 use Rattle.vac_tasks.specs.RanTask.{RanTask}
 use Rattle.vac_report.specs.Reported.{Reported}
@@ -40,10 +41,11 @@ under xs image s e h = subst (λ m. IsState m (length image) s) (sym (flat_mem x
 over : (xs image : List ℕ) (s : State) → length image ≡ length xs → IsState (mem (flat_view xs) image) (length image) s → IsStateOf xs s
 over xs image s e h = subst (λ n. IsState (slice_index xs) n s) e (subst (λ m. IsState m (length image) s) (flat_mem xs image e) h)
 
-pub holds_empty : (words heap : List ℕ) (blocks : ℕ) → blocks ≤ 262144 → IsEmptyHeap words blocks
-    → IsPool (λ (a : ℕ). slice_index words a) (length words) (fresh_lists blocks) (λ (x : ℕ). 0) 0 → heap ≡ words → IsStateOf heap (empty_state blocks)
+pub holds_empty : (words heap : List ℕ) (blocks : ℕ) → blocks ≤ 262144 → IsSpreadHeap words blocks
+    → IsPool (λ (a : ℕ). slice_index words a) (length words) (spread_lists blocks) (λ (x : ℕ). 0) 0 → heap ≡ words →
+    IsStateOf heap (empty_state blocks)
 holds_empty words heap blocks few empty pool e = subst (λ w. IsStateOf w (empty_state blocks)) (sym e) (record {
-  represents = fresh_state words blocks empty pool;
+  represents = spread_state words blocks empty pool;
   small = empty-small blocks few;
 })
 
@@ -67,20 +69,26 @@ report_is xs ys r said s h =
     let stands = (flat_seen ys).1 in
     said.is image s stands.sees (under xs image s (stands.size ∙ said.reads.kept.size) h)
 
--- the words of an empty heap
-pub fresh_holds : (xs : List ℕ) (blocks : ℕ) → blocks ≤ 262144 → IsEmptyHeap xs blocks →
-    IsPool (λ (a : ℕ). slice_index xs a) (length xs) (fresh_lists blocks) (λ (x : ℕ). 0) 0 → HoldsState (flat_view xs)
-fresh_holds xs blocks few heap pool = record {
-  inside = omega (arith, heap.size);
-  small = omega (arith, heap.size);
+-- words that represent the state with no entries
+pub free_holds : (xs : List ℕ) (blocks : ℕ) → blocks ≤ 262144 → length xs ≡ 16 + 8 * blocks →
+    Represents (λ (a : ℕ). slice_index xs a) (length xs) [] (empty_state blocks) → HoldsState (flat_view xs)
+free_holds xs blocks few size free = record {
+  inside = omega (arith, size);
+  small = omega (arith, size);
   under = λ image i. (
     empty_state blocks,
     rw (flat_mem xs image i.sees.fits, i.sees.fits) (record {
-      represents = fresh_state xs blocks heap pool;
+      represents = free;
       small = empty-small blocks few;
     }),
   );
 }
+
+-- the words of an empty heap
+pub spread_holds : (xs : List ℕ) (blocks : ℕ) → blocks ≤ 262144 → IsSpreadHeap xs blocks →
+    IsPool (λ (a : ℕ). slice_index xs a) (length xs) (spread_lists blocks) (λ (x : ℕ). 0) 0 →
+    HoldsState (flat_view xs)
+spread_holds xs blocks few heap pool = free_holds xs blocks few heap.size (spread_state xs blocks heap pool)
 
 -- the memory after a task holds a state
 pub held_task : (s s' : View) (t : Task) (r : Reply) → RanTask s s' t r → HoldsState s → HoldsState s'

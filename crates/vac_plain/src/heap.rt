@@ -12,7 +12,7 @@ ghost use Rattle.vac_plain.specs.PlainState.{IsStateOf};
 use std::alloc::{AllocError, Global};
 use std::marker::Model;
 use stm_words::Flat;
-use tx_alloc::{FreeList, fresh_words};
+use tx_alloc::{FreeList, spread_words};
 use vac_model::limits::MOST_BLOCKS;
 use vac_model::{Reply, Report, Task};
 use vac_report::report;
@@ -43,7 +43,7 @@ impl Heap {
         requires most { blocks ≤ MOST_BLOCKS }
         ensures { IfOk result (λ heap. IsStateOf heap (empty_state blocks)) }
     {
-        let words = fresh_words(alloc, blocks as usize)?;
+        let words = spread_words(alloc, blocks as usize)?;
         let memory = Flat::new(words);
         Ok(Heap { memory })
     }
