@@ -1,5 +1,5 @@
 -- What is found at the start is found of all calls.
-use Rattle.std.proofs.Common.{◌≡◌, ℕ, ◌+◌, ◌≤◌, suc, Bool, false, cond, List, [], ◌∷◌, refl, ap, ◌∙◌, subst, arith, nat_lt}
+use Rattle.std.proofs.Common.{◌≡◌, sym, ℕ, ◌+◌, ◌≤◌, suc, Bool, false, cond, List, [], ◌∷◌, refl, ap, ◌∙◌, subst, arith, nat_lt}
 use Rattle.std.proofs.lemmas.Bool.Decides.{nat_tests}
 use Rattle.vac_model.specs.State.{State, empty_state}
 use Rattle.vac_judge.specs.Call.{Call}
@@ -7,14 +7,15 @@ use Rattle.vac_order.specs.declared.calls.Calls.{Calls}
 use Rattle.vac_order.specs.declared.point.Point.{Point}
 use Rattle.vac_order.specs.declared.walk.Finding.{Finding}
 use Rattle.vac_order.specs.declared.walk.Finding.TheVariants as finding
-use Rattle.vac_order.specs.Orders.{IsLinearizable}
+use Rattle.vac_order.specs.Orders.{IsMerge, IsLinearizable}
 use Rattle.vac_order.specs.Configurations.{Configuration, start, answered, PlacesAtMost, Deepest}
-use Rattle.vac_order.specs.Walk.{IsWhole, Completes}
+use Rattle.vac_order.specs.Walk.{IsTimed, IsWhole, Completes}
 use Rattle.vac_order.specs.Walking.{Places, Finds}
 use Rattle.vac_order.specs.Marks.{is_made}
 use Rattle.vac_order.specs.Calls.{calls_of, rest_of}
 use Rattle.vac_order.specs.Point.{point_at, point_views}
-use Rattle.vac_order.specs.Judging.{calls_at, Judges}
+use Rattle.vac_order.specs.Judging.{calls_at, Judges, JudgesLines}
+use Rattle.vac_order.proofs.Clients.{each_order, turn_order}
 use Rattle.vac_order.proofs.Completing.{linearization_of, completes_start}
 
 none_made : (made : ℕ → Bool) (i : ℕ) (cs : List Call) → ((p : ℕ) → made p ≡ false) → rest_of made i cs ≡ cs
@@ -58,3 +59,22 @@ judges state calls point n w e f g (finding.NoOrder most world) h =
     let bound = subst (λ (x : Configuration). PlacesAtMost (answered x.rest) most x) (at_start state calls point n e f g) h.1 in
     record { none = none_order n most cs at w deepest bound; deepest = deepest; bound = bound }
 judges state calls point n w e f g (finding.Unknown most) h = subst (λ x. Places x most) (at_start state calls point n e f g) h
+
+-- calls that are kept in another way are whole
+pub whole_kept : (calls kept : List Call) → IsMerge calls kept → IsWhole calls → IsWhole kept
+whole_kept calls kept m w = record { turn = turn_order calls kept m w.turn; last = w.last; timed = each_order (IsTimed w.last) calls kept m w.timed }
+
+-- and what is found of them is found of the calls as they are given
+pub judges_kept : {W : Type 0} (at : W → Configuration) (n : ℕ) (calls kept : List Call) → IsMerge calls kept → (found : Finding W) → Judges at n kept found
+    → JudgesLines n calls kept found
+judges_kept at n calls kept m (finding.Order places) h = record {
+  orders = record { left = h.orders.left; merges = λ k. h.orders.merges k ∙ m k; never = h.orders.never };
+  linearization = h.linearization;
+}
+judges_kept at n calls kept m (finding.NoOrder most world) h =
+    λ l. h.none (record {
+      order = l.order;
+      orders = record { left = l.orders.left; merges = λ k. l.orders.merges k ∙ sym (m k); never = l.orders.never };
+      linearization = l.linearization;
+    })
+judges_kept at n calls kept m (finding.Unknown most) h = tt

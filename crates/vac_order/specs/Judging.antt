@@ -1,5 +1,5 @@
 -- What is found of the calls of a history.
-use Rattle.std.specs.Prelude.{ℕ, List, map, get_or}
+use Rattle.std.specs.Prelude.{⊤, ℕ, List, map, get_or}
 use Rattle.vac_judge.specs.Call.{Call}
 use Rattle.vac_judge.specs.Laws.{IsLinearization}
 use Rattle.vac_order.specs.declared.walk.Finding.{Finding}
@@ -30,3 +30,15 @@ abbrev pub Judges : {W : Type 0} → (W → Configuration) → ℕ → List Call
 Judges at n calls (finding.Order places) = IsLinearizedBy n calls places.items
 Judges at n calls (finding.NoOrder most world) = HasNoOrder n calls most (at world)
 Judges at n calls (finding.Unknown most) = Places (start n calls) most
+
+-- these of the kept calls are an order of all that is a linearization, for a system of n blocks
+pub record IsOrderedBy (n : ℕ) (calls kept : List Call) (places : List ℕ) : Type 0 where
+  pub orders : IsOrderOf calls (calls_at kept places)
+  pub linearization : IsLinearization n (calls_at kept places)
+
+-- what is found of calls, as they are given and as they are kept: an order that is a linearization,
+-- or that there is none
+abbrev pub JudgesLines : {W : Type 0} → ℕ → List Call → List Call → Finding W → Type 0
+JudgesLines n calls kept (finding.Order places) = IsOrderedBy n calls kept places.items
+JudgesLines n calls kept (finding.NoOrder most world) = IsLinearizable n calls → ⊥
+JudgesLines n calls kept (finding.Unknown most) = ⊤

@@ -18,7 +18,7 @@ mod world;
 pub use calls::Calls;
 pub use line::Line;
 pub use machine::Machine;
-pub use order::judge_order;
+pub use order::{Ordered, judge_lines, judge_order};
 pub use point::Point;
 pub use stuck::{Stuck, stuck_calls};
 pub use walk::{Finding, find_order};
