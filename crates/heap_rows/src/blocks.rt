@@ -5,7 +5,9 @@ ghost use Rattle.tx_alloc.specs.Pool.{HasPool};
 use std::alloc::{AllocError, Global};
 use std::test::Fail;
 use stm_words::{Addr, Flat, TxMem};
-use tx_alloc::{Block, FreeList, fresh_words, give, rows_are_a_map, take};
+use tx_alloc::{
+    Block, FreeList, fresh_words, give, rows_are_a_map, spread_words, take, take_refilling,
+};
 
 /// The words that are not 0, with their places.
 fn filled(alloc: Global, words: &[u64]) -> Result<Vec<(usize, u64)>, AllocError> {
@@ -125,5 +127,153 @@ fn the_search_goes_round_and_ends(rt: HostRuntime) -> Result<(), Fail> {
         FreeList::new(0),
     );
     assert_eq!(rt; taken, [Some(Block(Addr(24))), Some(Block(Addr(16))), None]);
+    Ok(())
+}
+
+/// Whether these are the words that are not 0 of a heap whose lists have a piece of it each.
+fn has_pieces(alloc: Global, blocks: usize, expected: &[(usize, u64)]) -> Result<bool, AllocError>
+    requires some { 1 ≤ blocks }
+    requires few { blocks ≤ 10 }
+{
+    let words = spread_words(alloc, blocks)?;
+    let found = filled(alloc, &words)?;
+    Ok(words.len() == 16 + 8 * blocks && found.as_slice() == expected)
+}
+
+#[test]
+fn words_of_heaps_in_pieces(rt: HostRuntime) -> Result<(), Fail> {
+    let one = [(8, 16)];
+    let seven = [
+        (8, 16),
+        (9, 24),
+        (10, 32),
+        (11, 40),
+        (12, 48),
+        (13, 56),
+        (14, 64),
+    ];
+    let eight = [
+        (8, 16),
+        (9, 24),
+        (10, 32),
+        (11, 40),
+        (12, 48),
+        (13, 56),
+        (14, 64),
+        (15, 72),
+    ];
+    let nine = [
+        (8, 16),
+        (9, 32),
+        (10, 40),
+        (11, 48),
+        (12, 56),
+        (13, 64),
+        (14, 72),
+        (15, 80),
+        (16, 24),
+    ];
+    let ten = [
+        (8, 16),
+        (9, 32),
+        (10, 48),
+        (11, 56),
+        (12, 64),
+        (13, 72),
+        (14, 80),
+        (15, 88),
+        (16, 24),
+        (32, 40),
+    ];
+    let found = [
+        has_pieces(rt.alloc(), 1, &one)?,
+        has_pieces(rt.alloc(), 7, &seven)?,
+        has_pieces(rt.alloc(), 8, &eight)?,
+        has_pieces(rt.alloc(), 9, &nine)?,
+        has_pieces(rt.alloc(), 10, &ten)?,
+    ];
+    assert_eq!(rt; found, [true; 5]);
+    Ok(())
+}
+
+/// Takes so many blocks for one list, and answers the last one.
+fn take_many<M: TxMem>(memory: &mut M, start: FreeList, many: u32) -> Result<Option<Block>, M::Stop>
+    requires pool { HasPool (M.view memory.old) }
+    ensures origin { M.origin memory.new ≡ M.origin memory.old }
+    ensures pool { IfOk result (λ _. HasPool (M.view memory.new)) }
+{
+    let mut last = None;
+    for _ in 0..many {
+        last = take_refilling(memory, start)?;
+    }
+    Ok(last)
+}
+
+/// Takes a block for each of the lists below this one.
+fn take_of_each<M: TxMem>(memory: &mut M, lists: u32) -> Result<(), M::Stop>
+    requires pool { HasPool (M.view memory.old) }
+    requires lists { lists ≤ 8 }
+    ensures origin { M.origin memory.new ≡ M.origin memory.old }
+    ensures pool { IfOk result (λ _. HasPool (M.view memory.new)) }
+{
+    for list in 0..lists {
+        take_refilling(memory, FreeList::new(list))?;
+    }
+    Ok(())
+}
+
+/// List 1 has three blocks: the first is taken, and the two others are list 0.
+#[test]
+fn a_dry_list_gets_what_is_behind_the_block(rt: HostRuntime) -> Result<(), Fail> {
+    let words = spread_words(rt.alloc(), 24)?;
+    let mut flat = Flat::new(words);
+    let Ok(own) = take_many(&mut flat, FreeList::new(0), 3);
+    let Ok(next) = take_many(&mut flat, FreeList::new(0), 1);
+    let words = flat.words();
+    let places = [8, 9, 10, 32, 40, 48, 56, 64, 80];
+    let found = places.map(|place| words.get(place).copied());
+    let lists = [48u64, 0, 64, 0, 48, 56, 0, 72, 0].map(Some);
+    assert_eq!(rt; (own, next), (Some(Block(Addr(32))), Some(Block(Addr(40)))));
+    assert_eq!(rt; found, lists);
+    Ok(())
+}
+
+/// Each list has 66 blocks. List 7 is dry, and list 0 follows it: its first block is taken, the
+/// next 63 are list 7, and the last two stay.
+#[test]
+fn a_run_has_sixty_four_blocks(rt: HostRuntime) -> Result<(), Fail> {
+    let words = spread_words(rt.alloc(), 528)?;
+    let mut flat = Flat::new(words);
+    let Ok(own) = take_many(&mut flat, FreeList::new(7), 66);
+    let Ok(next) = take_many(&mut flat, FreeList::new(7), 1);
+    let words = flat.words();
+    let places = [8, 9, 15, 24, 512, 520, 528, 536];
+    let found = places.map(|place| words.get(place).copied());
+    let lists = [528u64, 544, 24, 32, 520, 0, 536, 0].map(Some);
+    assert_eq!(rt;
+        (own, next),
+        (Some(Block(Addr(4232))), Some(Block(Addr(16))))
+    );
+    assert_eq!(rt; found, lists);
+    Ok(())
+}
+
+/// A block is found in the last list that is looked at, and one that is the last of all leaves
+/// none.
+#[test]
+fn the_last_list_and_the_last_block(rt: HostRuntime) -> Result<(), Fail> {
+    let mut eight = Flat::new(spread_words(rt.alloc(), 8)?);
+    let Ok(()) = take_of_each(&mut eight, 7);
+    let Ok(last) = take_many(&mut eight, FreeList::new(0), 1);
+    let Ok(none) = take_many(&mut eight, FreeList::new(0), 1);
+    let mut one = Flat::new(spread_words(rt.alloc(), 1)?);
+    let Ok(only) = take_many(&mut one, FreeList::new(3), 1);
+    let Ok(no_more) = take_many(&mut one, FreeList::new(3), 1);
+    let heads_of_eight = filled(rt.alloc(), &eight.words())?;
+    let heads_of_one = filled(rt.alloc(), &one.words())?;
+    let blocks = [last, none, only, no_more];
+    let expected = [Some(Block(Addr(72))), None, Some(Block(Addr(16))), None];
+    assert_eq!(rt; blocks, expected);
+    assert_eq!(rt; (heads_of_eight.len(), heads_of_one.len()), (0, 0));
     Ok(())
 }
