@@ -6,8 +6,9 @@ use Rattle.stm_core.specs.Event.{opener}
 use Rattle.stm_region.specs.Shown.{RegionShown, ClientShown}
 use Rattle.stm_region.specs.Closed.{Ends}
 use Rattle.vac_model.specs.State.{empty_state}
-use Rattle.tx_alloc.specs.Pool.{IsPool, IsEmptyHeap, fresh_lists}
-use Rattle.vac_records.proofs.Fresh.{fresh_state}
+use Rattle.tx_alloc.specs.Pool.{IsPool}
+use Rattle.tx_alloc.specs.Spread.{IsSpreadHeap, spread_lists}
+use Rattle.vac_records.proofs.Fresh.{spread_state}
 use Rattle.vac_model.proofs.Empty.{empty-balanced}
 use Rattle.vac_manager.specs.Law.{Shows, IsFitting, IsLawful}
 use Rattle.vac_manager.specs.Legal.{capacity_of}
@@ -18,13 +19,13 @@ use Rattle.vac_manager.proofs.Versions.{versioned}
 
 -- the words of a fresh heap, all of whose blocks are free
 pub record IsFresh (words : List ℕ) (n : ℕ) : Type 0 where
-  pub empty : IsEmptyHeap words n
-  pub pool : IsPool (λ (a : ℕ). slice_index words a) (length words) (fresh_lists n) (λ (x : ℕ). 0) 0
+  pub empty : IsSpreadHeap words n
+  pub pool : IsPool (λ (a : ℕ). slice_index words a) (length words) (spread_lists n) (λ (x : ℕ). 0) 0
   pub few : n ≤ 262144
 
 fresh_shows : (xs ys : List ℕ) (n : ℕ) → ys ≡ xs → IsFresh xs n → Shows ys (empty_state n)
 fresh_shows xs ys n e h = subst (λ (zs : List ℕ). Shows zs (empty_state n)) (sym e) (record {
-  represents = fresh_state xs n h.empty h.pool;
+  represents = spread_state xs n h.empty h.pool;
   small = record { balanced = empty-balanced n; small = h.few };
 })
 

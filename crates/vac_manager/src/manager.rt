@@ -21,7 +21,7 @@ use stm_attempt::{Gate, Logs, NoGate};
 use stm_region::{MOST_STRIPES, Region, RegionFault};
 use stm_words::{VERSION_LIMIT, Version};
 use tx_alloc::place::{BLOCK_WORDS, FIRST_BLOCK};
-use tx_alloc::{FreeList, fresh_words};
+use tx_alloc::{FreeList, spread_words};
 use vac_model::limits::{MOST_BLOCKS, MOST_TRIES};
 use vac_model::{Reply, Task};
 
@@ -83,7 +83,7 @@ impl Manager {
         if !(blocks_fit && last_fits && stripes_fit) {
             return Err(Fault::Arguments);
         }
-        let Ok(words) = fresh_words(alloc, blocks as usize) else {
+        let Ok(words) = spread_words(alloc, blocks as usize) else {
             return Err(Fault::Memory);
         };
         let Ok((region, client)) = Region::new(alloc, words.as_slice(), last, stripes) else {

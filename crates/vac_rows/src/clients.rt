@@ -5,14 +5,14 @@ use crate::calls::expect;
 use crate::same::{holds, same};
 use crate::scripts::{
     LAST, Line, add, add_command, audit, cancel, delete, delete_command, drop_customer,
-    new_customer, number, pick, report, reserve, trip, update,
+    drop_flight, new_customer, number, pick, report, reserve, trip, update,
 };
 use std::alloc::Global;
 use std::process::Abort;
 use stm_region::RegionFault;
 use vac_manager::{Client, Manager, Session};
 use vac_model::Joined;
-use vac_model::Kind::{Car, Room};
+use vac_model::Kind::{Car, Flight, Room};
 use vac_model::Reply::{Done, No};
 use vac_model::Why::Full;
 
@@ -126,9 +126,10 @@ fn closed_words(rt: &impl Abort, manager: Manager, client: Client) -> Vec<u64>
     words
 }
 
-/// The second client's entries take their blocks from the second list, blocks 1 and 9, and then
-/// from the next one, which begins with block 2. All that it frees goes to the second list, whose
-/// blocks are at last 9, 1 and 2. Block 0, of the first list, is the first client's.
+/// The second client's entries take their blocks from the second list, blocks 2 and 3, and then
+/// from the next one, which begins with block 4: what is behind it, block 5, is the second list
+/// then. All that it frees goes there, a flight's block too, so that the list is at last blocks 3,
+/// 2, 4 and 5. Block 0, of the first list, is the first client's.
 #[test]
 fn each_client_has_a_list_of_its_own(rt: HostRuntime) {
     let alloc = rt.alloc();
@@ -144,17 +145,22 @@ fn each_client_has_a_list_of_its_own(rt: HostRuntime) {
         (drop_customer!(8), Ok(Done)),
         (delete!(Car, 5, 1), Ok(Done)),
         (drop_customer!(6), Ok(Done)),
+        (add!(Flight, 9, 1, Some(30)), Ok(Done)),
+        (drop_flight!(9), Ok(Done)),
     ];
     expect(&rt, alloc, &mut b, 1, &script);
     expect(&rt, alloc, &mut a, 1, &[(new_customer!(7), Ok(Done))]);
     a.gather(b);
     let client = a.into_client();
     let words = closed_words(&rt, manager, client);
-    let found = [1, 4, 8, 9, 88, 24, 32, 10].map(|place| words.get(place).copied());
-    same(&rt, &found, &[0, 16, 80, 88, 24, 32, 0, 96].map(Some));
+    let found = [1, 2, 4, 8, 9, 40, 32, 48, 56, 10].map(|place| words.get(place).copied());
+    same(&rt, &found, &[0, 0, 16, 24, 40, 32, 48, 56, 0, 0].map(Some));
 }
 
-/// The same of tasks of several commands: an update, a trip and a leave of the second client.
+/// The same of tasks of several commands: an update, a trip and a leave of the second client. What
+/// it asks for takes blocks 2 to 8. Blocks 2, 3 and 4 are a car, a flight and a room, and the list
+/// is at last blocks 5, 8, 7, 6 and 9, since the leave gives the bookings back in the order of
+/// their kinds, and then the customer. The first list has its two blocks still.
 #[test]
 fn tasks_keep_to_the_list_of_their_client(rt: HostRuntime) {
     let alloc = rt.alloc();
@@ -166,18 +172,25 @@ fn tasks_keep_to_the_list_of_their_client(rt: HostRuntime) {
         add_command!(Room, 5, 1, Some(20)),
         delete_command!(Room, 5, 1),
     ];
-    let picks = [pick!(5, 10, None), None, None];
+    let picks = [pick!(5, 10, None), pick!(5, 30, None), pick!(5, 20, None)];
     let script = [
         (Line::Update(&changes), Ok(update(None, None, None))),
-        (Line::Trip(6, &[(Car, 5)]), Ok(trip!(Joined::Added, picks))),
-        (Line::Leave(6), Ok(number!(10))),
+        (add!(Flight, 5, 1, Some(30)), Ok(Done)),
+        (add!(Room, 5, 1, Some(20)), Ok(Done)),
+        (
+            Line::Trip(6, &[(Car, 5), (Flight, 5), (Room, 5)]),
+            Ok(trip!(Joined::Added, picks)),
+        ),
+        (Line::Leave(6), Ok(number!(60))),
     ];
     expect(&rt, alloc, &mut b, 1, &script);
     a.gather(b);
     let client = a.into_client();
     let words = closed_words(&rt, manager, client);
-    let found = [1, 9, 88, 32, 8, 10].map(|place| words.get(place).copied());
-    same(&rt, &found, &[24, 88, 32, 0, 16, 96].map(Some));
+    let places = [1, 2, 3, 8, 16, 9, 56, 80, 72, 64, 88, 10, 13];
+    let found = places.map(|place| words.get(place).copied());
+    let expected = [32, 40, 48, 16, 24, 56, 80, 72, 64, 88, 0, 0, 96];
+    same(&rt, &found, &expected.map(Some));
 }
 
 /// A client that is taken in gives a grant back, to the one that takes it in.
