@@ -56,8 +56,8 @@ def cost_of(crate):
 class Building:
     """The libraries that are left to prove, those that are being proved, and the program above them."""
 
-    def __init__(self, kit, processors):
-        self.kit, self.processors = kit, processors
+    def __init__(self, kit, processors, caller="vacation"):
+        self.kit, self.processors, self.caller = kit, processors, caller
         here = os.getcwd()
         self.program = kit.Crate(here, kit.root_above(here) or here, {})
         self.libraries = self.program.below()
@@ -131,16 +131,15 @@ class Building:
             crate, _ = self.running.pop(future)
             if future.result():
                 done = len(self.left) + len(self.running)
-                print(f"vacation: proved {crate.name}, {done} left", flush=True)
+                print(f"{self.caller}: proved {crate.name}, {done} left", flush=True)
             else:
                 self.failed = True
                 self.tell(crate)
 
-    @staticmethod
-    def tell(crate):
+    def tell(self, crate):
         """What the toolchain said of a crate that is not proved."""
         crate.out.seek(0)
-        print(f"vacation: {crate.name} is not proved\n{crate.out.read()}", flush=True)
+        print(f"{self.caller}: {crate.name} is not proved\n{crate.out.read()}", flush=True)
 
     def prove_libraries(self):
         """Returns whether all libraries are proved."""
