@@ -27,6 +27,8 @@ pub enum Finding<W> {
     /// There is none. The most answered calls have a place in this world, which is so many.
     NoOrder(u64, W),
     /// Neither is known after so many steps. Somewhere so many answered calls had a place.
+    ///
+    /// Not said: that all steps were made, and that nowhere more of them had one.
     Unknown(u64),
 }
 
