@@ -12,7 +12,8 @@ pub record IsReadWhole (unread left : Option (List ℕ)) (bytes : List ℕ) : Ty
   pub at_end : IsAtEnd left
 
 -- the work and the history were read, the verdict on both was written and nothing else, and this
--- says whether the history is legal, and of all the work
+-- says whether it is that the history is legal, and of all the work
+-- Not said: anything of the bytes of a stream of which no contract knows them.
 pub record HasHeld (n : ℕ) (legal : Bool) (tasks tasks_left unread left held holds
     : Option (List ℕ)) : Type 0 where
   pub work : List ℕ
@@ -32,6 +33,7 @@ pub record HasHeldInPart (n : ℕ) (tasks tasks_left unread left held holds : Op
   pub written : AppendsPrefix held holds (held_text (held_verdict n work bytes))
 
 -- a fault ended it: one of the output while the verdict was written, any other before
+-- Not said: which of the faults of reading, of memory and of bounds comes for which cause.
 abbrev pub HasHeldStopped : ℕ → JudgeFault → Option (List ℕ) → Option (List ℕ) → Option (List ℕ)
     → Option (List ℕ) → Option (List ℕ) → Option (List ℕ) → Type 0
 HasHeldStopped n fault.Write tasks tasks_left unread left held holds =

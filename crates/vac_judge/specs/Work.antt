@@ -96,6 +96,8 @@ calls_in earlier (Ok call ∷ rest) = calls_in (call ∷ earlier) rest
 
 -- of a client that was handed so many tasks before, no call asks for a further one, though its
 -- calls were all answered
+-- Not said: that a call was never answered whose line is left out, since it took no effect: its
+-- task is missing. The lines of such calls are to stand in a history that is held against work.
 abbrev pub is_missing : List Call → ℕ → ℕ → Bool
 is_missing calls client before =
     nat_le (made_by client calls) before && not (has_stopped client calls)
@@ -149,7 +151,8 @@ held_text (Foreign line) = as_line (codes "illegal task " ++ decimal line)
 held_text (Missing client number) =
     as_line (codes "illegal missing " ++ decimal client ++ codes " " ++ decimal number)
 
--- whether it is that the history is legal, and of all the work
+-- whether it is that the history is legal, and of all the work but for what comes after a call that
+-- was never answered
 abbrev pub is_whole : HeldVerdict → Bool
 is_whole (Judged verdict) = is_legal verdict
 is_whole _ = false

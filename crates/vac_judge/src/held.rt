@@ -19,7 +19,8 @@ use vac_model::limits::MOST_BLOCKS;
 /// What is said of a history that is held against work. Lines are numbered from 1.
 #[derive(Clone, Copy, Debug, PartialEq, Eq)]
 pub enum HeldVerdict {
-    /// The order decides: where it is legal, so is the history, and it is of all the work.
+    /// The order decides. Where it is legal, the history is of all the work, but for what comes
+    /// after a call that was never answered.
     Judged(Verdict),
     /// This line of the work hands out no task.
     BadTasks { line: u64 },
@@ -97,7 +98,8 @@ pub fn print_held(verdict: &HeldVerdict, out: &mut Vec<u8>) -> Result<(), AllocE
     }
 }
 
-/// Whether a verdict is that a history is legal, and of all the work.
+/// Whether a verdict is that a history is legal, and of all the work, but for what comes after a
+/// call that was never answered.
 fn is_whole(verdict: &HeldVerdict) -> bool
     ensures { result ≡ is_whole verdict.now }
 {
@@ -120,10 +122,13 @@ fn read_all<R: Read>(alloc: Global, input: &mut R) -> Result<Vec<u8>, JudgeFault
 
 /// Judges a history of a system of so many blocks, and holds it against the work that was handed
 /// out, lines `CLIENT LINE`: reads both to their ends, and writes the verdict. Answers whether the
-/// history is legal, and of all the work.
+/// history is legal, and of all the work, but for what comes after a call that was never answered.
+///
+/// Each call that was made is to have its line: where the line of one that was never answered
+/// is left out, its task is missing.
 ///
 /// After a fault of the output a prefix of the verdict's text was written, after any other nothing.
-/// Both texts are in memory whole.
+/// Not said: how much memory it takes; both texts are in it whole.
 pub fn judge_work<V: Read, R: Read, W: Write>(
     alloc: Global,
     blocks: u32,
