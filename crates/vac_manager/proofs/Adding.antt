@@ -202,6 +202,7 @@ finish_commits region region' t r rv n c c0 c1 c2 begun same ended free =
       known = ap (λ (x : ClientShown). x.value.floor) ended ∙ floor1;
       free = free;
       same = same_attempt c1.value c2.value (ap (λ (x : ClientShown). apart x.value) ended);
+      steps = λ _. ap (λ (x : ClientShown). x.value.attempt.steps) ended;
     }
 
 pub finished_last : (region region' : RegionShown) (t : Task) (r : Reply) (rv n : ℕ) (c c0 c1 c2 : ClientShown) → region'.renewal ≡ region.renewal → AreEarlier region.renewal rv c.value.records → IsUnplaced c.value →
