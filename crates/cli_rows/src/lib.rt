@@ -1,5 +1,6 @@
 //! Tests of the load and of the program's calls: scripts, dumps, checks and command lines over
-//! input and output that fail, drawn tasks, and loads of one client and of several that meet.
+//! input and output that fail, drawn tasks, loads of one client and of several that meet, and the
+//! times of a history.
 #![tactic(auto)]
 
 #[cfg(test)]
@@ -13,6 +14,8 @@ mod example;
 #[cfg(test)]
 mod failing;
 #[cfg(test)]
+mod faults;
+#[cfg(test)]
 mod loads;
 #[cfg(test)]
 mod loops;
@@ -22,5 +25,7 @@ mod meetings;
 mod rounds;
 #[cfg(test)]
 mod small_load;
+#[cfg(test)]
+mod stamps;
 #[cfg(test)]
 mod streams;

@@ -1,0 +1,68 @@
+//! The times in a history, by a clock that counts its readings.
+
+use std::cell::Cell;
+use std::io;
+use std::test::Fail;
+use std::time::{Clock, Duration, Instant};
+use stm_words::Version;
+use vac_history::{Journal, write_history};
+use vac_manager::{Keep, Place, Placed};
+use vac_model::{Command, Reply, Task};
+
+/// A clock that shows how often it was read before.
+#[derive(Drop)]
+struct Readings {
+    count: Cell<u64>,
+}
+
+impl Clock for Readings {
+    fn monotonic(&self) -> io::Result<Duration> {
+        let count = self.count.get();
+        self.count.set(count.saturating_add(1));
+        Ok(Duration::from_nanos(count))
+    }
+
+    fn since_1970(&self) -> io::Result<Duration> {
+        Ok(Duration::from_nanos(0))
+    }
+}
+
+/// Keeps a call that made this customer by this version.
+fn keep(journal: &mut Journal<'_, Readings>, id: u32, version: u64) -> Result<(), Fail> {
+    let version = Version::new(version).ok_or("a version")?;
+    let place = Place {
+        renewal: 0,
+        version,
+        wrote: true,
+    };
+    let reply = Reply::Done;
+    journal.begin()?;
+    journal.keep(
+        Task::One(Command::NewCustomer { id }),
+        Placed { reply, place },
+    );
+    Ok(())
+}
+
+/// The start is reading 0. Each call is kept with the reading before it and the one after it.
+#[test]
+fn calls_have_the_readings_around_them(rt: HostRuntime) -> Result<(), Fail> {
+    let clock = Readings {
+        count: Cell::new(0),
+    };
+    let start = Instant::now(&clock).ok();
+    let mut opening = Journal::new(rt.alloc(), &clock, start);
+    let mut client = Journal::new(rt.alloc(), &clock, start);
+    keep(&mut opening, 1, 1)?;
+    keep(&mut client, 2, 3)?;
+    keep(&mut opening, 3, 2)?;
+    let mut clients = Vec::new(rt.alloc());
+    clients.push(client)?;
+    let mut out = Vec::new(rt.alloc());
+    let written = write_history(rt.alloc(), &opening, clients.as_slice(), &mut out).is_ok();
+    let wants = b"0 1 2 newcust 1 -> true\n\
+        0 5 6 newcust 3 -> true\n\
+        1 3 4 newcust 2 -> true\n";
+    assert_eq!(rt; (written, out.as_slice()), (true, wants.as_slice()));
+    Ok(())
+}
