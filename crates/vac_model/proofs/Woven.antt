@@ -12,8 +12,9 @@ use Rattle.std.specs.declared.alloc.Global.{Global}
 use Rattle.std.proofs.lemmas.List.Sums.{sum_by-cons, sum_by-append}
 use Rattle.vac_model.proofs.Views.{entries-empty}
 use Rattle.vac_model.proofs.Sums.{first, second, find_below, sum-insert, sum-remove, remove_missing, len_pushed, len_inserted, len_removed}
+use Rattle.vac_model.specs.declared.tries.Kids.{Kids}
 use Rattle.vac_model.specs.declared.tries.Parts.{Parts}
-use Rattle.vac_model.specs.Tries.{Link, value_in, map_in, spread, first_entry, woven, weave, map_of, TellsEmpty, TellsSame, IsCounted, Holds, child_of, with_child}
+use Rattle.vac_model.specs.Tries.{Link, value_in, map_in, spread, first_entry, woven, weave, map_of, TellsEmpty, TellsSame, IsCounted, Holds, child_of, with_child, parts_of, depth_of, depth_in}
 
 -- the test of two ids of one digit, and of two digits
 same_ids : (q r d : ℕ) → (4 * q + 1 + d == 4 * r + 1 + d) ≡ (q == r)
@@ -237,7 +238,9 @@ module _ {V : Type 0} where
   pub no_parts : weave {V = V} None fin.empty fin.empty fin.empty fin.empty ≡ fin.empty
   no_parts = fin.same_map nat_cmp_total nat_cmp-IsAntisymmetric _ fin.empty (by_id (λ k. fin.get (weave {V = V} None fin.empty fin.empty fin.empty fin.empty) k ≡ fin.get (fin.empty {R = nat_cmp}) k)
       (at_none None fin.empty fin.empty fin.empty fin.empty ∙ sym (fin.get-empty nat_cmp 0))
-      (λ q d l. at_digit (record { value = None; zero = None; one = None; two = None; three = None }) d q l ∙ by_digit (λ d. fin.get (map_in (child_of {V = V} (record { value = None; zero = None; one = None; two = None; three = None }) d)) q ≡ fin.get (fin.empty {R = nat_cmp}) q) refl refl refl refl d l
+      (λ q d l. by_digit (λ d. fin.get (weave {V = V} None fin.empty fin.empty fin.empty fin.empty) (4 * q + 1 + d) ≡ fin.get (fin.empty {R = nat_cmp}) q)
+      (at_zero None fin.empty fin.empty fin.empty fin.empty q) (at_one None fin.empty fin.empty fin.empty fin.empty q)
+      (at_two None fin.empty fin.empty fin.empty fin.empty q) (at_three None fin.empty fin.empty fin.empty fin.empty q) d l
       ∙ fin.get-empty nat_cmp q ∙ sym (fin.get-empty nat_cmp (4 * q + 1 + d))))
 
   pub put_first : (m : FinMap nat_cmp V) (p : Parts V) (x : Rc V Global) (k : ℕ) → k ≡ 0 → map_of p ≡ m → map_of (record p { value = Some x }) ≡ fin.insert m k x.value
@@ -265,7 +268,7 @@ module _ {V : Type 0} where
       ∙ ap (λ i. fin.remove (map_of p) i) (id_parts k n) ∙ ap (λ i. fin.remove i k) e
 
   -- a child of a map that is empty is empty
-  empty_child : (p : Parts V) → map_of p ≡ fin.empty → (d : ℕ) → d < 4 → map_in (child_of p d) ≡ fin.empty
+  pub empty_child : (p : Parts V) → map_of p ≡ fin.empty → (d : ℕ) → d < 4 → map_in (child_of p d) ≡ fin.empty
   empty_child p e d l = fin.same_map nat_cmp_total nat_cmp-IsAntisymmetric (map_in (child_of p d)) fin.empty (λ q. sym (at_digit p d q l) ∙ ap (λ n. fin.get n (4 * q + 1 + d)) e ∙ fin.get-empty nat_cmp (4 * q + 1 + d) ∙ sym (fin.get-empty nat_cmp q))
 
   none_some : (x : V) → None ≡ Some x → ⊥
@@ -437,3 +440,34 @@ module _ {V : Type 0} where
             let sums = sum-remove nat_cmp_total nat_cmp-IsAntisymmetric f m k y e in
             (omega (arith, c, h, shorter), omega (arith, c, h, sums), (omega (arith, c, h, shorter), omega (arith, c, h, sums)))
       ] refl h
+
+  -- the value of an id above 0, by the digit's map
+  pub get_kid : (m : FinMap nat_cmp V) (v : Option (Rc V Global)) (k : Kids V) (id : ℕ) → id ≢ 0 → m ≡ map_of (parts_of v k)
+      → fin.get (map_in (child_of (parts_of None k) ((id - 1) % 4))) ((id - 1) / 4) ≡ fin.get m id
+  get_kid m v k id n e =
+      sym (at_digit (parts_of None k) ((id - 1) % 4) ((id - 1) / 4) (digit_less (id - 1)))
+      ∙ ap (fin.get (map_of (parts_of None k))) (id_parts id n) ∙ other_value id n ∙ ap (λ w. fin.get w id) (sym e)
+    where
+      other_value : (id : ℕ) → id ≢ 0 → fin.get (map_of (parts_of None k)) id ≡ fin.get (map_of (parts_of v k)) id
+      other_value id n =
+          ap (fin.get (map_of (parts_of None k))) (sym (id_parts id n))
+          ∙ at_digit (parts_of None k) ((id - 1) % 4) ((id - 1) / 4) (digit_less (id - 1))
+          ∙ by_digit (λ d. fin.get (map_in (child_of (parts_of None k) d)) ((id - 1) / 4) ≡ fin.get (map_in (child_of (parts_of v k) d)) ((id - 1) / 4)) refl refl refl refl ((id - 1) % 4) (digit_less (id - 1))
+          ∙ sym (at_digit (parts_of v k) ((id - 1) % 4) ((id - 1) / 4) (digit_less (id - 1)))
+          ∙ ap (fin.get (map_of (parts_of v k))) (id_parts id n)
+
+  -- the value at 0
+  pub get_first : (m : FinMap nat_cmp V) (v : Option (Rc V Global)) (k : Kids V) → m ≡ map_of (parts_of v k) → value_in v ≡ fin.get m 0
+  get_first m v k e = sym (at_none v (map_in k.zero) (map_in k.one) (map_in k.two) (map_in k.three)) ∙ ap (λ w. fin.get w 0) (sym e)
+
+  -- no value, and four maps with no entry
+  pub four_empty : (a b c e : FinMap nat_cmp V) → a ≡ fin.empty → b ≡ fin.empty → c ≡ fin.empty → e ≡ fin.empty → weave None a b c e ≡ fin.empty
+  four_empty a b c e p q r s = rw (p, q, r, s) no_parts
+
+  -- each digit's map is less deep
+  pub kid_depths : (k : Kids V) → (depth_in k.zero < depth_of k) × (depth_in k.one < depth_of k) × (depth_in k.two < depth_of k) × (depth_in k.three < depth_of k)
+  kid_depths k = (grind arith, grind arith, grind arith, grind arith)
+
+  -- what is not there is not removed
+  pub none_removed : (k : ℕ) → fin.empty ≡ fin.remove (fin.empty {X = V} {R = nat_cmp}) k
+  none_removed k = sym (remove_missing nat_cmp_total nat_cmp-IsAntisymmetric fin.empty k (fin.get-empty nat_cmp k))

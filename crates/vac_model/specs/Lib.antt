@@ -9,3 +9,4 @@ pub mod Laws
 pub mod Code
 pub mod Coded
 pub mod Tries
+pub mod TrieFalls

@@ -7,25 +7,31 @@ use Rattle.std.specs.FinMap.{FinMap}
 use Rattle.std.specs.declared.rc.Rc.{Rc}
 use Rattle.std.specs.declared.alloc.Global.{Global}
 use Rattle.vac_model.specs.declared.tries.Parts.{Parts}
+use Rattle.vac_model.specs.declared.tries.Kids.{Kids}
+use Rattle.vac_model.specs.declared.tries.Node.{Node}
+use Rattle.vac_model.specs.declared.tries.Node.TheVariants.{Empty, Bare, Full}
 
 -- the finite maps of ids
 abbrev pub Ids : Type 0 → Type 0
 Ids V = FinMap nat_cmp V
 
--- a trie that may be missing: its map and its depth
+-- a trie that is shared: its map and its depth
 abbrev pub Link : Type 0 → Type 0
-Link V = Option (Rc (Ids V × ℕ) Global)
+Link V = Rc (Ids V × ℕ) Global
 
 module _ {V : Type 0} where
   -- the map in a link
   abbrev pub map_in : Link V → Ids V
-  map_in None = fin.empty
-  map_in (Some rc) = rc.value.0
+  map_in rc = rc.value.0
 
   -- the depth of a link
   abbrev pub depth_in : Link V → ℕ
-  depth_in None = 0
-  depth_in (Some rc) = rc.value.1
+  depth_in rc = rc.value.1
+
+  -- the map at a root, which may be missing
+  abbrev pub map_at : Option (Link V) → Ids V
+  map_at None = fin.empty
+  map_at (Some rc) = rc.value.0
 
   -- the value in a place
   abbrev pub value_in : Option (Rc V Global) → Option V
@@ -51,13 +57,6 @@ module _ {V : Type 0} where
   abbrev pub weave : Option (Rc V Global) → Ids V → Ids V → Ids V → Ids V → Ids V
   weave v a b c d = fin.from_entries (woven v a b c d)
 
-  -- the map with these parts, and its depth
-  abbrev pub map_and_depth : Option (Rc V Global) → Link V → Link V → Link V → Link V → Ids V × ℕ
-  map_and_depth v a b c d = (
-    weave v (map_in a) (map_in b) (map_in c) (map_in d),
-    1 + max (max (depth_in a) (depth_in b)) (max (depth_in c) (depth_in d)),
-  )
-
   -- the map with these parts
   abbrev pub map_of : Parts V → Ids V
   map_of p = weave p.value (map_in p.zero) (map_in p.one) (map_in p.two) (map_in p.three)
@@ -73,6 +72,33 @@ module _ {V : Type 0} where
       if d == 0 then record p { zero = c }
       else if d == 1 then record p { one = c }
       else if d == 2 then record p { two = c } else record p { three = c }
+
+  -- the parts of a value and the maps of the digits
+  abbrev pub parts_of : Option (Rc V Global) → Kids V → Parts V
+  parts_of v k = record { value = v; zero = k.zero; one = k.one; two = k.two; three = k.three }
+
+  -- one more than the depth of each digit's map
+  abbrev pub depth_of : Kids V → ℕ
+  depth_of k =
+      1 + max (max (depth_in k.zero) (depth_in k.one)) (max (depth_in k.two) (depth_in k.three))
+
+  -- the map and the depth of a node
+  abbrev pub seen : Node V → Ids V × ℕ
+  seen Empty = (fin.empty, 0)
+  seen (Bare k) = (map_of (parts_of None k), depth_of k)
+  seen (Full v k) = (map_of (parts_of (Some v) k), depth_of k)
+
+  -- a node with maps of digits has an entry
+  abbrev pub IsPruned : Node V → Type 0
+  IsPruned Empty = Unit {0}
+  IsPruned (Bare k) = map_of (parts_of None k) ≢ fin.empty
+  IsPruned (Full v k) = map_of (parts_of (Some v) k) ≢ fin.empty
+
+  -- these are the parts of a map that is not empty
+  pub record Shows (t : Ids V × ℕ) (v : Option (Rc V Global)) (k : Kids V) : Type 0 where
+    pub map : t.0 ≡ map_of (parts_of v k)
+    pub full : t.0 ≢ fin.empty
+    pub depth : t.1 ≡ depth_of k
 
 -- whether two are the same
 abbrev pub TellsSame : {A : Type 0} → A → A → Bool → Type 0

@@ -28,15 +28,15 @@ impl<V: Entry> Model for IdMap<V> {
     ghost use Rattle.std.specs.Ordering.{nat_cmp};
     ghost use Rattle.std.specs.FinMap as map;
     ghost use Rattle.std.specs.Coded.{coded_ℕ};
-    ghost use Rattle.vac_model.specs.Tries.{map_in, IsCounted};
+    ghost use Rattle.vac_model.specs.Tries.{map_at, IsCounted};
 
     ghost Value = { map.FinMap nat_cmp V };
 
     ghost coded = { map.code coded_ℕ V.code };
 
-    ghost view = { λ m. map_in m.root };
+    ghost view = { λ m. map_at m.root };
 
-    ghost invariant = { λ m. IsCounted V.weight (map_in m.root) m.len m.weight };
+    ghost invariant = { λ m. IsCounted V.weight (map_at m.root) m.len m.weight };
 }
 
 /// What a map adds up of one id.

@@ -1,12 +1,12 @@
 //! Finite maps of ids that share what they have in common: a trie of four ways, by the digits of an
-//! id from the last. A map is changed by making the nodes on the way to the id anew, and all others
-//! stay shared with the map of before. No trie is empty, so the shape of a map depends on its
-//! entries alone.
+//! id from the last. A map is changed by making the nodes on the way to the id anew; all others stay
+//! shared with the map of before. No node with maps of digits is without an entry, so the shape of a
+//! map depends on its entries alone.
 
-ghost use Rattle.std.specs.Prelude.{◌≡◌, ◌↔◌, ◌+◌, ◌*◌, ◌<◌, ◌^◌, ℕ, IfOk, true, sum_by};
+ghost use Rattle.std.specs.Prelude.{◌≡◌, ◌<◌, ◌^◌, ℕ, None, IfOk, MatchOption, sum_by};
 ghost use Rattle.std.specs.Option.{option_copied};
 ghost use Rattle.std.specs.FinMap as map;
-ghost use Rattle.vac_model.specs.Tries.{map_in, value_in, depth_in, map_of, child_of, with_child, TellsEmpty, TellsSame};
+ghost use Rattle.vac_model.specs.Tries.{map_in, map_at, value_in, map_of, parts_of, child_of, with_child, Shows, TellsEmpty, TellsSame};
 
 use std::alloc::{AllocError, Global};
 use std::marker::Model;
@@ -28,19 +28,35 @@ pub(crate) trait Entry: Sized {
     fn hash(&self) -> u64;
 }
 
-/// The value at 0, and the maps of the ids above 0 by their digit: id `n` is at `(n - 1) / 4` in
-/// the map of the digit `(n - 1) % 4`. Contracts see the map and the depth.
+/// A finite map of ids. Contracts see the map and the depth.
+#[cycle(trie)]
 #[derive(Drop)]
 pub(crate) struct Trie<V> {
-    value: Option<Rc<V>>,
-    zero: Option<Rc<Trie<V>>>,
-    one: Option<Rc<Trie<V>>>,
-    two: Option<Rc<Trie<V>>>,
-    three: Option<Rc<Trie<V>>>,
+    node: Node<V>,
+}
+
+/// No entry; or the value at 0, where there is one, and the maps of the ids above 0.
+#[cycle(trie)]
+#[derive(Drop)]
+enum Node<V> {
+    Empty,
+    Bare(Kids<V>),
+    Full(Rc<V>, Kids<V>),
+}
+
+/// The maps of the ids above 0 by their digit: id `n` is at `(n - 1) / 4` in the map of the digit
+/// `(n - 1) % 4`.
+#[cycle(trie)]
+#[derive(Drop)]
+struct Kids<V> {
+    zero: Rc<Trie<V>>,
+    one: Rc<Trie<V>>,
+    two: Rc<Trie<V>>,
+    three: Rc<Trie<V>>,
 }
 
 impl<V> Model for Trie<V> {
-    ghost use Rattle.std.specs.Prelude.{ℕ, ◌≢◌};
+    ghost use Rattle.std.specs.Prelude.{ℕ};
     ghost use Rattle.std.specs.Ordering.{nat_cmp};
     ghost use Rattle.std.specs.FinMap as map;
     ghost use Rattle.std.specs.Coded.{coded_ℕ, coded×};
@@ -49,26 +65,24 @@ impl<V> Model for Trie<V> {
 
     ghost coded = { coded× (map.code coded_ℕ V.code) coded_ℕ };
 
-    ghost use Rattle.vac_model.specs.Tries.{map_and_depth};
+    ghost use Rattle.vac_model.specs.Tries.{seen, IsPruned};
 
-    ghost view = { λ t. map_and_depth t.value t.zero t.one t.two t.three };
+    ghost view = { λ t. seen t.node };
 
-    ghost invariant = { λ t. (map_and_depth t.value t.zero t.one t.two t.three).0 ≢ map.empty };
+    ghost invariant = { λ t. IsPruned t.node };
 
     ghost size = { λ d. d.1 };
 
-    ghost use Rattle.std.proofs.Common.{arith};
+    ghost use Rattle.vac_model.specs.TrieFalls.{depth_falls};
 
-    ghost size_decreases = { λ a h. Prim.grind arith };
+    ghost size_decreases = { λ a h. depth_falls a.node };
 }
 
-impl<V> Trie<V> {
+impl<V> Kids<V> {
     /// The map of a digit.
-    fn child(&self, digit: u32) -> &Option<Rc<Trie<V>>>
+    fn kid(&self, digit: u32) -> &Rc<Trie<V>>
         requires { digit < 4 }
-        ensures entries { (q : ℕ)
-            → map.get self.now.0 (4 * q + 1 + digit) ≡ map.get (map_in result.now) q }
-        ensures smaller { depth_in result.now < self.now.1 }
+        ensures { result.now ≡ child_of (parts_of None self.now) digit }
     {
         match digit {
             0 => &self.zero,
@@ -77,14 +91,28 @@ impl<V> Trie<V> {
             _ => &self.three,
         }
     }
+}
 
-    /// The value at 0.
-    fn first(&self) -> Option<&V>
-        ensures { option_copied result ≡ map.get self.now.0 0 }
+impl<V> Trie<V> {
+    /// What it is made of, where there is an entry.
+    fn shown(&self) -> Option<(Option<&Rc<V>>, &Kids<V>)>
+        ensures { MatchOption result (self.now.0 ≡ map.empty)
+            (λ s. Shows self.now (option_copied s.0) s.1.now) }
     {
-        match &self.value {
-            Some(value) => Some(value),
-            None => None,
+        match &self.node {
+            Node::Empty => None,
+            Node::Bare(kids) => Some((None, kids)),
+            Node::Full(value, kids) => Some((Some(value), kids)),
+        }
+    }
+
+    /// Whether there is no entry.
+    fn is_empty(&self) -> bool
+        ensures { TellsEmpty self.now.0 result }
+    {
+        match self.shown() {
+            None => true,
+            Some(_) => false,
         }
     }
 
@@ -92,13 +120,16 @@ impl<V> Trie<V> {
     pub(crate) fn get(&self, id: u32) -> Option<&V>
         ensures { option_copied result ≡ map.get self.now.0 id }
     {
+        let Some((value, kids)) = self.shown() else {
+            return None;
+        };
         if id == 0 {
-            return self.first();
+            return match value {
+                Some(value) => Some(value),
+                None => None,
+            };
         }
-        match self.child((id - 1) % 4) {
-            Some(trie) => trie.get((id - 1) / 4),
-            None => None,
-        }
+        kids.kid((id - 1) % 4).get((id - 1) / 4)
     }
 }
 
@@ -106,24 +137,10 @@ impl<V> Trie<V> {
 #[derive(Drop)]
 pub(crate) struct Parts<V> {
     value: Option<Rc<V>>,
-    zero: Option<Rc<Trie<V>>>,
-    one: Option<Rc<Trie<V>>>,
-    two: Option<Rc<Trie<V>>>,
-    three: Option<Rc<Trie<V>>>,
-}
-
-/// Whether there is no entry.
-fn is_none<V>(link: &Option<Rc<Trie<V>>>) -> bool
-    ensures { TellsEmpty (map_in link.now) result }
-{
-    match link {
-        None => true,
-        Some(trie) => {
-            let trie: &Trie<V> = trie;
-            let _ = &trie.value;
-            false
-        }
-    }
+    zero: Rc<Trie<V>>,
+    one: Rc<Trie<V>>,
+    two: Rc<Trie<V>>,
+    three: Rc<Trie<V>>,
 }
 
 impl<V: Drop> Parts<V> {
@@ -134,20 +151,20 @@ impl<V: Drop> Parts<V> {
         if self.value.is_some() {
             return false;
         }
-        if !is_none(&self.zero) {
+        if !self.zero.is_empty() {
             return false;
         }
-        if !is_none(&self.one) {
+        if !self.one.is_empty() {
             return false;
         }
-        if !is_none(&self.two) {
+        if !self.two.is_empty() {
             return false;
         }
-        is_none(&self.three)
+        self.three.is_empty()
     }
 
     /// The map of a digit.
-    fn child(&self, digit: u32) -> &Option<Rc<Trie<V>>>
+    fn child(&self, digit: u32) -> &Rc<Trie<V>>
         requires { digit < 4 }
         ensures { result.now ≡ child_of self.now digit }
     {
@@ -160,7 +177,7 @@ impl<V: Drop> Parts<V> {
     }
 
     /// The parts with another map of a digit.
-    fn with_child(self, digit: u32, child: Option<Rc<Trie<V>>>) -> Parts<V>
+    fn with_child(self, digit: u32, child: Rc<Trie<V>>) -> Parts<V>
         requires { digit < 4 }
         ensures { result ≡ with_child self digit child }
     {
@@ -180,36 +197,44 @@ impl<V: Drop> Parts<V> {
 }
 
 /// The parts of a map, which it shares.
-fn open<V: Drop>(link: &Option<Rc<Trie<V>>>) -> Result<Parts<V>, AllocError>
+fn open<V: Drop>(link: &Rc<Trie<V>>) -> Result<Parts<V>, AllocError>
     ensures { IfOk result (λ p. map_of p ≡ map_in link.now) }
 {
-    match link {
-        None => Ok(Parts {
+    let Some((value, kids)) = link.shown() else {
+        return Ok(Parts {
             value: None,
-            zero: None,
-            one: None,
-            two: None,
-            three: None,
-        }),
-        Some(trie) => {
-            let trie: &Trie<V> = trie;
-            Ok(Parts {
-                value: trie.value.clone()?,
-                zero: trie.zero.clone()?,
-                one: trie.one.clone()?,
-                two: trie.two.clone()?,
-                three: trie.three.clone()?,
-            })
-        }
+            zero: link.clone()?,
+            one: link.clone()?,
+            two: link.clone()?,
+            three: link.clone()?,
+        });
+    };
+    let value = shared(value)?;
+    Ok(Parts {
+        value,
+        zero: kids.zero.clone()?,
+        one: kids.one.clone()?,
+        two: kids.two.clone()?,
+        three: kids.three.clone()?,
+    })
+}
+
+/// The same value, which is shared.
+fn shared<V: Drop>(value: Option<&Rc<V>>) -> Result<Option<Rc<V>>, AllocError>
+    ensures { IfOk result (λ v. value_in v ≡ value_in (option_copied value.entry)) }
+{
+    match value {
+        None => Ok(None),
+        Some(value) => Ok(Some(value.clone()?)),
     }
 }
 
 /// The map of these parts.
-fn join<V: Drop>(alloc: Global, parts: Parts<V>) -> Result<Option<Rc<Trie<V>>>, AllocError>
+fn join<V: Drop>(alloc: Global, parts: Parts<V>) -> Result<Rc<Trie<V>>, AllocError>
     ensures { IfOk result (λ t. map_in t ≡ map_of parts) }
 {
     if parts.is_empty() {
-        return Ok(None);
+        return Ok(parts.zero);
     }
     let Parts {
         value,
@@ -218,26 +243,26 @@ fn join<V: Drop>(alloc: Global, parts: Parts<V>) -> Result<Option<Rc<Trie<V>>>, 
         two,
         three,
     } = parts;
-    let trie = Rc::new(
-        alloc,
-        Trie {
-            value,
-            zero,
-            one,
-            two,
-            three,
-        },
-    )?;
-    Ok(Some(trie))
+    let kids = Kids {
+        zero,
+        one,
+        two,
+        three,
+    };
+    let node = match value {
+        None => Node::Bare(kids),
+        Some(value) => Node::Full(value, kids),
+    };
+    Ok(Rc::new(alloc, Trie { node })?)
 }
 
 /// The map in which an id has this value.
-pub(crate) fn put<V: Drop>(
+fn put_in<V: Drop>(
     alloc: Global,
-    link: &Option<Rc<Trie<V>>>,
+    link: &Rc<Trie<V>>,
     id: u32,
     value: Rc<V>,
-) -> Result<Option<Rc<Trie<V>>>, AllocError>
+) -> Result<Rc<Trie<V>>, AllocError>
     ensures { IfOk result (λ t. map_in t ≡ map.insert (map_in link.now) id value.value) }
 {
     let parts = open(link)?;
@@ -251,16 +276,12 @@ pub(crate) fn put<V: Drop>(
         );
     }
     let digit = (id - 1) % 4;
-    let child = put(alloc, parts.child(digit), (id - 1) / 4, value)?;
+    let child = put_in(alloc, parts.child(digit), (id - 1) / 4, value)?;
     join(alloc, parts.with_child(digit, child))
 }
 
 /// The map in which an id has no value.
-pub(crate) fn cut<V: Drop>(
-    alloc: Global,
-    link: &Option<Rc<Trie<V>>>,
-    id: u32,
-) -> Result<Option<Rc<Trie<V>>>, AllocError>
+fn cut_in<V: Drop>(alloc: Global, link: &Rc<Trie<V>>, id: u32) -> Result<Rc<Trie<V>>, AllocError>
     ensures { IfOk result (λ t. map_in t ≡ map.remove (map_in link.now) id) }
 {
     let parts = open(link)?;
@@ -274,7 +295,7 @@ pub(crate) fn cut<V: Drop>(
         );
     }
     let digit = (id - 1) % 4;
-    let child = cut(alloc, parts.child(digit), (id - 1) / 4)?;
+    let child = cut_in(alloc, parts.child(digit), (id - 1) / 4)?;
     join(alloc, parts.with_child(digit, child))
 }
 
@@ -289,28 +310,28 @@ pub(crate) trait Amount<V> {
 }
 
 /// The sum over all values.
-pub(crate) fn total<V, A: Amount<V>>(link: &Option<Rc<Trie<V>>>) -> u64
+fn total_in<V, A: Amount<V>>(link: &Rc<Trie<V>>) -> u64
     requires { sum_by A.amount (map.values (map_in link.now)) < 2 ^ 64 }
     ensures { result ≡ sum_by A.amount (map.values (map_in link.now)) }
 {
-    let Some(trie) = link else {
+    let Some((value, kids)) = link.shown() else {
         return 0;
     };
-    let trie: &Trie<V> = trie;
-    let first = match &trie.value {
+    let first = match value {
         Some(value) => A::amount(value),
         None => 0,
     };
-    let zero = total::<V, A>(&trie.zero);
-    let one = total::<V, A>(&trie.one);
-    let two = total::<V, A>(&trie.two);
-    let three = total::<V, A>(&trie.three);
+    let zero = total_in::<V, A>(&kids.zero);
+    let one = total_in::<V, A>(&kids.one);
+    let two = total_in::<V, A>(&kids.two);
+    let three = total_in::<V, A>(&kids.three);
     first + (zero + (one + (two + three)))
 }
 
 /// Whether two values are the same, or both missing.
-fn is_same_value<V: Entry>(a: &Option<Rc<V>>, b: &Option<Rc<V>>) -> bool
-    ensures { TellsSame (value_in a.now) (value_in b.now) result }
+fn is_same_value<V: Entry>(a: Option<&Rc<V>>, b: Option<&Rc<V>>) -> bool
+    ensures { TellsSame (value_in (option_copied a.entry))
+        (value_in (option_copied b.entry)) result }
 {
     match (a, b) {
         (None, None) => true,
@@ -320,30 +341,83 @@ fn is_same_value<V: Entry>(a: &Option<Rc<V>>, b: &Option<Rc<V>>) -> bool
 }
 
 /// Whether two maps are the same.
-pub(crate) fn is_same<V: Entry>(a: &Option<Rc<Trie<V>>>, b: &Option<Rc<Trie<V>>>) -> bool
+fn is_same_in<V: Entry>(a: &Rc<Trie<V>>, b: &Rc<Trie<V>>) -> bool
     ensures { TellsSame (map_in a.now) (map_in b.now) result }
 {
-    let Some(x) = a else {
-        return is_none(b);
+    let Some((x, p)) = a.shown() else {
+        return b.is_empty();
     };
-    let Some(y) = b else {
-        return is_none(a);
+    let Some((y, q)) = b.shown() else {
+        return a.is_empty();
     };
-    let x: &Trie<V> = x;
-    let y: &Trie<V> = y;
-    if !is_same_value(&x.value, &y.value) {
+    if !is_same_value(x, y) {
         return false;
     }
-    if !is_same(&x.zero, &y.zero) {
+    if !is_same_in(&p.zero, &q.zero) {
         return false;
     }
-    if !is_same(&x.one, &y.one) {
+    if !is_same_in(&p.one, &q.one) {
         return false;
     }
-    if !is_same(&x.two, &y.two) {
+    if !is_same_in(&p.two, &q.two) {
         return false;
     }
-    is_same(&x.three, &y.three)
+    is_same_in(&p.three, &q.three)
+}
+
+/// The map at a root in which an id has this value.
+pub(crate) fn put<V: Drop>(
+    alloc: Global,
+    root: &Option<Rc<Trie<V>>>,
+    id: u32,
+    value: Rc<V>,
+) -> Result<Option<Rc<Trie<V>>>, AllocError>
+    ensures { IfOk result (λ t. map_at t ≡ map.insert (map_at root.now) id value.value) }
+{
+    match root {
+        Some(link) => Ok(Some(put_in(alloc, link, id, value)?)),
+        None => {
+            let none = Rc::new(alloc, Trie { node: Node::Empty })?;
+            Ok(Some(put_in(alloc, &none, id, value)?))
+        }
+    }
+}
+
+/// The map at a root in which an id has no value.
+pub(crate) fn cut<V: Drop>(
+    alloc: Global,
+    root: &Option<Rc<Trie<V>>>,
+    id: u32,
+) -> Result<Option<Rc<Trie<V>>>, AllocError>
+    ensures { IfOk result (λ t. map_at t ≡ map.remove (map_at root.now) id) }
+{
+    match root {
+        Some(link) => Ok(Some(cut_in(alloc, link, id)?)),
+        None => Ok(None),
+    }
+}
+
+/// The sum over all values at a root.
+pub(crate) fn total<V, A: Amount<V>>(root: &Option<Rc<Trie<V>>>) -> u64
+    requires { sum_by A.amount (map.values (map_at root.now)) < 2 ^ 64 }
+    ensures { result ≡ sum_by A.amount (map.values (map_at root.now)) }
+{
+    match root {
+        Some(link) => total_in::<V, A>(link),
+        None => 0,
+    }
+}
+
+/// Whether the maps at two roots are the same.
+pub(crate) fn is_same<V: Entry>(a: &Option<Rc<Trie<V>>>, b: &Option<Rc<Trie<V>>>) -> bool
+    ensures { TellsSame (map_at a.now) (map_at b.now) result }
+{
+    match (a, b) {
+        (Some(x), Some(y)) => is_same_in(x, y),
+        (Some(x), None) => x.is_empty(),
+        (None, Some(y)) => y.is_empty(),
+        (None, None) => true,
+    }
 }
 
 /// A number that two numbers give, for hashes.

@@ -2,7 +2,7 @@ use Rattle.std.proofs.Common.{◌≡◌, ◌-◌, ◌/◌, ◌%◌, ap, ◌∙�
 use Rattle.std.specs.FinMap as fin
 use Rattle.vac_model.specs.Tries.{map_in, map_of, child_of}
 use Rattle.vac_model.proofs.Woven.{if_ok, cut_first, cut_child}
-use Rattle.vac_model.proofs.tries.+cut.Goals as goal
+use Rattle.vac_model.proofs.tries.+cut_in.Goals as goal
 
 pub returns-then-id-eq0 : goal.returns-then-id-eq0
 returns-then-id-eq0 g t c =
