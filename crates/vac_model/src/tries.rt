@@ -1,7 +1,7 @@
-//! Finite maps of ids that share what they have in common: a trie of four ways, by the digits of an
-//! id from the last. A map is changed by making the nodes on the way to the id anew; all others stay
-//! shared with the map of before. No node with maps of digits is without an entry, so the shape of a
-//! map depends on its entries alone.
+//! Finite maps of ids that share what they have in common: a trie of four ways, by the digits of
+//! an id from the last. A map is changed by making the nodes on the way to the id anew; all others
+//! stay shared with the map of before. No node with maps of digits is without an entry, so the
+//! shape of a map depends on its entries alone.
 
 ghost use Rattle.std.specs.Prelude.{◌≡◌, ◌<◌, ◌^◌, ℕ, None, IfOk, MatchOption, sum_by};
 ghost use Rattle.std.specs.Option.{option_copied};
