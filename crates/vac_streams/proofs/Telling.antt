@@ -84,12 +84,13 @@ module _ {S O : Type 0} (hears : S → O → Told → Result Next StreamFault �
   -- so far a chunk was told: whatever follows it follows the rest
   pub record FedTo (longest : ℕ) (line0 line chunk rest : List ℕ) (s : S) (o : O) (t : S) (p : O) : Type 0 where
     pub told : List Told
+    pub only : lines_in told ≡ told
     pub heard : ToldAll hears s o told t p
     pub same : (x : List ℕ) → told_lines longest (line0 ++ (chunk ++ x)) ≡ lines_in told ++ told_lines longest
         (line ++ (rest ++ x))
 
   pub fed_first : (longest : ℕ) (line chunk : List ℕ) (s : S) (o : O) → FedTo longest line line chunk chunk s o s o
-  fed_first longest line chunk s o = record { told = []; heard = told_nothing s o; same = λ x. refl }
+  fed_first longest line chunk s o = record { told = []; only = refl; heard = told_nothing s o; same = λ x. refl }
 
   -- a line more
   pub fed_line : (longest : ℕ) (line0 start chunk rest line behind after : List ℕ) (s : S) (o : O) (t : S) (p : O)
@@ -101,6 +102,7 @@ module _ {S O : Type 0} (hears : S → O → Told → Result Next StreamFault �
       let x = told_of longest (start ++ line) in
       record {
         told = f.told ++ x ∷ [];
+        only = lines_more longest f.told (start ++ line) ∙ ap (λ l. l ++ x ∷ []) f.only;
         heard = told_more s o f.told x t p u q f.heard k;
         same = λ y. f.same y ∙ ap (λ l. lines_in f.told ++ l) (told_cut longest start line behind rest y h g e)
             ∙ sym (append_assoc (lines_in f.told) (x ∷ []) (told_lines longest (behind ++ y)))
@@ -133,6 +135,7 @@ module _ {S O : Type 0} (hears : S → O → Told → Result Next StreamFault �
       → FedTo longest line0 after chunk [] s o t p
   fed_rest longest line0 start chunk rest after s o t p f h g e = record {
     told = f.told;
+    only = f.only;
     heard = f.heard;
     same = λ x. f.same x ∙ ap (λ l. lines_in f.told ++ l) (told_moved longest start rest after x h g e);
   }
@@ -143,7 +146,10 @@ module _ {S O : Type 0} (hears : S → O → Told → Result Next StreamFault �
       → HasBegun longest line → hears t p Pause (Ok GoOn) u q → FedAll hears longest line0 line chunk s o u q
   paused_on longest line0 line chunk s o t p u q f b k = record {
     begun = b;
+    lines = f.told;
+    only = f.only;
     told = f.told ++ Pause ∷ [];
+    paused = refl;
     heard = told_more s o f.told Pause t p u q f.heard k;
     same = λ x. f.same x ∙ ap (λ l. l ++ told_lines longest (line ++ x)) (sym (lines_paused f.told));
   }

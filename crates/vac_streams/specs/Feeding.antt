@@ -1,23 +1,26 @@
 -- What a part of an input does, where a line has begun before it.
-use Rattle.std.specs.Prelude.{◌≡◌, ℕ, ◌+◌, ◌≤◌, Result, Ok, Err, List, ◌++◌, length}
+use Rattle.std.specs.Prelude.{◌≡◌, ℕ, ◌+◌, ◌≤◌, Result, Ok, Err, List, [], ◌∷◌, ◌++◌, length}
 use Rattle.vac_lines.specs.Lines.{HasNo}
 use Rattle.vac_streams.specs.declared.fault.StreamFault.{StreamFault}
 use Rattle.vac_streams.specs.declared.next.Next.{Next}
 use Rattle.vac_streams.specs.declared.next.Next.TheVariants.{GoOn, Stop}
-use Rattle.vac_streams.specs.Told.{Told, told_lines, lines_in}
+use Rattle.vac_streams.specs.Told.{Told, Pause, told_lines, lines_in}
 use Rattle.vac_streams.specs.Heard.{ToldAll, ToldLast, AreFirst}
 
 -- what is kept of a line that has begun: enough to see that it is too long
 abbrev pub HasBegun : ℕ → List ℕ → Type 0
 HasBegun longest line = HasNo 10 line × (length line ≤ longest + 1)
 
--- the sink was told the lines that end in a chunk: whatever follows it, those behind them are those
--- of the line that has begun then
+-- the sink was told the lines that end in a chunk, and then of one pause: whatever follows the
+-- chunk, the lines behind them are those of the line that has begun then
 pub record FedAll {S O : Type 0}
     (hears : S → O → Told → Result Next StreamFault → S → O → Type 0) (longest : ℕ)
     (line line' chunk : List ℕ) (s : S) (o : O) (t : S) (p : O) : Type 0 where
   pub begun : HasBegun longest line'
+  pub lines : List Told
+  pub only : lines_in lines ≡ lines
   pub told : List Told
+  pub paused : told ≡ lines ++ Pause ∷ []
   pub heard : ToldAll hears s o told t p
   pub same : (x : List ℕ) → told_lines longest (line ++ (chunk ++ x))
       ≡ lines_in told ++ told_lines longest (line' ++ x)

@@ -1,6 +1,6 @@
 //! Writing text that is gathered first.
 
-ghost use Rattle.std.specs.Prelude.{◌≡◌, [], OnOk, OnErr, IfErr};
+ghost use Rattle.std.specs.Prelude.{◌≡◌, ◌<◌, [], length, OnOk, OnErr, IfErr};
 ghost use Rattle.std.specs.Io.KnownBytes.{Appends};
 ghost use Rattle.vac_streams.specs.declared.fault.StreamFault.TheVariants.{Write};
 ghost use Rattle.vac_lines.specs.Writing.{AppendsPrefix};
@@ -14,6 +14,7 @@ use vac_lines::{CHUNK_BYTES, write_all, write_and_flush};
 pub fn send_chunk<W: Write>(output: &mut W, hand: &mut Vec<u8>) -> Result<(), StreamFault>
     ensures ok { OnOk result (Sent (W.contents output.old) (W.contents output.new)
         hand.old.items hand.new.items []) }
+    ensures short { OnOk result (length hand.new.items < CHUNK_BYTES) }
     ensures err { OnErr result
         (AppendsPrefix (W.contents output.old) (W.contents output.new) hand.old.items) }
     ensures fault { IfErr result (λ fault. fault ≡ Write) }
