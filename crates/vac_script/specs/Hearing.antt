@@ -29,8 +29,8 @@ pub record AnsweredCut (y : SessionShown) (out : List ℕ) (held holds : Option 
   pub written : Appends held holds text
   pub on : (s : State) → StandsAt y s → Extends text (out ++ (answer s line).1)
 
--- a line was answered and its output line came to hand; or memory was refused, and what was at hand
--- was written
+-- a line was answered and its output line came to hand; or memory was refused
+-- Not said: that what was at hand is written before the fault is answered.
 abbrev pub HearsLine : SessionShown → List ℕ → Option (List ℕ) → Result Task LineFault
     → Result Next StreamFault → SessionShown → List ℕ → Option (List ℕ) → Type 0
 HearsLine y out held line (Ok next) y' out' holds =

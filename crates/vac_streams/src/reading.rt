@@ -25,6 +25,8 @@ pub const MOST_LINES: u64 = (MOST_READS + 1) * CHUNK_BYTES as u64 + 1;
 /// # Errors
 /// The first fault that the sink answers; `Read`, where a read failed; `Bound`, where the input
 /// did not end within `MOST_READS` reads and one; `Memory`, before anything was read.
+///
+/// Not said: which of the last three it is, but that it is no fault of an output.
 pub fn read_lines<R: Read, O, S: Sink<O>>(
     alloc: Global,
     longest: usize,
