@@ -1,5 +1,7 @@
 -- Attempts, one after the other, and why they stopped.
-use Rattle.std.proofs.Common.{◌≡◌, ◌≢◌, [], inl, inr, ℕ, ◌+◌, ◌≤◌, true, false, eqb, List, Ok, Err, ap, ◌∙◌, arith, refl, subst, sym}
+use Rattle.std.proofs.Common.{◌≡◌, ◌≢◌, [], inl, inr, ℕ, ◌+◌, ◌≤◌, true, false, eqb, ◌==◌, List, Ok, Err, ap, ◌∙◌, arith, refl, subst, sym}
+use Rattle.std.proofs.lemmas.Grind.{not_there}
+use Rattle.std.proofs.lemmas.Bool.Decides.{nat_tests}
 use Rattle.stm_core.specs.Client.{Client}
 use Rattle.stm_core.proofs.Lists.{by_bool}
 use Rattle.stm_logs.specs.Log.{LogValue, log_pairs}
@@ -7,11 +9,12 @@ use Rattle.stm_core.specs.Event.{begin, finish}
 use Rattle.stm_core.specs.declared.limits.TheConstants.{MOST_GRANTS}
 use Rattle.stm_region.specs.Shown.{RegionShown, ClientShown, acted}
 use Rattle.stm_core.specs.Guards.{stripe_of}
-use Rattle.stm_attempt.specs.Begun.{still}
+use Rattle.stm_attempt.specs.Begun.{still, IsQuiet, is_quiet}
 use Rattle.stm_attempt.specs.Answers.{IsSpent as IsSpentStop}
-use Rattle.stm_attempt.specs.Conflicts.{IsReadConflict}
+use Rattle.stm_attempt.specs.Conflicts.{IsReadConflict, IsLockConflict, IsValidateConflict, IsTickConflict}
 use Rattle.stm_attempt.specs.Committing.{HasCommitted, HasStopped}
 use Rattle.stm_attempt.specs.declared.conflict.Conflict.{Conflict}
+use Rattle.stm_attempt.specs.declared.conflict.Conflict.TheVariants.{Held, Newer, Moved, LostLock, LostTick}
 use Rattle.stm_attempt.specs.declared.conflict.Stop.{Stop}
 use Rattle.stm_attempt.specs.declared.conflict.Stop.TheVariants as stop
 use Rattle.vac_model.specs.declared.tasks.Task.{Task}
@@ -19,7 +22,7 @@ use Rattle.vac_model.specs.declared.replies.Reply.{Reply}
 use Rattle.vac_tasks.specs.Reading.{only_reads}
 use Rattle.vac_model.specs.Code.{code}
 use Rattle.vac_manager.specs.Law.{IsLawful}
-use Rattle.vac_manager.specs.Called.{Tried, WasShown, IsStop, IsNear, HasAllGrants, changes_nothing}
+use Rattle.vac_manager.specs.Called.{Tried, WasShown, ShowsNone, IsStop, IsNear, HasAllGrants, changes_nothing}
 
 -- of so many tries this many are left, and all others met a conflict
 pub record Trying (v v' : Client) (left tries : ℕ) : Type 0 where
@@ -38,19 +41,71 @@ shown_by_read region region' conflict v v' same h e =
     inl (subst (λ (r : RegionShown). ∥ ((address : ℕ) × IsReadConflict (stripe_of r.stripes) address conflict v') ∥₁) same
     (subst (λ (c : Client). ∥ ((address : ℕ) × IsReadConflict (stripe_of region'.stripes) address conflict c) ∥₁) (sym e) h))
 
+same_number : (a b : ℕ) → (a == b) ≡ true → a ≡ b
+same_number a b e = grind (arith, nat_tests)
+
+-- a step that shows no conflict is none of those that show one
+quiet_read : (lk : ℕ → ℕ) (address : ℕ) (conflict : Conflict) (v : Client) → IsQuiet v →
+    IsReadConflict lk address conflict v → ⊥
+quiet_read lk address (Held lock word) v q h = let k : false ≡ true = sym (ap is_quiet h.1) ∙ q in cc
+quiet_read lk address (Newer lock version rv) v q h = let k : false ≡ true = sym (ap is_quiet h.1) ∙ q in cc
+quiet_read lk address (Moved lock first second) v q h =
+    h.2 (same_number first second (sym (ap is_quiet h.1) ∙ q))
+quiet_read lk address (LostLock lock found) v q h = h
+quiet_read lk address (LostTick found) v q h = h
+
+quiet_lock : (lock : ℕ) (conflict : Conflict) (v : Client) → IsQuiet v → IsLockConflict lock conflict v → ⊥
+quiet_lock wanted (Held lock word) v q h = let k : false ≡ true = sym (ap is_quiet h.1) ∙ q in cc
+quiet_lock wanted (Newer lock version rv) v q h = h
+quiet_lock wanted (Moved lock first second) v q h = h
+quiet_lock wanted (LostLock lock found) v q h = let k : false ≡ true = sym (ap is_quiet h.1.1) ∙ q in cc
+quiet_lock wanted (LostTick found) v q h = h
+
+quiet_validate : (lock : ℕ) (conflict : Conflict) (v : Client) → IsQuiet v →
+    IsValidateConflict lock conflict v → ⊥
+quiet_validate wanted (Held lock word) v q h = let k : false ≡ true = sym (ap is_quiet h.1) ∙ q in cc
+quiet_validate wanted (Newer lock version rv) v q h = let k : false ≡ true = sym (ap is_quiet h.1.1) ∙ q in cc
+quiet_validate wanted (Moved lock first second) v q h = h
+quiet_validate wanted (LostLock lock found) v q h = h
+quiet_validate wanted (LostTick found) v q h = h
+
+quiet_tick : (conflict : Conflict) (v : Client) → IsQuiet v → IsTickConflict conflict v → ⊥
+quiet_tick (Held lock word) v q h = h
+quiet_tick (Newer lock version rv) v q h = h
+quiet_tick (Moved lock first second) v q h = h
+quiet_tick (LostLock lock found) v q h = h
+quiet_tick (LostTick found) v q h = let k : false ≡ true = sym (ap is_quiet h.1) ∙ q in cc
+
+shows_none : (region : RegionShown) (v : Client) → IsQuiet v → ShowsNone region v
+shows_none region v q conflict shown = elim shown [
+  | inl h ↦ not_there h (λ x. quiet_read (stripe_of region.stripes) x.0 conflict v q x.1)
+  | inr met ↦ elim met.1 [
+    | inl h ↦ quiet_lock h.0 conflict v q h.2
+    | inr other ↦ elim other [
+      | inl h ↦ quiet_validate h.0 conflict v q h.2
+      | inr h ↦ quiet_tick conflict v q h
+    ]
+  ]
+]
+
+pub none_shown : (region : RegionShown) (v v' : Client) → IsQuiet v → v' ≡ v → ShowsNone region v'
+none_shown region v v' q e = subst (λ (x : Client). ShowsNone region x) (sym e) (shows_none region v q)
+
 -- a task with something to write is no command that changes nothing
 changing : (t : Task) (r : Reply) (pairs : List (ℕ × ℕ)) → (changes_nothing t r ≡ true → pairs ≡ []) → pairs ≢ [] → changes_nothing t r ≡ false
 changing t r pairs none some = by_bool (changes_nothing t r) (λ e. absurd (some (none e))) (λ e. e)
 
 -- why a commit stopped
 stop_is : (region : RegionShown) (log : LogValue) (t : Task) (r : Reply) (s : Stop) (v v' : Client) → only_reads t ≡ false → IsLawful (code t r) v.attempt.reads (log_pairs log) → (changes_nothing t r ≡ true → log_pairs log ≡ []) → HasStopped region log s v v' → IsStop region t s v'
-stop_is region log t r stop.Memory v v' writes l none h = writes
+stop_is region log t r stop.Memory v v' writes l none h = absurd h.shown
 stop_is region log t r (stop.Conflict conflict) v v' writes l none h = inr (log, h.shown)
 stop_is region log t r (stop.Spent version) v v' writes l none h = (
   writes,
   record {
     version_is = h.shown.0;
     from = h.shown.1;
+    gave_back = h.gave_back;
+    found = h.shown.3;
     written = record {
       reply = r;
       writes = log_pairs log;

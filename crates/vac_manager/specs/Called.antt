@@ -13,6 +13,7 @@ use Rattle.stm_region.specs.Shown.{RegionShown, ClientShown}
 use Rattle.stm_core.specs.Guards.{stripe_of}
 use Rattle.stm_region.specs.declared.fault.RegionFault.{RegionFault}
 use Rattle.stm_region.specs.declared.fault.RegionFault.TheVariants.{Clients}
+use Rattle.stm_attempt.specs.Committing.{HasWonLock, HasLostTick}
 use Rattle.stm_attempt.specs.Conflicts.{IsReadConflict, IsCommitConflict}
 use Rattle.stm_attempt.specs.declared.conflict.Conflict.{Conflict}
 use Rattle.stm_attempt.specs.declared.conflict.Stop.{Stop}
@@ -160,6 +161,10 @@ WasShown region conflict v =
     ∥ ((address : ℕ) × IsReadConflict (stripe_of region.stripes) address conflict v) ∥₁
     ⊎ ((log : LogValue) × IsCommitConflict (stripe_of region.stripes) log conflict v)
 
+-- the client's last step, a give back apart, showed no conflict
+abbrev pub ShowsNone : RegionShown → Client → Type 0
+ShowsNone region v = (conflict : Conflict) → WasShown region conflict v → ⊥
+
 -- the client's attempt of the task was to write something: the record of the task and some reply,
 -- with what the attempt has read and these writes, would have been lawful; and it is no command
 -- that is refused so, or has nothing to change
@@ -172,16 +177,20 @@ pub record WouldWrite (t : Task) (v : Client) : Type 0 where
   pub changing : changes_nothing t reply ≡ false
   pub lawful : IsLawful (code t reply) v.attempt.reads writes
 
--- the clock was found at the last version, and there was something to write
+-- the clock was found at the last version, and there was something to write. The locks had been
+-- taken, and were given back: the last step but that won one, or is the tick that lost to that
+-- version.
 pub record IsSpent (region : RegionShown) (t : Task) (version : ℕ) (v : Client) : Type 0 where
   pub version_is : version ≡ region.last
   pub from : v.attempt.next_from ≡ region.last
+  pub gave_back : v.attempt.gave_back ≡ true
+  pub found : HasWonLock v ⊎ HasLostTick version v
   pub written : WouldWrite t v
 
 -- why an attempt of a task stopped: for a conflict that was shown, or, where the task may write,
--- for want of memory or a spent clock
+-- for want of memory, where the last step showed none, or a spent clock
 abbrev pub IsStop : RegionShown → Task → Stop → Client → Type 0
-IsStop region t stop.Memory v = only_reads t ≡ false
+IsStop region t stop.Memory v = (only_reads t ≡ false) × ShowsNone region v
 IsStop region t (stop.Conflict conflict) v = WasShown region conflict v
 IsStop region t (stop.Spent version) v = (only_reads t ≡ false) × IsSpent region t version v
 
@@ -235,11 +244,11 @@ IsNext last before now (Err (fault.Busy conflict)) = ⊥
 IsNext last before now (Err (fault.Spent version)) = before ≡ last
 
 -- why a call of a task was not answered: its numbers, a conflict that the last attempt showed, or,
--- where the task may write, want of memory or a spent clock
--- Not said: that want of memory is answered for that alone; that a try wins.
+-- where the task may write, want of memory after a step that showed none, or a spent clock
+-- Not said: which growth of a log was refused; that a try wins.
 abbrev pub IsFault : RegionShown → Task → ℕ → Fault → Client → Client → Type 0
 IsFault region t tries fault.Arguments v v' = (is_call t tries ≡ false) × (v' ≡ v)
-IsFault region t tries fault.Memory v v' = only_reads t ≡ false
+IsFault region t tries fault.Memory v v' = (only_reads t ≡ false) × ShowsNone region v'
 IsFault region t tries (fault.Busy conflict) v v' = WasShown region conflict v'
 IsFault region t tries (fault.Spent version) v v' =
     (only_reads t ≡ false) × IsSpent region t version v'

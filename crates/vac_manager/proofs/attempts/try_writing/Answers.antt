@@ -5,7 +5,7 @@ use Rattle.vac_manager.proofs.Adding.{added_last, committed, wrote_is, unplaced_
 use Rattle.vac_manager.proofs.Lawful.{holds_begun, lawful, wrote_nothing}
 use Rattle.vac_manager.proofs.Leaving.{left_decided, wrote_none}
 use Rattle.vac_manager.proofs.Legality.{committed_legal}
-use Rattle.vac_manager.proofs.Trying.{shown_by_read, commit_stop, near_begun, near_committed, near_stopped}
+use Rattle.vac_manager.proofs.Trying.{shown_by_read, none_shown, commit_stop, near_begun, near_committed, near_stopped}
 use Rattle.vac_manager.proofs.attempts.try_writing.Goals as goal
 
 pub run_task-answer-requires-clause-state : goal.run_task-answer-requires-clause-state
@@ -16,6 +16,13 @@ pub returns-in-Some-clause-stopped : goal.returns-in-Some-clause-stopped
 returns-in-Some-clause-stopped g c =
     shown_by_read _ _ _ _ _ (ap (λ (o : Origin). o.region) c.run_task-answer.ensures.origin ∙ c.begin-attempt.ensures.region) (c.stopped.ensures.shown _ c.in-Some.is)
     (search rules)
+
+pub returns-in_default-answer-clause-stopped : goal.returns-in_default-answer-clause-stopped
+returns-in_default-answer-clause-stopped g c = (
+  c.requires.writes,
+  none_shown c.args.region.now c.run_task-answer.new.memory.client.now.value _
+      (c.stopped.ensures.quiet (search rules)) (search rules),
+)
 
 pub commit-requires-clause-lawful : goal.commit-requires-clause-lawful
 commit-requires-clause-lawful g c = λ _.
