@@ -8,7 +8,7 @@ use Rattle.stm_logs.specs.Log.{LogValue, log_pairs}
 use Rattle.stm_region.specs.Shown.{RegionShown}
 use Rattle.stm_region.specs.Closed.{Ends}
 use Rattle.stm_region.specs.declared.limits.TheConstants.{MOST_GRANTS}
-use Rattle.stm_attempt.specs.Begun.{IsPlaced}
+use Rattle.stm_attempt.specs.Begun.{IsPlaced, IsQuiet}
 use Rattle.stm_attempt.specs.Conflicts.{IsReadConflict, IsCommitConflict}
 use Rattle.stm_attempt.specs.Committing.{WasDecided}
 use Rattle.stm_attempt.specs.declared.conflict.Conflict.{Conflict as ConflictMet}
@@ -131,12 +131,13 @@ pub record AreTries (Shows : ConflictMet → Client → Type 0) (tries : ℕ) (v
 abbrev pub AreAllTries : ℕ → Client → Client → Type 0
 AreAllTries tries v v' = v'.attempt.number ≡ v.attempt.number + tries
 
--- why a transaction of such an entry stopped: a log could not grow; or all tries were made, and the
--- last one showed the conflict; or the clock was found at the last version, with something to write
+-- why a transaction of such an entry stopped: a log could not grow, and the last step shows no
+-- conflict; or all tries were made, and the last one showed the conflict; or the clock was found at
+-- the last version, with something to write
 -- Not said: which growth of a log was refused
 abbrev pub IsStop : {E A : Type 0} → (List ℕ → Type 0) → (E → List ℕ) → (E → List ℕ → Type 0) →
     (E → List ℕ → List ℕ) → RegionShown → (A → E) → ℕ → Stop → Client → Client → Type 0
-IsStop fits code finds after region entry tries Memory v v' = Unit {0}
+IsStop fits code finds after region entry tries Memory v v' = IsQuiet v'
 IsStop fits code finds after region entry tries (Conflict conflict) v v' =
     AreAllTries tries v v' × WasShown fits code finds after region entry conflict v'
 IsStop fits code finds after region entry tries (Spent version) v v' =
