@@ -52,6 +52,10 @@ fn whole_histories_of_their_work(rt: HostRuntime) -> Result<(), Fail> {
     Ok(())
 }
 
+/// A history of the first three tasks of the five.
+const THREE_OF_FIVE: &str = "0 0 1 newcust 3 -> true\n1 2 3 bill 3 -> 0\n2 3 9 audit -> cars=0 \
+    flights=0 rooms=0 customers=1 bookings=0 used=0 free=0 total=0 billed=0\n";
+
 #[test]
 fn histories_that_are_not_of_their_work(rt: HostRuntime) -> Result<(), Fail> {
     let rows: [(&str, &str); 11] = [
@@ -61,11 +65,7 @@ fn histories_that_are_not_of_their_work(rt: HostRuntime) -> Result<(), Fail> {
             "0 0 1 newcust 3 -> true\n1 2 3 bill 3 -> 0\n",
             "illegal missing 2 1\n",
         ),
-        (
-            "0 0 1 newcust 3 -> true\n1 2 3 bill 3 -> 0\n2 3 9 audit -> cars=0 flights=0 rooms=0 \
-            customers=1 bookings=0 used=0 free=0 total=0 billed=0\n",
-            "illegal missing 1 2\n",
-        ),
+        (THREE_OF_FIVE, "illegal missing 1 2\n"),
         (
             "0 0 1 newcust 3 -> true\n1 2 - newcust 4 -> ?\n",
             "illegal task 2\n",
