@@ -16,5 +16,3 @@ pub mod TasksKept
 pub mod Refused
 pub mod Totals
 pub mod Settled
-pub mod Woven
-pub mod Alike

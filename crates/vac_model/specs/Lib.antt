@@ -8,5 +8,3 @@ pub mod Fits
 pub mod Laws
 pub mod Code
 pub mod Coded
-pub mod Tries
-pub mod TrieFalls

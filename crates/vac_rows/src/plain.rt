@@ -9,7 +9,8 @@ use std::process::Abort;
 use tx_alloc::FreeList;
 use tx_alloc::place::LISTS;
 use vac_audit::audit_words;
-use vac_model::{Reply, Sequential, Task};
+use vac_model::{Reply, Task};
+use vac_sequential::Sequential;
 use vac_plain::Heap;
 use vac_tasks::only_reads;
 

@@ -9,7 +9,7 @@ use rand_pcg::Pcg32;
 use std::alloc::Global;
 use std::process::Abort;
 use vac_manager::{Manager, Session};
-use vac_model::Sequential;
+use vac_sequential::Sequential;
 
 /// What draws the tasks, and the plain manager that runs them.
 #[derive(Drop)]

@@ -4,7 +4,8 @@ use crate::same::holds;
 use crate::scripts::{add_command, delete_command, reserve_command};
 use std::alloc::Global;
 use vac_model::Kind::{Car, Flight};
-use vac_model::{Command, Sequential, Task};
+use vac_model::{Command, Task};
+use vac_sequential::Sequential;
 
 #[test]
 fn arguments(rt: HostRuntime) {

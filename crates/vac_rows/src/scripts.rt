@@ -4,7 +4,8 @@ ghost use Rattle.std.specs.Prelude.{◌≡◌};
 use std::alloc::{AllocError, Global};
 use std::process::Abort;
 use vac_manager::Manager;
-use vac_model::{Command, Kind, Reply, Report, Sequential, Task, UpdateReply, Why};
+use vac_model::{Command, Kind, Reply, Report, Task, UpdateReply, Why};
+use vac_sequential::Sequential;
 
 /// One line of a script.
 #[derive(Clone, Copy)]

@@ -1,0 +1,2 @@
+pub mod Woven
+pub mod Alike

@@ -1,0 +1,120 @@
+-- A finite map as a trie: the value at 0, and for each digit of four the map of the ids above 0
+-- that have it.
+use Rattle.std.specs.Prelude.{◌≡◌, ◌≢◌, Bool, true, false, ℕ, ◌+◌, ◌*◌, ◌==◌, max, List, [], ◌∷◌, ◌++◌, map, sum_by, Option, Some, None, if◌then◌else◌}
+use Rattle.std.specs.Ordering.{nat_cmp}
+use Rattle.std.specs.FinMap as fin
+use Rattle.std.specs.FinMap.{FinMap}
+use Rattle.std.specs.declared.rc.Rc.{Rc}
+use Rattle.std.specs.declared.alloc.Global.{Global}
+use Rattle.vac_sequential.specs.declared.tries.Parts.{Parts}
+use Rattle.vac_sequential.specs.declared.tries.Kids.{Kids}
+use Rattle.vac_sequential.specs.declared.tries.Node.{Node}
+use Rattle.vac_sequential.specs.declared.tries.Node.TheVariants.{Empty, Bare, Full}
+
+-- the finite maps of ids
+abbrev pub Ids : Type 0 → Type 0
+Ids V = FinMap nat_cmp V
+
+-- a trie that is shared: its map and its depth
+abbrev pub Link : Type 0 → Type 0
+Link V = Rc (Ids V × ℕ) Global
+
+module _ {V : Type 0} where
+  -- the map in a link
+  abbrev pub map_in : Link V → Ids V
+  map_in rc = rc.value.0
+
+  -- the depth of a link
+  abbrev pub depth_in : Link V → ℕ
+  depth_in rc = rc.value.1
+
+  -- the map at a root, which may be missing
+  abbrev pub map_at : Option (Link V) → Ids V
+  map_at None = fin.empty
+  map_at (Some rc) = rc.value.0
+
+  -- the value in a place
+  abbrev pub value_in : Option (Rc V Global) → Option V
+  value_in None = None
+  value_in (Some rc) = Some rc.value
+
+  -- the entries of a digit, at their ids
+  abbrev pub spread : ℕ → List (ℕ × V) → List (ℕ × V)
+  spread d es = map (λ e. (4 * e.0 + 1 + d, e.1)) es
+
+  -- the entry at 0
+  abbrev pub first_entry : Option (Rc V Global) → List (ℕ × V)
+  first_entry None = []
+  first_entry (Some rc) = (0, rc.value) ∷ []
+
+  -- the entries of a map with these parts
+  abbrev pub woven : Option (Rc V Global) → Ids V → Ids V → Ids V → Ids V → List (ℕ × V)
+  woven v a b c d =
+      first_entry v ++ (spread 0 (fin.entries a) ++ (spread 1 (fin.entries b)
+      ++ (spread 2 (fin.entries c) ++ spread 3 (fin.entries d))))
+
+  -- the map with these parts
+  abbrev pub weave : Option (Rc V Global) → Ids V → Ids V → Ids V → Ids V → Ids V
+  weave v a b c d = fin.from_entries (woven v a b c d)
+
+  -- the map with these parts
+  abbrev pub map_of : Parts V → Ids V
+  map_of p = weave p.value (map_in p.zero) (map_in p.one) (map_in p.two) (map_in p.three)
+
+  -- the map of a digit
+  abbrev pub child_of : Parts V → ℕ → Link V
+  child_of p d =
+      if d == 0 then p.zero else if d == 1 then p.one else if d == 2 then p.two else p.three
+
+  -- the parts with another map of a digit
+  abbrev pub with_child : Parts V → ℕ → Link V → Parts V
+  with_child p d c =
+      if d == 0 then record p { zero = c }
+      else if d == 1 then record p { one = c }
+      else if d == 2 then record p { two = c } else record p { three = c }
+
+  -- the parts of a value and the maps of the digits
+  abbrev pub parts_of : Option (Rc V Global) → Kids V → Parts V
+  parts_of v k = record { value = v; zero = k.zero; one = k.one; two = k.two; three = k.three }
+
+  -- one more than the depth of each digit's map
+  abbrev pub depth_of : Kids V → ℕ
+  depth_of k =
+      1 + max (max (depth_in k.zero) (depth_in k.one)) (max (depth_in k.two) (depth_in k.three))
+
+  -- the map and the depth of a node
+  abbrev pub seen : Node V → Ids V × ℕ
+  seen Empty = (fin.empty, 0)
+  seen (Bare k) = (map_of (parts_of None k), depth_of k)
+  seen (Full v k) = (map_of (parts_of (Some v) k), depth_of k)
+
+  -- a node with maps of digits has an entry
+  abbrev pub IsPruned : Node V → Type 0
+  IsPruned Empty = Unit {0}
+  IsPruned (Bare k) = map_of (parts_of None k) ≢ fin.empty
+  IsPruned (Full v k) = map_of (parts_of (Some v) k) ≢ fin.empty
+
+  -- these are the parts of a map that is not empty
+  pub record Shows (t : Ids V × ℕ) (v : Option (Rc V Global)) (k : Kids V) : Type 0 where
+    pub map : t.0 ≡ map_of (parts_of v k)
+    pub full : t.0 ≢ fin.empty
+    pub depth : t.1 ≡ depth_of k
+
+-- whether two are the same
+abbrev pub TellsSame : {A : Type 0} → A → A → Bool → Type 0
+TellsSame x y true = x ≡ y
+TellsSame x y false = x ≢ y
+
+-- whether a map has no entry
+abbrev pub TellsEmpty : {V : Type 0} → Ids V → Bool → Type 0
+TellsEmpty m true = m ≡ fin.empty
+TellsEmpty m false = m ≢ fin.empty
+
+-- these are the number of a map's entries and the sum of their weights
+abbrev pub IsCounted : {V : Type 0} → (V → ℕ) → Ids V → ℕ → ℕ → Type 0
+IsCounted f m len weight = (len ≡ fin.len m) × (weight ≡ sum_by f (fin.values m))
+
+-- these are what an entry adds to the two
+abbrev pub Holds : {V : Type 0} → (V → ℕ) → Option V → ℕ → ℕ → Type 0
+Holds f None len weight = (len ≡ 0) × (weight ≡ 0)
+Holds f (Some x) len weight = (len ≡ 1) × (weight ≡ f x)

@@ -1,0 +1,463 @@
+//! Maps of the plain manager, which contracts see as finite maps.
+
+ghost use Rattle.std.specs.Prelude.{◌≡◌, ◌<◌, ◌^◌, IsSome, IfSome, IfNone, IfOk, OnOk, OnErr, sum_by, [], ◌∷◌};
+ghost use Rattle.vac_model.specs.State.{Bookings, bill_of, units_booked};
+ghost use Rattle.vac_sequential.specs.Tries.{Holds, TellsSame};
+ghost use Rattle.std.specs.Option.{option_copied};
+ghost use Rattle.std.specs.FinMap as map;
+ghost use Rattle.std.specs.BTreeMap as tree;
+
+use crate::tries::{Amount, Entry, Trie, cut, is_same, mixed, put, total};
+use std::alloc::{AllocError, Global};
+use std::collections::BTreeMap;
+use std::marker::Model;
+use std::rc::Rc;
+use vac_model::{Booking, Item, Kind};
+
+/// Entries by their ids. A copy shares all of them.
+#[derive(Drop)]
+pub(crate) struct IdMap<V: Entry> {
+    alloc: Global,
+    root: Option<Rc<Trie<V>>>,
+    len: u64,
+    weight: u64,
+    hash: u64,
+}
+
+impl<V: Entry> Model for IdMap<V> {
+    ghost use Rattle.std.specs.Ordering.{nat_cmp};
+    ghost use Rattle.std.specs.FinMap as map;
+    ghost use Rattle.std.specs.Coded.{coded_ℕ};
+    ghost use Rattle.vac_sequential.specs.Tries.{map_at, IsCounted};
+
+    ghost Value = { map.FinMap nat_cmp V };
+
+    ghost coded = { map.code coded_ℕ V.code };
+
+    ghost view = { λ m. map_at m.root };
+
+    ghost invariant = { λ m. IsCounted V.weight (map_at m.root) m.len m.weight };
+}
+
+/// What a map adds up of one id.
+#[derive(Clone, Copy)]
+struct Held {
+    len: u64,
+    weight: u64,
+    hash: u64,
+}
+
+impl<V: Entry> IdMap<V> {
+    pub(crate) fn new(alloc: Global) -> Self
+        ensures { result ≡ map.empty }
+    {
+        Self {
+            alloc,
+            root: None,
+            len: 0,
+            weight: 0,
+            hash: 0,
+        }
+    }
+
+    pub(crate) fn len(&self) -> u64
+        ensures { result ≡ map.len self.now }
+    {
+        self.len
+    }
+
+    /// The weights of all entries together.
+    pub(crate) fn weight(&self) -> u64
+        ensures { result ≡ sum_by V.weight (map.values self.now) }
+    {
+        self.weight
+    }
+
+    /// A number of which nothing is promised; maps of the same entries have the same.
+    pub(crate) fn hash(&self) -> u64 {
+        self.hash
+    }
+
+    pub(crate) fn get(&self, id: u32) -> Option<&V>
+        ensures { option_copied result ≡ map.get self.now id }
+    {
+        match &self.root {
+            Some(trie) => trie.get(id),
+            None => None,
+        }
+    }
+
+    /// What the numbers of the map owe to an id.
+    fn held(&self, id: u32) -> Held
+        ensures { Holds V.weight (map.get self.now id) result.len result.weight }
+    {
+        match self.get(id) {
+            Some(value) => Held {
+                len: 1,
+                weight: value.weight(),
+                hash: mixed(id as u64, value.hash()),
+            },
+            None => Held {
+                len: 0,
+                weight: 0,
+                hash: 0,
+            },
+        }
+    }
+
+    /// Whether two maps are the same.
+    pub(crate) fn is_same(&self, other: &Self) -> bool
+        ensures { TellsSame self.now other.now result }
+    {
+        let (a, b) = (&self.root, &other.root);
+        is_same(a, b)
+    }
+}
+
+impl<V: Entry + Drop> IdMap<V> {
+    /// The same map, which shares its entries.
+    pub(crate) fn copy(&self) -> Result<Self, AllocError>
+        ensures { IfOk result (λ m. m ≡ self.now) }
+    {
+        Ok(Self {
+            alloc: self.alloc,
+            root: self.root.clone()?,
+            len: self.len,
+            weight: self.weight,
+            hash: self.hash,
+        })
+    }
+
+    /// Puts a value at an id, unless memory is refused.
+    pub(crate) fn insert(&mut self, id: u32, value: V) -> Result<(), AllocError>
+        ensures ok { OnOk result (self.new ≡ map.insert self.old id value) }
+        ensures err { OnErr result (self.new ≡ self.old) }
+    {
+        let held = self.held(id);
+        let hash = mixed(id as u64, value.hash());
+        let Some(len) = self.len.checked_add(1) else {
+            return Err(AllocError);
+        };
+        let Some(weight) = self.weight.checked_add(value.weight()) else {
+            return Err(AllocError);
+        };
+        let value = Rc::new(self.alloc, value)?;
+        let root = put(self.alloc, &self.root, id, value)?;
+        self.root = root;
+        self.len = len - held.len;
+        self.weight = weight - held.weight;
+        self.hash = self.hash.wrapping_sub(held.hash).wrapping_add(hash);
+        Ok(())
+    }
+
+    /// Removes the value of an id, unless memory is refused.
+    pub(crate) fn remove(&mut self, id: u32) -> Result<(), AllocError>
+        ensures ok { OnOk result (self.new ≡ map.remove self.old id) }
+        ensures err { OnErr result (self.new ≡ self.old) }
+    {
+        let held = self.held(id);
+        let root = cut(self.alloc, &self.root, id)?;
+        self.root = root;
+        self.len -= held.len;
+        self.weight -= held.weight;
+        self.hash = self.hash.wrapping_sub(held.hash);
+        Ok(())
+    }
+}
+
+/// The bookings of one customer, by the kind and the id of the item.
+#[derive(Drop)]
+pub(crate) struct BookingMap {
+    entries: BTreeMap<(Kind, u32), Booking>,
+}
+
+impl Model for BookingMap {
+    ghost use Rattle.std.specs.FinMap as map;
+    ghost use Rattle.std.specs.BTreeMap as tree;
+    ghost use Rattle.vac_model.specs.State.{Bookings, place_cmp};
+    ghost use Rattle.vac_model.specs.Coded.{bookings_coded};
+
+    ghost Value = { Bookings };
+
+    ghost coded = { bookings_coded };
+
+    ghost view = { λ m. map.from_entries m.entries.entries };
+
+    ghost invariant = { λ m. tree.IsOrdered place_cmp m.entries };
+}
+
+impl BookingMap {
+    pub(crate) fn new(alloc: Global) -> Self
+        ensures { result ≡ map.empty }
+    {
+        Self {
+            entries: BTreeMap::new(alloc),
+        }
+    }
+
+    pub(crate) fn len(&self) -> u64
+        ensures { result ≡ map.len self.now }
+    {
+        self.entries.len() as u64
+    }
+
+    pub(crate) fn get(&self, kind: Kind, id: u32) -> Option<Booking>
+        ensures { result ≡ map.get self.now (kind, id) }
+    {
+        self.entries.get(&(kind, id)).copied()
+    }
+
+    /// Puts a booking. Only memory for a new one can be refused.
+    pub(crate) fn insert(&mut self, kind: Kind, id: u32, booking: Booking) -> Result<(), AllocError>
+        ensures ok { OnOk result (self.new ≡ map.insert self.old (kind, id) booking) }
+        ensures err { OnErr result (self.new ≡ self.old) }
+    {
+        self.entries.insert((kind, id), booking)?;
+        Ok(())
+    }
+
+    pub(crate) fn remove(&mut self, kind: Kind, id: u32)
+        ensures { self.new ≡ map.remove self.old (kind, id) }
+    {
+        self.entries.remove(&(kind, id));
+    }
+
+    /// Takes the first booking out.
+    pub(crate) fn pop_first(&mut self) -> Option<((Kind, u32), Booking)>
+        ensures some { IfSome result (λ b. map.entries self.old ≡ b ∷ map.entries self.new) }
+        ensures none { IfNone result (map.entries self.old ≡ []) }
+    {
+        self.entries.pop_first()
+    }
+}
+
+impl Clone for BookingMap {
+    ghost is_clone = { λ m n. n ≡ m };
+
+    fn clone(&self) -> Result<Self, AllocError> {
+        let entries = self.entries.clone()?;
+        Ok(Self { entries })
+    }
+}
+
+impl Entry for Item {
+    ghost weight = { λ _. 0 };
+
+    fn weight(&self) -> u64 {
+        0
+    }
+
+    fn is_same(&self, other: &Item) -> bool {
+        *self == *other
+    }
+
+    fn hash(&self) -> u64 {
+        let units = mixed(self.used, self.free);
+        mixed(mixed(self.total, self.price), units)
+    }
+}
+
+/// The used units of an item.
+struct Used;
+
+impl Amount<Item> for Used {
+    ghost amount = { λ i. i.used };
+
+    fn amount(item: &Item) -> u64 {
+        item.used
+    }
+}
+
+/// The free units of an item.
+struct Free;
+
+impl Amount<Item> for Free {
+    ghost amount = { λ i. i.free };
+
+    fn amount(item: &Item) -> u64 {
+        item.free
+    }
+}
+
+/// All units of an item.
+struct Total;
+
+impl Amount<Item> for Total {
+    ghost amount = { λ i. i.total };
+
+    fn amount(item: &Item) -> u64 {
+        item.total
+    }
+}
+
+impl IdMap<Item> {
+    pub(crate) fn used(&self) -> u64
+        requires { sum_by (λ i. i.used) (map.values self.now) < 2 ^ 64 }
+        ensures { result ≡ sum_by (λ i. i.used) (map.values self.now) }
+    {
+        total::<Item, Used>(&self.root)
+    }
+
+    pub(crate) fn free(&self) -> u64
+        requires { sum_by (λ i. i.free) (map.values self.now) < 2 ^ 64 }
+        ensures { result ≡ sum_by (λ i. i.free) (map.values self.now) }
+    {
+        total::<Item, Free>(&self.root)
+    }
+
+    pub(crate) fn total(&self) -> u64
+        requires { sum_by (λ i. i.total) (map.values self.now) < 2 ^ 64 }
+        ensures { result ≡ sum_by (λ i. i.total) (map.values self.now) }
+    {
+        total::<Item, Total>(&self.root)
+    }
+}
+
+impl BookingMap {
+    pub(crate) fn bill(&self) -> u64
+        requires { bill_of self.now < 2 ^ 64 }
+        ensures { result ≡ bill_of self.now }
+    {
+        prices(&self.entries)
+    }
+
+    pub(crate) fn units(&self) -> u64
+        requires { units_booked self.now < 2 ^ 64 }
+        ensures { result ≡ units_booked self.now }
+    {
+        units_of_all(&self.entries)
+    }
+}
+
+impl Entry for BookingMap {
+    ghost weight = { map.len };
+
+    fn weight(&self) -> u64 {
+        self.len()
+    }
+
+    fn is_same(&self, other: &BookingMap) -> bool {
+        let (a, b) = (&self.entries, &other.entries);
+        *a == *b
+    }
+
+    fn hash(&self) -> u64 {
+        let mut hash = 0;
+        for ((kind, id), booking) in &self.entries {
+            let place = mixed(kind_code(*kind), *id as u64);
+            hash = mixed(hash, mixed(place, mixed(booking.units, booking.sum)));
+        }
+        hash
+    }
+}
+
+/// A number for each kind.
+fn kind_code(kind: Kind) -> u64 {
+    match kind {
+        Kind::Car => 0,
+        Kind::Flight => 1,
+        Kind::Room => 2,
+    }
+}
+
+/// The units that a customer has booked.
+struct Units;
+
+impl Amount<BookingMap> for Units {
+    ghost amount = { units_booked };
+
+    fn amount(bookings: &BookingMap) -> u64 {
+        bookings.units()
+    }
+}
+
+/// The bill of a customer.
+struct Bill;
+
+impl Amount<BookingMap> for Bill {
+    ghost amount = { bill_of };
+
+    fn amount(bookings: &BookingMap) -> u64 {
+        bookings.bill()
+    }
+}
+
+impl IdMap<BookingMap> {
+    /// How many bookings all customers have.
+    pub(crate) fn bookings(&self) -> u64
+        ensures { result ≡ sum_by map.len (map.values self.now) }
+    {
+        self.weight()
+    }
+
+    /// How many units all customers have booked.
+    pub(crate) fn units(&self) -> u64
+        requires { sum_by units_booked (map.values self.now) < 2 ^ 64 }
+        ensures { result ≡ sum_by units_booked (map.values self.now) }
+    {
+        total::<BookingMap, Units>(&self.root)
+    }
+
+    /// The sum of all bills.
+    pub(crate) fn bills(&self) -> u64
+        requires { sum_by bill_of (map.values self.now) < 2 ^ 64 }
+        ensures { result ≡ sum_by bill_of (map.values self.now) }
+    {
+        total::<BookingMap, Bill>(&self.root)
+    }
+
+    /// Puts a booking of a customer, unless memory is refused.
+    pub(crate) fn put_booking(
+        &mut self,
+        customer: u32,
+        kind: Kind,
+        id: u32,
+        booking: Booking,
+    ) -> Result<(), AllocError>
+        requires { IsSome (map.get self.old customer) }
+        ensures ok { OnOk result ((bookings : Bookings) → map.get self.old customer ≡ Some bookings
+            → self.new ≡ map.insert self.old customer (map.insert bookings (kind, id) booking)) }
+        ensures err { OnErr result (self.new ≡ self.old) }
+    {
+        let mut bookings = match self.get(customer) {
+            Some(bookings) => bookings.clone()?,
+            None => unreachable!(),
+        };
+        bookings.insert(kind, id, booking)?;
+        self.insert(customer, bookings)
+    }
+
+    /// Removes a booking of a customer, unless memory is refused.
+    pub(crate) fn remove_booking(
+        &mut self,
+        customer: u32,
+        kind: Kind,
+        id: u32,
+    ) -> Result<(), AllocError>
+        requires { IsSome (map.get self.old customer) }
+        ensures ok { OnOk result ((bookings : Bookings) → map.get self.old customer ≡ Some bookings
+            → self.new ≡ map.insert self.old customer (map.remove bookings (kind, id))) }
+        ensures err { OnErr result (self.new ≡ self.old) }
+    {
+        let mut bookings = match self.get(customer) {
+            Some(bookings) => bookings.clone()?,
+            None => unreachable!(),
+        };
+        bookings.remove(kind, id);
+        self.insert(customer, bookings)
+    }
+}
+
+fn prices<K: Ord>(entries: &BTreeMap<K, Booking>) -> u64
+    requires { sum_by (λ e. e.sum) (tree.values entries.now) < 2 ^ 64 }
+    ensures { result ≡ sum_by (λ e. e.sum) (tree.values entries.now) }
+{
+    entries.values().map(|entry| entry.sum).sum()
+}
+
+fn units_of_all<K: Ord>(entries: &BTreeMap<K, Booking>) -> u64
+    requires { sum_by (λ e. e.units) (tree.values entries.now) < 2 ^ 64 }
+    ensures { result ≡ sum_by (λ e. e.units) (tree.values entries.now) }
+{
+    entries.values().map(|entry| entry.units).sum()
+}

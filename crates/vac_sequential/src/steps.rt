@@ -1,0 +1,322 @@
+//! What each command does to the tables, and when it is refused.
+
+ghost use Rattle.std.specs.Prelude.{◌≡◌, ◌≤◌, IsSome, IfOk, OnOk, OnErr, true};
+ghost use Rattle.std.specs.Option.{option_copied, option_map};
+ghost use Rattle.std.specs.FinMap as map;
+ghost use Rattle.vac_model.specs.declared.limits.TheConstants.{MOST_UNITS_AT_ONCE};
+ghost use Rattle.vac_model.specs.Step as rules;
+ghost use Rattle.vac_model.specs.Fits.{IsSmall, IsItemInRange, IsBookingInRange, CanGiveBack};
+ghost use Rattle.vac_model.specs.Ranges.{is_command};
+
+use crate::items::{added, deleted, extended, given_back, new_booking, new_item, taken};
+use crate::maps::BookingMap;
+use crate::tables::Tables;
+use std::alloc::AllocError;
+use vac_model::limits::{MOST_TOTAL, MOST_UNITS};
+use vac_model::{Booking, Command, Item, Kind, Reply, Why};
+
+impl Tables {
+    ghost use Rattle.std.specs.Prelude.{Some};
+    ghost use Rattle.vac_model.specs.State.{Bookings, item_of, bookings_of, bill_of};
+
+    pub(crate) fn add(
+        &mut self,
+        kind: Kind,
+        id: u32,
+        num: u32,
+        price: Option<u32>,
+    ) -> Result<Reply, AllocError>
+        requires { IsSmall self.old }
+        ensures ok { IfOk result
+            (λ reply. rules.add self.old kind id num price ≡ (self.new, reply)) }
+        ensures err { OnErr result (self.new ≡ self.old) }
+    {
+        match self.item(kind, id) {
+            Some(item) => self.add_more(kind, id, num, price, item),
+            None => self.add_new(kind, id, num, price),
+        }
+    }
+
+    fn add_new(
+        &mut self,
+        kind: Kind,
+        id: u32,
+        num: u32,
+        price: Option<u32>,
+    ) -> Result<Reply, AllocError>
+        requires { IsSmall self.old }
+        ensures ok { IfOk result
+            (λ reply. rules.add_new self.old kind id num price ≡ (self.new, reply)) }
+        ensures err { OnErr result (self.new ≡ self.old) }
+    {
+        let Some(price) = price else {
+            return Ok(Reply::No(Why::NeedsCountAndPrice));
+        };
+        if num == 0 {
+            return Ok(Reply::No(Why::NeedsCountAndPrice));
+        }
+        if self.is_full() {
+            return Ok(Reply::No(Why::Full));
+        }
+        self.insert_item(kind, id, new_item(num, price))?;
+        Ok(Reply::Done)
+    }
+
+    fn add_more(
+        &mut self,
+        kind: Kind,
+        id: u32,
+        num: u32,
+        price: Option<u32>,
+        item: Item,
+    ) -> Result<Reply, AllocError>
+        requires range { IsItemInRange item }
+        ensures ok { IfOk result
+            (λ reply. rules.add_more self.old kind id num price item ≡ (self.new, reply)) }
+        ensures err { OnErr result (self.new ≡ self.old) }
+    {
+        if item.total + num as u64 > MOST_TOTAL {
+            return Ok(Reply::No(Why::TotalLimit));
+        }
+        self.insert_item(kind, id, added(item, num, price))?;
+        Ok(Reply::Done)
+    }
+
+    pub(crate) fn delete(&mut self, kind: Kind, id: u32, num: u32) -> Result<Reply, AllocError>
+        requires { IsSmall self.old }
+        ensures ok { IfOk result (λ reply. rules.delete self.old kind id num ≡ (self.new, reply)) }
+        ensures err { OnErr result (self.new ≡ self.old) }
+    {
+        let Some(item) = self.item(kind, id) else {
+            return Ok(Reply::No(Why::NoItem));
+        };
+        if item.free < num as u64 {
+            return Ok(Reply::No(Why::NotFree));
+        }
+        if item.total == num as u64 {
+            self.remove_item(kind, id)?;
+            return Ok(Reply::Done);
+        }
+        self.insert_item(kind, id, deleted(item, num))?;
+        Ok(Reply::Done)
+    }
+
+    pub(crate) fn drop_flight(&mut self, id: u32) -> Result<Reply, AllocError>
+        requires { IsSmall self.old }
+        ensures ok { IfOk result (λ reply. rules.drop_flight self.old id ≡ (self.new, reply)) }
+        ensures err { OnErr result (self.new ≡ self.old) }
+    {
+        let Some(item) = self.item(Kind::Flight, id) else {
+            return Ok(Reply::No(Why::NoItem));
+        };
+        if item.used > 0 {
+            return Ok(Reply::No(Why::InUse));
+        }
+        self.remove_item(Kind::Flight, id)?;
+        Ok(Reply::Done)
+    }
+
+    pub(crate) fn new_customer(&mut self, id: u32) -> Result<Reply, AllocError>
+        requires { IsSmall self.old }
+        ensures ok { IfOk result (λ reply. rules.new_customer self.old id ≡ (self.new, reply)) }
+        ensures err { OnErr result (self.new ≡ self.old) }
+    {
+        if self.bookings(id).is_some() {
+            return Ok(Reply::No(Why::Exists));
+        }
+        if self.is_full() {
+            return Ok(Reply::No(Why::Full));
+        }
+        self.insert_customer(id)?;
+        Ok(Reply::Done)
+    }
+
+    pub(crate) fn reserve(
+        &mut self,
+        customer: u32,
+        kind: Kind,
+        id: u32,
+        num: u32,
+    ) -> Result<Reply, AllocError>
+        requires small { IsSmall self.old }
+        requires count { num ≤ MOST_UNITS_AT_ONCE }
+        ensures ok { IfOk result
+            (λ reply. rules.reserve self.old customer kind id num ≡ (self.new, reply)) }
+    {
+        let Some(bookings) = self.bookings(customer) else {
+            return Ok(Reply::No(Why::NoCustomer));
+        };
+        let booked = bookings.get(kind, id);
+        let Some(item) = self.item(kind, id) else {
+            return Ok(Reply::No(Why::NoItem));
+        };
+        if item.free < num as u64 {
+            return Ok(Reply::No(Why::SoldOut));
+        }
+        match booked {
+            None => self.book_new(customer, kind, id, num, item),
+            Some(booking) => self.book_more(customer, kind, id, num, item, booking),
+        }
+    }
+
+    fn book_new(
+        &mut self,
+        customer: u32,
+        kind: Kind,
+        id: u32,
+        num: u32,
+        item: Item,
+    ) -> Result<Reply, AllocError>
+        requires small { IsSmall self.old }
+        requires count { num ≤ MOST_UNITS_AT_ONCE }
+        requires customer { IsSome (bookings_of self.old customer) }
+        requires item { item_of self.old kind id ≡ Some item }
+        requires free { num ≤ item.free }
+        ensures ok { IfOk result (λ reply. (bookings : Bookings)
+            → bookings_of self.old customer ≡ Some bookings
+            → rules.book_new self.old customer kind id num bookings item ≡ (self.new, reply)) }
+    {
+        if self.is_full() {
+            return Ok(Reply::No(Why::Full));
+        }
+        self.put_booking(customer, kind, id, new_booking(num, item.price))?;
+        self.insert_item(kind, id, taken(item, num))?;
+        Ok(Reply::Done)
+    }
+
+    fn book_more(
+        &mut self,
+        customer: u32,
+        kind: Kind,
+        id: u32,
+        num: u32,
+        item: Item,
+        booking: Booking,
+    ) -> Result<Reply, AllocError>
+        requires small { IsSmall self.old }
+        requires count { num ≤ MOST_UNITS_AT_ONCE }
+        requires customer { IsSome (bookings_of self.old customer) }
+        requires item { item_of self.old kind id ≡ Some item }
+        requires free { num ≤ item.free }
+        requires booking { IsBookingInRange booking }
+        ensures ok { IfOk result (λ reply. (bookings : Bookings)
+            → bookings_of self.old customer ≡ Some bookings
+            → rules.book_more self.old customer kind id num bookings item booking
+            ≡ (self.new, reply)) }
+    {
+        if booking.units + num as u64 > MOST_UNITS {
+            return Ok(Reply::No(Why::UnitLimit));
+        }
+        self.put_booking(customer, kind, id, extended(booking, num, item.price))?;
+        self.insert_item(kind, id, taken(item, num))?;
+        Ok(Reply::Done)
+    }
+
+    pub(crate) fn cancel(&mut self, customer: u32, kind: Kind, id: u32) -> Result<Reply, AllocError>
+        requires { IsSmall self.old }
+        ensures { IfOk result
+            (λ reply. rules.cancel self.old customer kind id ≡ (self.new, reply)) }
+    {
+        let Some(bookings) = self.bookings(customer) else {
+            return Ok(Reply::No(Why::NoCustomer));
+        };
+        let booked = bookings.get(kind, id);
+        let Some(item) = self.item(kind, id) else {
+            return Ok(Reply::No(Why::NoItem));
+        };
+        let Some(booking) = booked else {
+            return Ok(Reply::No(Why::NotBooked));
+        };
+        self.remove_booking(customer, kind, id)?;
+        self.insert_item(kind, id, given_back(item, booking.units))?;
+        Ok(Reply::Done)
+    }
+
+    pub(crate) fn drop_customer(&mut self, id: u32) -> Result<Reply, AllocError>
+        requires { IsSmall self.old }
+        ensures { IfOk result (λ reply. rules.drop_customer self.old id ≡ (self.new, reply)) }
+    {
+        let bookings = match self.bookings(id) {
+            None => return Ok(Reply::No(Why::NoCustomer)),
+            Some(bookings) => bookings.clone()?,
+        };
+        self.remove_customer(id)?;
+        self.give_back_all(bookings)?;
+        Ok(Reply::Done)
+    }
+
+    fn give_back_all(&mut self, bookings: BookingMap) -> Result<(), AllocError>
+        requires { CanGiveBack self.old (map.entries bookings) }
+        ensures { OnOk result (self.new ≡ rules.give_back_all self.old (map.entries bookings)) }
+    {
+        let mut bookings = bookings;
+        while let Some(((kind, id), booking)) = bookings.pop_first() {
+            if let Some(item) = self.item(kind, id) {
+                self.insert_item(kind, id, given_back(item, booking.units))?;
+            }
+        }
+        Ok(())
+    }
+
+    fn free(&self, kind: Kind, id: u32) -> Option<u64>
+        ensures { result ≡ option_map (λ item. item.free) (item_of self.now kind id) }
+    {
+        let item = self.item(kind, id)?;
+        Some(item.free)
+    }
+
+    pub(crate) fn price(&self, kind: Kind, id: u32) -> Option<u64>
+        ensures { result ≡ rules.price_of self.now kind id }
+    {
+        let item = self.item(kind, id)?;
+        Some(item.price)
+    }
+
+    pub(crate) fn bill(&self, customer: u32) -> Option<u64>
+        requires { IsSmall self.now }
+        ensures { result ≡ option_map bill_of (bookings_of self.now customer) }
+    {
+        let bookings = self.bookings(customer)?;
+        Some(bookings.bill())
+    }
+
+    pub(crate) fn step(&mut self, command: &Command) -> Result<Reply, AllocError>
+        requires small { IsSmall self.old }
+        requires in_range { is_command command.now ≡ true }
+        ensures ok { IfOk result (λ reply. rules.step self.old command.now ≡ (self.new, reply)) }
+        ensures stays_small { OnOk result (IsSmall self.new) }
+    {
+        let reply = self.outcome(command)?;
+        Ok(reply)
+    }
+
+    fn outcome(&mut self, command: &Command) -> Result<Reply, AllocError>
+        requires small { IsSmall self.old }
+        requires in_range { is_command command.now ≡ true }
+        ensures ok { IfOk result (λ reply. rules.step self.old command.now ≡ (self.new, reply)) }
+    {
+        match *command {
+            Command::Add {
+                kind,
+                id,
+                num,
+                price,
+            } => self.add(kind, id, num, price),
+            Command::Delete { kind, id, num } => self.delete(kind, id, num),
+            Command::DropFlight { id } => self.drop_flight(id),
+            Command::NewCustomer { id } => self.new_customer(id),
+            Command::DropCustomer { id } => self.drop_customer(id),
+            Command::Free { kind, id } => Ok(Reply::Number(self.free(kind, id))),
+            Command::Price { kind, id } => Ok(Reply::Number(self.price(kind, id))),
+            Command::Bill { id } => Ok(Reply::Number(self.bill(id))),
+            Command::Reserve {
+                customer,
+                kind,
+                id,
+                num,
+            } => self.reserve(customer, kind, id, num),
+            Command::Cancel { customer, kind, id } => self.cancel(customer, kind, id),
+            Command::Audit => Ok(Reply::Report(self.report())),
+        }
+    }
+}

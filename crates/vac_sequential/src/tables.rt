@@ -1,0 +1,224 @@
+//! The four tables, which contracts see as a state.
+
+ghost use Rattle.std.specs.Prelude.{◌≡◌, ◌<◌, ◌≤◌, ◌^◌, IsSome, IfOk, OnOk, OnErr, Some, ℕ};
+ghost use Rattle.std.specs.Option.{option_copied};
+ghost use Rattle.std.specs.FinMap as map;
+ghost use Rattle.vac_sequential.specs.Tries.{TellsSame};
+
+use crate::maps::{BookingMap, IdMap};
+use crate::tries::mixed;
+use std::alloc::{AllocError, Global};
+use std::marker::Model;
+use vac_model::{Booking, Item, Kind, Report};
+
+#[derive(Drop)]
+pub(crate) struct Tables {
+    alloc: Global,
+    capacity: u64,
+    cars: IdMap<Item>,
+    flights: IdMap<Item>,
+    rooms: IdMap<Item>,
+    customers: IdMap<BookingMap>,
+}
+
+impl Model for Tables {
+    ghost use Rattle.vac_model.specs.State.{State};
+    ghost use Rattle.vac_model.specs.Coded.{state_coded};
+
+    ghost Value = { State };
+
+    ghost coded = { state_coded };
+
+    ghost view = { λ t. record {
+      capacity = t.capacity;
+      cars = t.cars;
+      flights = t.flights;
+      rooms = t.rooms;
+      customers = t.customers;
+    } };
+}
+
+impl Tables {
+    ghost use Rattle.vac_model.specs.State.{Bookings, empty_state, table_of, item_of, with_item, without_item, bookings_of, with_bookings, without_customer, size, is_full, report};
+    ghost use Rattle.vac_model.specs.Fits.{IsSmall};
+    ghost use Rattle.vac_model.specs.declared.items.Kind.{Kind};
+
+    pub(crate) fn new(alloc: Global, capacity: u64) -> Self
+        ensures { result ≡ empty_state capacity }
+    {
+        Self {
+            alloc,
+            capacity,
+            cars: IdMap::new(alloc),
+            flights: IdMap::new(alloc),
+            rooms: IdMap::new(alloc),
+            customers: IdMap::new(alloc),
+        }
+    }
+
+    pub(crate) fn copy(&self) -> Result<Self, AllocError>
+        ensures { IfOk result (λ t. t ≡ self.now) }
+    {
+        Ok(Self {
+            alloc: self.alloc,
+            capacity: self.capacity,
+            cars: self.cars.copy()?,
+            flights: self.flights.copy()?,
+            rooms: self.rooms.copy()?,
+            customers: self.customers.copy()?,
+        })
+    }
+
+    /// Whether two states are the same.
+    pub(crate) fn is_same(&self, other: &Self) -> bool
+        ensures { TellsSame self.now other.now result }
+    {
+        if self.capacity != other.capacity || !self.cars.is_same(&other.cars) {
+            return false;
+        }
+        if !self.flights.is_same(&other.flights) || !self.rooms.is_same(&other.rooms) {
+            return false;
+        }
+        self.customers.is_same(&other.customers)
+    }
+
+    /// A number of which nothing is promised; equal states have the same.
+    pub(crate) fn hash(&self) -> u64 {
+        let items = mixed(
+            self.cars.hash(),
+            mixed(self.flights.hash(), self.rooms.hash()),
+        );
+        mixed(items, self.customers.hash())
+    }
+
+    pub(crate) fn item(&self, kind: Kind, id: u32) -> Option<Item>
+        ensures { result ≡ item_of self.now kind id }
+    {
+        match kind {
+            Kind::Car => self.cars.get(id).copied(),
+            Kind::Flight => self.flights.get(id).copied(),
+            Kind::Room => self.rooms.get(id).copied(),
+        }
+    }
+
+    /// How many entries there are.
+    pub(crate) fn size(&self) -> u64
+        requires { size self.now < 2 ^ 63 }
+        ensures { result ≡ size self.now }
+    {
+        self.cars.len()
+            + self.flights.len()
+            + self.rooms.len()
+            + self.customers.len()
+            + self.customers.bookings()
+    }
+
+    pub(crate) fn is_full(&self) -> bool
+        requires { size self.now < 2 ^ 63 }
+        ensures { result ≡ is_full self.now }
+    {
+        self.capacity <= self.size()
+    }
+
+    pub(crate) fn report(&self) -> Report
+        requires { IsSmall self.now }
+        ensures { result ≡ report self.now }
+    {
+        Report {
+            cars: self.cars.len(),
+            flights: self.flights.len(),
+            rooms: self.rooms.len(),
+            customers: self.customers.len(),
+            bookings: self.customers.units(),
+            used: self.cars.used() + self.flights.used() + self.rooms.used(),
+            free: self.cars.free() + self.flights.free() + self.rooms.free(),
+            total: self.cars.total() + self.flights.total() + self.rooms.total(),
+            billed: self.customers.bills(),
+        }
+    }
+
+    /// Puts an item, unless memory is refused.
+    pub(crate) fn insert_item(&mut self, kind: Kind, id: u32, item: Item) -> Result<(), AllocError>
+        ensures ok { OnOk result (self.new ≡ with_item self.old kind id item) }
+        ensures err { OnErr result (self.new ≡ self.old) }
+    {
+        match kind {
+            Kind::Car => self.cars.insert(id, item)?,
+            Kind::Flight => self.flights.insert(id, item)?,
+            Kind::Room => self.rooms.insert(id, item)?,
+        }
+        Ok(())
+    }
+
+    /// Removes an item, unless memory is refused.
+    pub(crate) fn remove_item(&mut self, kind: Kind, id: u32) -> Result<(), AllocError>
+        ensures ok { OnOk result (self.new ≡ without_item self.old kind id) }
+        ensures err { OnErr result (self.new ≡ self.old) }
+    {
+        match kind {
+            Kind::Car => self.cars.remove(id)?,
+            Kind::Flight => self.flights.remove(id)?,
+            Kind::Room => self.rooms.remove(id)?,
+        }
+        Ok(())
+    }
+
+    pub(crate) fn bookings(&self, customer: u32) -> Option<&BookingMap>
+        ensures { option_copied result ≡ bookings_of self.now customer }
+    {
+        self.customers.get(customer)
+    }
+
+    /// Makes a customer without bookings.
+    pub(crate) fn insert_customer(&mut self, customer: u32) -> Result<(), AllocError>
+        ensures ok { OnOk result (self.new ≡ with_bookings self.old customer map.empty) }
+        ensures err { OnErr result (self.new ≡ self.old) }
+    {
+        self.customers
+            .insert(customer, BookingMap::new(self.alloc))?;
+        Ok(())
+    }
+
+    /// Removes a customer, unless memory is refused.
+    pub(crate) fn remove_customer(&mut self, customer: u32) -> Result<(), AllocError>
+        ensures ok { OnOk result (self.new ≡ without_customer self.old customer) }
+        ensures err { OnErr result (self.new ≡ self.old) }
+    {
+        self.customers.remove(customer)
+    }
+
+    /// Puts a booking of a customer, unless memory is refused.
+    pub(crate) fn put_booking(
+        &mut self,
+        customer: u32,
+        kind: Kind,
+        id: u32,
+        booking: Booking,
+    ) -> Result<(), AllocError>
+        requires { IsSome (bookings_of self.old customer) }
+        ensures ok { OnOk result ((bookings : Bookings)
+            → bookings_of self.old customer ≡ Some bookings
+            → self.new ≡ with_bookings self.old customer (map.insert bookings (kind, id) booking)) }
+        ensures err { OnErr result (self.new ≡ self.old) }
+        ensures items { (k : Kind) (i : ℕ) → item_of self.new k i ≡ item_of self.old k i }
+    {
+        self.customers.put_booking(customer, kind, id, booking)
+    }
+
+    /// Removes a booking of a customer, unless memory is refused.
+    pub(crate) fn remove_booking(
+        &mut self,
+        customer: u32,
+        kind: Kind,
+        id: u32,
+    ) -> Result<(), AllocError>
+        requires { IsSome (bookings_of self.old customer) }
+        ensures ok { OnOk result ((bookings : Bookings)
+            → bookings_of self.old customer ≡ Some bookings
+            → self.new ≡ with_bookings self.old customer (map.remove bookings (kind, id))) }
+        ensures err { OnErr result (self.new ≡ self.old) }
+        ensures items { (k : Kind) (i : ℕ) → item_of self.new k i ≡ item_of self.old k i }
+    {
+        self.customers.remove_booking(customer, kind, id)
+    }
+}
