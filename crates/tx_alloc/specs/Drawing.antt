@@ -5,7 +5,7 @@ use Rattle.tx_alloc.specs.Steps.{mem}
 use Rattle.tx_alloc.specs.Pool.{Free, IsBlock, IsPool, held, with_at, with_block}
 use Rattle.tx_alloc.specs.declared.place.TheConstants.{LISTS, FIRST_HEAD, BLOCK_WORDS, RUN_BLOCKS}
 
--- b was first in list from, and was moved to the taken ones. The blocks behind it are those of list
+-- b was first in list from, and was moved to the taken ones. The blocks after it are those of list
 -- start now, in their order, as far as RUN_BLOCKS blocks go, and only the later ones stay.
 -- Not said: which words hold the two lists, but that no word of another block is written.
 pub record IsRefilling (m m' : ℕ → ℕ) (n : ℕ) (free : ℕ → List ℕ) (used : ℕ → ℕ)
@@ -22,7 +22,7 @@ pub record IsRefilling (m m' : ℕ → ℕ) (n : ℕ) (free : ℕ → List ℕ) 
       ((a : ℕ) → 0 < held a run → x ≢ a) → m' x ≡ m x
 
 -- b was first in the first of the lists start, start + 1 and so on, modulo 8, that has a block, and
--- was moved to the taken ones. Where that is another list than start, the blocks behind it are list
+-- was moved to the taken ones. Where that is another list than start, the blocks after it are list
 -- start now, in their order, as far as RUN_BLOCKS blocks go, and only the later ones stay.
 pub record IsDrawing (m m' : ℕ → ℕ) (n : ℕ) (free : ℕ → List ℕ) (used : ℕ → ℕ)
     (count start b : ℕ) : Type 0 where
@@ -51,7 +51,7 @@ pub record Drawn (s s' : View) (start b : ℕ) : Type 0 where
       IsPool (mem s image) (length image) free used count →
       IsDrawing (mem s image) (mem s' image) (length image) free used count start b
 
--- b is the first block of a list, and next leads to the one behind it
+-- b is the first block of a list, and next leads to the one after it
 pub record Begins (s : View) (b next : ℕ) : Type 0 where
   pub list : ℕ
   pub small : list < LISTS

@@ -8,7 +8,7 @@ use Rattle.tx_alloc.specs.declared.place.TheConstants.{LISTS, FIRST_HEAD, FIRST_
 abbrev pub block_place : ℕ → ℕ
 block_place b = FIRST_BLOCK + BLOCK_WORDS * b
 
--- how many words a heap of so many blocks has
+-- how many words a heap of n blocks has
 abbrev pub heap_words : ℕ → ℕ
 heap_words blocks = FIRST_BLOCK + BLOCK_WORDS * blocks
 

@@ -8,7 +8,7 @@ use Rattle.tx_alloc.specs.declared.place.TheConstants.{LISTS, FIRST_HEAD}
 abbrev pub share : ℕ → ℕ → ℕ
 share n i = (n + 7 - i) / 8
 
--- the first block of list i, behind those of the lists before it
+-- the first block of list i, after those of the lists before it
 abbrev pub spread_start : ℕ → ℕ → ℕ
 spread_start n i = sum_below i (share n)
 
@@ -23,7 +23,7 @@ pub record IsSpreadHeap (xs : List ℕ) (n : ℕ) : Type 0 where
   pub others : (x : ℕ) → ((i : ℕ) → i < LISTS → x ≢ FIRST_HEAD + i) →
       ((b : ℕ) → b < n → x ≢ block_place b) → slice_index xs x ≡ 0
 
--- so many blocks, one after the other, from b on
+-- n blocks, one after the other, from b on
 abbrev pub blocks_from : ℕ → ℕ → List ℕ
 blocks_from zero b = []
 blocks_from (suc k) b = block_place b ∷ blocks_from k (b + 1)

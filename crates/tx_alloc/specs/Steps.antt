@@ -16,7 +16,7 @@ kept_both s s' s'' h k = record {
 pub stood : {s s' : View} → Kept s s' → (image : List ℕ) → RestsOn s' image → RestsOn s image
 stood k image i = record { size = i.size ∙ k.size; sees = k.seen image i.sees }
 
--- the answer of a load, spoken of the memory at the start, since when only reads were made
+-- the result of a load, spoken of the memory at the start, since when only reads were made
 pub at_start : (s0 s s' : View) (a v : ℕ) → s.writes ≡ s0.writes → Loaded s s' a v →
     (image : List ℕ) → Sees s' image → mem s0 image a ≡ v
 at_start s0 s s' a v e l image i = rw e at (l.answer image i)

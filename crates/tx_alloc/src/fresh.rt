@@ -7,7 +7,7 @@ ghost use Rattle.tx_alloc.specs.Spread.{IsSpreadHeap, IsLinked, spread_lists};
 use crate::place::{BLOCK_WORDS, FIRST_BLOCK, FIRST_HEAD, LISTS, MOST_BLOCKS};
 use std::alloc::{AllocError, Global};
 
-/// The words of a heap of so many blocks, all free: block b is in list b mod 8, each list ascends,
+/// The words of a heap of `blocks` blocks, all free: block b is in list b mod 8, each list ascends,
 /// and every other word is 0.
 pub fn fresh_words(alloc: Global, blocks: usize) -> Result<Vec<u64>, AllocError>
     requires some { 1 ≤ blocks }
@@ -42,8 +42,8 @@ pub fn fresh_words(alloc: Global, blocks: usize) -> Result<Vec<u64>, AllocError>
     Ok(words)
 }
 
-/// The words of a heap of so many blocks, all free: list 0 has the first eighth of them, list 1 the
-/// next and so on, each list ascends, and every other word is 0. What one client takes so lies
+/// The words of a heap of `blocks` blocks, all free: list 0 has the first eighth of them, list 1
+/// the next and so on, each list ascends, and every other word is 0. What one client takes so lies
 /// together.
 pub fn spread_words(alloc: Global, blocks: usize) -> Result<Vec<u64>, AllocError>
     requires some { 1 ≤ blocks }

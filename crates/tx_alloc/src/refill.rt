@@ -14,12 +14,12 @@ use stm_words::{Addr, TxMem, TxRead, load, store};
 struct RunEnd {
     /// Its last block.
     last: Addr,
-    /// What leads to the block behind it, or 0.
+    /// What leads to the block after it, or 0.
     behind: u64,
 }
 
 /// Takes the first block of list `start`. Where that has none, it takes the first block of the next
-/// list that has one, and the blocks behind it become list `start`, up to 63 of them: so a client
+/// list that has one, and the blocks after it become list `start`, up to 63 of them: so a client
 /// meets the others at their lists once for 64 blocks. List 0 follows list 7. `None` says that all
 /// eight are empty.
 ///
@@ -51,7 +51,7 @@ pub fn take_refilling<M: TxMem>(memory: &mut M, start: FreeList) -> Result<Optio
     Ok(None)
 }
 
-/// Takes the first block of list `from`, and makes the blocks behind it list `start`, which has
+/// Takes the first block of list `from`, and makes the blocks after it list `start`, which has
 /// none.
 fn refill<M: TxMem>(
     memory: &mut M,

@@ -44,7 +44,7 @@ abbrev pub first_block : Rows → ℕ
 first_block [] = 0
 first_block (r ∷ rs) = r.1
 
--- the block of the row behind the one with this block, or 0
+-- the block of the row after the one with this block, or 0
 abbrev pub block_behind : Rows → ℕ → ℕ
 block_behind [] b = 0
 block_behind (r ∷ rs) b = cond (nat_eq r.1 b) (first_block rs) (block_behind rs b)

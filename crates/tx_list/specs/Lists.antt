@@ -31,7 +31,7 @@ pub record HasList (s : View) (head : ℕ) : Type 0 where
   pub room : head < s.size
   pub under : (image : List ℕ) → RestsOn s image → SomeList (mem s image) (length image) head
 
--- only reads were made, and the answer is the block at the key
+-- only reads were made, and the result is the block at the key
 pub record Found (s s' : View) (head key : ℕ) (found : Option ℕ) : Type 0 where
   pub kept : Kept s s'
   pub writes : s'.writes ≡ s.writes
@@ -39,7 +39,7 @@ pub record Found (s s' : View) (head key : ℕ) (found : Option ℕ) : Type 0 wh
   pub is : (image : List ℕ) (rs : Rows) → Sees s' image →
       IsListAt (mem s image) (length image) head rs → pointer found ≡ block_at rs key
 
--- only reads were made, and the answer is the first block
+-- only reads were made, and the result is the first block
 pub record First (s s' : View) (head : ℕ) (found : Option ℕ) : Type 0 where
   pub kept : Kept s s'
   pub writes : s'.writes ≡ s.writes
@@ -60,7 +60,7 @@ pub record HasBooking (s : View) (b : ℕ) : Type 0 where
   pub small : s.size ≤ 2 ^ 32
   pub under : (image : List ℕ) → RestsOn s image → SomeBooking (mem s image) (length image) b
 
--- only reads were made, and the answer is the block behind b in each list that has b
+-- only reads were made, and the result is the block after b in each list that has b
 pub record Next (s s' : View) (b : ℕ) (found : Option ℕ) : Type 0 where
   pub kept : Kept s s'
   pub writes : s'.writes ≡ s.writes
@@ -100,7 +100,7 @@ pub record Inserted (s s' : View) (head : ℕ) (key : Key) (b : ℕ) : Type 0 wh
       Fresh (mem s image) (length image) head rs key b →
       IsInsertion (mem s image) (mem s' image) (length image) head (code_of key) b rs
 
--- the row of the key is gone, if there was one, and the answer is its block. No word was changed
+-- the row of the key is gone, if there was one, and the result is its block. No word was changed
 -- but the head and the words of the list's blocks that lead on.
 pub record IsRemoval (m m' : ℕ → ℕ) (n head key : ℕ) (removed : Option ℕ) (rs : Rows) : Type 0
   where

@@ -23,7 +23,7 @@ pub record Compared (s s' : View) (b : ℕ) (key : Key) (order : Ordering) : Typ
   pub is : (image : List ℕ) → Sees s' image →
       order ≡ key_cmp (mem s image (b + KIND)) (mem s image (b + ID)) key.kind key.id
 
--- only reads were made, and the word at the link leads to the answer
+-- only reads were made, and the word at the link leads to the result
 pub record Followed (s s' : View) (link : ℕ) (found : Option ℕ) : Type 0 where
   pub kept : Kept s s'
   pub writes : s'.writes ≡ s.writes

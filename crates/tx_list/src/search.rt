@@ -48,7 +48,7 @@ pub fn first<M: TxRead>(memory: &mut M, head: Addr) -> Result<Option<Block>, M::
     Ok(found)
 }
 
-/// The booking behind the one in this block.
+/// The booking after the one in this block.
 pub fn next<M: TxRead>(memory: &mut M, block: Block) -> Result<Option<Block>, M::Stop>
     requires booking { HasBooking (M.view memory.old) block }
     ensures origin { M.origin memory.new ≡ M.origin memory.old }

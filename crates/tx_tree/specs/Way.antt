@@ -18,7 +18,7 @@ abbrev pub depth : Way → ℕ
 depth top = 0
 depth (step right c r o w) = depth w + 1
 
--- one way behind another
+-- one way after another
 abbrev pub under : Way → Way → Way
 under top w = w
 under (step right c r o v) w = step right c r o (under v w)
@@ -29,7 +29,7 @@ front top = []
 front (step false c r o w) = front w
 front (step true c r o w) = front w ++ (rows o ++ (r ∷ []))
 
--- the rows behind the hole
+-- the rows after the hole
 abbrev pub behind : Way → Rows
 behind top = []
 behind (step false c r o w) = r ∷ (rows o ++ behind w)

@@ -35,7 +35,7 @@ impl Path {
         Path { links: [0; LEVELS] }
     }
 
-    /// The link that has so many nodes above it.
+    /// The link that has `depth` nodes above it.
     pub fn link(&self, depth: usize) -> u32
         requires { depth < LEVELS }
         ensures { result ≡ slice_index self.now depth }

@@ -26,7 +26,7 @@ free next = next ∷ 0 ∷ 0 ∷ 0 ∷ 0 ∷ 0 ∷ 0 ∷ 0 ∷ []
 abbrev heads : ℕ → ℕ → List ℕ
 heads third fifth = 0 ∷ 0 ∷ 0 ∷ third ∷ 0 ∷ fifth ∷ 0 ∷ 0 ∷ []
 
--- the words of these blocks, one block behind the other
+-- the words of these blocks, one block after the other
 abbrev joined : List (List ℕ) → List ℕ
 joined [] = []
 joined (b ∷ bs) = b ++ joined bs
@@ -153,7 +153,7 @@ pub record OneFlaw : Type 0 where
       with_cars 3 (item 3 24 0 0 0 3 ∷ item 2 32 0 1 0 4 ∷ item 1 0 0 1 0 1 ∷ []) ≡ Err (Colour 27)
   pub lost_block : with_heads (heads 0 0) ≡ Err (Lost 40)
 
--- heaps with two flaws, of which the one that is met first is answered
+-- heaps with two flaws, of which the one that is met first is returned
 pub record TwoFlaws : Type 0 where
   pub left_before_key : with_car (item 0 20 0 0 2 5) ≡ Err (Pointer 17)
   pub key_before_counts : with_car (item 0 0 0 0 6 5) ≡ Err (Order 16)

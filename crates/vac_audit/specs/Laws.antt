@@ -31,7 +31,7 @@ abbrev pub FlawedIsNone : Type 0
 FlawedIsNone = (m : ℕ → ℕ) (blocks : ℕ) (flaw : Flaw) → audit m blocks ≡ Err flaw →
     (state : State) → IsState m (heap_words blocks) state → ⊥
 
--- a walk never runs out of levels: with more of them it answers the same
+-- a walk never runs out of levels: with more of them it returns the same
 abbrev pub EnoughLevels : Type 0
 EnoughLevels = (m : ℕ → ℕ) (blocks levels : ℕ) → blocks < levels →
     walk_by m blocks levels ≡ walk m blocks

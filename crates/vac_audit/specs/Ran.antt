@@ -141,20 +141,20 @@ HeapRan words blocks result = MatchResult result
     (λ report. audit (slice_index words) blocks ≡ Ok report)
     (λ fault. Faulted fault (λ flaw. audit (slice_index words) blocks ≡ Err flaw))
 
--- so many words are those of a heap of one block or more, and of no more than there may be
+-- n words are those of a heap of one block or more, and of no more than there may be
 abbrev pub IsHeapSize : ℕ → Type 0
 IsHeapSize n = (blocks : ℕ) × ((n ≡ heap_words blocks) × (1 ≤ blocks) × (blocks ≤ MOST_BLOCKS))
 
--- what the audit says, as the call answers it
+-- what the audit says, as the call returns it
 abbrev pub answer : Result Report Flaw → Result Report AuditFault
 answer (Ok report) = Ok report
 answer (Err flaw) = Err (Flawed flaw)
 
--- why a walk ended, as the call answers it
+-- why a walk ended, as the call returns it
 abbrev pub fault_answer : Fault → AuditFault
 fault_answer Refused = Memory
 fault_answer (Found flaw) = Flawed flaw
 
--- the answer is that of the audit, unless there was no memory
+-- the result is that of the audit, unless there was no memory
 abbrev pub Audited : (ℕ → ℕ) → ℕ → Result Report AuditFault → Type 0
 Audited m blocks result = (result ≡ Err Memory) ⊎ (result ≡ answer (audit m blocks))

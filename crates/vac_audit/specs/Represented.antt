@@ -12,7 +12,7 @@ pub record StateOf (words : List ℕ) (found : Report) : Type 0 where
   pub represented : IsState (slice_index words) (length words) state
   pub report_is : report state ≡ found
 
--- where the words represent a balanced state of one block or more, its report is the answer, unless
+-- where the words represent a balanced state of one block or more, its report is the result, unless
 -- there was no memory
 abbrev pub Recognised : List ℕ → Result Report AuditFault → Type 0
 Recognised words result = (s : State) → 1 ≤ s.capacity →

@@ -45,7 +45,7 @@ ColourLooked words p left right result =
     × (side.red ≡ nat_eq (slice_index words (p + 3)) 1))
     (λ flaw. (is_coloured (slice_index words (p + 3)) l t ≡ false) × (flaw ≡ Colour (p + 3)))
 
--- the key of a node was looked at, behind the keys below lo; the answer is the least that may
+-- the key of a node was looked at, after the keys below lo; the result is the least that may
 -- follow it
 abbrev pub KeyLooked : List ℕ → ℕ → ℕ → Result ℕ Flaw → Type 0
 KeyLooked words p lo result = MatchResult result

@@ -1,7 +1,7 @@
--- The audit of words as a function: it walks the words of a heap in order and answers what it
+-- The audit of words as a function: it walks the words of a heap in order and returns what it
 -- found, or the first flaw that it met. Words 1 to 4 lead to the tables of cars, flights, rooms
 -- and customers, words 8 to 15 to the lists of free blocks. From word 16 on stand the blocks, of
--- eight words each. A node of a table has key, left, right, colour; behind them an item has used,
+-- eight words each. A node of a table has key, left, right, colour; after them an item has used,
 -- free, total, price, and a customer the head of its bookings. A booking has kind, id, sum, next,
 -- units. Each flaw has the word at which it was met.
 use Rattle.std.specs.Prelude.{ℕ, ◌+◌, ◌*◌, ◌^◌, Bool, true, false, cond, not, ◌&&◌, ◌||◌, List, [], ◌∷◌, length, Result, Ok, Err, nat_eq, nat_lt, nat_le, zero, suc, ◌%◌, sum_by}

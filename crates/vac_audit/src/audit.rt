@@ -77,7 +77,7 @@ fn walk_items(
     })
 }
 
-/// Walks the customers with their bookings, and answers how many customers there are.
+/// Walks the customers with their bookings, and returns how many customers there are.
 fn walk_customers(
     alloc: Global,
     words: &[u64],
@@ -110,7 +110,7 @@ fn check_used(words: &[u64], notes: &Notes) -> Result<(), Flaw>
     Ok(())
 }
 
-/// The audit of a heap of so many blocks.
+/// The audit of a heap of `blocks` blocks.
 fn audit_heap(alloc: Global, words: &[u64], blocks: usize) -> Result<Report, Fault>
     requires some { 1 ≤ blocks }
     requires few { blocks ≤ MOST_BLOCKS }

@@ -216,7 +216,7 @@ fn follow_down(
     }
 }
 
-/// Looks at the key of a node, which is to be `above` or more. The answer is the least key that
+/// Looks at the key of a node, which is to be `above` or more, and returns the least key that
 /// may follow it.
 fn look_at_key(words: &[u64], node: usize, above: u64) -> Result<u64, Flaw>
     requires inside { node + BLOCK_WORDS ≤ length words.now }
@@ -244,7 +244,7 @@ fn look_at_root(words: &[u64], root: usize, tree: Side) -> Result<(), Flaw>
     Ok(())
 }
 
-/// Walks a table, and answers how many nodes it has.
+/// Walks a table, and returns how many nodes it has.
 pub fn walk_table(
     alloc: Global,
     words: &[u64],

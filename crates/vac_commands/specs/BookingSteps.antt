@@ -65,7 +65,7 @@ pub record HasSpot (s : View) (owner : ℕ) (place : Place) (spot : Spot) : Type
       (h : IsState (mem s image) (length image) state) →
       SpotAt (mem s image) (head_of owner) (place_key place) spot (h.represents.parts.lists owner)
 
--- under each image these are the item's free units, so many or more, and its price
+-- under each image these are the item's free units, num or more, and its price
 pub record IsOffered (s : View) (item num : ℕ) (offer : Offer) : Type 0 where
   pub enough : num ≤ offer.free
   pub free_is : (image : List ℕ) → Sees s image → mem s image (item + 5) ≡ offer.free

@@ -72,8 +72,8 @@ pub record PlaceRead (s s' : View) (b : ℕ) (place : Place) : Type 0 where
   pub writes : s'.writes ≡ s.writes
   pub is : (image : List ℕ) → Sees s' image → place_in (mem s image) b ≡ place
 
--- the memory represents a state in which the customer, still in block c, has at most so many
--- bookings, and from which DropCustomer leads where it leads from s
+-- the memory represents a state in which the customer, still in block c, has at most this number
+-- of bookings, and from which DropCustomer leads where it leads from s
 pub record IsLeaving (m : ℕ → ℕ) (n : ℕ) (s : State) (id c most : ℕ) : Type 0 where
   pub state : State
   pub is : IsState m n state

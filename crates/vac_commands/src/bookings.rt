@@ -90,7 +90,7 @@ pub fn reserve_at<M: TxMem>(
     }
 }
 
-/// Books more units of an item that has so many, at its price, for a customer who has a booking of
+/// Books more units of an item that has them, at its price, for a customer who has a booking of
 /// it.
 fn extend_booking<M: TxMem>(
     memory: &mut M,
@@ -122,7 +122,7 @@ fn extend_booking<M: TxMem>(
     Ok(Reply::Done)
 }
 
-/// Books units of an item that has so many, at its price, for a customer who has no booking of it,
+/// Books units of an item that has them, at its price, for a customer who has no booking of it,
 /// at the booking's spot in the customer's list.
 fn add_booking<M: TxMem>(
     memory: &mut M,

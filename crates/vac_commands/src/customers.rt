@@ -39,7 +39,7 @@ pub fn new_customer<M: TxMem>(memory: &mut M, id: u32, start: FreeList) -> Resul
     }
 }
 
-/// Makes a customer who is missing, and answers the block. `None` says that no block is free.
+/// Makes a customer who is missing, and returns the block. `None` says that no block is free.
 pub fn add_customer<M: TxMem>(
     memory: &mut M,
     id: u32,

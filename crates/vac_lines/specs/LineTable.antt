@@ -217,7 +217,7 @@ update_line (word ∷ rest) =
 abbrev pub one : Result Command LineFault → Result Task LineFault
 one read = read >>= λ c. Ok (task.One c)
 
--- the task of a line with this name and these words behind it
+-- the task of a line with this name and these words after it
 abbrev pub task_of : LineName → List (List ℕ) → Result Task LineFault
 task_of name.Add rest = one (add_line rest)
 task_of name.Del rest = one (del_line rest)

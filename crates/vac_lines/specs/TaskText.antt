@@ -51,7 +51,7 @@ command_words (command.Cancel customer kind id) =
     codes "cancel" ∷ decimal customer ∷ item_words kind id
 command_words command.Audit = codes "audit" ∷ []
 
--- the words of a change behind another one
+-- the words of a change after another one
 abbrev pub further_words : Command → List (List ℕ)
 further_words change = codes ";" ∷ command_words change
 
@@ -68,7 +68,7 @@ task_words (task.Trip customer asks) =
 task_words (task.Leave customer) = codes "leave" ∷ decimal customer ∷ []
 task_words (task.Update changes) = codes "update" ∷ changes_words changes
 
--- words, each behind a space
+-- words, each after a space
 abbrev pub spaced : List (List ℕ) → List ℕ
 spaced words = flat_map (λ word. codes " " ++ word) words
 
@@ -86,7 +86,7 @@ abbrev pub TaskTextsAreRead : Type 0
 TaskTextsAreRead = (t : Task) → is_task t ≡ true → length (task_text t) ≤ LINE_BYTES
     → line_task (task_text t) ≡ Ok t
 
--- an update of so many changes fits into a line, whatever its numbers are
+-- an update of this number of changes fits into a line, whatever its numbers are
 abbrev pub FITTING_CHANGES : ℕ
 FITTING_CHANGES = 25
 

@@ -75,7 +75,7 @@ abbrev pub pick_text : Option Pick → List ℕ
 pick_text None = codes "-"
 pick_text (Some pick) = decimal pick.id ++ codes ":" ++ done_text pick.refused
 
--- the picks of a trip, each behind the name of its kind
+-- the picks of a trip, each after the name of its kind
 abbrev pub picks_text : List (Option Pick) → List ℕ
 picks_text picks =
     flat_map (λ p. p.0 ++ pick_text p.1)
@@ -85,7 +85,7 @@ picks_text picks =
 abbrev pub trip_text : TripReply → List ℕ
 trip_text trip = codes "trip cust=" ++ joined_text trip.joined ++ picks_text trip.picks
 
--- what became of a change, behind a space
+-- what became of a change, after a space
 abbrev pub change_text : Option Why → List ℕ
 change_text refused = codes " " ++ done_text refused
 

@@ -61,7 +61,7 @@ fn read_words(alloc: Global, words: &[&[u8]]) -> Result<Task, LineFault>
     }
 }
 
-/// The task of a line with this name and these words behind it.
+/// The task of a line with this name and these words after it.
 fn read_named(alloc: Global, name: LineName, words: &[&[u8]]) -> Result<Task, LineFault>
     ensures task { result ≢ Err LineFault.Memory → result ≡ task_of name (texts words.now) }
     ensures inline { length words.now ≤ 8 → result ≡ task_of name (texts words.now) }

@@ -58,7 +58,7 @@ pub fn print_word(word: u64, out: &mut Vec<u8>) -> Result<(), AllocError>
     keep_whole(out, start, printed)
 }
 
-/// Takes back what was appended behind `start`, where not all of it could be.
+/// Takes back what was appended after `start`, where not all of it could be.
 pub(crate) fn keep_whole(
     out: &mut Vec<u8>,
     start: usize,
@@ -200,7 +200,7 @@ fn append_joined(out: &mut Vec<u8>, joined: Joined) -> Result<(), AllocError>
     append_pair(out, b"trip cust=", became)
 }
 
-/// Appends what a trip picked of one kind, behind the name of the kind.
+/// Appends what a trip picked of one kind, after the name of the kind.
 fn append_pick(out: &mut Vec<u8>, name: &[u8], pick: Option<Pick>) -> Result<(), AllocError>
     ensures ok { OnOk result (out.new.items ≡ out.old.items ++ (name.now ++ pick_text pick)) }
     ensures err { OnErr result (Extends out.old.items out.new.items) }
@@ -236,7 +236,7 @@ fn append_changes(out: &mut Vec<u8>, changes: &[Option<Why>]) -> Result<(), Allo
     Ok(())
 }
 
-/// Appends what became of a change, behind a space.
+/// Appends what became of a change, after a space.
 fn append_change(out: &mut Vec<u8>, refused: Option<Why>) -> Result<(), AllocError>
     ensures ok { OnOk result (out.new.items ≡ out.old.items ++ change_text refused) }
     ensures err { OnErr result (Extends out.old.items out.new.items) }

@@ -95,7 +95,7 @@ fn kind_word(kind: Kind) -> &'static [u8]
     }
 }
 
-/// Appends a number behind a space.
+/// Appends a number after a space.
 fn append_count(out: &mut Vec<u8>, number: u32) -> Result<(), AllocError>
     ensures ok { OnOk result (out.new.items ≡ out.old.items ++ spaced (decimal number ∷ [])) }
     ensures err { OnErr result (Extends out.old.items out.new.items) }
@@ -103,7 +103,7 @@ fn append_count(out: &mut Vec<u8>, number: u32) -> Result<(), AllocError>
     append_field(out, b" ", u64::from(number))
 }
 
-/// Appends a kind and an id, each behind a space.
+/// Appends a kind and an id, each after a space.
 fn append_item(out: &mut Vec<u8>, kind: Kind, id: u32) -> Result<(), AllocError>
     ensures ok { OnOk result (out.new.items ≡ out.old.items ++ spaced (item_words kind id)) }
     ensures err { OnErr result (Extends out.old.items out.new.items) }
@@ -112,7 +112,7 @@ fn append_item(out: &mut Vec<u8>, kind: Kind, id: u32) -> Result<(), AllocError>
     append_count(out, id)
 }
 
-/// Appends a price, or a dash for none, behind a space.
+/// Appends a price, or a dash for none, after a space.
 fn append_price(out: &mut Vec<u8>, price: Option<u32>) -> Result<(), AllocError>
     ensures ok { OnOk result (out.new.items ≡ out.old.items ++ spaced (price_word price ∷ [])) }
     ensures err { OnErr result (Extends out.old.items out.new.items) }
@@ -199,7 +199,7 @@ fn append_reserve(
     append_units(out, units)
 }
 
-/// Appends units behind a space, where they are not one.
+/// Appends units after a space, where they are not one.
 fn append_units(out: &mut Vec<u8>, units: u32) -> Result<(), AllocError>
     ensures ok { OnOk result (out.new.items ≡ out.old.items ++ spaced (units_words units)) }
     ensures err { OnErr result (Extends out.old.items out.new.items) }
@@ -244,7 +244,7 @@ fn append_update(out: &mut Vec<u8>, changes: &[Command]) -> Result<(), AllocErro
     append_further(out, rest)
 }
 
-/// Appends these changes, each behind a separator.
+/// Appends these changes, each after a separator.
 fn append_further(out: &mut Vec<u8>, changes: &[Command]) -> Result<(), AllocError>
     ensures ok { OnOk result
         (out.new.items ≡ out.old.items ++ spaced (flat_map further_words changes.now)) }
@@ -256,7 +256,7 @@ fn append_further(out: &mut Vec<u8>, changes: &[Command]) -> Result<(), AllocErr
     Ok(())
 }
 
-/// Appends a change behind a separator.
+/// Appends a change after a separator.
 fn append_separated(out: &mut Vec<u8>, change: Command) -> Result<(), AllocError>
     ensures ok { OnOk result (out.new.items ≡ out.old.items ++ spaced (further_words change)) }
     ensures err { OnErr result (Extends out.old.items out.new.items) }
@@ -265,7 +265,7 @@ fn append_separated(out: &mut Vec<u8>, change: Command) -> Result<(), AllocError
     append_change(out, change)
 }
 
-/// Appends the words of a change, each behind a space.
+/// Appends the words of a change, each after a space.
 fn append_change(out: &mut Vec<u8>, change: Command) -> Result<(), AllocError>
     ensures ok { OnOk result (out.new.items ≡ out.old.items ++ spaced (command_words change)) }
     ensures err { OnErr result (Extends out.old.items out.new.items) }

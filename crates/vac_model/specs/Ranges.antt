@@ -1,4 +1,4 @@
--- Whether a command, a task or a system of so many blocks can be asked for.
+-- Whether a command, a task or a system of n blocks can be asked for.
 use Rattle.std.specs.Prelude.{ℕ, Bool, true, false, ◌&&◌, length, nat_le}
 use Rattle.std.specs.List.{list_all}
 use Rattle.vac_model.specs.Amounts.{is_id, is_amount, is_optional_amount, is_unit_count, has_deletable_units, is_list_length}

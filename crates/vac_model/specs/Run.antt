@@ -30,7 +30,7 @@ refusal_of (reply.Update r) = None
 abbrev pub Choice : Type 0
 Choice = ℕ × ℕ
 
--- the choice after one more ask was answered: any price beats none, and a later one must be
+-- the choice after the reply to one more ask: any price beats none, and a later one must be
 -- strictly greater
 abbrev pub dearer : Option Choice → ℕ → Option ℕ → Option Choice
 dearer best id None = best
@@ -81,7 +81,7 @@ abbrev pub trip : State → ℕ → List Place → Outcome
 trip s customer asks =
     trip_with s customer (choice_of s Car asks) (choice_of s Flight asks) (choice_of s Room asks)
 
--- a leave answers the bill of a customer that is there, and drops that customer
+-- a leave returns the bill of a customer that is there, and drops that customer
 abbrev pub leave : State → ℕ → Outcome
 leave s customer =
     when_found (bookings_of s customer) (answered s None) (λ bookings.

@@ -1,4 +1,4 @@
--- What each command does to a state and what it answers. The commands and their refusals are those
+-- What each command does to a state and what it returns. The commands and their refusals are those
 -- of STAMP's Vacation, but for the refusals TotalLimit, Full, UnitLimit and NoCustomer of
 -- DropCustomer, the limits, and the report, which are this product's own.
 use Rattle.std.specs.Prelude.{ℕ, ◌+◌, ◌-◌, ◌*◌, Option, Some, None, List, unwrap_or, fold, nat_lt, ◌==◌, if◌then◌else◌}
@@ -67,7 +67,7 @@ deleted item num = record {
   price = item.price;
 }
 
--- an item of which so many more units are booked
+-- an item of which num more units are booked
 abbrev pub taken : Item → ℕ → Item
 taken item num = record {
   used = item.used + num;
@@ -76,7 +76,7 @@ taken item num = record {
   price = item.price;
 }
 
--- an item of which so many units are booked no longer
+-- an item of which num units are booked no longer
 abbrev pub given_back : Item → ℕ → Item
 given_back item num = record {
   used = item.used - num;
@@ -135,7 +135,7 @@ new_customer s id =
     (if is_full s then refused s Full else done (with_bookings s id empty))
     (λ _. refused s Exists)
 
--- the state after so many units of an item are given back
+-- the state after this number of units of an item is given back
 abbrev pub give_back : State → Place → ℕ → Option Item → State
 give_back s place units None = s
 give_back s place units (Some item) = with_item s place.0 place.1 (given_back item units)

@@ -42,7 +42,7 @@ pub fn refused_commands_change_nothing()
         → (step s c).1 ≡ reply.No why → (step s c).0 ≡ s }
 {}
 
-/// `Full` is answered exactly where no earlier refusal applies, an entry is needed and the size is
+/// `Full` is returned exactly where no earlier refusal applies, an entry is needed and the size is
 /// the capacity.
 pub fn full_where_no_entry_is_left()
     ensures only { (s : State) (c : Command) → IsBalanced s → (step s c).1 ≡ reply.No Full

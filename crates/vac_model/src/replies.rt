@@ -1,9 +1,9 @@
-//! What a task answers. Every reply has a fixed size.
+//! What a task returns. Every reply has a fixed size.
 
 use crate::commands::Why;
 use crate::limits::MOST_PARTS;
 
-/// The answer to a task.
+/// The reply to a task.
 #[derive(Clone, Copy, Debug, PartialEq, Eq)]
 pub enum Reply {
     /// The command took effect, or had nothing to change.
@@ -34,7 +34,7 @@ pub struct Report {
     pub billed: u64,
 }
 
-/// The answer to a trip: one place for each kind, in the order of kinds, which is `None` where
+/// The reply to a trip: one place for each kind, in the order of kinds, which is `None` where
 /// none of the asks for that kind was found.
 #[derive(Clone, Copy, Debug, PartialEq, Eq)]
 pub struct TripReply {
@@ -61,7 +61,7 @@ pub struct Pick {
     pub refused: Option<Why>,
 }
 
-/// The answer to an update: why each of its `len` changes was refused, `None` from `len` on.
+/// The reply to an update: why each of its `len` changes was refused, `None` from `len` on.
 #[derive(Clone, Copy, Debug, PartialEq, Eq)]
 pub struct UpdateReply {
     pub len: u8,

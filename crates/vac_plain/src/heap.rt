@@ -37,7 +37,7 @@ impl Model for Heap {
 }
 
 impl Heap {
-    /// The memory of the state with no entries, with room for so many.
+    /// The memory of the state with no entries, with room for `blocks` of them.
     pub fn new(alloc: Global, blocks: u32) -> Result<Heap, AllocError>
         requires some { 1 ≤ blocks }
         requires most { blocks ≤ MOST_BLOCKS }
@@ -57,7 +57,7 @@ impl Heap {
         Heap { memory }
     }
 
-    /// Runs a task, and answers its reply. New entries take their blocks from free list `start` on.
+    /// Runs a task, and returns its reply. New entries take their blocks from free list `start` on.
     pub fn run(&mut self, task: &Task, start: FreeList) -> Reply
         requires { is_task task.now ≡ true }
         ensures state { (s : State) → IsStateOf self.old s

@@ -32,7 +32,7 @@ pub record CustomerMade (s s' : View) (node key : ℕ) : Type 0 where
   pub made : (image : List ℕ) → Sees s' image →
       IsNewCustomer (mem s image) (mem s' image) node key
 
--- the block became a booking of so many units at this price; its link and all words outside are as
+-- the block became a booking of num units at this price; its link and all words outside are as
 -- before
 pub record IsNewBooking (m m' : ℕ → ℕ) (node : ℕ) (place : Place) (num price : ℕ) : Type 0 where
   pub kind_is : m' node ≡ kind_number place.0
@@ -53,7 +53,7 @@ pub record BookingRead (s s' : View) (node : ℕ) (b : Booking) : Type 0 where
   pub writes : s'.writes ≡ s.writes
   pub answer : (image : List ℕ) → Sees s' image → booking_in (mem s image) node ≡ b
 
--- under each image the booking has room for so many more units at this price
+-- under each image the booking has room for num more units at this price
 pub record CanExtend (s : View) (node num price : ℕ) : Type 0 where
   pub sum : RoomAt s (node + 2) (num * price)
   pub units : RoomAt s (node + 4) num
@@ -94,7 +94,7 @@ pub record IsBooked (m m' : ℕ → ℕ) (n customer : ℕ) (rows : Rows) (place
   pub relinks : Relinks between m' 3 (head_of customer) (put_row rows (place_key place) b)
 
 -- under each image on which the customer had a list without a booking of the place, and b was in
--- no structure, b became that booking, of so many units at this price
+-- no structure, b became that booking, of num units at this price
 -- Not said: the limit of a booking's units, which the caller shows; what a refused call leaves.
 pub record Booked (s s' : View) (customer : ℕ) (place : Place) (num price b : ℕ) : Type 0 where
   pub kept : Kept s s'
@@ -123,7 +123,7 @@ abbrev pub block_of : Option (ℕ × ℕ) → Option ℕ
 block_of None = None
 block_of (Some taken) = Some taken.0
 
--- the booking of the place left the list of these rows, if it was there, and the answer is its
+-- the booking of the place left the list of these rows, if it was there, and the result is its
 -- block with its units. No word was changed but those that lead on.
 pub record IsUnbooking (m m' : ℕ → ℕ) (n customer : ℕ) (place : Place)
     (taken : Option (ℕ × ℕ)) (rows : Rows) : Type 0 where
@@ -177,7 +177,7 @@ pub record CanBill (s : View) (customer : ℕ) : Type 0 where
   pub room : head_of customer < s.size
   pub under : (image : List ℕ) → RestsOn s image → SomeBill (mem s image) (length image) customer
 
--- only reads were made, and the answer is the sum of the bookings' sums
+-- only reads were made, and the result is the sum of the bookings' sums
 pub record Billed (s s' : View) (customer total : ℕ) : Type 0 where
   pub kept : Kept s s'
   pub writes : s'.writes ≡ s.writes

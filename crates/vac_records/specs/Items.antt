@@ -21,7 +21,7 @@ pub record IsNode (s : View) (node : ℕ) : Type 0 where
   pub inside : node + BLOCK_WORDS ≤ s.size
   pub small : s.size ≤ 2 ^ 32
 
--- under each image of the memory's size so many units can be added to the item's counts and fit a
+-- under each image of the memory's size num units can be added to the item's counts and fit a
 -- word
 pub record HasRoom (s : View) (node num : ℕ) : Type 0 where
   pub free : (image : List ℕ) → RestsOn s image → mem s image (node + FREE) + num < 2 ^ 64
@@ -36,7 +36,7 @@ pub record IsNewItem (m m' : ℕ → ℕ) (node key num price : ℕ) : Type 0 wh
   pub price_is : m' (node + PRICE) ≡ price
   pub others : (x : ℕ) → x ≢ node → (x < node + USED) ⊎ (node + BLOCK_WORDS ≤ x) → m' x ≡ m x
 
--- so many free units were added to the item, and all other words are as before
+-- num free units were added to the item, and all other words are as before
 pub record HasMore (m m' : ℕ → ℕ) (node num : ℕ) : Type 0 where
   pub free_is : m' (node + FREE) ≡ m (node + FREE) + num
   pub total_is : m' (node + TOTAL) ≡ m (node + TOTAL) + num
@@ -49,7 +49,7 @@ pub record ItemMade (s s' : View) (node key num price : ℕ) : Type 0 where
   pub made : (image : List ℕ) → Sees s' image →
       IsNewItem (mem s image) (mem s' image) node key num price
 
--- under each image so many units were added
+-- under each image num units were added
 -- Not said: what a refused call leaves of the item.
 pub record UnitsAdded (s s' : View) (node num : ℕ) : Type 0 where
   pub kept : Kept s s'
@@ -75,23 +75,23 @@ pub record Shifted (s s' : View) (a : ℕ) (f : ℕ → ℕ) : Type 0 where
   pub shifted : (image : List ℕ) → Sees s' image →
       IsWrite (mem s image) (mem s' image) a (f (mem s image a))
 
--- under each image so many units are free
+-- under each image num units are free
 pub record HasFree (s : View) (node num : ℕ) : Type 0 where
   pub free : EnoughAt s (node + FREE) num
   pub total : EnoughAt s (node + TOTAL) num
 
--- under each image so many units are free, and fit the used ones
+-- under each image num units are free, and fit the used ones
 pub record CanMake (s : View) (node num : ℕ) : Type 0 where
   pub free : EnoughAt s (node + FREE) num
   pub used : RoomAt s (node + USED) num
 
--- under each image on which so many units are free, num of them are, and fit the used ones
+-- under each image this number of units is free, num of them are, and fit the used ones
 pub record CanMakeOf (s : View) (node num free : ℕ) : Type 0 where
   pub free_is : (image : List ℕ) → RestsOn s image → mem s image (node + FREE) ≡ free
   pub enough : num ≤ free
   pub used : RoomAt s (node + USED) num
 
--- under each image so many units are used, and fit the free ones
+-- under each image num units are used, and fit the free ones
 pub record CanCancel (s : View) (node num : ℕ) : Type 0 where
   pub used : EnoughAt s (node + USED) num
   pub free : RoomAt s (node + FREE) num
@@ -108,7 +108,7 @@ pub record ItemChanged (s s' : View) (node : ℕ) (f : Item → Item) : Type 0 w
   pub changed : (image : List ℕ) → Sees s' image →
       IsItemNow (mem s image) (mem s' image) node (f (item_in (mem s image) node))
 
--- under each image on which so many units were free the item became what f makes of it
+-- under each image on which this number of units was free the item became what f makes of it
 pub record ItemChangedOf (s s' : View) (node free : ℕ) (f : Item → Item) : Type 0 where
   pub kept : Kept s s'
   pub changed : (image : List ℕ) → Sees s' image → mem s image (node + FREE) ≡ free →

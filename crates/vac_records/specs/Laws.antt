@@ -199,7 +199,7 @@ ItemInserted =
     StaysBut h (kind_number kind) (put_row (h.parts.tables (kind_number kind)) id b) m' out
     (with_item s kind id (item_in m b))
 
--- the words of an item behind its links are written
+-- the words of an item after its links are written
 abbrev pub ItemReplaced : Type 0
 ItemReplaced =
     (m m' : ℕ → ℕ) (n : ℕ) (out : List ℕ) (s : State) (kind : Kind) (id b : ℕ)

@@ -113,7 +113,7 @@ pub fn book_at<M: TxMem>(
     Ok(())
 }
 
-/// Takes the booking of an item out of a customer's list, and answers its block and how many units
+/// Takes the booking of an item out of a customer's list, and returns its block and how many units
 /// it has. `None` says that there is none.
 pub fn unbook<M: TxMem>(
     memory: &mut M,

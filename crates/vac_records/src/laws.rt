@@ -2,7 +2,7 @@
 
 ghost use Rattle.vac_records.specs.Laws.{OneState, OneShape, SameWords, FreshState, SpreadState, ItemFound, ItemMissing, CustomerFound, CustomerMissing, BookingFound, BookingMissing, NoneLeft, SomeLeft, BlockTaken, BlockDrawn, BlockGiven, BlockWritten, ItemInserted, ItemReplaced, ItemRemoved, CustomerInserted, CustomerRemoved, BookingInserted, BookingReplaced, BookingRemoved, PoolThere, HandThere, TableThere, ListThere, BillThere};
 
-/// A memory represents at most one state, and of a memory of n words no word behind them matters.
+/// A memory represents at most one state, and of a memory of n words no word after them matters.
 pub fn one_state_for_a_memory()
     ensures one { OneState }
     ensures shape { OneShape }

@@ -48,7 +48,7 @@ pub(crate) fn deleted(item: Item, num: u32) -> Item
     }
 }
 
-/// The item of which so many more units are booked.
+/// The item of which `num` more units are booked.
 pub(crate) fn taken(item: Item, num: u32) -> Item
     requires range { IsItemInRange item }
     requires free { num ≤ item.free }
@@ -61,7 +61,7 @@ pub(crate) fn taken(item: Item, num: u32) -> Item
     }
 }
 
-/// The item of which so many units are booked no longer.
+/// The item of which `units` units are booked no longer.
 pub(crate) fn given_back(item: Item, units: u64) -> Item
     requires range { IsItemInRange item }
     requires used { units ≤ item.used }

@@ -46,7 +46,7 @@ impl Sequential {
     ghost use Rattle.vac_model.specs.Run as tasks;
     ghost use Rattle.vac_model.specs.Balanced.{IsBalanced};
 
-    /// A manager with no entries that may have so many, 1 to 262,144.
+    /// A manager with no entries that may have `blocks` of them, 1 to 262,144.
     pub fn new(alloc: Global, blocks: u32) -> Result<Sequential, SequentialFault>
         ensures ok { IfOk result (λ manager. manager ≡ empty_state blocks) }
         ensures in_range { OnOk result ((1 ≤ blocks) × (blocks ≤ MOST_BLOCKS)) }

@@ -11,7 +11,7 @@ use Rattle.vac_records.specs.Items.{mem}
 use Rattle.vac_records.specs.Represents.{IsState}
 use Rattle.vac_commands.specs.Entries.{item_block, customer_block}
 
--- under each image the memory was changed as f changes the state, and the answer is f's
+-- under each image the memory was changed as f changes the state, and the result is f's
 pub record Runs {A : Type 0} (s s' : View) (f : State → State × A) (a : A) : Type 0 where
   pub kept : Kept s s'
   pub state : (image : List ℕ) (state : State) → Sees s' image →
