@@ -14,6 +14,8 @@ from dataclasses import dataclass, field
 from functools import lru_cache
 from pathlib import Path
 
+import sizes
+
 ROOT = Path(__file__).resolve().parent.parent
 CRATES = ROOT / "crates"
 PAGES = ROOT / "docs" / "ledger"
@@ -719,7 +721,8 @@ def index_of(crates, counts):
            "What each crate promises, made from its own files by `tools/ledger.py`: change those, run it, "
            "and commit what it writes. A promise is a clause of a public call, in the words of the "
            "definition that it cites. What is not said stands where the statement stands. The promises "
-           "of the first page are in [PROMISES.md](../PROMISES.md).", "",
+           "of the first page are in [PROMISES.md](../PROMISES.md); how large each crate is, in "
+           "[SIZES.md](SIZES.md).", "",
            "An edit is a wrong body that the prover must refuse; it is listed at the function in whose "
            "text it stands. Where goals of that function are proved by hand, a refusal may say no more "
            "than that this proof does not fit the other body. A test is listed where it names the call, "
@@ -752,6 +755,7 @@ def pages():
     for crate in crates:
         written[f"{crate}.md"], counts[crate] = page_of(crate, tests, COMMON)
     written["README.md"] = index_of(crates, counts)
+    written["SIZES.md"] = sizes.page(ROOT, functions)
     return written
 
 
