@@ -1,4 +1,4 @@
-// How many attempts a client's calls took, and of the attempts that failed by which conflict.
+// How many attempts a client's calls took, and by which conflicts those that failed ended.
 #pragma once
 
 #include "heap.hpp"
@@ -9,17 +9,14 @@
 
 namespace vacation {
 
-// The names are those of docs/RULES.md, section 4. Only a runtime that sees its conflicts counts
-// them.
-enum class Conflict : unsigned { Held, Newer, Moved, LostLock, LostTick };
-constexpr std::array<std::string_view, 5> CONFLICT_NAMES{"held", "newer", "moved", "lost-lock",
-                                                         "lost-tick"};
+// A runtime names its conflicts: `CONFLICTS`, an array of names, at most so many. One that sees
+// none of its conflicts has `NO_CONFLICTS`.
+constexpr std::size_t MOST_CONFLICTS = 8;
+constexpr std::array<std::string_view, 0> NO_CONFLICTS{};
 
 struct Attempts {
     Word begun = 0;
-    std::array<Word, CONFLICT_NAMES.size()> conflicts{};
-
-    void count(Conflict conflict) { ++conflicts[static_cast<unsigned>(conflict)]; }
+    std::array<Word, MOST_CONFLICTS> conflicts{};
 
     Attempts& operator+=(const Attempts& other)
     {
@@ -30,11 +27,13 @@ struct Attempts {
     }
 };
 
-inline std::string text_of(const Attempts& attempts)
+template <class Names>
+std::string text_of(const Attempts& attempts, const Names& names)
 {
+    static_assert(std::tuple_size<Names>::value <= MOST_CONFLICTS);
     std::string text = "attempts " + std::to_string(attempts.begun);
-    for (std::size_t i = 0; i < CONFLICT_NAMES.size(); ++i)
-        text.append(" ").append(CONFLICT_NAMES[i]).append(" ").append(
+    for (std::size_t i = 0; i < names.size(); ++i)
+        text.append(" ").append(names[i]).append(" ").append(
             std::to_string(attempts.conflicts[i]));
     return text;
 }

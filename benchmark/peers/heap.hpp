@@ -8,6 +8,8 @@
 
 #include <cstddef>
 #include <cstdint>
+#include <cstdlib>
+#include <new>
 #include <vector>
 
 namespace vacation {
@@ -31,6 +33,36 @@ using Addr = std::uint32_t;
 // What different threads write stands this far apart, in bytes: processors fetch lines in pairs.
 constexpr std::size_t APART = 128;
 
+// A cache line has so many words.
+constexpr std::size_t LINE_WORDS = 8;
+
+// Memory that begins at a cache line, so that a block of eight words does not lie on two.
+template <class T>
+struct LineAllocator {
+    using value_type = T;
+
+    LineAllocator() = default;
+    template <class U>
+    LineAllocator(const LineAllocator<U>&) {}
+
+    T* allocate(std::size_t count)
+    {
+        const std::size_t bytes = (count * sizeof(T) + APART - 1) / APART * APART;
+        void* memory = std::aligned_alloc(APART, bytes);
+        if (memory == nullptr)
+            throw std::bad_alloc();
+        return static_cast<T*>(memory);
+    }
+    void deallocate(T* memory, std::size_t) { std::free(memory); }
+
+    template <class U>
+    bool operator==(const LineAllocator<U>&) const { return true; }
+    template <class U>
+    bool operator!=(const LineAllocator<U>&) const { return false; }
+};
+
+using Words = std::vector<Word, LineAllocator<Word>>;
+
 constexpr Addr FIRST_ROOT = 1;
 constexpr Addr CUSTOMERS = 4;
 constexpr Addr FIRST_HEAD = 8;
@@ -39,17 +71,25 @@ constexpr Addr FIRST_BLOCK = 16;
 constexpr Addr BLOCK_WORDS = 8;
 constexpr std::uint32_t MOST_BLOCKS = 262'144;
 
-// The words of a heap of which every block is free: block b is in list b mod 8, each list ascends.
-inline std::vector<Word> fresh_words(std::uint32_t blocks)
+// The most blocks that leave a list at once: one that is taken, and those that go to the list that
+// had none.
+constexpr unsigned RUN_BLOCKS = 64;
+
+// The words of a heap of which every block is free: list 0 has the first eighth of the blocks,
+// list 1 the next and so on, and each list ascends.
+inline Words spread_words(std::uint32_t blocks)
 {
-    const auto place_of = [blocks](std::uint32_t block) -> Word {
-        return block < blocks ? FIRST_BLOCK + BLOCK_WORDS * block : 0;
-    };
-    std::vector<Word> words(FIRST_BLOCK + std::size_t{BLOCK_WORDS} * blocks, 0);
-    for (std::uint32_t block = 0; block < blocks; ++block)
-        words[place_of(block)] = place_of(block + LISTS);
-    for (unsigned list = 0; list < LISTS; ++list)
-        words[FIRST_HEAD + list] = place_of(list);
+    Words words(FIRST_BLOCK + std::size_t{BLOCK_WORDS} * blocks, 0);
+    std::uint32_t first = 0;
+    for (unsigned list = 0; list < LISTS; ++list) {
+        const std::uint32_t end = first + (blocks + LISTS - 1 - list) / LISTS;
+        const auto link_to = [end](std::uint32_t block) -> Word {
+            return block < end ? FIRST_BLOCK + BLOCK_WORDS * block : 0;
+        };
+        words[FIRST_HEAD + list] = link_to(first);
+        for (; first < end; ++first)
+            words[FIRST_BLOCK + BLOCK_WORDS * first] = link_to(first + 1);
+    }
     return words;
 }
 
@@ -60,8 +100,25 @@ Addr follow(Memory memory, Addr link)
     return static_cast<Addr>(memory.read(link));
 }
 
-// Takes the first block of the first list that has one, from list `start` on; 0 where all are
-// empty.
+// The first block of list `from` is taken, and those behind it, as far as the run goes, become
+// list `own`, which has none.
+template <class Memory>
+void refill(Memory memory, Addr own, Addr from, Addr block, Addr next)
+{
+    Addr last = block, behind = next;
+    for (unsigned i = 1; i < RUN_BLOCKS && behind != 0; ++i) {
+        last = behind;
+        behind = follow(memory, last);
+    }
+    memory.write(from, behind);
+    if (next != 0) {
+        memory.write(last, 0);
+        memory.write(own, next);
+    }
+}
+
+// Takes the first block of list `start`, or of the next list that has one: then list `start` gets
+// the blocks behind it, up to 63. 0 where all are empty.
 template <class Memory>
 Addr take(Memory memory, unsigned start)
 {
@@ -69,7 +126,11 @@ Addr take(Memory memory, unsigned start)
         const Addr head = FIRST_HEAD + (start + i) % LISTS;
         const Addr block = follow(memory, head);
         if (block != 0) {
-            memory.write(head, memory.read(block));
+            const Addr next = follow(memory, block);
+            if (i == 0)
+                memory.write(head, next);
+            else
+                refill(memory, FIRST_HEAD + start, head, block, next);
             return block;
         }
     }

@@ -3,22 +3,15 @@
 #pragma once
 
 #include "lines.hpp"
+#include "watch.hpp"
 #include "workload.hpp"
 
 #include <algorithm>
-#include <chrono>
 #include <cstdio>
 #include <string>
 #include <vector>
 
 namespace vacation {
-
-// A reading of the one clock that all threads share.
-inline Word nanoseconds()
-{
-    const auto now = std::chrono::steady_clock::now().time_since_epoch();
-    return static_cast<Word>(std::chrono::duration_cast<std::chrono::nanoseconds>(now).count());
-}
 
 struct Answered {
     Word place;
@@ -44,26 +37,71 @@ inline void sort_history(std::vector<HistoryLine>& lines)
     });
 }
 
-inline void print_line(const HistoryLine& line)
+inline void print_history(std::vector<HistoryLine>& lines)
 {
-    const Answered& answered = *line.answered;
-    std::string text = std::to_string(line.client) + ' ' + std::to_string(answered.begin) + ' ' +
-                       std::to_string(answered.end) + ' ';
-    text.append(answered.call->line).append(" -> ");
-    text.append(text_of(answered.call->task, answered.reply)).append("\n");
-    std::fwrite(text.data(), 1, text.size(), stdout);
+    sort_history(lines);
+    for (const HistoryLine& line : lines) {
+        const Answered& answered = *line.answered;
+        std::string text = std::to_string(line.client) + ' ' + std::to_string(answered.begin) +
+                           ' ' + std::to_string(answered.end) + ' ';
+        text.append(answered.call->line).append(" -> ");
+        text.append(text_of(answered.call->task, answered.reply)).append("\n");
+        std::fwrite(text.data(), 1, text.size(), stdout);
+    }
 }
 
-inline void print_history(const std::vector<ClientCalls>& calls,
-                          const std::vector<std::vector<Answered>>& histories)
+// ---- attempts
+
+// A line of an attempt as its client wrote it: `PLACE BEGIN TEXT`.
+struct AttemptLine {
+    Word place, begin;
+    std::string_view text;
+};
+
+// The lines of a client's file. What a client that crashed has left unfinished is no line.
+inline void read_attempts(std::string_view rest, std::vector<AttemptLine>& lines)
 {
-    std::vector<HistoryLine> lines;
-    for (std::size_t i = 0; i < histories.size(); ++i)
-        for (const Answered& answered : histories[i])
-            lines.push_back({calls[i].client, &answered});
-    sort_history(lines);
-    for (const HistoryLine& line : lines)
-        print_line(line);
+    for (std::size_t end; (end = rest.find('\n')) != std::string_view::npos;) {
+        const std::string_view line = rest.substr(0, end);
+        const std::size_t first = line.find(' '), second = line.find(' ', first + 1);
+        AttemptLine found{0, 0, line.substr(second + 1)};
+        std::from_chars(line.data(), line.data() + first, found.place);
+        std::from_chars(line.data() + first + 1, line.data() + second, found.begin);
+        lines.push_back(found);
+        rest.remove_prefix(end + 1);
+    }
+}
+
+// The words that are not 0 at the beginning, as attempts of client 0 that write them.
+inline void print_first_words(const Words& words)
+{
+    constexpr unsigned MOST_WRITES = 10'000;
+    unsigned writes = 0;
+    for (std::size_t addr = 0; addr < words.size(); ++addr) {
+        if (words[addr] == 0)
+            continue;
+        if (writes % MOST_WRITES == 0)
+            std::fputs(writes == 0 ? "0 0 0 commit" : "\n0 0 0 commit", stdout);
+        ++writes;
+        std::printf(" w %zu %llu", addr, static_cast<unsigned long long>(words[addr]));
+    }
+    std::fputs("\n", stdout);
+}
+
+// The attempts of all clients by their places, as the calls of a history are.
+inline void print_attempts(const Words& words, const std::vector<std::string>& files)
+{
+    std::vector<AttemptLine> lines;
+    for (const std::string& file : files)
+        read_attempts(file, lines);
+    std::stable_sort(lines.begin(), lines.end(), [](const AttemptLine& a, const AttemptLine& b) {
+        return a.place != b.place ? a.place < b.place : a.begin < b.begin;
+    });
+    print_first_words(words);
+    for (const AttemptLine& line : lines) {
+        std::fwrite(line.text.data(), 1, line.text.size(), stdout);
+        std::fputc('\n', stdout);
+    }
 }
 
 } // namespace vacation

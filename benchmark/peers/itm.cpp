@@ -1,26 +1,31 @@
 // A peer: GCC's transactional memory (libitm), by transactions of the language (ISO/IEC TS 19841).
+// The library's method is named in the environment, by ITM_DEFAULT_METHOD.
 #include "attempts.hpp"
 #include "driver.hpp"
 #include "manager.hpp"
 
 #include <utility>
-#include <vector>
 
 namespace vacation {
 
 class ItmRuntime {
 public:
+    static constexpr auto CONFLICTS = NO_CONFLICTS;
+
     class alignas(APART) Client {
     public:
-        Client(ItmRuntime& runtime, unsigned start) : runtime_(&runtime), start_(start) {}
+        Client(ItmRuntime& runtime, const Seat& seat) : runtime_(&runtime), seat_(seat) {}
 
         // The library tries again by itself, and without end.
         bool call(const Task& task, Reply& reply, unsigned)
         {
-            if (runtime_->keeps_history_)
-                run_and_count(task, reply);
+            const PlainMemory memory(runtime_->words_.data());
+            if (seat_.watch != nullptr)
+                run_watched({memory, seat_.watch}, task, reply);
+            else if (runtime_->is_ordered_)
+                run_and_count(memory, task, reply);
             else
-                run(task, reply);
+                run(memory, task, reply);
             return true;
         }
 
@@ -32,10 +37,9 @@ public:
         PRIVATE_TO_THREAD void count_attempt() { ++attempts_.begun; }
         PRIVATE_TO_THREAD void set_place(Word place) { place_ = place; }
 
-        void run(const Task& task, Reply& reply)
+        void run(PlainMemory memory, const Task& task, Reply& reply)
         {
-            const PlainMemory memory(runtime_->words_.data());
-            const unsigned start = start_;
+            const unsigned start = seat_.start;
             __transaction_atomic
             {
                 count_attempt();
@@ -43,13 +47,12 @@ public:
             }
         }
 
-        // The library does not tell in which order its transactions took effect. So where a
-        // history is kept, each counts up one word that all share, within the transaction: that is
-        // their order.
-        void run_and_count(const Task& task, Reply& reply)
+        // The library does not tell in which order its transactions took effect. So where that is
+        // asked for, each counts up one word that all share, within the transaction: that is their
+        // order.
+        void run_and_count(PlainMemory memory, const Task& task, Reply& reply)
         {
-            const PlainMemory memory(runtime_->words_.data());
-            const unsigned start = start_;
+            const unsigned start = seat_.start;
             Word* calls = &runtime_->calls_;
             __transaction_atomic
             {
@@ -59,23 +62,36 @@ public:
             }
         }
 
+        // (Of an attempt that the library gave up nobody knows the place: it has no line.)
+        void run_watched(Watched<PlainMemory> memory, const Task& task, Reply& reply)
+        {
+            const unsigned start = seat_.start;
+            Word* calls = &runtime_->calls_;
+            Watch* watch = seat_.watch;
+            watch->begin();
+            __transaction_atomic
+            {
+                count_attempt();
+                watch->start();
+                run_task(memory, start, task, reply);
+                set_place(++*calls);
+            }
+            watch->end(true, place_);
+        }
+
         ItmRuntime* runtime_;
-        unsigned start_;
+        Seat seat_;
         Word place_ = 0;
         Attempts attempts_;
     };
 
-    ItmRuntime(std::vector<Word> words, bool keeps_history)
-        : words_(std::move(words)), keeps_history_(keeps_history)
-    {
-    }
+    ItmRuntime(Words words, bool is_ordered) : words_(std::move(words)), is_ordered_(is_ordered) {}
 
-    Client client(unsigned start) { return Client(*this, start); }
-    std::vector<Word> words() { return std::move(words_); }
+    Words words() { return std::move(words_); }
 
 private:
-    std::vector<Word> words_;
-    bool keeps_history_;
+    Words words_;
+    bool is_ordered_;
     alignas(APART) Word calls_ = 0;
 };
 

@@ -31,7 +31,7 @@ constexpr Addr FIRST_SPARE = 5;
 using Id = std::uint32_t;
 using Count = std::uint32_t;
 
-inline Addr root_of(Kind kind)
+constexpr Addr root_of(Kind kind)
 {
     return FIRST_ROOT + static_cast<Addr>(kind);
 }

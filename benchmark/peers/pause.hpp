@@ -1,6 +1,8 @@
-// Waiting a little, and longer each time.
+// Waiting a little: in a loop for a lock, and between the tries of a call.
 #pragma once
 
+#include <algorithm>
+#include <cstdint>
 #include <thread>
 
 namespace vacation {
@@ -15,6 +17,13 @@ inline void relax()
 #endif
 }
 
+inline void relax(unsigned turns)
+{
+    for (unsigned turn = 0; turn < turns; ++turn)
+        relax();
+}
+
+// Waits for a lock, longer each time.
 class Pause {
 public:
     // First 1 turn, then twice as many each time up to 64; after that the processor is given to
@@ -23,14 +32,58 @@ public:
     {
         if (step_ > MOST_DOUBLINGS)
             return std::this_thread::yield();
-        for (unsigned turn = 0; turn < 1u << step_; ++turn)
-            relax();
+        relax(1u << step_);
         ++step_;
     }
 
 private:
     static constexpr unsigned MOST_DOUBLINGS = 6;
     unsigned step_ = 0;
+};
+
+// Numbers that are drawn (PCG-XSH-RR, O'Neill 2014), the same ones from the same seed.
+class Draws {
+public:
+    explicit Draws(std::uint64_t seed) : state_(seed + INCREMENT) { next(); }
+
+    std::uint32_t next()
+    {
+        const std::uint64_t old = state_;
+        state_ = old * UINT64_C(6364136223846793005) + INCREMENT;
+        const auto mixed = static_cast<std::uint32_t>(((old >> 18) ^ old) >> 27);
+        const auto turn = static_cast<unsigned>(old >> 59);
+        return mixed >> turn | mixed << (-turn & 31);
+    }
+
+private:
+    static constexpr std::uint64_t INCREMENT = 1;
+    std::uint64_t state_;
+};
+
+// The pauses between the tries of a call, each drawn anew, so that clients that met do not stay in
+// step. They are those of the proved program.
+class Backoff {
+public:
+    explicit Backoff(std::uint64_t seed) : draws_(seed) {}
+
+    // Waits behind this try of a call; they are counted from 1.
+    void wait(unsigned tried)
+    {
+        if (tried < FIRST_DRAWN)
+            return;
+        const unsigned bits = FEWEST_BITS + std::min(tried - FIRST_DRAWN, MOST_BITS - FEWEST_BITS);
+        relax(draws_.next() >> (32 - bits));
+        if (tried >= FIRST_YIELD)
+            std::this_thread::yield();
+    }
+
+private:
+    static constexpr unsigned FIRST_DRAWN = 3;
+    // So many bits of a number are the turns of the first pause that is drawn; each later one has
+    // one more.
+    static constexpr unsigned FEWEST_BITS = 4, MOST_BITS = 13;
+    static constexpr unsigned FIRST_YIELD = 14;
+    Draws draws_;
 };
 
 } // namespace vacation

@@ -1,8 +1,8 @@
-// A peer: TL2 written by hand, without any proof, with no more order than it must have.
-#include "driver.hpp"
+// A peer: the same TL2 in C++, with no more order than it must have.
 #include "tl2.hpp"
 
 int main(int count, char** words)
 {
-    return vacation::run_peer<vacation::Tl2Runtime<vacation::Ordering::LEAST>>(count, words);
+    using namespace vacation;
+    return run_tl2<Ordering::LEAST, Reading::STRICT>(count, words);
 }

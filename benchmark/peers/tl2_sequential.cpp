@@ -1,8 +1,8 @@
-// A peer: TL2 written by hand, without any proof, with every step sequentially consistent.
-#include "driver.hpp"
+// A peer: the same TL2 in C++, with every step sequentially consistent.
 #include "tl2.hpp"
 
 int main(int count, char** words)
 {
-    return vacation::run_peer<vacation::Tl2Runtime<vacation::Ordering::SEQUENTIAL>>(count, words);
+    using namespace vacation;
+    return run_tl2<Ordering::SEQUENTIAL, Reading::STRICT>(count, words);
 }

@@ -1,0 +1,132 @@
+// The loop of tries: a runtime made of attempts that may meet a conflict. Whoever has a
+// transactional memory writes a class `Attempt`:
+//
+//     using Shared = ..;                   // what all clients share: Shared(const Words&, bool),
+//                                          // and Words copy_words() const
+//     static constexpr std::array<std::string_view, N> CONFLICTS{..};   // their names
+//
+//     Attempt(Shared&, Exit&);             // one for each client, made and used in its thread
+//     void begin();                        // an attempt begins; what was before is over
+//     Word read(Addr);                     // these two may leave by exit.leave(CONFLICT),
+//     void write(Addr, Word);              // as may ..
+//     bool commit();                       // .. this one, which also ends by
+//                                          // `return exit.fail(CONFLICT)`
+//     Word place() const;                  // of the attempt that has ended: `2 * v` for a writer
+//                                          // of version v, `2 * v + 1` for one that only read,
+//                                          // or that met a conflict, what was there at version v
+//
+// An attempt that leaves is at its end: no lock may be held then. No body holds anything that must
+// be destroyed. The second word of `Shared` says whether the order of the calls will be asked for;
+// one that knows it only by counting then counts.
+#pragma once
+
+#include "attempts.hpp"
+#include "heap.hpp"
+#include "manager.hpp"
+#include "pause.hpp"
+#include "watch.hpp"
+
+#include <csetjmp>
+
+namespace vacation {
+
+// The way out of an attempt that met a conflict.
+class Exit {
+public:
+    // A jump to where the attempt began.
+    [[noreturn, gnu::cold, gnu::noinline]] void leave(unsigned conflict)
+    {
+        ++attempts_.conflicts[conflict];
+        std::longjmp(way_out_, 1);
+    }
+
+    [[gnu::cold]] bool fail(unsigned conflict)
+    {
+        ++attempts_.conflicts[conflict];
+        return false;
+    }
+
+    std::jmp_buf& way_out() { return way_out_; }
+    void count_attempt() { ++attempts_.begun; }
+    const Attempts& attempts() const { return attempts_; }
+
+private:
+    Attempts attempts_;
+    std::jmp_buf way_out_;
+};
+
+// An attempt as the memory of its task.
+template <class Attempt>
+struct AttemptMemory {
+    Attempt* attempt;
+
+    Word read(Addr addr) const { return attempt->read(addr); }
+    void write(Addr addr, Word value) const { attempt->write(addr, value); }
+};
+
+template <class Attempt>
+struct AttemptRuntime {
+    static constexpr auto CONFLICTS = Attempt::CONFLICTS;
+
+    class alignas(APART) Client {
+    public:
+        Client(AttemptRuntime& runtime, const Seat& seat)
+            : attempt_(runtime.shared_, exit_), seat_(seat), backoff_(seat.number)
+        {
+        }
+
+        bool call(const Task& task, Reply& reply, unsigned tries)
+        {
+            for (unsigned tried = 1; !attempt(task, reply); ++tried) {
+                if (tried == tries)
+                    return false;
+                backoff_.wait(tried);
+            }
+            return true;
+        }
+
+        Word place() const { return attempt_.place(); }
+        const Attempts& attempts() const { return exit_.attempts(); }
+
+    private:
+        bool attempt(const Task& task, Reply& reply)
+        {
+            exit_.count_attempt();
+            if (seat_.watch == nullptr)
+                return is_done(AttemptMemory<Attempt>{&attempt_}, task, reply);
+            seat_.watch->begin();
+            seat_.watch->start();
+            const Watched<AttemptMemory<Attempt>> memory{{&attempt_}, seat_.watch};
+            const bool done = is_done(memory, task, reply);
+            seat_.watch->end(done, attempt_.place());
+            return done;
+        }
+
+        // (nothing of this function's own changes between the two returns of `setjmp`)
+        template <class Memory>
+        [[gnu::noinline]] bool is_done(Memory memory, const Task& task, Reply& reply)
+        {
+            if (setjmp(exit_.way_out()) != 0)
+                return false;
+            attempt_.begin();
+            run_task(memory, seat_.start, task, reply);
+            if (seat_.watch != nullptr)
+                seat_.watch->step();
+            return attempt_.commit();
+        }
+
+        Exit exit_;
+        Attempt attempt_;
+        Seat seat_;
+        Backoff backoff_;
+    };
+
+    AttemptRuntime(const Words& words, bool is_ordered) : shared_(words, is_ordered) {}
+
+    Words words() const { return shared_.copy_words(); }
+
+private:
+    typename Attempt::Shared shared_;
+};
+
+} // namespace vacation
