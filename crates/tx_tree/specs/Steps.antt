@@ -43,7 +43,8 @@ pub record Place (m : ℕ → ℕ) (n root key : ℕ) (xs : List ℕ) (d : ℕ) 
   pub below : AllBelow key (front way)
   pub above : IsFrom (key + 1) (behind way)
 
--- the same so far
+-- in the search so far only reads were made, and it came to a tree that has the row of the key, if
+-- the table has it
 pub record Seeking (s s' : View) (root key : ℕ) (xs : List ℕ) (d : ℕ) : Type 0 where
   pub kept : Kept s s'
   pub writes : s'.writes ≡ s.writes

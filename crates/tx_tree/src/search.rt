@@ -77,7 +77,7 @@ pub fn least_above<M: TxRead>(
 }
 
 /// The way down to the node of a key, or to where it would hang: the words that lead from node to
-/// node. Answers how many nodes are above, and the node of the key, or 0.
+/// node. Returns how many nodes are above, and the node of the key, or 0.
 pub fn seek<M: TxRead>(
     memory: &mut M,
     root: u32,
@@ -107,7 +107,7 @@ pub fn seek<M: TxRead>(
 }
 
 /// The way down goes on to the least node below, the successor of the node whose right link the
-/// path ends with. Answers how many nodes are above it, and the node.
+/// path ends with. Returns how many nodes are above it, and the node.
 pub fn seek_successor<M: TxRead>(
     memory: &mut M,
     path: &mut Path,

@@ -115,7 +115,7 @@ pub record Counting (notes : Notes) (left : ℕ) : Type 0 where
   pub billed :
       notes.tally.billed + MOST_UNITS * MOST_AMOUNT * left ≤ MOST_UNITS * MOST_AMOUNT * MOST_BLOCKS
 
--- the same items
+-- the notes have the same items
 pub record SameItems (notes notes' : Notes) : Type 0 where
   pub keys : keys_in notes'.items.items ≡ keys_in notes.items.items
   pub blocks : blocks_in notes'.items.items ≡ blocks_in notes.items.items

@@ -181,7 +181,7 @@ pub fn cancel<M: TxMem>(
     cancel_at(memory, customer, owner, kind, id, item, spot, start)
 }
 
-/// The same at the blocks of the customer and of the item, and at the booking's spot in the
+/// Cancels a booking at the blocks of the customer and of the item, and at its spot in the
 /// customer's list.
 pub(crate) fn cancel_at<M: TxMem>(
     memory: &mut M,

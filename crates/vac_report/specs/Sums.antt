@@ -25,7 +25,7 @@ items_together a b = record {
   total = a.total + b.total;
 }
 
--- the same of customers
+-- what the sums over two parts of the customers are together
 abbrev pub customers_together : CustomerSums → CustomerSums → CustomerSums
 customers_together a b = record {
   count = a.count + b.count;

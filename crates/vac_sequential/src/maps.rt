@@ -115,7 +115,7 @@ impl<V: Entry> IdMap<V> {
 }
 
 impl<V: Entry + Drop> IdMap<V> {
-    /// The same map, which shares its entries.
+    /// A copy of the map, which shares its entries.
     pub(crate) fn copy(&self) -> Result<Self, AllocError>
         ensures { IfOk result (λ m. m ≡ self.now) }
     {

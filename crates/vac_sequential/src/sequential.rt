@@ -61,7 +61,7 @@ impl Sequential {
         })
     }
 
-    /// The same state, which shares its entries. Nothing but memory can be refused.
+    /// A copy of the state, which shares its entries. Nothing but memory can be refused.
     pub fn copy(&self) -> Result<Sequential, AllocError>
         ensures { IfOk result (λ copy. copy ≡ self.now) }
     {

@@ -219,7 +219,7 @@ fn open<V: Drop>(link: &Rc<Trie<V>>) -> Result<Parts<V>, AllocError>
     })
 }
 
-/// The same value, which is shared.
+/// A value that shares its place with this one.
 fn shared<V: Drop>(value: Option<&Rc<V>>) -> Result<Option<Rc<V>>, AllocError>
     ensures { IfOk result (λ v. value_in v ≡ value_in (option_copied value.entry)) }
 {

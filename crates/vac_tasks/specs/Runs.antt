@@ -20,7 +20,8 @@ pub record Runs {A : Type 0} (s s' : View) (f : State → State × A) (a : A) : 
   pub answer : (image : List ℕ) (state : State) → Sees s' image →
       IsState (mem s image) (length image) state → (f state).1 ≡ a
 
--- the same under each image on which the memory represents a state of which P holds
+-- under each image on which the memory represents a state of which P holds, it was changed as f
+-- changes the state, and the result is f's
 pub record RunsWhere {A : Type 0} (s s' : View) (f : State → State × A) (a : A)
     (P : (m : ℕ → ℕ) (n : ℕ) (state : State) → IsState m n state → Type 0) : Type 0 where
   pub kept : Kept s s'

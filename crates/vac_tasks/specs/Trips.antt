@@ -57,7 +57,8 @@ pub record IsKnown (s : View) (kind : Kind) (c : Choice) : Type 0 where
 pub record AreKnown (s : View) (cs : Choices) : Type 0 where
   pub known : (kind : Kind) → IfSome (choice_in cs kind) (λ c. IsKnown s kind c)
 
--- the same under each image of the memory's size, which is what a booking asks for
+-- under each image of the memory's size the item is one of this kind, in the block that is noted
+-- (which is what a booking asks for)
 pub record ChoiceIsAt (s : View) (kind : Kind) (c : Choice) : Type 0 where
   pub id : is_id c.id ≡ true
   pub at : ItemIsAt s kind c.id c.item
@@ -98,7 +99,8 @@ abbrev pub IsOwner : View → ℕ → Option ℕ → Type 0
 IsOwner s id block =
     MatchOption block (CustomerIsMissing s id) (λ c. CustomerIsAt s id c)
 
--- the same of one image that represents a state
+-- the block of the customer in one image that represents a state; where there is none, the
+-- customer is missing
 abbrev pub IsOwnerAt : {m : ℕ → ℕ} {n : ℕ} {s : State} → IsState m n s → ℕ → Option ℕ → Type 0
 IsOwnerAt h id block =
     MatchOption block (customer_block h id ≡ 0) (λ c. customer_block h id ≡ c)

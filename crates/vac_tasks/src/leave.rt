@@ -10,7 +10,7 @@ use tx_alloc::FreeList;
 use vac_commands::{bill_at, drop_customer_at, find_customer};
 use vac_model::{Reply, Task};
 
-/// Answers the bill of a customer who is there, and deletes that customer.
+/// Returns the bill of a customer who is there, and deletes that customer.
 pub(crate) fn leave<M: TxMem>(
     memory: &mut M,
     customer: u32,
