@@ -1,186 +1,143 @@
 #!/usr/bin/env python3
 """Measures the program beside its peers, on tasks that the program itself has drawn: every program
-does the very same work. Prints a table in Markdown, and writes it with a picture of each setting
-into a folder."""
+does the very same work. Prints a table in Markdown, and writes it with the raw numbers and a picture
+of each setting into a folder."""
 
 import argparse
+import csv
 import datetime
 import os
 import platform
+import shlex
 import statistics
 import subprocess
 import sys
 import tempfile
-import time
 from pathlib import Path
 
+import estimates
 from picture import picture
+# (tests/stats takes `numbers_told` from here)
+from programs import (OURS, PARTS, ROOT, Judge, Ours, Peer, Pinner, give_up, has_option, lines_of,
+                      numbers_told, options_of)
 
-ROOT = Path(__file__).resolve().parent.parent
 PROGRAM = ROOT / "crates/vacation/out/vacation"
 
-# Names, options of a load, and how many tasks all clients have together in a whole measuring.
+# Names and options of a load.
 SETTINGS = {
-    "low": ({"items": 16384, "blocks": 262144, "asks": 4, "user": 90}, 200_000),
-    "high": ({"items": 64, "blocks": 1024, "asks": 8, "user": 60}, 300_000),
-    "defaults": ({"items": 16, "blocks": 1024, "asks": 4, "user": 80}, 300_000),
-    "apart": ({"items": 2048, "blocks": 131070, "asks": 4, "user": 60}, 300_000),
+    "low": {"items": 16384, "blocks": 262144, "asks": 4, "user": 90},
+    "high": {"items": 64, "blocks": 1024, "asks": 8, "user": 60},
+    "defaults": {"items": 16, "blocks": 1024, "asks": 4, "user": 80},
+    "apart": {"items": 2048, "blocks": 131070, "asks": 4, "user": 60},
+    "readers": {"items": 256, "blocks": 8192, "asks": 4, "user": 80, "reads": 50},
 }
-TRIES = 64
-RUNS, QUICK_RUNS = 5, 3
-QUICK_SHARE = 6
-# The longest that one run of one program may take, in seconds.
-PATIENCE = 300
+CLIENTS, QUICK_CLIENTS = (1, 2, 4), (1, 4)
+# No program gives a task up: the most tries that any of them takes.
+TRIES = 1_048_576
+# How often each program is run, and the others of those beside which the program is set.
+ROUNDS, ROUNDS_OF_OTHERS = 4, 2
+# Tasks of all clients in the run that finds out how many take the seconds asked for, and in the
+# runs that are judged.
+FIRST_TASKS, JUDGED_TASKS = 100_000, 4_000
 
-OURS = "vacation"
 # The peers whose algorithm is the program's own: with as little order as it must have, and with
 # every step sequentially consistent, as the program's steps are.
-LEAST, SEQUENTIAL = "TL2 by hand", "TL2 by hand, in one order"
+LEAST, SEQUENTIAL = "the same TL2 in C++", "the same, in one order"
 BESIDE = (LEAST, SEQUENTIAL)
 PEERS = {
-    "tl2": LEAST,
-    "tl2_sequential": SEQUENTIAL,
-    "itm": "GCC's libitm",
-    "mutex": "one mutex",
-    "spin": "one spinning lock",
+    LEAST: ("tl2", {}),
+    SEQUENTIAL: ("tl2_sequential", {}),
+    "LSA": ("lsa", {}),
+    "NOrec": ("norec", {}),
+    "two-phase locking": ("two_phase", {}),
+    "libitm": ("itm", {}),
+    "libitm, gl_wt": ("itm", {"ITM_DEFAULT_METHOD": "gl_wt"}),
+    "a lock for each table": ("tables", {}),
+    "one mutex": ("mutex", {}),
+    "one spinning lock": ("spin", {}),
+    "one elided lock": ("elided", {}),
 }
-
-
-def give_up(why):
-    sys.exit(f"bench: {why}")
+QUICK_PEERS = (LEAST, SEQUENTIAL, "NOrec", "one spinning lock")
 
 
 def say(words):
     print(f"bench: {words}", file=sys.stderr, flush=True)
 
 
-def lines_of(words):
-    """What a command writes, or nothing where it is missing or fails."""
-    try:
-        done = subprocess.run(words, capture_output=True, text=True, cwd=ROOT, check=True)
-    except (OSError, subprocess.CalledProcessError):
-        return []
-    return done.stdout.splitlines()
-
-
-class Run:
-    """One run of a program: the seconds of its clients where the program tells them, and otherwise
-    of the whole; how many tasks were answered and given up, how many attempts that took where the
-    program tells it, and the report of what it left."""
-
-    def __init__(self, seconds, output, errors):
-        tally, self.report = output.splitlines()
-        words = tally.split(" ")
-        counts = dict(zip(words[::2], map(int, words[1::2])))
-        self.answered, self.busy = counts["answered"], counts["busy"]
-        told = numbers_told(errors)
-        self.is_told = "seconds" in told
-        self.seconds = told.get("seconds", seconds)
-        self.attempts = told.get("attempts")
-
-
-def numbers_told(errors):
-    """The numbers of a line 'seconds S tasks-per-second R attempts A ..' on standard error."""
-    for line in errors.splitlines():
-        words = line.split(" ")
-        if words[0] == "seconds" and len(words) % 2 == 0:
-            try:
-                return dict(zip(words[::2], map(float, words[1::2])))
-            except ValueError:
-                break
-    return {}
-
-
-def run(words, stdin=None):
-    begin = time.perf_counter()
-    try:
-        done = subprocess.run(words, stdin=stdin, capture_output=True, text=True, timeout=PATIENCE)
-    except subprocess.TimeoutExpired:
-        give_up(f"{' '.join(map(str, words))} took longer than {PATIENCE} seconds")
-    seconds = time.perf_counter() - begin
-    if done.returncode != 0:
-        give_up(f"{' '.join(map(str, words))} ended with status {done.returncode}: "
-                f"{done.stdout[-200:]}{done.stderr[-200:]}")
-    return Run(seconds, done.stdout, done.stderr)
-
-
-def options_of(settings):
-    return [word for name, value in settings.items() for word in (f"--{name}", str(value))]
-
-
-class Ours:
-    """The program. Where it tells the seconds of its clients (`load --stats`), these count;
-    otherwise the time of a run is that of the whole less that of one task a client."""
-
-    name = OURS
-
-    def __init__(self, program):
-        self.program = program
-        self.stats = any("--stats" in line for line in lines_of([program, "load", "--help"]))
-
-    def load(self, settings):
-        words = [self.program, "load", *options_of(settings), "--tries", str(TRIES)]
-        return run(words + (["--stats"] if self.stats else []))
-
-    def run(self, settings, _):
-        """A run, and one with hardly a task where the first does not tell its clients' seconds."""
-        whole = self.load(settings)
-        return whole, None if whole.is_told else self.load(settings | {"tasks": 1})
-
-
-class Peer:
-    """A peer tells the seconds of its clients itself."""
-
-    def __init__(self, name, program):
-        self.name, self.program = name, program
-
-    def run(self, settings, tasks):
-        words = [self.program, "--blocks", str(settings["blocks"]), "--tries", str(TRIES)]
-        with open(tasks, "rb") as stdin:
-            return run(words, stdin), None
-
-
 class Measured:
     """What the runs of one program came to, of one setting and number of clients."""
 
     def __init__(self):
-        self.runs, self.rests = [], []
-
-    def add(self, whole, rest):
-        self.runs.append(whole)
-        if rest is not None:
-            self.rests.append(rest)
+        self.runs = []
 
     def rates(self):
-        """Answered tasks a second, in thousands, of each run that was longer than its rest."""
-        seconds = statistics.median(r.seconds for r in self.rests) if self.rests else 0
-        answered = statistics.median(r.answered for r in self.rests) if self.rests else 0
-        return [(r.answered - answered) / (r.seconds - seconds) / 1000 for r in self.runs
-                if r.seconds > seconds]
+        return [run.rate() for run in self.runs]
 
     def attempts(self):
-        return [r.attempts / r.answered for r in self.runs
-                if r.attempts is not None and r.answered > 0]
+        return [run.attempts / run.answered for run in self.runs
+                if run.attempts is not None and run.answered > 0]
+
+    def parts(self):
+        """Of a hundred conflicts, how many were in each part of the heap."""
+        sums = [sum(counts) for counts in zip(*(run.parts for run in self.runs if run.parts))]
+        return [100 * count / sum(sums) for count in sums] if sum(sums) > 0 else None
 
     def busy(self):
-        return sum(r.busy for r in self.runs)
+        return sum(run.busy for run in self.runs)
 
     def tasks(self):
-        return sum(r.busy + r.answered for r in self.runs)
+        return sum(run.busy + run.answered for run in self.runs)
 
 
-def middle(numbers):
-    """The median, the least and the most of some numbers."""
-    return statistics.median(numbers), min(numbers), max(numbers)
+class Plan:
+    """What is to be measured, as the command line says."""
 
+    def __init__(self, arguments, program):
+        self.quick = arguments.quick
+        self.seconds = arguments.seconds or (1 if self.quick else 2)
+        self.tries = arguments.tries
+        self.ours = Ours(program, self.tries)
+        self.judge = Judge(program)
+        self.settings = {name: dict(SETTINGS[name]) for name in SETTINGS
+                         if not arguments.only or name in arguments.only}
+        for options in self.settings.values():
+            if arguments.reads is not None:
+                options["reads"] = arguments.reads
+        if not has_option(program, "load", "--reads"):
+            self.settings = {name: options for name, options in self.settings.items()
+                             if "reads" not in options}
+            say("this program draws no readers: the setting 'readers' is left out")
+        self.clients = arguments.clients or (QUICK_CLIENTS if self.quick else CLIENTS)
+        self.programs = [self.ours] + self.peers(arguments)
 
-def client_counts(quick):
-    """1, 2, 4, and on by doubling up to the processors, which come last."""
-    counts = [1, 2, 4]
-    processors = len(os.sched_getaffinity(0))
-    while not quick and counts[-1] < processors:
-        counts.append(min(2 * counts[-1], processors))
-    return counts
+    def peers(self, arguments):
+        folder = ROOT / "benchmark/out/peers"
+        say("building the peers")
+        done = subprocess.run([ROOT / "benchmark/build", folder], stdout=subprocess.PIPE, text=True)
+        if done.returncode != 0:
+            give_up("the peers could not be built")
+        built = done.stdout.split()
+        found = [Peer(name, [folder / peer], self.tries, environment)
+                 for name, (peer, environment) in PEERS.items()
+                 if peer in built and (not self.quick or name in QUICK_PEERS)]
+        for text in arguments.peer:
+            name, _, command = text.partition("=")
+            if not name or not command:
+                give_up(f"'--peer {text}' is not NAME=COMMAND")
+            found.append(Peer(name, shlex.split(command), self.tries))
+        return found
+
+    def turns(self):
+        """The programs of each round; each round begins with another one. Those beside which the
+        program is set, and those from the command line, run in each, the others in some."""
+        rounds, others = (1, 1) if self.quick else (ROUNDS, ROUNDS_OF_OTHERS)
+        often = {OURS, *BESIDE}
+        often.update(program.name for program in self.programs if program.name not in PEERS)
+        for turn in range(rounds):
+            programs = [program for program in self.programs
+                        if program.name in often or turn % (rounds // others) == 0]
+            first = turn % len(programs)
+            yield programs[first:] + programs[:first]
 
 
 def draw_tasks(program, settings, path):
@@ -190,37 +147,57 @@ def draw_tasks(program, settings, path):
         give_up(f"'tasks' ended with status {done.returncode}")
 
 
-def measure(programs, settings, tasks, runs):
-    """The runs of all programs on the same tasks, one program after the other, round by round."""
-    found = {program.name: Measured() for program in programs}
-    reports = set()
-    for turn in range(runs):
-        for program in programs[turn % len(programs):] + programs[:turn % len(programs)]:
-            whole, rest = program.run(settings, tasks)
-            found[program.name].add(whole, rest)
-            reports.add(whole.report)
-    if settings["clients"] == 1 and len(reports) != 1:
+def with_tasks(options, clients, all_tasks):
+    return options | {"clients": clients, "tasks": max(1, min(round(all_tasks / clients), 1_000_000))}
+
+
+def check(plan, name, clients, tasks):
+    """Has each program's history of a short run judged, which is its warming up, too. With one
+    client all must leave the same state. The longest task of each, in milliseconds, is found."""
+    settings = with_tasks(plan.settings[name], clients, JUDGED_TASKS)
+    draw_tasks(plan.ours.program, settings, tasks)
+    reports, longest = set(), {}
+    for program in plan.programs:
+        history, report = program.history(settings, tasks)
+        plan.judge.want_legal(program.name, history, report, settings, tasks)
+        times = [line.split(" ", 3) for line in history.splitlines()]
+        longest[program.name] = max(int(end) - int(begin)
+                                    for who, begin, end, _ in times if who != "0") / 1e6
+        reports.add(report)
+    if clients == 1 and len(reports) != 1:
         give_up(f"one client left different states: {' | '.join(sorted(reports))}")
+    return longest
+
+
+def measure(plan, name, clients, tasks):
+    """The runs of all programs on the same tasks, so many as take the program the seconds asked
+    for; one program after the other, round by round."""
+    first = plan.ours.run(with_tasks(plan.settings[name], clients, FIRST_TASKS), None)
+    settings = with_tasks(plan.settings[name], clients, first.answered / first.seconds * plan.seconds)
+    draw_tasks(plan.ours.program, settings, tasks)
+    found = {program.name: Measured() for program in plan.programs}
+    for programs in plan.turns():
+        for program in programs:
+            found[program.name].runs.append(program.run(settings, tasks))
+    if clients == 1 and len({run.report for measured in found.values() for run in measured.runs}) != 1:
+        give_up("one client left different states")
     return found
 
 
-def measure_all(programs, names, quick):
-    """By setting and number of clients, what each program came to."""
-    found = {}
+def measure_all(plan):
+    """By setting and number of clients, what each program came to, and its longest tasks."""
+    found, longest = {}, {}
     with tempfile.TemporaryDirectory() as folder:
         tasks = os.path.join(folder, "tasks")
-        for name in names:
-            options, all_tasks = SETTINGS[name]
-            if quick:
-                all_tasks //= QUICK_SHARE
-            for clients in client_counts(quick):
-                say(f"{name}, {clients} of {client_counts(quick)[-1]} clients")
-                settings = options | {"clients": clients, "tasks": all_tasks // clients}
-                draw_tasks(programs[0].program, settings, tasks)
-                runs = QUICK_RUNS if quick else RUNS
-                found[name, clients] = measure(programs, settings, tasks, runs)
-    return found
+        for name in plan.settings:
+            for clients in plan.clients:
+                say(f"{name}, {clients} clients")
+                longest[name, clients] = check(plan, name, clients, tasks)
+                found[name, clients] = measure(plan, name, clients, tasks)
+    return found, longest
 
+
+# ---- what is written
 
 def machine():
     try:
@@ -239,32 +216,64 @@ def commit():
     return (head[0] if head else "unknown") + (" with changes" if changed else "")
 
 
-def heading(command, runs, load):
+def huge_pages():
+    """Whether the system gives huge pages, and whether the programs ask for them."""
+    try:
+        with open("/sys/kernel/mm/transparent_hugepage/enabled", encoding="ascii") as modes:
+            mode = modes.read().split("[")[1].split("]")[0]
+    except (OSError, IndexError):
+        mode = "unknown"
+    asked = "hugetlb=1" in os.environ.get("GLIBC_TUNABLES", "")
+    return f"the system's mode is `{mode}`; the programs {'' if asked else 'do not '}ask for them"
+
+
+def pinning():
+    if Pinner.pinned == 0:
+        return "not pinned"
+    return "each to a processor, in turn" + (f"; in {Pinner.missed} runs not" if Pinner.missed else "")
+
+
+def heading(plan, load):
     kit = lines_of(["rt", "version"]) or ["unknown"]
     compiler = lines_of([os.environ.get("CXX", "g++"), "--version"]) or ["unknown"]
+    tries = "No program gave a task up" if plan.tries == TRIES else f"A task had {plan.tries} tries"
     return [
         "# Measured", "",
         "| | |", "|---|---|",
-        f"| command | `{command}` |",
+        f"| command | `{' '.join(['./bench'] + sys.argv[1:])}` |",
         f"| date | {datetime.datetime.now(datetime.timezone.utc):%Y-%m-%d %H:%M} UTC |",
         f"| commit | {commit()} |",
         f"| kit | {kit[0]} |",
         f"| machine | {machine()}; load average at the begin {load:.1f} |",
+        f"| clients | {pinning()} |",
+        f"| huge pages | {huge_pages()} |",
         f"| peers | {compiler[0]}, {os.environ.get('CXXFLAGS', '-O3')} |", "",
-        "Answered tasks a second, in thousands, of the clients' phase: the median of "
-        f"{runs} runs, and their range. All programs had the same drawn tasks, and their runs "
-        f"were interleaved. {OURS} and those by hand gave a task up after {TRIES} attempts, the "
-        "others never; attempts a task (all attempts, those of tasks that were given up among "
-        "them, by the tasks answered) are medians, for each number of clients.", "",
+        "Answered tasks a second, in thousands, from when all clients stand ready to the last answer: "
+        f"medians, and their intervals by bootstrap ({estimates.SURE} of a hundred). All programs had the "
+        f"same drawn tasks, so many as take {OURS} about {plan.seconds:g} seconds, and their runs were "
+        f"interleaved. {tries}. Attempts a task are medians, for each number of clients. The history of a "
+        "short run of each program was judged legal"
+        f"{' and whole' if plan.judge.knows_work else ''} for each cell; the longest task is of that run. "
+        "Raw numbers: `measured.csv`.", "",
     ]
 
 
+def row(cells):
+    return "| " + " | ".join(cells) + " |"
+
+
+def cell(estimate, digits):
+    """A value and its interval, if there is more than one run."""
+    value, least, most = (f"{number:.{digits}f}" for number in estimate)
+    return value if least == most else f"{value} ({least} to {most})"
+
+
 def rate_cell(measured):
-    rates = measured.rates()
-    if not rates:
-        return "-"
-    rate, least, most = middle(rates)
-    return f"{rate:.0f} ({least:.0f} to {most:.0f})"
+    return cell(estimates.median(measured.rates()), 0)
+
+
+def ratio_cell(measured, beside):
+    return cell(estimates.ratio(measured.rates(), beside.rates()), 2)
 
 
 def attempts_cell(measured):
@@ -272,58 +281,79 @@ def attempts_cell(measured):
     return " / ".join(f"{statistics.median(a):.2f}" if a else "-" for a in found)
 
 
-def ratio_cell(measured, beside):
-    rates, others = measured.rates(), beside.rates()
-    if not rates or not others:
-        return "-"
-    return f"{statistics.median(rates) / statistics.median(others):.2f}"
-
-
-def row(cells):
-    return "| " + " | ".join(cells) + " |"
-
-
-def title_of(name):
-    options, _ = SETTINGS[name]
+def title_of(name, options):
     return f"{name}: " + ", ".join(f"{option} {value}" for option, value in options.items())
 
 
-def table(name, counts, programs, found):
-    heads = ["1 client" if c == 1 else f"{c} clients" for c in counts]
-    lines = [f"## {title_of(name)}", "", f"![{name}](measured-{name}.svg)", "",
-             row(["Program", *heads, "attempts a task"]), "|---|" + "--:|" * (len(counts) + 1)]
-    for program in programs:
-        measured = [found[name, clients][program.name] for clients in counts]
+def rates_table(plan, name, found):
+    heads = ["1 client" if c == 1 else f"{c} clients" for c in plan.clients]
+    lines = [row(["Program", *heads, "attempts a task"]), "|---|" + "--:|" * (len(heads) + 1)]
+    for program in plan.programs:
+        measured = [found[name, clients][program.name] for clients in plan.clients]
         lines.append(row([program.name, *map(rate_cell, measured), attempts_cell(measured)]))
     for beside in BESIDE:
-        if any(program.name == beside for program in programs):
-            ratios = [ratio_cell(found[name, c][OURS], found[name, c][beside]) for c in counts]
+        if any(program.name == beside for program in plan.programs):
+            ratios = [ratio_cell(found[name, c][OURS], found[name, c][beside]) for c in plan.clients]
             lines.append(row([f"{OURS} / {beside}", *ratios, ""]))
-    return lines + [""] + given_up(name, counts, programs, found)
+    return lines + [""]
 
 
-def given_up(name, counts, programs, found):
+def conflicts_table(plan, name, found, longest):
+    """Where the most clients met, and the longest task."""
+    clients = plan.clients[-1]
+    lines = [f"With {clients} clients, of a hundred conflicts, and the longest task in milliseconds:", "",
+             row(["Program", *PARTS, "longest"]), "|---|" + "--:|" * (len(PARTS) + 1)]
+    for program in plan.programs:
+        parts = found[name, clients][program.name].parts()
+        cells = [f"{part:.0f}" for part in parts] if parts else [""] * len(PARTS)
+        lines.append(row([program.name, *cells, f"{longest[name, clients][program.name]:.1f}"]))
+    return lines + [""]
+
+
+def given_up(plan, name, found):
     """What was not answered, where there was any."""
-    words = []
-    for program in programs:
-        for clients in counts:
-            measured = found[name, clients][program.name]
-            if measured.busy() > 0:
-                words.append(f"{program.name}, {clients} clients: {measured.busy()} of "
-                             f"{measured.tasks()}")
+    words = [f"{program.name}, {clients} clients: {measured.busy()} of {measured.tasks()}"
+             for program in plan.programs for clients in plan.clients
+             if (measured := found[name, clients][program.name]).busy() > 0]
     return [f"Tasks given up, in all runs together: {'; '.join(words)}.", ""] if words else []
 
 
-def draw_pictures(folder, names, counts, programs, found):
-    for name in names:
+def write_raw(path, plan, found):
+    with open(path, "w", encoding="utf-8", newline="") as output:
+        rows = csv.writer(output)
+        rows.writerow(["setting", "clients", "program", "run", "seconds", "answered", "given_up", "attempts",
+                       *PARTS, "each_second"])
+        for (name, clients), programs in found.items():
+            for program, measured in programs.items():
+                for number, run in enumerate(measured.runs, 1):
+                    rows.writerow([name, clients, program, number, run.seconds, run.answered, run.busy,
+                                   run.attempts, *(run.parts or [""] * len(PARTS)), " ".join(run.by_second)])
+
+
+def draw_pictures(folder, plan, found):
+    for name, options in plan.settings.items():
         rates, attempts = {}, {}
-        for program in programs:
-            measured = {clients: found[name, clients][program.name] for clients in counts}
-            rates[program.name] = {c: middle(m.rates()) for c, m in measured.items() if m.rates()}
-            attempts[program.name] = {c: middle(m.attempts()) for c, m in measured.items()
+        for program in plan.programs:
+            measured = {clients: found[name, clients][program.name] for clients in plan.clients}
+            rates[program.name] = {c: estimates.median(m.rates()) for c, m in measured.items()}
+            attempts[program.name] = {c: estimates.median(m.attempts()) for c, m in measured.items()
                                       if m.attempts()}
-        path = folder / f"measured-{name}.svg"
-        path.write_text(picture(title_of(name), counts, rates, attempts), encoding="utf-8")
+        drawn = picture(title_of(name, options), list(plan.clients), rates, attempts)
+        (folder / f"measured-{name}.svg").write_text(drawn, encoding="utf-8")
+
+
+def write_all(folder, plan, found, longest, load):
+    lines = heading(plan, load)
+    for name, options in plan.settings.items():
+        lines += [f"## {title_of(name, options)}", "", f"![{name}](measured-{name}.svg)", ""]
+        lines += rates_table(plan, name, found) + conflicts_table(plan, name, found, longest)
+        lines += given_up(plan, name, found)
+    whole = "\n".join(lines).rstrip("\n") + "\n"
+    folder.mkdir(parents=True, exist_ok=True)
+    (folder / "MEASURED.md").write_text(whole, encoding="utf-8")
+    write_raw(folder / "measured.csv", plan, found)
+    draw_pictures(folder, plan, found)
+    print(whole, end="")
 
 
 def program_to_measure(given):
@@ -337,52 +367,50 @@ def program_to_measure(given):
                 give_up("the program could not be built")
     if not os.access(program, os.X_OK):
         give_up(f"there is no program at {program}")
-    if not lines_of([program, "tasks", "--help"]):
-        give_up("this program has no subcommand 'tasks', which draws the work of all programs")
+    for subcommand, option in (("tasks", "--clients"), ("judge", "--blocks"), ("load", "--stats")):
+        if not has_option(program, subcommand, option):
+            give_up(f"this program has no '{subcommand}' with '{option}'")
     return program
 
 
-def build_peers(folder):
-    say("building the peers")
-    done = subprocess.run([ROOT / "benchmark/build", folder], stdout=subprocess.PIPE, text=True)
-    if done.returncode != 0:
-        give_up("the peers could not be built")
-    built = done.stdout.split()
-    return [Peer(name, folder / peer) for peer, name in PEERS.items() if peer in built]
+def client_counts(text):
+    counts = tuple(int(count) for count in text.split(","))
+    if not counts or min(counts) < 1 or max(counts) > 64:
+        raise ValueError(text)
+    return counts
 
 
 def read_arguments():
     parser = argparse.ArgumentParser(prog="bench", description=__doc__)
     parser.add_argument("--quick", action="store_true",
-                        help="fewer tasks, runs and clients, and numbers that are rough")
+                        help="within two minutes: one run of a few programs with 1 and 4 clients")
     parser.add_argument("--only", action="append", choices=list(SETTINGS), metavar="SETTING",
                         help=f"one of {', '.join(SETTINGS)}; may be given several times")
+    parser.add_argument("--clients", type=client_counts, metavar="N,N,..",
+                        help="how many clients there are, 64 at most (default: 1,2,4)")
+    parser.add_argument("--seconds", type=float, metavar="S",
+                        help="how long a run of the program takes, about (default: 2; with --quick 1)")
+    parser.add_argument("--reads", type=int, metavar="P",
+                        help="in all settings, how many of a hundred tasks only read (default: 50 in 'readers')")
+    parser.add_argument("--tries", type=int, default=TRIES, metavar="N",
+                        help="after so many attempts a task is given up, where a program does that (default: never)")
+    parser.add_argument("--peer", action="append", default=[], metavar="NAME=COMMAND",
+                        help="one more program, with the options of a peer; may be given several times")
     parser.add_argument("--to", type=Path, default=ROOT / "benchmark/out", metavar="FOLDER",
-                        help="where MEASURED.md and the pictures go (default: benchmark/out)")
-    parser.add_argument("--program", help="a program that is built already")
+                        help="where the table, the raw numbers and the pictures go (default: benchmark/out)")
+    parser.add_argument("--program", metavar="FILE", help="a program that is built already")
     return parser.parse_args()
 
 
 def main():
     arguments = read_arguments()
     load = os.getloadavg()[0]
-    program = program_to_measure(arguments.program)
-    programs = [Ours(program)] + build_peers(ROOT / "benchmark/out/peers")
-    names = [name for name in SETTINGS if not arguments.only or name in arguments.only]
     if load > 0.5:
         say(f"the machine is not quiet (load average {load:.1f}): the numbers will be lower")
-    found = measure_all(programs, names, arguments.quick)
-    counts = client_counts(arguments.quick)
-    command = " ".join(["./bench"] + sys.argv[1:])
-    lines = heading(command, QUICK_RUNS if arguments.quick else RUNS, load)
-    for name in names:
-        lines += table(name, counts, programs, found)
-    arguments.to.mkdir(parents=True, exist_ok=True)
-    whole = "\n".join(lines).rstrip("\n") + "\n"
-    (arguments.to / "MEASURED.md").write_text(whole, encoding="utf-8")
-    draw_pictures(arguments.to, names, counts, programs, found)
-    print(whole, end="")
-    say(f"the table and its pictures are in {arguments.to}")
+    plan = Plan(arguments, program_to_measure(arguments.program))
+    found, longest = measure_all(plan)
+    write_all(arguments.to, plan, found, longest, load)
+    say(f"the table, the raw numbers and the pictures are in {arguments.to}")
 
 
 if __name__ == "__main__":

@@ -4,8 +4,8 @@ for each program. Nothing but Python's own library is needed."""
 import html
 import math
 
-WIDTH, HEIGHT = 920, 400
-TOP, BOTTOM = 64, 96
+WIDTH, HEIGHT = 920, 460
+TOP, BOTTOM = 64, 136
 PANELS = ((70, 380), (560, 310))  # the left edge and the width of each
 # Colours that people who see few colours tell apart (Okabe and Ito 2008), and marks besides.
 COLOURS = ("#000000", "#d55e00", "#0072b2", "#009e73", "#cc79a7", "#e69f00", "#56b4e9")
@@ -48,6 +48,12 @@ def step_of(span):
     return next(power * n for n in (1, 2, 2.5, 5, 10) if power * n >= rough)
 
 
+def look_of(number):
+    """The colour and the mark of a program: each pair comes once, for more programs than colours."""
+    again = number // len(COLOURS)
+    return COLOURS[number % len(COLOURS)], MARKS[(number + 3 * again) % len(MARKS)]
+
+
 class Panel:
     """The place of numbers in one panel: clients side by side, values upwards from `low`."""
 
@@ -80,7 +86,7 @@ class Panel:
 
     def curve(self, points, number):
         """A program's line: of each number of clients the value, and the least and the most."""
-        colour, shape = COLOURS[number % len(COLOURS)], MARKS[number % len(MARKS)]
+        colour, shape = look_of(number)
         path = " ".join(f"{self.x(c):.1f},{self.y(v):.1f}" for c, (v, _, _) in points.items())
         parts = [f'<polyline points="{path}" fill="none" stroke="{colour}" stroke-width="2"/>']
         for clients, (value, least, most) in points.items():
@@ -91,11 +97,16 @@ class Panel:
 
 
 def legend(names):
-    parts, at, y = [], PANELS[0][0], HEIGHT - 30
+    """Marks and names, in as many rows as these need."""
+    parts, at, y = [], PANELS[0][0], HEIGHT - BOTTOM + 56
     for number, name in enumerate(names):
-        parts.append(mark(MARKS[number % len(MARKS)], at, y - 4, COLOURS[number % len(COLOURS)]))
+        width = 36 + 7 * len(name)
+        if at + width > WIDTH:
+            at, y = PANELS[0][0], y + 26
+        colour, shape = look_of(number)
+        parts.append(mark(shape, at, y - 4, colour))
         parts.append(text(at + 12, y, name, 13, "start"))
-        at += 36 + 8 * len(name)
+        at += width
     return parts
 
 

@@ -7,10 +7,10 @@
 //
 //     Attempt(Shared&, Exit&);             // one for each client, made and used in its thread
 //     void begin();                        // an attempt begins; what was before is over
-//     Word read(Addr);                     // these two may leave by exit.leave(CONFLICT),
+//     Word read(Addr);                     // these two may leave by exit.leave(CONFLICT, addr),
 //     void write(Addr, Word);              // as may ..
 //     bool commit();                       // .. this one, which also ends by
-//                                          // `return exit.fail(CONFLICT)`
+//                                          // `return exit.fail(CONFLICT, addr)`
 //     Word place() const;                  // of the attempt that has ended: `2 * v` for a writer
 //                                          // of version v, `2 * v + 1` for one that only read,
 //                                          // or that met a conflict, what was there at version v
@@ -33,16 +33,18 @@ namespace vacation {
 // The way out of an attempt that met a conflict.
 class Exit {
 public:
-    // A jump to where the attempt began.
-    [[noreturn, gnu::cold, gnu::noinline]] void leave(unsigned conflict)
+    // A jump to where the attempt began. The address is that of the word which was met, or of its
+    // stripe, where there is one.
+    [[noreturn, gnu::cold, gnu::noinline]] void leave(unsigned conflict,
+                                                      std::optional<Addr> addr = std::nullopt)
     {
-        ++attempts_.conflicts[conflict];
+        attempts_.count(conflict, addr);
         std::longjmp(way_out_, 1);
     }
 
-    [[gnu::cold]] bool fail(unsigned conflict)
+    [[gnu::cold]] bool fail(unsigned conflict, std::optional<Addr> addr = std::nullopt)
     {
-        ++attempts_.conflicts[conflict];
+        attempts_.count(conflict, addr);
         return false;
     }
 

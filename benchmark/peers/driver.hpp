@@ -50,8 +50,6 @@ namespace vacation {
 struct Options {
     std::uint64_t blocks = 1024;
     std::uint64_t tries = 64;
-    // Clients go through their tasks again and again, for so many seconds; 0: once.
-    std::uint64_t seconds = 0;
     // The run ends where a client ends no call for so many seconds.
     std::uint64_t patience = 60;
     // Draws pauses between steps; 0: none.
@@ -63,7 +61,7 @@ struct Options {
 };
 
 constexpr char USAGE[] =
-    "usage: %s [--blocks N] [--tries N] [--seconds S] [--patience S] [--jitter SEED]\n"
+    "usage: %s [--blocks N] [--tries N] [--patience SECONDS] [--jitter SEED]\n"
     "    [--history | --attempts] < TASKS\n";
 
 // The status of a run that was ended because a client stood still.
@@ -85,8 +83,9 @@ struct NumberOption {
 };
 
 constexpr NumberOption NUMBER_OPTIONS[] = {
-    {"--blocks", &Options::blocks, MOST_BLOCKS},     {"--tries", &Options::tries, 1u << 20},
-    {"--seconds", &Options::seconds, 3600},          {"--patience", &Options::patience, 3600},
+    {"--blocks", &Options::blocks, MOST_BLOCKS},
+    {"--tries", &Options::tries, 1u << 20},
+    {"--patience", &Options::patience, 3600},
     {"--jitter", &Options::jitter, UINT64_MAX},
 };
 
@@ -110,15 +109,14 @@ inline std::optional<Options> read_options(int count, char** words)
         if (!is_known)
             return std::nullopt;
     }
-    const bool is_told = options.history || options.attempts;
-    if (is_told && (options.seconds != 0 || options.history == options.attempts))
+    if (options.history && options.attempts)
         return std::nullopt;
     return options;
 }
 
 // ---- the clients
 
-// Holds threads back until all of them stand ready, and says when they are to end.
+// Holds threads back until all of them stand ready.
 class StartLine {
 public:
     void wait_for(unsigned threads) const
@@ -133,13 +131,10 @@ public:
         while (!started_.load())
             std::this_thread::yield();
     }
-    void stop() { stopped_.store(true); }
-    bool is_stopped() const { return stopped_.load(std::memory_order_relaxed); }
 
 private:
-    alignas(APART) std::atomic<unsigned> ready_{0};
+    std::atomic<unsigned> ready_{0};
     std::atomic<bool> started_{false};
-    alignas(APART) std::atomic<bool> stopped_{false};
 };
 
 // Has the compiler take it that a reply is looked at, so that no run leaves out making it.
@@ -163,21 +158,6 @@ void run_call(Client& client, const Call& call, const Options& options, Progress
     count.store(before + 1, std::memory_order_release);
 }
 
-template <class Client>
-void run_calls(Client& client, const ClientCalls& calls, const Options& options,
-               const StartLine& line, Progress& progress)
-{
-    do {
-        for (const Call& call : calls.calls) {
-            run_call(client, call, options, progress);
-            if (line.is_stopped())
-                break;
-        }
-    } while (options.seconds != 0 && !line.is_stopped() && !calls.calls.empty());
-    progress.attempts = client.attempts();
-    progress.ended.store(nanoseconds());
-}
-
 // What the child process has of a run.
 struct Run {
     const std::vector<ClientCalls>& calls;
@@ -199,9 +179,13 @@ void run_client(Runtime& runtime, const Run& run, std::size_t number, StartLine&
                     number == 0 ? 0 : static_cast<unsigned>(number - 1) % LISTS,
                     run.options.is_watched() ? &watch : nullptr};
     typename Runtime::Client client(runtime, seat);
+    Progress& progress = run.progress[number];
     if (number != 0)
         line.stand_ready();
-    run_calls(client, run.calls[number], run.options, line, run.progress[number]);
+    for (const Call& call : run.calls[number].calls)
+        run_call(client, call, run.options, progress);
+    progress.attempts = client.attempts();
+    progress.ended.store(nanoseconds());
 }
 
 // Runs the clients in threads, from when all stand ready.
@@ -215,10 +199,6 @@ void run_clients(Runtime& runtime, const Run& run)
     line.wait_for(static_cast<unsigned>(threads.size()));
     run.board.begun.store(nanoseconds());
     line.start();
-    if (run.options.seconds != 0) {
-        std::this_thread::sleep_for(std::chrono::seconds(run.options.seconds));
-        line.stop();
-    }
     for (std::thread& thread : threads)
         thread.join();
 }
@@ -229,13 +209,8 @@ int run_child(const Run& run)
 {
     const auto blocks = static_cast<std::uint32_t>(run.options.blocks);
     Runtime runtime(spread_words(blocks), run.options.history || run.options.attempts);
-    const Options once = [&] {
-        Options options = run.options;
-        options.seconds = 0;
-        return options;
-    }();
     StartLine none;
-    run_client(runtime, Run{run.calls, once, run.board, run.progress, run.files}, 0, none);
+    run_client(runtime, run, 0, none);
     run_clients(runtime, run);
     Words words = runtime.words();
     run.board.report = report(PlainMemory(words.data()));

@@ -85,7 +85,7 @@ public:
                                  : status & _XABORT_CAPACITY   ? CAPACITY
                                  : status & _XABORT_CONFLICT   ? CONFLICT
                                                                : OTHER;
-            ++attempts_.conflicts[why];
+            attempts_.count(why, std::nullopt);
         }
 
         ElidedRuntime* runtime_;

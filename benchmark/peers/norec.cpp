@@ -120,7 +120,7 @@ private:
             for (const Written& read : reads_) {
                 Steps::step();
                 if (words_[read.addr].load(std::memory_order_acquire) != read.value)
-                    exit_.leave(CHANGED);
+                    exit_.leave(CHANGED, read.addr);
             }
             if (sequence_.load(std::memory_order_relaxed) == now)
                 return now;

@@ -114,7 +114,7 @@ public:
         Word before = free_lock(stripe);
         while (version_of(before) > read_version_) {
             if (!extend())
-                exit_.leave(NEWER);
+                exit_.leave(NEWER, stripe);
             before = free_lock(stripe);
         }
         Steps::step();
@@ -124,7 +124,7 @@ public:
         const Word value = words_[addr].load(order(std::memory_order_acquire));
         Steps::step();
         if (locks_[stripe].load(order(std::memory_order_relaxed)) != before)
-            exit_.leave(MOVED);
+            exit_.leave(MOVED, stripe);
         reads_.push(stripe);
         return value;
     }
@@ -174,7 +174,7 @@ private:
         if (is_held(lock)) {
             lock = wait_until_free(stripe, lock);
             if (is_held(lock))
-                exit_.leave(HELD);
+                exit_.leave(HELD, stripe);
         }
         return lock;
     }
@@ -225,13 +225,13 @@ private:
             if (is_held(before))
                 before = wait_until_free(stripe, before);
             if (is_held(before))
-                return exit_.fail(HELD);
+                return exit_.fail(HELD, stripe);
             Steps::step();
             // Acquire: what is read and stored from here on comes after the lock was taken.
             if (!locks_[stripe].compare_exchange_strong(
                     before, before + 1, order(std::memory_order_acquire),
                     order(std::memory_order_relaxed)))
-                return exit_.fail(LOST_LOCK);
+                return exit_.fail(LOST_LOCK, stripe);
             held_.push_back(before);
         }
         return true;
@@ -265,9 +265,9 @@ private:
             Steps::step();
             const Word lock = locks_[stripe].load(order(std::memory_order_relaxed));
             if (is_held(lock) && !holds(stripe))
-                return exit_.fail(HELD);
+                return exit_.fail(HELD, stripe);
             if (version_of(lock) > read_version_)
-                return exit_.fail(NEWER);
+                return exit_.fail(NEWER, stripe);
         }
         return true;
     }

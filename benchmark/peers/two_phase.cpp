@@ -68,7 +68,7 @@ public:
         const Addr stripe = addr & stripe_mask_;
         if (held_.find(stripe) == nullptr) {
             if (!lock_to_read(stripe))
-                leave(READ_HELD);
+                leave(READ_HELD, stripe);
             held_.put(stripe, ONE_READER);
         }
         Steps::step();
@@ -82,7 +82,7 @@ public:
         const Word mine = own == nullptr ? 0 : *own;
         if (mine != WRITER) {
             if (!lock_to_write(stripe, mine))
-                leave(mine == 0 ? WRITE_HELD : READ_BY_OTHERS);
+                leave(mine == 0 ? WRITE_HELD : READ_BY_OTHERS, stripe);
             held_.put(stripe, WRITER);
         }
         Steps::step();
@@ -148,7 +148,7 @@ private:
     }
 
     // Puts back what was there, the last word first, and leaves.
-    [[noreturn, gnu::cold, gnu::noinline]] void leave(Conflict conflict)
+    [[noreturn, gnu::cold, gnu::noinline]] void leave(Conflict conflict, Addr stripe)
     {
         for (auto old = old_.rbegin(); old != old_.rend(); ++old) {
             Steps::step();
@@ -156,7 +156,7 @@ private:
         }
         see_place();
         release();
-        exit_.leave(conflict);
+        exit_.leave(conflict, stripe);
     }
 
     // Release: who takes a lock next sees what was stored.

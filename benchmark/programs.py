@@ -1,0 +1,205 @@
+"""The programs that are measured, and single runs of them."""
+
+import os
+import shlex
+import subprocess
+import sys
+import threading
+import time
+from pathlib import Path
+
+ROOT = Path(__file__).resolve().parent.parent
+# The longest that one run of one program may take, in seconds.
+PATIENCE = 300
+OURS = "vacation"
+# What all programs have in common of a conflict's place: the numbers that they tell by these names.
+PARTS = ("heads", "roots", "nodes", "uses", "stocks")
+
+
+def give_up(why):
+    sys.exit(f"bench: {why}")
+
+
+def lines_of(words):
+    """What a command writes, or nothing where it is missing or fails."""
+    try:
+        done = subprocess.run(words, capture_output=True, text=True, cwd=ROOT, check=True)
+    except (OSError, subprocess.CalledProcessError):
+        return []
+    return done.stdout.splitlines()
+
+
+def has_option(program, subcommand, option):
+    return any(option in line for line in lines_of([program, subcommand, "--help"]))
+
+
+def options_of(settings):
+    return [word for name, value in settings.items() for word in (f"--{name}", str(value))]
+
+
+def numbers_told(errors):
+    """The numbers of a line 'seconds S tasks-per-second R attempts A ..' on standard error."""
+    for line in errors.splitlines():
+        words = line.split(" ")
+        if words[0] == "seconds" and len(words) % 2 == 0:
+            try:
+                return dict(zip(words[::2], map(float, words[1::2])))
+            except ValueError:
+                break
+    return {}
+
+
+class Run:
+    """What one run of a program told: the seconds of its clients, how many tasks were answered and
+    given up, how many attempts that took and where these met conflicts (where it tells them), the
+    answers of each whole second (the same), and the report of what it left."""
+
+    def __init__(self, tally, report, errors):
+        words = tally.split(" ")
+        counts = dict(zip(words[::2], map(int, words[1::2])))
+        self.report = report
+        self.answered, self.busy = counts["answered"], counts["busy"]
+        told = numbers_told(errors)
+        self.seconds = told.get("seconds")
+        self.attempts = int(told["attempts"]) if "attempts" in told else None
+        self.parts = [int(told[part]) for part in PARTS] if all(part in told for part in PARTS) else None
+        self.by_second = next((line.split(" ")[1:] for line in errors.splitlines()
+                               if line.startswith("each-second")), [])
+
+    def rate(self):
+        """Answered tasks a second, in thousands."""
+        return self.answered / self.seconds / 1000
+
+
+# ---- pinning
+
+def threads_of(pid):
+    """The threads of a process and of its children, but the first of each."""
+    found = []
+    try:
+        for task in os.listdir(f"/proc/{pid}/task"):
+            if int(task) != pid:
+                found.append(int(task))
+            with open(f"/proc/{pid}/task/{task}/children", encoding="ascii") as children:
+                for child in children.read().split():
+                    found += threads_of(int(child))
+    except OSError:
+        pass
+    return sorted(found)
+
+
+class Pinner(threading.Thread):
+    """Ties each client's thread of a run to a processor, one after the other, as soon as all of
+    them are there. Where that is not allowed, or they are not seen, nothing is done."""
+
+    processors = sorted(os.sched_getaffinity(0)) if hasattr(os, "sched_getaffinity") else []
+    pinned, missed = 0, 0
+
+    def __init__(self, process, clients):
+        super().__init__(daemon=True)
+        self.process, self.clients = process, clients
+
+    def run(self):
+        while self.processors and self.process.poll() is None:
+            threads = threads_of(self.process.pid)
+            if len(threads) >= self.clients:
+                if self.pin(threads[:self.clients]):
+                    Pinner.pinned += 1
+                    return
+                break
+            time.sleep(0.002)
+        Pinner.missed += 1
+
+    def pin(self, threads):
+        try:
+            for place, thread in enumerate(threads):
+                os.sched_setaffinity(thread, {self.processors[place % len(self.processors)]})
+        except OSError:
+            return False
+        return True
+
+
+def execute(words, stdin, environment, clients):
+    """Runs a command with its clients pinned; its output and its errors."""
+    with subprocess.Popen(words, stdin=stdin, stdout=subprocess.PIPE, stderr=subprocess.PIPE, text=True,
+                          env=os.environ | environment) as process:
+        pinner = Pinner(process, clients)
+        pinner.start()
+        try:
+            output, errors = process.communicate(timeout=PATIENCE)
+        except subprocess.TimeoutExpired:
+            process.kill()
+            give_up(f"{shlex.join(map(str, words))} took longer than {PATIENCE} seconds")
+    pinner.join()
+    if process.returncode != 0:
+        give_up(f"{shlex.join(map(str, words))} ended with status {process.returncode}: "
+                f"{output[-200:]}{errors[-200:]}")
+    return output, errors
+
+
+# ---- programs
+
+class Ours:
+    """The program, which draws its tasks itself, the same ones that it writes for the peers."""
+
+    name = OURS
+
+    def __init__(self, program, tries):
+        self.program, self.tries = program, tries
+
+    def command(self, settings):
+        return [self.program, "load", *options_of(settings), "--tries", str(self.tries), "--stats"]
+
+    def run(self, settings, _):
+        output, errors = execute(self.command(settings), subprocess.DEVNULL, {}, settings["clients"])
+        return Run(*output.splitlines(), errors)
+
+    def history(self, settings, _):
+        """The history of a run, and its report."""
+        words = [word for word in self.command(settings) if word != "--stats"] + ["--history"]
+        output, errors = execute(words, subprocess.DEVNULL, {}, settings["clients"])
+        return output, errors.splitlines()[1]
+
+
+class Peer:
+    """A peer reads the tasks on standard input."""
+
+    def __init__(self, name, words, tries, environment=None):
+        self.name, self.words, self.tries = name, words, tries
+        self.environment = environment or {}
+
+    def execute(self, settings, tasks, *more):
+        words = [*self.words, "--blocks", str(settings["blocks"]), "--tries", str(self.tries), *more]
+        with open(tasks, "rb") as stdin:
+            return execute(words, stdin, self.environment, settings["clients"])
+
+    def run(self, settings, tasks):
+        output, errors = self.execute(settings, tasks)
+        run = Run(*output.splitlines(), errors)
+        if run.seconds is None:
+            give_up(f"{self.name} tells no seconds on standard error")
+        return run
+
+    def history(self, settings, tasks):
+        output, errors = self.execute(settings, tasks, "--history")
+        return output, next(line for line in errors.splitlines() if line.startswith("cars="))
+
+
+class Judge:
+    """The program as the judge of histories, held against the work where it can do that."""
+
+    def __init__(self, program):
+        self.program = program
+        self.knows_work = has_option(program, "judge", "--tasks")
+
+    def want_legal(self, name, history, report, settings, tasks):
+        more = ["--tasks", tasks] if self.knows_work else []
+        words = [self.program, "judge", "--blocks", str(settings["blocks"]), *more]
+        done = subprocess.run(words, input=history, capture_output=True, text=True, timeout=PATIENCE)
+        with open(tasks, "rb") as lines:
+            calls = sum(1 for _ in lines)
+        verdict = done.stdout.splitlines()
+        is_whole = verdict and verdict[0].startswith(f"legal calls={calls} ")
+        if not is_whole or verdict[1:] != [report]:
+            give_up(f"of {name} the judge says '{done.stdout.strip()}'; the work has {calls} calls, "
+                    f"the report is '{report}'")
