@@ -42,6 +42,9 @@
 #include <vector>
 
 #include <signal.h>
+#if defined(__linux__)
+#include <sys/prctl.h>
+#endif
 #include <sys/wait.h>
 #include <unistd.h>
 
@@ -64,7 +67,7 @@ constexpr char USAGE[] =
     "usage: %s [--blocks N] [--tries N] [--patience SECONDS] [--jitter SEED]\n"
     "    [--history | --attempts] < TASKS\n";
 
-// The status of a run that was ended because a client stood still.
+// The status of a run that was ended because something stood still.
 constexpr int STOOD_STILL = 3;
 
 inline std::optional<std::uint64_t> number_up_to(std::string_view text, std::uint64_t most)
@@ -220,34 +223,41 @@ int run_child(const Run& run)
 
 // ---- the process that looks after them
 
-// How the child ended: by itself, or because a client stood still.
+// How the child ended: by itself, or because something stood still.
 struct End {
     int status = 0;
-    std::optional<std::uint32_t> stood_still;
+    std::optional<std::string> stood_still;
     // Answers of all clients by the end of each whole second.
     std::vector<Word> by_second;
 };
 
-// Which client ends no call for too long, and the answers of each second.
+// Whether a client ends no call for too long, or the report no walk, and the answers of each second.
 class Lookout {
 public:
     explicit Lookout(const Run& run)
-        : run_(run), calls_(run.calls.size(), 0), since_(run.calls.size(), nanoseconds())
+        : run_(run), calls_(run.calls.size(), 0), since_(run.calls.size(), nanoseconds()),
+          all_ended_(nanoseconds())
     {
     }
 
-    std::optional<std::uint32_t> look(Word now)
+    std::optional<std::string> look(Word now)
     {
+        bool have_ended = true;
         for (std::size_t i = 0; i < calls_.size(); ++i) {
             const Progress& progress = run_.progress[i];
             const bool waits = i != 0 && run_.board.begun.load() == 0;
+            have_ended &= progress.ended.load() != 0;
             if (progress.calls() != calls_[i] || progress.ended.load() != 0 || waits) {
                 calls_[i] = progress.calls();
                 since_[i] = now;
-            } else if (now - since_[i] > run_.options.patience * 1'000'000'000) {
-                return run_.calls[i].client;
+            } else if (is_too_long(now - since_[i])) {
+                return "client " + std::to_string(run_.calls[i].client) + " has answered nothing";
             }
         }
+        if (!have_ended)
+            all_ended_ = now;
+        if (is_too_long(now - all_ended_))
+            return "what the clients left has not been walked through";
         return std::nullopt;
     }
 
@@ -266,8 +276,11 @@ public:
     }
 
 private:
+    bool is_too_long(Word nanos) const { return nanos > run_.options.patience * 1'000'000'000; }
+
     const Run& run_;
     std::vector<Word> calls_, since_;
+    Word all_ended_;
 };
 
 inline End look_after(pid_t child, const Run& run)
@@ -357,8 +370,8 @@ inline void print_records(const Run& run)
 inline int print_fault(const End& end, const Options& options, const char* name)
 {
     if (end.stood_still) {
-        std::fprintf(stderr, "%s: client %u has answered nothing for %llu seconds\n", name,
-                     *end.stood_still, static_cast<unsigned long long>(options.patience));
+        std::fprintf(stderr, "%s: %s for %llu seconds\n", name, end.stood_still->c_str(),
+                     static_cast<unsigned long long>(options.patience));
         return STOOD_STILL;
     }
     if (WIFSIGNALED(end.status)) {
@@ -393,6 +406,10 @@ pid_t fork_child(const char* name, Does does)
     if (child < 0)
         throw std::runtime_error("there is no process for the clients");
     if (child == 0) {
+#if defined(__linux__)
+        // (who ends the parent ends the child)
+        ::prctl(PR_SET_PDEATHSIG, SIGKILL);
+#endif
         int status = 1;
         try {
             status = does();

@@ -1,0 +1,144 @@
+#!/usr/bin/env python3
+"""Finds out how soon classic mistakes of transactional memories are called: each .edit beside this
+script is made in a copy of a peer, which then runs one load after the other until its history is
+called illegal, or it crashes or stands still; and the same of its attempts, where the program
+judges these; all that with and without pauses between its steps (--jitter). Prints a table in
+Markdown: the run in which it was called, and how many calls or attempts there had been."""
+
+import argparse
+import os
+import resource
+import shutil
+import subprocess
+import sys
+import tempfile
+from concurrent.futures import ThreadPoolExecutor
+from pathlib import Path
+
+HERE = Path(__file__).resolve().parent
+PEERS = HERE.parent / "peers"
+PROGRAM = HERE.parent.parent / "crates/vacation/out/vacation"
+# Few items and long tasks: clients meet often.
+LOAD = {"clients": 4, "tasks": 1000, "items": 8, "asks": 6, "user": 60, "blocks": 256}
+WORDS = 16 + 8 * LOAD["blocks"]
+TRIES, PATIENCE = 100_000, 2
+# A runtime that has lost its way may log reads without end.
+MOST_MEMORY = 3 << 30
+COMPILERS = 2
+
+
+class Mutant:
+    """The lines of an edit: the peer, its file, and pairs of lines, old and new."""
+
+    def __init__(self, path):
+        fields = [line.split(": ", 1) for line in path.read_text(encoding="utf-8").splitlines()]
+        self.name = path.stem
+        self.peer, self.file = (next(text for key, text in fields if key == wanted) for wanted in ("peer", "file"))
+        self.pairs = list(zip([text for key, text in fields if key == "old"],
+                              [text for key, text in fields if key == "new"]))
+
+    def build(self, folder):
+        sources = folder / self.name
+        shutil.copytree(PEERS, sources)
+        lines = (sources / self.file).read_text(encoding="utf-8").splitlines()
+        for old, new in self.pairs:
+            places = [i for i, line in enumerate(lines) if line.strip() == old]
+            if len(places) != 1:
+                sys.exit(f"mutants: {self.name}: '{old}' stands {len(places)} times in {self.file}")
+            lines[places[0]] = new
+        (sources / self.file).write_text("\n".join(lines) + "\n", encoding="utf-8")
+        program = folder / f"{self.name}.out"
+        words = [os.environ.get("CXX", "g++"), "-std=c++17", "-O2", "-w", "-pthread",
+                 sources / f"{self.peer}.cpp", "-o", program]
+        subprocess.run(words, check=True)
+        return program
+
+
+def limit():
+    resource.setrlimit(resource.RLIMIT_AS, (MOST_MEMORY, MOST_MEMORY))
+    resource.setrlimit(resource.RLIMIT_CORE, (0, 0))
+
+
+class Trial:
+    """Runs of one kind: whether histories or attempts are judged, and with pauses or without."""
+
+    def __init__(self, program, mode, jitters, runs):
+        self.program, self.mode, self.jitters, self.runs = program, mode, jitters, runs
+        told = subprocess.run([program, "judge", "--help"], capture_output=True, text=True, check=True)
+        self.knows_work = "--tasks" in told.stdout
+
+    def judge(self, lines, tasks):
+        """What is wrong with the lines, or nothing, and how many were looked at until then."""
+        if self.mode == "--attempts":
+            words = [self.program, "opaque", "--words", str(WORDS)]
+        else:
+            words = [self.program, "judge", "--blocks", str(LOAD["blocks"])]
+            words += ["--tasks", tasks] if self.knows_work else []
+        done = subprocess.run(words, input=lines, capture_output=True, text=True)
+        verdict = done.stdout.split("\n")[0].split(" ")
+        count = lines.count("\n")
+        if done.returncode == 0:
+            return None, count
+        is_line = verdict[1] != "missing" and len(verdict) > 2 and verdict[2].isdigit()
+        return " ".join(verdict[:2]), int(verdict[2]) if is_line else count
+
+    def run(self, mutant, tasks, seed):
+        """What was wrong with a run, or nothing, and how many lines were looked at until then."""
+        jitter = ["--jitter", str(seed)] if self.jitters else []
+        words = [mutant, "--blocks", str(LOAD["blocks"]), "--tries", str(TRIES), "--patience", str(PATIENCE),
+                 self.mode, *jitter]
+        with open(tasks, "rb") as stdin:
+            done = subprocess.run(words, stdin=stdin, capture_output=True, text=True, preexec_fn=limit)
+        wrong, count = self.judge(done.stdout, tasks)
+        if done.returncode != 0 and (wrong is None or "missing" in wrong):
+            wrong = "stood still" if done.returncode == 3 else "crashed"
+        return wrong, count
+
+    def cell(self, mutant, folder):
+        count = 0
+        for seed in range(1, self.runs + 1):
+            tasks = folder / f"tasks-{seed}"
+            wrong, lines = self.run(mutant, tasks, seed)
+            count += lines
+            if wrong:
+                return f"run {seed}, {count:,}: {wrong}"
+        return f"not in {self.runs} runs, {count:,}"
+
+
+def draw_tasks(program, runs, folder):
+    options = [word for name, value in LOAD.items() for word in (f"--{name}", str(value))]
+    for seed in range(1, runs + 1):
+        with open(folder / f"tasks-{seed}", "wb") as output:
+            subprocess.run([program, "tasks", *options, "--seed", str(seed)], stdout=output, check=True)
+
+
+def read_arguments():
+    parser = argparse.ArgumentParser(prog="try.py", description=__doc__)
+    parser.add_argument("--program", type=Path, default=PROGRAM, help="the program that judges")
+    parser.add_argument("--runs", type=int, default=20, help="the most runs of each kind (default: 20)")
+    parser.add_argument("--only", action="append", metavar="NAME", help="one of the edits")
+    return parser.parse_args()
+
+
+def main():
+    arguments = read_arguments()
+    mutants = [Mutant(path) for path in sorted(HERE.glob("*.edit"))
+               if not arguments.only or path.stem in arguments.only]
+    has_opaque = subprocess.run([arguments.program, "opaque", "--help"], capture_output=True).returncode == 0
+    modes = ["--history"] + (["--attempts"] if has_opaque else [])
+    trials = [Trial(arguments.program, mode, jitters, arguments.runs) for mode in modes for jitters in (False, True)]
+    heads = [("history" if trial.mode == "--history" else "attempts") + (", jitter" if trial.jitters else "")
+             for trial in trials]
+    print(f"| Mistake | Peer | {' | '.join(heads)} |\n|---|---|{'---|' * len(heads)}", flush=True)
+    with tempfile.TemporaryDirectory() as name:
+        folder = Path(name)
+        draw_tasks(arguments.program, arguments.runs, folder)
+        with ThreadPoolExecutor(COMPILERS) as compilers:
+            built = list(compilers.map(lambda mutant: mutant.build(folder), mutants))
+        for mutant, program in zip(mutants, built):
+            cells = [trial.cell(program, folder) for trial in trials]
+            print(f"| {mutant.name} | {mutant.peer} | {' | '.join(cells)} |", flush=True)
+
+
+if __name__ == "__main__":
+    main()
