@@ -5,6 +5,8 @@
 #[cfg(test)]
 mod logs;
 #[cfg(test)]
+mod losses;
+#[cfg(test)]
 mod regions;
 #[cfg(test)]
 mod renewals;

@@ -177,3 +177,34 @@ fn each_growth_of_a_renewal_is_refused(rt: HostRuntime) -> Result<(), Fail> {
     holds(&rt, kept && closed && renewed);
     Ok(())
 }
+
+/// Opens a region in one heap and closes it in another one. Answers whether the words are those of
+/// the opening.
+fn open_in<A: Allocator + Copy>(small: A, heap: A) -> Result<bool, RegionFault> {
+    let (region, client) = Region::<FreeLaw, A>::new(small, &[3; 512], 100, 32)?;
+    match region.close(heap, client) {
+        Ok((words, _)) => Ok(words.as_slice() == [3u64; 512].as_slice()),
+        Err((_, _, fault)) => Err(fault),
+    }
+}
+
+/// In each heap that is too small the region is not opened, and in those that follow it is.
+#[test]
+fn each_growth_of_an_opening_is_refused(rt: HostRuntime) -> Result<(), Fail> {
+    let heap = LocalHeap::new(rt.alloc(), 100_000)?;
+    let (mut refused, mut opened) = (false, false);
+    for k in 0..200 {
+        let small = LocalHeap::new(rt.alloc(), 1_000 + 100 * k)?;
+        let found = open_in(&small, &heap);
+        same(&rt, &(heap.used(), small.used()), &(0, 0));
+        if found == Err(RegionFault::Memory) {
+            holds(&rt, !opened);
+            refused = true;
+        } else {
+            same(&rt, &found, &Ok(true));
+            opened = true;
+        }
+    }
+    holds(&rt, refused && opened);
+    Ok(())
+}

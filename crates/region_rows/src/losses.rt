@@ -1,0 +1,134 @@
+//! What the steps of a client find where another one commits between them.
+ghost use Rattle.std.specs.Prelude.{◌≡◌, ◌<◌};
+ghost use Rattle.stm_core.specs.Core.{IsFreeHanded};
+
+use crate::regions::write_at;
+use crate::same::same;
+use std::alloc::{AllocError, Global};
+use std::test::Fail;
+use stm_logs::WriteLog;
+use stm_region::{Client, Region};
+use stm_words::{Addr, FreeLaw};
+
+/// The two words that a read finds at its lock, where another client writes the word between the
+/// load of the value and the check; `None` where the first one says no.
+fn read_across(
+    alloc: Global,
+    region: &Region<FreeLaw>,
+    client: &mut Client<FreeLaw>,
+    other: &mut Client<FreeLaw>,
+    addr: Addr,
+) -> Result<Option<(u64, u64)>, AllocError>
+    requires own { (client.old.table ≡ region.now.table) × (other.old.table ≡ region.now.table) }
+    requires free { IsFreeHanded client.old.value × IsFreeHanded other.old.value }
+    requires range { addr.0 < region.now.size }
+    ensures own { (client.new.table ≡ client.old.table) × (other.new.table ≡ other.old.table) }
+    ensures free { IsFreeHanded client.new.value × IsFreeHanded other.new.value }
+{
+    let version = region.begin(client);
+    let lock = region.lock_of(addr);
+    let first = region.probe(client, lock);
+    if first % 2 == 1 || first / 2 > version.get() {
+        return Ok(None);
+    }
+    let _value = region.fetch(client, addr);
+    write_at(alloc, region, other, addr, 5)?;
+    let second = region.check(client, addr, lock);
+    Ok(Some((first, second)))
+}
+
+/// What the exchange of a lock word finds, where another client writes the word between the probe
+/// and the exchange; `None` where the probe says no.
+fn lock_across(
+    alloc: Global,
+    region: &Region<FreeLaw>,
+    client: &mut Client<FreeLaw>,
+    other: &mut Client<FreeLaw>,
+    addr: Addr,
+) -> Result<Option<Result<(), u64>>, AllocError>
+    requires own { (client.old.table ≡ region.now.table) × (other.old.table ≡ region.now.table) }
+    requires free { IsFreeHanded client.old.value × IsFreeHanded other.old.value }
+    requires range { addr.0 < region.now.size }
+    ensures own { (client.new.table ≡ client.old.table) × (other.new.table ≡ other.old.table) }
+    ensures free { IsFreeHanded client.new.value × IsFreeHanded other.new.value }
+{
+    let _version = region.begin(client);
+    let lock = region.lock_of(addr);
+    let word = region.probe(client, lock);
+    if word % 2 == 1 {
+        return Ok(None);
+    }
+    write_at(alloc, region, other, addr, 5)?;
+    let found = region.lock(client, lock);
+    if found.is_ok() {
+        region.give_back(client, lock);
+    }
+    Ok(Some(found))
+}
+
+/// What the exchange of the clock finds, where another client, which writes another word, exchanges
+/// it between the lock and the tick; `None` where no tick is lost.
+fn tick_across(
+    alloc: Global,
+    region: &Region<FreeLaw>,
+    client: &mut Client<FreeLaw>,
+    other: &mut Client<FreeLaw>,
+    addr: Addr,
+    others: Addr,
+) -> Result<Option<u64>, AllocError>
+    requires own { (client.old.table ≡ region.now.table) × (other.old.table ≡ region.now.table) }
+    requires free { IsFreeHanded client.old.value × IsFreeHanded other.old.value }
+    requires range { (addr.0 < region.now.size) × (others.0 < region.now.size) }
+    ensures own { (client.new.table ≡ client.old.table) × (other.new.table ≡ other.old.table) }
+    ensures free { IsFreeHanded client.new.value × IsFreeHanded other.new.value }
+{
+    let lock = region.lock_of(addr);
+    let mut log = WriteLog::new(alloc);
+    log.put(addr, lock, 7)?;
+    let from = region.begin(client);
+    let word = region.probe(client, lock);
+    if word % 2 == 1 {
+        return Ok(None);
+    }
+    let Ok(()) = region.lock(client, lock) else {
+        return Ok(None);
+    };
+    let written = write_at(alloc, region, other, others, 5);
+    if written != Ok(true) || from.get() == region.last().get() {
+        region.give_back(client, lock);
+        return Ok(None);
+    }
+    match region.tick(client, from, &1u64, &log) {
+        Ok(_) => {
+            region.put(client, addr, 7);
+            region.release(client, lock);
+            Ok(None)
+        }
+        Err(found) => {
+            region.give_back(client, lock);
+            Ok(Some(found.get()))
+        }
+    }
+}
+
+#[test]
+fn steps_find_what_another_client_left(rt: HostRuntime) -> Result<(), Fail> {
+    let alloc = rt.alloc();
+    let (region, mut a) = Region::<FreeLaw>::new(alloc, &[0; 32], 100, 32)?;
+    let mut b = region.split(&mut a)?;
+    let checked = read_across(alloc, &region, &mut a, &mut b, Addr(9))?;
+    let locked = lock_across(alloc, &region, &mut a, &mut b, Addr(9))?;
+    let ticked = tick_across(alloc, &region, &mut a, &mut b, Addr(10), Addr(9))?;
+    let after = write_at(alloc, &region, &mut a, Addr(10), 8)?;
+    region.gather(&mut a, b);
+    let Ok((words, version)) = region.close(alloc, a) else {
+        panic!(rt; "it stayed open")
+    };
+    same(&rt, &checked, &Some((0, 2)));
+    same(&rt, &locked, &Some(Err(4)));
+    same(&rt, &ticked, &Some(3));
+    same(&rt, &after, &true);
+    same(&rt, &(words.as_slice()[9], words.as_slice()[10]), &(5, 8));
+    same(&rt, &version.get(), &4);
+    Ok(())
+}
