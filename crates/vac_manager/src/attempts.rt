@@ -8,9 +8,9 @@ ghost use Rattle.vac_manager.specs.Called.{WasShown, IsStop, IsNoConflict, IsNea
 ghost use Rattle.vac_manager.specs.Placed.{Leaves, Tallies, nothing_done};
 
 use crate::law::ManagerLaw;
+use crate::pauses::Pauses;
 use crate::placed::{Place, Traced};
 use crate::told::Told;
-use crossbeam_utils::Backoff;
 use stm_attempt::{Attempt, Conflict, Gate, Logs, Point, ReadAttempt, Stop};
 use stm_region::{Client, Region};
 use tx_alloc::FreeList;
@@ -140,6 +140,7 @@ pub(crate) fn run_in_attempts<G: Gate>(
     region: &Region<ManagerLaw>,
     client: &mut Client<ManagerLaw>,
     logs: &mut Logs,
+    pauses: &mut Pauses,
     task: &Task,
     start: FreeList,
     tries: u32,
@@ -164,14 +165,13 @@ pub(crate) fn run_in_attempts<G: Gate>(
         → IsNear region.now.last
         client.old.value.floor client.new.value.floor result }
 {
-    let backoff = Backoff::new();
     let mut left = tries;
     'tries: loop {
         left -= 1;
         let answer = try_once(region, client, logs, task, start, gate, &mut traced.place);
         traced.effort.count(&answer);
         match answer {
-            Err(Stop::Conflict(_)) if left > 0 => backoff.snooze(),
+            Err(Stop::Conflict(_)) if left > 0 => pauses.wait(tries - left),
             answer => return answer,
         }
     }

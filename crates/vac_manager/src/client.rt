@@ -1,6 +1,7 @@
 //! A client of a manager.
 
 use crate::law::ManagerLaw;
+use crate::pauses::Pauses;
 use std::marker::Model;
 use stm_attempt::Logs;
 use stm_region::Client as RegionClient;
@@ -15,6 +16,7 @@ use tx_alloc::FreeList;
 pub struct Client {
     pub(crate) client: RegionClient<ManagerLaw>,
     pub(crate) logs: Logs,
+    pub(crate) pauses: Pauses,
     /// The free list that its new entries take their blocks from.
     pub(crate) start: FreeList,
     /// The same of the next client that it splits off.

@@ -12,6 +12,7 @@ mod keep;
 mod law;
 mod manager;
 mod note;
+mod pauses;
 mod placed;
 mod renew;
 mod report;

@@ -14,6 +14,7 @@ use crate::attempts::run_in_attempts;
 use crate::client::Client;
 use crate::fault::Fault;
 use crate::law::ManagerLaw;
+use crate::pauses::Pauses;
 use crate::placed::{Effort, Placed, Traced};
 use std::alloc::Global;
 use std::marker::Model;
@@ -92,6 +93,7 @@ impl Manager {
         let client = Client {
             client,
             logs: Logs::new(alloc),
+            pauses: Pauses::new(0),
             start: FreeList::new(0),
             next: FreeList::new(1),
         };
@@ -179,6 +181,7 @@ impl Manager {
             &self.region,
             &mut client.client,
             &mut client.logs,
+            &mut client.pauses,
             task,
             start,
             tries,
@@ -204,6 +207,7 @@ impl Manager {
         Ok(Client {
             client: other,
             logs: Logs::new(self.alloc),
+            pauses: client.pauses.split(),
             start,
             next: client.next,
         })
@@ -221,6 +225,7 @@ impl Manager {
         let Client {
             client: other,
             logs: _,
+            pauses: _,
             start: _,
             next: _,
         } = other;
@@ -240,6 +245,7 @@ impl Manager {
         let Client {
             client,
             logs,
+            pauses,
             start,
             next,
         } = client;
@@ -249,6 +255,7 @@ impl Manager {
                 let client = Client {
                     client,
                     logs,
+                    pauses,
                     start,
                     next,
                 };

@@ -42,6 +42,7 @@ impl Manager {
         let Client {
             client,
             logs,
+            pauses,
             start,
             next,
         } = client;
@@ -50,6 +51,7 @@ impl Manager {
                 let client = Client {
                     client,
                     logs,
+                    pauses,
                     start,
                     next,
                 };
@@ -59,6 +61,7 @@ impl Manager {
                 let client = Client {
                     client,
                     logs,
+                    pauses,
                     start,
                     next,
                 };

@@ -13,4 +13,4 @@ invariant_of-result c =
 
 pub returns-clause-ok : goal.returns-clause-ok
 returns-clause-ok c =
-    rw (c.new-3.ensures, c.new-4.ensures) (opens _ _ _ _ _ _ _ c.as_slice.ensures.value (record { empty = c.in-Ok.ensures.words; pool = c.in-Ok.ensures.pool; few = search (rules, arith) }) c.in-Ok-new.ensures.region c.in-Ok-new.ensures.client)
+    rw (c.new-4.ensures, c.new-5.ensures) (opens _ _ _ _ _ _ _ c.as_slice.ensures.value (record { empty = c.in-Ok.ensures.words; pool = c.in-Ok.ensures.pool; few = search (rules, arith) }) c.in-Ok-new.ensures.region c.in-Ok-new.ensures.client)
