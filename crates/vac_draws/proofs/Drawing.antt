@@ -4,7 +4,7 @@ use Rattle.vac_model.specs.declared.tasks.Task.{Task}
 use Rattle.vac_draws.specs.declared.settings.Settings.{Settings}
 use Rattle.vac_draws.specs.declared.settings.TheConstants.{PERCENT}
 use Rattle.vac_draws.specs.Draws.{Drew, Reader, always, below, going_on, after, joined, one, for_each, times, Reads, Drawn}
-use Rattle.vac_draws.specs.Tasks.{trip, leave, update, task_at, task_of, DrawnTask}
+use Rattle.vac_draws.specs.Tasks.{trip, leave, update, task_at, work, question, mixed_at, task_of, DrawnTask}
 
 drew_both : {D : Type 0} (leads : D → ℕ → D → Type 0) (a : D) (ws : List ℕ) (b : D) (us : List ℕ) (c : D) →
     Drew leads a ws b → Drew leads b us c → Drew leads a (ws ++ us) c
@@ -59,7 +59,7 @@ drawn_times leads n reader a xs b x c p q =
     drawn_more leads n (λ _. one reader) a xs b (x ∷ []) c p (drawn_one leads reader b x c q)
 
 pub task_after : {D E : Type 0} (leads : D → ℕ → D → Type 0) (s : Settings) (a : D) (r : ℕ) (b : D) (result : Result Task E) (c : D) →
-    Drawn leads (below PERCENT) a r b → DrawnTask leads (task_at s r) b result c → DrawnTask leads (task_of s) a result c
+    Drawn leads (below PERCENT) a r b → DrawnTask leads (task_at s r) b result c → DrawnTask leads (work s) a result c
 task_after leads s a r b result c p q = record {
   task = q.task;
   drawn = drawn_after leads (below PERCENT) (λ r. task_at s r) a r b q.task c p q.drawn;
@@ -77,6 +77,26 @@ task_leave leads s r a t b e o q = rw e (rw o (record { task = t; drawn = q; bui
 pub task_update : {D E : Type 0} (leads : D → ℕ → D → Type 0) (s : Settings) (r : ℕ) (a : D) (result : Result Task E) (b : D) →
     nat_lt r s.user ≡ false → (r % 2 == 1) ≡ false → DrawnTask leads (update s) a result b → DrawnTask leads (task_at s r) a result b
 task_update leads s r a result b e o q = rw e (rw o q)
+
+pub task_work : {D E : Type 0} (leads : D → ℕ → D → Type 0) (s : Settings) (a : D) (result : Result Task E) (b : D) →
+    (s.reads == 0) ≡ true → DrawnTask leads (work s) a result b → DrawnTask leads (task_of s) a result b
+task_work leads s a result b e q = rw e q
+
+pub task_mixed : {D E : Type 0} (leads : D → ℕ → D → Type 0) (s : Settings) (a : D) (r : ℕ) (b : D) (result : Result Task E) (c : D) →
+    (s.reads == 0) ≡ false → Drawn leads (below PERCENT) a r b → DrawnTask leads (mixed_at s r) b result c → DrawnTask leads (task_of s) a result c
+task_mixed leads s a r b result c e p q = rw e (record {
+  task = q.task;
+  drawn = drawn_after leads (below PERCENT) (λ r. mixed_at s r) a r b q.task c p q.drawn;
+  built = q.built;
+})
+
+pub task_question : {D E : Type 0} (leads : D → ℕ → D → Type 0) (s : Settings) (r : ℕ) (a : D) (t : Task) (b : D) →
+    nat_lt r s.reads ≡ true → Drawn leads (question s) a t b → DrawnTask {E = E} leads (mixed_at s r) a (Ok t) b
+task_question leads s r a t b e q = rw e (record { task = t; drawn = q; built = refl })
+
+pub task_no_question : {D E : Type 0} (leads : D → ℕ → D → Type 0) (s : Settings) (r : ℕ) (a : D) (result : Result Task E) (b : D) →
+    nat_lt r s.reads ≡ false → DrawnTask leads (work s) a result b → DrawnTask leads (mixed_at s r) a result b
+task_no_question leads s r a result b e q = rw e q
 
 -- of three readers in a row it does not matter which two are taken together
 third_of : {X : Type 0} (xs ys : List X) (o : Option (List X × List ℕ)) →

@@ -27,7 +27,7 @@ is_manager s =
 abbrev pub is_system : Settings → Bool
 is_system s =
     nat_le 1 s.items && nat_le s.items MOST_ITEMS && nat_le (4 * s.items) s.blocks
-    && is_list_length s.asks && nat_le s.user PERCENT && is_manager s
+    && is_list_length s.asks && nat_le s.reads PERCENT && nat_le s.user PERCENT && is_manager s
 
 -- a load can be run with these settings
 abbrev pub is_settings : Settings → Bool

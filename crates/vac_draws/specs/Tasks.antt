@@ -75,9 +75,30 @@ task_at s r =
     else if r % 2 == 1 then leave s
     else update s
 
--- one task
+-- a task that is no question
+abbrev pub work : Settings → Reader Task
+work s = after (below PERCENT) (λ r. task_at s r)
+
+-- the question that a number below 100 leads to: one in a hundred is an audit, the others are for a
+-- customer's bill, and for the free units or the price of an item
+abbrev pub question_at : Settings → ℕ → Reader Task
+question_at s r =
+    if r == 0 then always (task.One command.Audit)
+    else if r % 3 == 0 then after (up_to s.items) (λ id. always (task.One (command.Bill id)))
+    else if r % 3 == 1 then after (ask s) (λ a. always (task.One (command.Free a.0 a.1)))
+    else after (ask s) (λ a. always (task.One (command.Price a.0 a.1)))
+
+-- a question
+abbrev pub question : Settings → Reader Task
+question s = after (below PERCENT) (λ r. question_at s r)
+
+-- one task, where there are questions
+abbrev pub mixed_at : Settings → ℕ → Reader Task
+mixed_at s r = if nat_lt r s.reads then question s else work s
+
+-- one task: where there are no questions no word is drawn for them
 abbrev pub task_of : Settings → Reader Task
-task_of s = after (below PERCENT) (λ r. task_at s r)
+task_of s = if s.reads == 0 then work s else after (below PERCENT) (λ r. mixed_at s r)
 
 -- the tasks of a client
 abbrev pub tasks : Settings → Reader (List Task)

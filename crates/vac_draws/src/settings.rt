@@ -45,7 +45,9 @@ pub struct Settings {
     pub items: u32,
     /// The most asks of a trip, and the most changes of an update, 1 to 32.
     pub asks: u32,
-    /// How many of a hundred tasks are trips, 0 to 100.
+    /// How many of a hundred tasks are questions, which change nothing, 0 to 100.
+    pub reads: u32,
+    /// How many of a hundred other tasks are trips, 0 to 100.
     pub user: u32,
     /// Where the draws begin.
     pub seed: u64,
@@ -81,6 +83,7 @@ impl Settings {
             && 4 * self.items <= self.blocks
             && 1 <= self.asks
             && self.asks as usize <= MOST_PARTS
+            && self.reads <= PERCENT
             && self.user <= PERCENT
             && 1 <= self.blocks
             && self.blocks <= MOST_BLOCKS

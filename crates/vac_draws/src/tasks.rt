@@ -7,7 +7,8 @@ ghost use Rattle.vac_model.specs.Ranges.{is_change, is_command, is_task};
 ghost use Rattle.vac_draws.specs.Draws.{Drawn, below, times};
 ghost use Rattle.vac_draws.specs.Setting.{is_settings};
 ghost use Rattle.vac_draws.specs.Tasks.{up_to, kind_at, kind, price, ask, trip, leave, removal};
-ghost use Rattle.vac_draws.specs.Tasks.{change_of, change, update, task_of, DrawnTask};
+ghost use Rattle.vac_draws.specs.Tasks.{change_of, change, update, work, task_of, DrawnTask};
+ghost use Rattle.vac_draws.specs.Tasks.{question_at, question};
 ghost use Rattle.vac_draws.specs.Tasks.{IsTurn, TurnsMakeTasks};
 ghost use Rattle.std.specs.Iterator.{at_most};
 
@@ -203,6 +204,37 @@ fn draw_update<D: Draws>(
     Task::update(alloc, changes.as_slice())
 }
 
+/// The question that a number below 100 leads to.
+fn draw_question_at<D: Draws>(draws: &mut D, settings: &Settings, number: u32) -> Task
+    requires { is_settings settings.now ≡ true }
+    ensures drawn { Drawn D.leads (question_at settings.now number) draws.old result draws.new }
+    ensures range { is_task result ≡ true }
+{
+    if number == 0 {
+        return Task::One(Command::Audit);
+    }
+    if number % 3 == 0 {
+        let id = draw_up_to(draws, settings.items);
+        return Task::One(Command::Bill { id });
+    }
+    let (kind, id) = draw_ask(draws, settings);
+    if number % 3 == 1 {
+        Task::One(Command::Free { kind, id })
+    } else {
+        Task::One(Command::Price { kind, id })
+    }
+}
+
+/// A question.
+fn draw_question<D: Draws>(draws: &mut D, settings: &Settings) -> Task
+    requires { is_settings settings.now ≡ true }
+    ensures drawn { Drawn D.leads (question settings.now) draws.old result draws.new }
+    ensures range { is_task result ≡ true }
+{
+    let number = draw_below(draws, PERCENT);
+    draw_question_at(draws, settings, number)
+}
+
 /// A task. All its words are drawn, also where there is no memory to build it.
 pub fn draw_task<D: Draws>(
     alloc: Global,
@@ -211,6 +243,27 @@ pub fn draw_task<D: Draws>(
 ) -> Result<Task, AllocError>
     requires { is_settings settings.now ≡ true }
     ensures drawn { DrawnTask D.leads (task_of settings.now) draws.old result draws.new }
+    ensures range { IfOk result (λ task. is_task task ≡ true) }
+{
+    if settings.reads == 0 {
+        return draw_work(alloc, draws, settings);
+    }
+    let number = draw_below(draws, PERCENT);
+    if number < settings.reads {
+        Ok(draw_question(draws, settings))
+    } else {
+        draw_work(alloc, draws, settings)
+    }
+}
+
+/// A task that is no question. All its words are drawn, also where there is no memory to build it.
+fn draw_work<D: Draws>(
+    alloc: Global,
+    draws: &mut D,
+    settings: &Settings,
+) -> Result<Task, AllocError>
+    requires { is_settings settings.now ≡ true }
+    ensures drawn { DrawnTask D.leads (work settings.now) draws.old result draws.new }
     ensures range { IfOk result (λ task. is_task task ≡ true) }
 {
     let number = draw_below(draws, PERCENT);

@@ -14,7 +14,7 @@ use Rattle.vac_draws.specs.declared.settings.Settings.{Settings}
 use Rattle.vac_draws.specs.declared.settings.TheConstants.{PERCENT, LEVELS, UNITS, PRICE_STEP, LOWEST_PRICE}
 use Rattle.vac_draws.specs.Draws.{Reader, always, below, going_on, after, joined, one, for_each, times}
 use Rattle.vac_draws.specs.Setting.{is_settings, is_work, is_system}
-use Rattle.vac_draws.specs.Tasks.{up_to, kind, price, ask, trip, leave, removal, change_of, change, update, task_at, task_of, stock, stocks, customers, opening}
+use Rattle.vac_draws.specs.Tasks.{up_to, kind, price, ask, trip, leave, removal, change_of, change, update, task_at, work, question_at, question, mixed_at, task_of, stock, stocks, customers, opening}
 use Rattle.vac_lines.specs.TaskText.{is_short, is_short_change, is_fitting, FITTING_CHANGES, TaskTextsAreRead, TaskTextsFit}
 use Rattle.vac_lines.proofs.Spacing.{Each, each_all, each_both}
 use Rattle.vac_worklist.specs.Laws.{IsReadBack, AreReadBack}
@@ -206,11 +206,32 @@ yields_update s i =
     (yields_both (λ changes. length changes ≡ count) (Each IsDrawn) (times count (change s)) (yields_length (change s) count) (yields_times IsDrawn (change s) count (yields_change s i)))
     (λ changes h. update_good changes (omega (arith, h.0, n.0)) (omega (arith, h.0, n.1, i.few_asks)) h.1))
 
-yields_task : (s : Settings) → IsSmall s → Yields IsGood (task_of s)
-yields_task s i =
+yields_work : (s : Settings) → IsSmall s → Yields IsGood (work s)
+yields_work s i =
     yields_after (λ _. Unit {0}) IsGood (below PERCENT) (λ r. task_at s r) (yields_any (below PERCENT))
     (λ r _. yields_if IsGood (nat_lt r s.user) (trip s) (if r % 2 == 1 then leave s else update s) (yields_trip s i)
     (yields_if IsGood (r % 2 == 1) (leave s) (update s) (yields_leave s i) (yields_update s i)))
+
+yields_bill : (s : Settings) → IsSmall s → Yields IsGood (after (up_to s.items) (λ id. always (task.One (command.Bill id))))
+yields_bill s i = yields_then IsItem IsGood (up_to s.items) (λ id. task.One (command.Bill id)) (yields_item s i) (λ id h. (item_id id h, refl))
+
+yields_free : (s : Settings) → IsSmall s → Yields IsGood (after (ask s) (λ a. always (task.One (command.Free a.0 a.1))))
+yields_free s i = yields_then (λ a. is_id a.1 ≡ true) IsGood (ask s) (λ a. task.One (command.Free a.0 a.1)) (yields_ask s i) (λ a h. (h, refl))
+
+yields_price_of : (s : Settings) → IsSmall s → Yields IsGood (after (ask s) (λ a. always (task.One (command.Price a.0 a.1))))
+yields_price_of s i = yields_then (λ a. is_id a.1 ≡ true) IsGood (ask s) (λ a. task.One (command.Price a.0 a.1)) (yields_ask s i) (λ a h. (h, refl))
+
+yields_question : (s : Settings) → IsSmall s → Yields IsGood (question s)
+yields_question s i =
+    yields_after (λ _. Unit {0}) IsGood (below PERCENT) (λ r. question_at s r) (yields_any (below PERCENT))
+    (λ r _. yields_if IsGood (r == 0) _ _ (yields_always IsGood (task.One command.Audit) (refl, refl))
+    (yields_if IsGood (r % 3 == 0) _ _ (yields_bill s i) (yields_if IsGood (r % 3 == 1) _ _ (yields_free s i) (yields_price_of s i))))
+
+yields_task : (s : Settings) → IsSmall s → Yields IsGood (task_of s)
+yields_task s i =
+    yields_if IsGood (s.reads == 0) (work s) (after (below PERCENT) (λ r. mixed_at s r)) (yields_work s i)
+    (yields_after (λ _. Unit {0}) IsGood (below PERCENT) (λ r. mixed_at s r) (yields_any (below PERCENT))
+    (λ r _. yields_if IsGood (nat_lt r s.reads) (question s) (work s) (yields_question s i) (yields_work s i)))
 
 -- the opening
 abbrev IsCommand : Command → Type 0

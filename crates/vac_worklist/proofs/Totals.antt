@@ -10,7 +10,7 @@ use Rattle.vac_draws.specs.declared.settings.Settings.{Settings}
 use Rattle.vac_draws.specs.declared.settings.TheConstants.{PERCENT, LEVELS, UNITS, PRICE_STEP, LOWEST_PRICE}
 use Rattle.vac_draws.specs.Draws.{Reader, always, below, after, joined, one, for_each, times, Drawn}
 use Rattle.vac_draws.specs.Streams.{gives}
-use Rattle.vac_draws.specs.Tasks.{up_to, kind, kind_at, price, ask, trip, leave, removal, change_of, change, update, task_at, task_of, stock, stocks, customers, opening}
+use Rattle.vac_draws.specs.Tasks.{up_to, kind, kind_at, price, ask, trip, leave, removal, change_of, change, update, task_at, work, question_at, question, mixed_at, task_of, stock, stocks, customers, opening}
 use Rattle.vac_draws.proofs.Drawing.{drawn_always, drawn_below, drawn_after}
 
 abbrev pub IsTotal : {X : Type 0} → Reader X → Type 0
@@ -90,8 +90,33 @@ task_at_total s r =
     if_total (nat_lt r s.user) (trip s) (if r % 2 == 1 then leave s else update s) (trip_total s)
     (if_total (r % 2 == 1) (leave s) (update s) (leave_total s) (update_total s))
 
+work_total : (s : Settings) → IsTotal (work s)
+work_total s = after_total (below PERCENT) (λ r. task_at s r) (below_total PERCENT) (λ r. task_at_total s r)
+
+bill_total : (s : Settings) → IsTotal (after (up_to s.items) (λ id. always (task.One (command.Bill id))))
+bill_total s = then_total (up_to s.items) (λ id. task.One (command.Bill id)) (up_to_total s.items)
+
+free_total : (s : Settings) → IsTotal (after (ask s) (λ a. always (task.One (command.Free a.0 a.1))))
+free_total s = then_total (ask s) (λ a. task.One (command.Free a.0 a.1)) (ask_total s)
+
+price_of_total : (s : Settings) → IsTotal (after (ask s) (λ a. always (task.One (command.Price a.0 a.1))))
+price_of_total s = then_total (ask s) (λ a. task.One (command.Price a.0 a.1)) (ask_total s)
+
+question_at_total : (s : Settings) (r : ℕ) → IsTotal (question_at s r)
+question_at_total s r =
+    if_total (r == 0) _ _ (always_total (task.One command.Audit))
+    (if_total (r % 3 == 0) _ _ (bill_total s) (if_total (r % 3 == 1) _ _ (free_total s) (price_of_total s)))
+
+question_total : (s : Settings) → IsTotal (question s)
+question_total s = after_total (below PERCENT) (λ r. question_at s r) (below_total PERCENT) (λ r. question_at_total s r)
+
+mixed_at_total : (s : Settings) (r : ℕ) → IsTotal (mixed_at s r)
+mixed_at_total s r = if_total (nat_lt r s.reads) (question s) (work s) (question_total s) (work_total s)
+
 pub task_total : (s : Settings) → IsTotal (task_of s)
-task_total s = after_total (below PERCENT) (λ r. task_at s r) (below_total PERCENT) (λ r. task_at_total s r)
+task_total s =
+    if_total (s.reads == 0) (work s) (after (below PERCENT) (λ r. mixed_at s r)) (work_total s)
+    (after_total (below PERCENT) (λ r. mixed_at s r) (below_total PERCENT) (λ r. mixed_at_total s r))
 
 pub stock_total : (id : ℕ) (k : Kind) → IsTotal (stock id k)
 stock_total id k =
