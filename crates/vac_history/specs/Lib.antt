@@ -1,5 +1,7 @@
 pub mod Order
 pub mod Turns
+pub mod Stamps
+pub mod Stamped
 pub mod Picking
 pub mod Rests
 pub mod History

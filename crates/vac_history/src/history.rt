@@ -16,9 +16,9 @@ ghost use Rattle.vac_history.specs.Sending.{SentMerged, MergedPrefix};
 use crate::fault::HistoryFault;
 use crate::journal::Journal;
 use crate::merging::{Picked, Rest, take_least};
+use crate::watch::Watch;
 use std::alloc::{AllocError, Global};
 use std::io::Write;
-use std::time::Clock;
 use vac_lines::{print_reply, print_task};
 use vac_manager::Note;
 use vac_model::Reply;
@@ -98,24 +98,24 @@ fn send_all<W: Write>(
 }
 
 /// Whether each of these journals had room for each call.
-fn all_whole<C: Clock>(clients: &[Journal<'_, C>]) -> bool
+fn all_whole<J: Watch>(clients: &[Journal<J>]) -> bool
     ensures { result ≡ list_all (λ j. j.is_whole) clients.now }
 {
     clients.iter().all(|journal| journal.is_whole())
 }
 
 /// Whether the opening's journal and those of the clients had room for each call.
-pub fn are_whole<C: Clock>(opening: &Journal<'_, C>, clients: &[Journal<'_, C>]) -> bool
+pub fn are_whole<J: Watch>(opening: &Journal<J>, clients: &[Journal<J>]) -> bool
     ensures { result ≡ are_whole opening.now clients.now }
 {
     opening.is_whole() && all_whole(clients)
 }
 
 /// What is left of each client's calls before the first one is written: all of them.
-fn rests_of<'j, C: Clock>(
+fn rests_of<'j, J: Watch>(
     alloc: Global,
-    opening: &'j Journal<'_, C>,
-    clients: &'j [Journal<'_, C>],
+    opening: &'j Journal<J>,
+    clients: &'j [Journal<J>],
 ) -> Result<Vec<Rest<'j>>, AllocError>
     requires few { length clients.now < 2 ^ 32 }
     ensures { IfOk result (λ rests.
@@ -143,10 +143,10 @@ fn rests_of<'j, C: Clock>(
 /// Takes memory for one chunk of text, and a few words for each client. After a fault, what was
 /// written is nothing or a prefix of such a text. Where a journal had no room for a call, that call
 /// is wanting: then nothing is written, and the fault is want of memory.
-pub fn write_history<C: Clock, W: Write>(
+pub fn write_history<J: Watch, W: Write>(
     alloc: Global,
-    opening: &Journal<'_, C>,
-    clients: &[Journal<'_, C>],
+    opening: &Journal<J>,
+    clients: &[Journal<J>],
     output: &mut W,
 ) -> Result<(), HistoryFault>
     requires few { length clients.now < 2 ^ 32 }

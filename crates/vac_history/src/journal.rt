@@ -3,20 +3,19 @@
 ghost use Rattle.std.specs.Prelude.{◌≡◌, ◌≤◌, [], true};
 ghost use Rattle.std.specs.List.{All};
 ghost use Rattle.vac_history.specs.Turns.{TakeTime, AreInTurn};
+ghost use Rattle.vac_history.specs.Stamps.{IsStamp};
 
+use crate::watch::Watch;
 use std::alloc::{AllocError, Global};
-use std::time::{Clock, Instant};
 use vac_manager::{Keep, Note, Place, Placed};
 use vac_model::Task;
 
-/// Keeps the answered calls of a client, with readings of a clock before each of them and after it.
+/// Keeps the answered calls of a client, with readings of a watch before each of them and after it.
 #[derive(Drop)]
-pub struct Journal<'a, C> {
-    clock: &'a C,
-    /// When the count of the clock begins.
-    start: Option<Instant>,
+pub struct Journal<W> {
+    watch: W,
     notes: Vec<Note>,
-    /// The last reading.
+    /// The last stamp.
     latest: u64,
     /// Whether there was room for each call that was to begin.
     is_whole: bool,
@@ -25,16 +24,22 @@ pub struct Journal<'a, C> {
     ghost over: { All (λ n. n.end ≤ latest) notes.items },
 }
 
-impl<'a, C: Clock> Journal<'a, C> {
-    /// An empty journal. Its readings are nanoseconds since this start, which all journals of a
-    /// history share.
-    pub fn new(alloc: Global, clock: &'a C, start: Option<Instant>) -> Journal<'a, C>
+/// Reads the watch: a stamp, but none before the last one.
+fn stamp<W: Watch>(watch: &mut W, last: u64) -> u64
+    ensures read { IsStamp W.shows watch.old watch.new last result }
+    ensures later { last ≤ result }
+{
+    watch.read().max(last)
+}
+
+impl<W: Watch> Journal<W> {
+    /// An empty journal, whose times are those of this watch.
+    pub fn new(alloc: Global, watch: W) -> Journal<W>
         ensures empty { result.notes.items ≡ [] }
         ensures whole { result.is_whole ≡ true }
     {
         Journal {
-            clock,
-            start,
+            watch,
             notes: Vec::new(alloc),
             latest: 0,
             is_whole: true,
@@ -54,58 +59,48 @@ impl<'a, C: Clock> Journal<'a, C> {
     {
         self.notes.as_slice()
     }
-
-    /// A reading of the clock, but none before the last one. Where the clock cannot be read it is
-    /// the last one again.
-    fn read(&self) -> u64
-        ensures { self.now.latest ≤ result }
-    {
-        let Some(start) = self.start else {
-            return self.latest;
-        };
-        let Ok(since) = start.elapsed(self.clock) else {
-            return self.latest;
-        };
-        let nanos = u64::try_from(since.as_nanos()).unwrap_or(u64::MAX);
-        nanos.max(self.latest)
-    }
 }
 
-impl<C: Clock> Keep for Journal<'_, C> {
+impl<W: Watch> Keep for Journal<W> {
     ghost use Rattle.std.specs.Prelude.{◌≡◌, ◌<◌, Some, OnOk, OnErr, false, vec_len, vec_capacity};
     ghost use Rattle.vac_manager.specs.Keeping.{HasKept};
+    ghost use Rattle.vac_history.specs.Stamps.{IsStamp};
+    ghost use Rattle.vac_history.specs.Stamped.{HasStamped};
 
     ghost notes = { λ journal. Some journal.notes.items };
 
     ghost ready = { λ journal. vec_len journal.notes < vec_capacity journal.notes };
 
-    /// Where room is refused, the journal is not whole from then on.
+    /// Reads the watch, and where room is refused does not: the journal is not whole from then on.
     ///
-    /// Not said: that the reading is that of the clock, and was taken right before the call.
+    /// Not said: that the call begins right after it.
     fn begin(&mut self) -> Result<(), AllocError>
         ensures same { self.new.notes.items ≡ self.old.notes.items }
         ensures room { OnOk result (vec_len self.new.notes < vec_capacity self.new.notes) }
         ensures whole { OnOk result (self.new.is_whole ≡ self.old.is_whole) }
         ensures partial { OnErr result (self.new.is_whole ≡ false) }
+        ensures read { OnOk result (IsStamp W.shows self.old.watch self.new.watch
+            self.old.latest self.new.latest) }
     {
         if self.notes.reserve(1).is_err() {
             self.is_whole = false;
             return Err(AllocError);
         }
-        self.latest = self.read();
+        self.latest = stamp(&mut self.watch, self.latest);
         Ok(())
     }
 
-    /// Not said: that the reading is that of the clock, and was taken right after the call; that a
-    /// call without room is not made, to which its caller sees.
+    /// Not said: that the call ended right before it; that a call without room is not made, to which
+    /// its caller sees.
     fn keep(&mut self, task: Task, placed: Placed)
         requires { vec_len self.old.notes < vec_capacity self.old.notes }
         ensures kept { HasKept task placed
             (Some self.old.notes.items) (Some self.new.notes.items) }
         ensures whole { self.new.is_whole ≡ self.old.is_whole }
+        ensures stamped { HasStamped W.shows self.old self.new }
     {
         let begin = self.latest;
-        let end = self.read();
+        let end = stamp(&mut self.watch, begin);
         let Placed { reply, place } = placed;
         self.latest = end;
         self.notes.push_reserved(Note {

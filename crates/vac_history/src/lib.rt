@@ -6,8 +6,10 @@ mod history;
 mod journal;
 mod laws;
 mod merging;
+mod watch;
 
 pub use fault::HistoryFault;
 pub use history::{are_whole, write_history};
 pub use journal::Journal;
 pub use laws::{legal_up_to_precedence, ordered_calls_are_legal};
+pub use watch::{Since, Watch};
