@@ -1,0 +1,4 @@
+pub mod Client
+pub mod Order
+pub mod Laws
+pub mod Keeping

@@ -1,0 +1,25 @@
+//! The number of a client.
+
+ghost use Rattle.std.specs.Prelude.{◌≡◌};
+ghost use Rattle.vac_spans.specs.Client.{client_of};
+
+use vac_lines::read_memory_word;
+
+/// The most digits of a client's number. Zeros in front count.
+const MOST_CLIENT_DIGITS: usize = 10;
+
+/// The greatest number of a client.
+const MOST_CLIENT: u32 = u32::MAX;
+
+/// The client that a word names: 0 to 4,294,967,295, of 1 to 10 digits.
+pub fn read_client(word: &[u8]) -> Option<u32>
+    ensures { result ≡ client_of word.now }
+{
+    if word.len() > MOST_CLIENT_DIGITS {
+        return None;
+    }
+    match read_memory_word(word) {
+        Some(client) if client <= u64::from(MOST_CLIENT) => Some(client as u32),
+        _ => None,
+    }
+}

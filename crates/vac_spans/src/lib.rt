@@ -1,0 +1,13 @@
+//! What is asked of the times of calls that clients make, one behind the other: the calls of each
+//! client are in turn, none ends before it begins, and none stands behind one that began only after
+//! it had ended.
+#![tactic(auto)]
+
+mod client;
+mod ends;
+mod span;
+mod spans;
+
+pub use client::read_client;
+pub use span::{Misplaced, Span};
+pub use spans::Spans;

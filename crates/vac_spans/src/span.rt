@@ -1,0 +1,21 @@
+//! Who did something, and when.
+
+/// Who did something, and between which readings of the clock.
+#[derive(Clone, Copy, Debug, PartialEq, Eq)]
+pub struct Span {
+    /// The client.
+    pub client: u32,
+    /// A reading of the clock before it began.
+    pub begin: u64,
+    /// A reading of the clock after it ended, or a later time.
+    pub end: u128,
+}
+
+/// What is wrong with a span behind those before it.
+#[derive(Clone, Copy, Debug, PartialEq, Eq)]
+pub enum Misplaced {
+    /// It ends before it begins, or begins before an earlier one of its client ends.
+    Client,
+    /// It ends before an earlier one begins.
+    Time,
+}
