@@ -1,0 +1,42 @@
+-- What being told a line makes of a text of attempts that is read.
+use Rattle.std.specs.Prelude.{◌≡◌, ◌≢◌, ℕ, Some, Result, Ok, Err}
+use Rattle.vac_lines.specs.declared.fault.LineFault.{LineFault}
+use Rattle.vac_lines.specs.declared.fault.LineFault.TheVariants as fault
+use Rattle.vac_streams.specs.declared.fault.StreamFault.{StreamFault}
+use Rattle.vac_streams.specs.declared.fault.StreamFault.TheVariants.{Write}
+use Rattle.vac_streams.specs.declared.next.Next.{Next}
+use Rattle.vac_streams.specs.declared.next.Next.TheVariants.{GoOn, Stop}
+use Rattle.vac_streams.specs.Told.{Told, Line, LongLine, Pause}
+use Rattle.vac_opaque.specs.declared.finding.Finding.{Finding}
+use Rattle.vac_opaque.specs.declared.reading.Attempts.{Attempts}
+use Rattle.vac_opaque.specs.Attempt.{Attempt, text_attempt}
+use Rattle.vac_opaque.specs.Judging.{Takes, Ends}
+
+-- the attempt of a line that was told, or its fault; a pause is none
+abbrev pub told_attempt : Told → ℕ → Result Attempt LineFault
+told_attempt (Line text) words = text_attempt words text
+told_attempt LongLine words = Err fault.LongLine
+told_attempt Pause words = Err fault.LongLine
+
+-- a line brought a verdict
+pub record Brings (x : Attempts) (told : Told) (y : Attempts) : Type 0 where
+  pub finding : Finding
+  pub found : y.found ≡ Some finding
+  pub ends : Ends x.judge (told_attempt told) finding
+
+-- a line was taken, or brought a verdict; or a fault of no output ended it
+abbrev pub HearsLine : Attempts → Told → Result Next StreamFault → Attempts → Type 0
+HearsLine x told (Ok GoOn) y = Takes x.judge y.judge (told_attempt told)
+HearsLine x told (Ok Stop) y = Brings x told y
+HearsLine x told (Err stop) y = stop ≢ Write
+
+-- a pause changes nothing
+abbrev pub HearsPause : Attempts → Result Next StreamFault → Attempts → Type 0
+HearsPause x (Ok next) y = (next ≡ GoOn) × (y ≡ x)
+HearsPause x (Err stop) y = stop ≢ Write
+
+-- what being told this makes of a text that is read
+abbrev pub Hears : Attempts → Told → Result Next StreamFault → Attempts → Type 0
+Hears x (Line text) answer y = HearsLine x (Line text) answer y
+Hears x LongLine answer y = HearsLine x LongLine answer y
+Hears x Pause answer y = HearsPause x answer y

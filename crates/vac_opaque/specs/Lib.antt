@@ -1,0 +1,10 @@
+pub mod Attempt
+pub mod Parts
+pub mod Words
+pub mod Covered
+pub mod Verdict
+pub mod Laws
+pub mod Wrongs
+pub mod Judging
+pub mod Hearing
+pub mod Reading

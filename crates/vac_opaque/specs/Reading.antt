@@ -1,0 +1,42 @@
+-- What judging a text of attempts that is read answers and writes, as a function of all its bytes.
+use Rattle.std.specs.Prelude.{◌≡◌, ◌⊎◌, ℕ, Bool, Option, IfSome, List, [], ◌++◌}
+use Rattle.std.specs.Io.KnownBytes.{Appends, Consumes, IsAtEnd}
+use Rattle.vac_lines.specs.Writing.{AppendsPrefix}
+use Rattle.vac_streams.specs.declared.fault.StreamFault.{StreamFault}
+use Rattle.vac_streams.specs.declared.fault.StreamFault.TheVariants as fault
+use Rattle.vac_opaque.specs.declared.finding.Finding.{Finding}
+use Rattle.vac_opaque.specs.Verdict.{finding_on, finding_text, is_opaque}
+
+-- so much of the input was read as decides the verdict: all of it, or whatever follows; it is the
+-- verdict on the whole input
+-- Not said: streams whose bytes no contract knows; that no byte is read after the chunk with the
+-- first wrong line, which is read in the code.
+pub record HasFinding (words : ℕ) (unread left : Option (List ℕ)) (finding : Finding) : Type 0 where
+  pub bytes : List ℕ
+  pub consumed : Consumes unread left bytes
+  pub of_read : (IsAtEnd left × (finding_on words bytes ≡ finding))
+      ⊎ ((x : List ℕ) → finding_on words (bytes ++ x) ≡ finding)
+  pub of_input : IfSome unread (λ input. finding_on words input ≡ finding)
+
+-- the verdict was written and nothing else, and this says whether it is that they are opaque
+pub record HasJudged (words : ℕ) (opaque : Bool) (unread left held holds : Option (List ℕ)) :
+    Type 0 where
+  pub finding : Finding
+  pub is : HasFinding words unread left finding
+  pub answered : opaque ≡ is_opaque finding
+  pub written : Appends held holds (finding_text finding)
+
+-- the verdict was written in part
+pub record HasJudgedInPart (words : ℕ) (unread left held holds : Option (List ℕ)) : Type 0 where
+  pub finding : Finding
+  pub is : HasFinding words unread left finding
+  pub written : AppendsPrefix held holds (finding_text finding)
+
+-- a fault ended it: one of the output while the verdict was written, any other before
+-- Not said: which of Read, Memory and Bound ends it before it writes; that the output failed where
+-- Write is answered, since no contract says what a reader or a writer gives.
+abbrev pub HasStopped : ℕ → StreamFault → Option (List ℕ) → Option (List ℕ) → Option (List ℕ)
+    → Option (List ℕ) → Type 0
+HasStopped words fault.Write unread left held holds =
+    HasJudgedInPart words unread left held holds
+HasStopped words fault unread left held holds = Appends held holds []

@@ -1,0 +1,48 @@
+-- What attempts leave at words, and which of their reads is the first that is not right. All words
+-- are 0 at the beginning.
+use Rattle.std.specs.Prelude.{ℕ, ◌==◌, Option, Some, None, List, [], ◌∷◌, if◌then◌else◌}
+use Rattle.vac_opaque.specs.declared.attempt.Access.{Access}
+use Rattle.vac_opaque.specs.declared.attempt.Access.TheVariants.{Read, Write}
+use Rattle.vac_opaque.specs.declared.finding.Breach.{Breach}
+use Rattle.vac_opaque.specs.declared.finding.Breach.TheVariants as breach
+use Rattle.vac_opaque.specs.Attempt.{Attempt}
+
+-- the value of each word
+abbrev pub Image : Type 0
+Image = ℕ → ℕ
+
+-- the values at the beginning
+abbrev pub zeros : Image
+zeros word = 0
+
+-- one word has another value
+abbrev pub changed : Image → ℕ → ℕ → Image
+changed image word value = λ other. if word == other then value else image other
+
+-- the words behind an access
+abbrev pub behind : Image → Access → Image
+behind image (Read word value) = image
+behind image (Write word value) = changed image word value
+
+-- the words behind accesses, one after the other
+abbrev pub after : Image → List Access → Image
+after image [] = image
+after image (access ∷ more) = after (behind image access) more
+
+-- what committed attempts leave, one after the other; they are listed from the newest on
+abbrev pub left_by : List Attempt → Image
+left_by [] = zeros
+left_by (attempt ∷ earlier) =
+    if attempt.commits then after (left_by earlier) attempt.accesses else left_by earlier
+
+-- a read of a word that has this value
+abbrev pub unless_same : ℕ → ℕ → ℕ → Option Breach → Option Breach
+unless_same word value is rest =
+    if value == is then rest else Some (breach.Read word is)
+
+-- the first read among accesses that gives another value than its word has there
+abbrev pub wrong_read : Image → List Access → Option Breach
+wrong_read image [] = None
+wrong_read image (Read word value ∷ more) =
+    unless_same word value (image word) (wrong_read image more)
+wrong_read image (Write word value ∷ more) = wrong_read (changed image word value) more

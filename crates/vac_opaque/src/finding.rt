@@ -1,0 +1,102 @@
+//! What is said of a text of attempts, and its text.
+
+ghost use Rattle.std.specs.Prelude.{◌≡◌, ◌++◌, OnOk, codes, decimal};
+ghost use Rattle.vac_lines.specs.Text.{reply_text, field_text};
+ghost use Rattle.vac_opaque.specs.Verdict.{counts_text, read_text, breach_text, finding_text};
+ghost use Rattle.vac_opaque.specs.Verdict.{is_opaque};
+
+use std::alloc::AllocError;
+use vac_lines::{LineFault, print_fault, print_reply};
+use vac_model::Reply;
+use vac_spans::Misplaced;
+
+/// What is wrong with an attempt, behind those that stand before it.
+#[derive(Clone, Copy, Debug, PartialEq, Eq)]
+pub enum Breach {
+    /// It does not stand in its place.
+    Place(Misplaced),
+    /// A read of this word is to give this value: the last that the attempt itself wrote there, or,
+    /// where it wrote none before, what the committed attempts before it left there.
+    Read { word: u32, expected: u64 },
+}
+
+/// What is said of attempts that are opaque.
+#[derive(Clone, Copy, Debug, PartialEq, Eq)]
+pub struct Counts {
+    /// How many attempts there are.
+    pub attempts: u64,
+    /// How many of them committed.
+    pub committed: u64,
+    /// How many clients made them.
+    pub clients: u64,
+}
+
+/// What is said of a text of attempts. Lines are numbered from 1.
+#[derive(Clone, Copy, Debug, PartialEq, Eq)]
+pub enum Finding {
+    /// Each line is an attempt, and their order shows that they are opaque.
+    Opaque(Counts),
+    /// This line is no attempt.
+    Fault { line: u64, fault: LineFault },
+    /// This line's attempt is wrong behind those before it.
+    Illegal { line: u64, breach: Breach },
+}
+
+/// Appends a text and a number in decimal.
+fn append_field(out: &mut Vec<u8>, text: &[u8], number: u64) -> Result<(), AllocError>
+    ensures { OnOk result (out.new.items ≡ out.old.items ++ field_text text.now number) }
+{
+    out.extend_from_slice(text)?;
+    print_reply(&Reply::Number(Some(number)), out)
+}
+
+/// Appends what is said of attempts that are opaque.
+fn append_counts(out: &mut Vec<u8>, counts: &Counts) -> Result<(), AllocError>
+    ensures { OnOk result (out.new.items ≡ out.old.items ++ counts_text counts.now) }
+{
+    append_field(out, b"opaque attempts=", counts.attempts)?;
+    append_field(out, b" committed=", counts.committed)?;
+    append_field(out, b" clients=", counts.clients)
+}
+
+/// Appends what is said of a read.
+fn append_read(out: &mut Vec<u8>, line: u64, word: u32, expected: u64) -> Result<(), AllocError>
+    ensures { OnOk result (out.new.items ≡ out.old.items ++ read_text line word expected) }
+{
+    append_field(out, b"illegal read ", line)?;
+    append_field(out, b" ", u64::from(word))?;
+    append_field(out, b" ", expected)
+}
+
+/// Appends what is wrong with the attempt of a line.
+fn append_breach(out: &mut Vec<u8>, breach: &Breach, line: u64) -> Result<(), AllocError>
+    ensures { OnOk result (out.new.items ≡ out.old.items ++ breach_text breach.now line) }
+{
+    match breach {
+        Breach::Place(Misplaced::Client) => append_field(out, b"illegal client ", line),
+        Breach::Place(Misplaced::Time) => append_field(out, b"illegal time ", line),
+        Breach::Read { word, expected } => append_read(out, line, *word, *expected),
+    }
+}
+
+/// Appends the text of a verdict, which is one line.
+pub fn print_finding(finding: &Finding, out: &mut Vec<u8>) -> Result<(), AllocError>
+    ensures { OnOk result (out.new.items ≡ out.old.items ++ finding_text finding.now) }
+{
+    match finding {
+        Finding::Opaque(counts) => append_counts(out, counts)?,
+        Finding::Fault { line, fault } => {
+            print_fault(*fault, out)?;
+            append_field(out, b" ", *line)?;
+        }
+        Finding::Illegal { line, breach } => append_breach(out, breach, *line)?,
+    }
+    out.extend_from_slice(b"\n")
+}
+
+/// Whether a verdict is that the attempts are opaque.
+pub(crate) fn is_opaque(finding: &Finding) -> bool
+    ensures { result ≡ is_opaque finding.now }
+{
+    matches!(finding, Finding::Opaque(_))
+}

@@ -1,0 +1,25 @@
+//! A judge of opacity: it says whether the order in which the attempts of a transactional memory
+//! are given shows that they are opaque, those that were given up among them.
+//!
+//! A text has a line `CLIENT BEGIN END commit|abort [r A V | w A V]..` for each attempt, in the
+//! order in which the runtime claims that the attempts stand.
+#![tactic(auto)]
+
+mod accesses;
+mod attempt;
+mod finding;
+mod judge;
+mod laws;
+mod memory;
+mod numbers;
+mod reading;
+mod words;
+
+pub use attempt::{ATTEMPT_BYTES, Access};
+pub use finding::{Breach, Counts, Finding, print_finding};
+pub use laws::{
+    a_fault_names_the_first_line_that_is_no_attempt, a_finding_names_the_first_wrong_attempt,
+    a_finding_sees_opacity, opaque_attempts_are_counted,
+};
+pub use memory::{MOST_WORDS, USUAL_WORDS};
+pub use reading::judge_attempts;

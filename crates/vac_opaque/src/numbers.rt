@@ -1,0 +1,70 @@
+//! What the words of a line stand for.
+
+ghost use Rattle.std.specs.Prelude.{◌≡◌, ◌<◌, IfOk};
+ghost use Rattle.vac_opaque.specs.Attempt.{at_client, at_number, at_word, at_outcome, at_kind};
+
+use vac_lines::{LineFault, read_memory_word};
+use vac_spans::read_client;
+
+/// The word of an attempt that committed.
+const COMMIT: &[u8] = b"commit";
+
+/// The word of an attempt that was given up.
+const ABORT: &[u8] = b"abort";
+
+/// The word of a read.
+const READ: &[u8] = b"r";
+
+/// The word of a write.
+const WRITE: &[u8] = b"w";
+
+/// The client that a word names.
+pub(crate) fn client_at(word: &[u8]) -> Result<u32, LineFault>
+    ensures { result ≡ at_client word.now }
+{
+    read_client(word).ok_or(LineFault::BadNumber)
+}
+
+/// The reading of the clock, or the value, that a word writes.
+pub(crate) fn number_at(word: &[u8]) -> Result<u64, LineFault>
+    ensures { result ≡ at_number word.now }
+{
+    read_memory_word(word).ok_or(LineFault::BadNumber)
+}
+
+/// The number of one of so many words.
+pub(crate) fn word_at(words: u32, text: &[u8]) -> Result<u32, LineFault>
+    ensures word { result ≡ at_word words text.now }
+    ensures among { IfOk result (λ word. word < words) }
+{
+    match read_memory_word(text) {
+        Some(word) if word < u64::from(words) => Ok(word as u32),
+        _ => Err(LineFault::BadNumber),
+    }
+}
+
+/// Whether an attempt committed.
+pub(crate) fn outcome_at(word: &[u8]) -> Result<bool, LineFault>
+    ensures { result ≡ at_outcome word.now }
+{
+    if word == COMMIT {
+        Ok(true)
+    } else if word == ABORT {
+        Ok(false)
+    } else {
+        Err(LineFault::BadCommand)
+    }
+}
+
+/// Whether an access is a read.
+pub(crate) fn kind_at(word: &[u8]) -> Result<bool, LineFault>
+    ensures { result ≡ at_kind word.now }
+{
+    if word == READ {
+        Ok(true)
+    } else if word == WRITE {
+        Ok(false)
+    } else {
+        Err(LineFault::BadKind)
+    }
+}

@@ -1,0 +1,100 @@
+//! Reading a text of attempts, and writing the verdict on it.
+
+ghost use Rattle.std.specs.Prelude.{◌≡◌, ◌≢◌, IfOk, IfErr, [], MatchOption};
+ghost use Rattle.vac_streams.specs.declared.fault.StreamFault.TheVariants.{Write};
+ghost use Rattle.vac_opaque.specs.Judging.{Follows};
+ghost use Rattle.vac_opaque.specs.Reading.{HasFinding, HasJudged, HasStopped};
+
+use crate::attempt::ATTEMPT_BYTES;
+use crate::finding::{Finding, is_opaque, print_finding};
+use crate::judge::Judge;
+use std::alloc::{AllocError, Global};
+use std::io::{Read, Write};
+use vac_lines::write_and_flush;
+use vac_streams::{Next, Sink, StreamFault, read_lines};
+
+/// A text of attempts that is read.
+#[derive(Drop)]
+struct Attempts {
+    judge: Judge,
+    /// The verdict of the first line that brings one.
+    found: Option<Finding>,
+}
+
+impl Sink<()> for Attempts {
+    ghost use Rattle.vac_streams.specs.declared.reading.TheConstants.{MOST_LINES};
+    ghost use Rattle.vac_opaque.specs.Hearing.{Hears};
+
+    ghost room = { λ _. MOST_LINES };
+
+    ghost hears = { λ x _ told answer y _. Hears x told answer y };
+
+    fn line(&mut self, line: &[u8], _output: &mut ()) -> Result<Next, StreamFault> {
+        match self.judge.judge_line(line)? {
+            None => Ok(Next::GoOn),
+            Some(finding) => {
+                self.found = Some(finding);
+                Ok(Next::Stop)
+            }
+        }
+    }
+
+    fn long_line(&mut self, _output: &mut ()) -> Result<Next, StreamFault> {
+        let finding = self.judge.long_line()?;
+        self.found = Some(finding);
+        Ok(Next::Stop)
+    }
+
+    fn pause(&mut self, _output: &mut ()) -> Result<Next, StreamFault> {
+        Ok(Next::GoOn)
+    }
+}
+
+/// The verdict on a text of attempts at so many words: reads the lines to the end of the input, or
+/// to the first that is not right.
+fn find_in<R: Read>(alloc: Global, words: u32, input: &mut R) -> Result<Finding, StreamFault>
+    ensures found { IfOk result (λ finding.
+        HasFinding words (R.remaining input.old) (R.remaining input.new) finding) }
+    ensures refused { IfErr result (λ fault. fault ≢ StreamFault.Write) }
+{
+    let mut attempts = Attempts {
+        judge: Judge::new(alloc, words)?,
+        found: None,
+    };
+    match read_lines(alloc, ATTEMPT_BYTES, input, &mut attempts, &mut ())? {
+        Next::GoOn => Ok(Finding::Opaque(attempts.judge.counts())),
+        Next::Stop => match attempts.found {
+            Some(finding) => Ok(finding),
+            None => unreachable!(),
+        },
+    }
+}
+
+/// Judges a text of attempts at so many words: reads its lines to the end of the input, or to the
+/// first that is not right, and writes the verdict. Answers whether it is that they are opaque.
+///
+/// It keeps the words, one number for each client, a line, and what a line reads and writes.
+///
+/// # Errors
+/// After a fault of the output a prefix of the verdict's text was written, after any other nothing.
+///
+/// Not said: how much memory it takes, and that it takes none for a line once it has grown.
+pub fn judge_attempts<R: Read, W: Write>(
+    alloc: Global,
+    words: u32,
+    input: &mut R,
+    output: &mut W,
+) -> Result<bool, StreamFault>
+    ensures ok { IfOk result (λ opaque. HasJudged words opaque
+        (R.remaining input.old) (R.remaining input.new)
+        (W.contents output.old) (W.contents output.new)) }
+    ensures err { IfErr result (λ fault. HasStopped words fault
+        (R.remaining input.old) (R.remaining input.new)
+        (W.contents output.old) (W.contents output.new)) }
+{
+    let finding = find_in(alloc, words, input)?;
+    let mut text = Vec::new(alloc);
+    print_finding(&finding, &mut text)?;
+    write_and_flush(output, text.as_slice())?;
+    Ok(is_opaque(&finding))
+}
