@@ -69,8 +69,8 @@ impl Bank {
         requires tries { 1 ≤ tries }
         ensures own { teller.new.table ≡ teller.old.table }
         ensures call { HasRun IsBank code Finds after self.now
-            (λ moved. Transfer from to amount moved) tries result teller.old.value
-            teller.new.value }
+            (λ moved. Transfer from to amount moved) (λ moved. moved) tries result
+            teller.old.value teller.new.value }
     {
         self.shared.run(teller, &Move { from, to, amount }, tries)
     }

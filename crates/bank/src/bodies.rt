@@ -1,8 +1,6 @@
 //! The bodies of the bank's transactions, over any memory of transactions.
 
-ghost use Rattle.std.specs.Prelude.{◌≡◌, ◌<◌, false, IfOk};
-ghost use Rattle.stm_object.specs.Bodies.{Did, HasFitting};
-ghost use Rattle.bank.specs.Accounts.{IsBank, Finds, after};
+ghost use Rattle.std.specs.Prelude.{◌<◌};
 ghost use Rattle.bank.specs.declared.law.TheConstants.{ACCOUNTS};
 
 use crate::entry::Entry;
@@ -26,16 +24,9 @@ impl Body<BankObject> for Move {
 
     ghost entry_of = { λ s moved. Transfer s.from s.to s.amount moved };
 
-    /// A transfer that is refused writes nothing.
-    fn run<M: TxMem>(&self, memory: &mut M) -> Result<bool, M::Stop>
-        requires { HasFitting IsBank ACCOUNTS (M.view memory.old) }
-        ensures origin { M.origin memory.new ≡ M.origin memory.old }
-        ensures answer { IfOk result (λ moved. Did IsBank Finds after
-            (M.view memory.old) (M.view memory.new)
-            (Transfer self.now.from self.now.to self.now.amount moved)) }
-        ensures wrote { IfOk result (λ moved. moved ≡ false →
-            (M.view memory.new).writes ≡ (M.view memory.old).writes) }
-    {
+    ghost changes = { λ s moved. moved };
+
+    fn run<M: TxMem>(&self, memory: &mut M) -> Result<bool, M::Stop> {
         let left = load(memory, Addr(self.from))?;
         if left < self.amount {
             return Ok(false);

@@ -25,6 +25,8 @@ impl Body<RingObject> for Push {
 
     ghost entry_of = { λ s room. Pushed s.0 room };
 
+    ghost changes = { λ s room. room };
+
     fn run<M: TxMem>(&self, memory: &mut M) -> Result<bool, M::Stop> {
         let head = load(memory, Addr(HEAD))?;
         let tail = load(memory, Addr(TAIL))?;
@@ -49,11 +51,14 @@ impl Body<RingObject> for Push {
 pub struct Pop;
 
 impl Body<RingObject> for Pop {
+    ghost use Rattle.std.specs.Prelude.{is_some};
     ghost use Rattle.ring.specs.Queue.{popping};
 
     type Answer = Option<u64>;
 
     ghost entry_of = { λ s taken. popping taken };
+
+    ghost changes = { λ s taken. is_some taken };
 
     fn run<M: TxMem>(&self, memory: &mut M) -> Result<Option<u64>, M::Stop> {
         let head = load(memory, Addr(HEAD))?;

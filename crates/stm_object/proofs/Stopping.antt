@@ -1,5 +1,5 @@
 -- Attempts, one after the other, and why they stopped.
-use Rattle.std.proofs.Common.{◌≡◌, ℕ, zero, suc, ◌+◌, List, Result, Ok, Err, IfOk, IfErr, IsOk, inr, refl, sym, ap, ◌∙◌, subst, arith}
+use Rattle.std.proofs.Common.{◌≡◌, ℕ, zero, suc, ◌+◌, Bool, true, false, List, [], Result, Ok, Err, IfOk, IfErr, IsOk, inr, refl, sym, ap, ◌∙◌, subst, arith}
 use Rattle.stm_core.specs.Client.{Client, Record, inserted}
 use Rattle.stm_core.specs.Guards.{stripe_of}
 use Rattle.stm_logs.specs.Log.{LogValue, log_pairs}
@@ -62,14 +62,19 @@ pub missed : (Shows : Conflict → Client → Type 0) (conflict : Conflict) (v v
 missed Shows conflict v v' next records was =
     record { next = next; records = records; conflict = conflict; shown = was }
 
+is_true : (b : Bool) → (b ≡ false → ⊥) → b ≡ true
+is_true true not = refl
+is_true false not = absurd (not refl)
+
 module _ {E : Type 0} (fits : List ℕ → Type 0) (code : E → List ℕ) (finds : E → List ℕ → Type 0)
     (after : E → List ℕ → List ℕ) where
-  would_write : {A : Type 0} (entry : A → E) (a : A) (region : RegionShown) (log : LogValue) (s : Stop)
-      (v v' : Client) → IsPlaced region log
+  would_write : {A : Type 0} (entry : A → E) (changes : A → Bool) (a : A) (region : RegionShown) (log : LogValue)
+      (s : Stop) (v v' : Client) → (changes a ≡ false → log_pairs log ≡ []) → IsPlaced region log
       → IsLawful fits code finds after (code (entry a)) v.attempt.reads (log_pairs log)
-      → HasStopped region log s v v' → WouldWrite fits code finds after region entry log v'
-  would_write entry a region log s v v' placed l h = record {
+      → HasStopped region log s v v' → WouldWrite fits code finds after region entry changes log v'
+  would_write entry changes a region log s v v' wrote placed l h = record {
     answer = a;
+    changing = is_true (changes a) (λ no. h.written (wrote no));
     some = h.written;
     placed = placed;
     lawful = subst (λ (rs : List (ℕ × ℕ)). IsLawful fits code finds after (code (entry a)) rs (log_pairs log))
@@ -77,42 +82,54 @@ module _ {E : Type 0} (fits : List ℕ → Type 0) (code : E → List ℕ) (find
   }
 
   -- why a commit stopped
-  stop_is : {A : Type 0} (entry : A → E) (a : A) (region : RegionShown) (log : LogValue) (s : Stop)
-      (v0 v v' : Client) → v'.attempt.number ≡ v0.attempt.number + 1 → IsPlaced region log
+  stop_is : {A : Type 0} (entry : A → E) (changes : A → Bool) (a : A) (region : RegionShown) (log : LogValue)
+      (s : Stop) (v0 v v' : Client) → v'.attempt.number ≡ v0.attempt.number + 1
+      → (changes a ≡ false → log_pairs log ≡ []) → IsPlaced region log
       → IsLawful fits code finds after (code (entry a)) v.attempt.reads (log_pairs log)
-      → HasStopped region log s v v' → IsStop fits code finds after region entry 1 s v0 v'
-  stop_is entry a region log stop.Memory v0 v v' next placed l h = absurd h.shown
-  stop_is entry a region log (stop.Conflict conflict) v0 v v' next placed l h =
-      (next, inr (log, (would_write entry a region log (stop.Conflict conflict) v v' placed l h, h.shown)))
-  stop_is entry a region log (stop.Spent version) v0 v v' next placed l h =
-      (h.shown.0, h.shown.1, (log, would_write entry a region log (stop.Spent version) v v' placed l h))
+      → HasStopped region log s v v' → IsStop fits code finds after region entry changes 1 s v0 v'
+  stop_is entry changes a region log stop.Memory v0 v v' next wrote placed l h = absurd h.shown
+  stop_is entry changes a region log (stop.Conflict conflict) v0 v v' next wrote placed l h = (
+    next,
+    inr
+        (log, (would_write entry changes a region log (stop.Conflict conflict) v v' wrote placed l h, h.shown)),
+  )
+  stop_is entry changes a region log (stop.Spent version) v0 v v' next wrote placed l h = record {
+    version_is = h.shown.0;
+    from = h.shown.1;
+    gave_back = h.gave_back;
+    found = h.shown.3;
+    log = log;
+    written = would_write entry changes a region log (stop.Spent version) v v' wrote placed l h;
+  }
 
-  pub commit_stop : {A : Type 0} (entry : A → E) (a : A) (region region' : RegionShown) (log : LogValue) (s : Stop)
-      (v0 v w w' : Client) → region' ≡ region → w.attempt.number ≡ v0.attempt.number + 1 → IsPlaced region' log
+  pub commit_stop : {A : Type 0} (entry : A → E) (changes : A → Bool) (a : A) (region region' : RegionShown)
+      (log : LogValue) (s : Stop) (v0 v w w' : Client) → region' ≡ region
+      → w.attempt.number ≡ v0.attempt.number + 1 → (changes a ≡ false → log_pairs log ≡ [])
+      → IsPlaced region' log
       → IsLawful fits code finds after (code (entry a)) v.attempt.reads (log_pairs log)
-      → HasStopped region' log s v w → w' ≡ w → IsStop fits code finds after region entry 1 s v0 w'
-  commit_stop entry a region region' log s v0 v w w' same next placed l h e =
-      subst (λ (x : Client). IsStop fits code finds after region entry 1 s v0 x) (sym e)
-      (subst (λ (r : RegionShown). IsStop fits code finds after r entry 1 s v0 w) same
-      (stop_is entry a region' log s v0 v w next placed l h))
+      → HasStopped region' log s v w → w' ≡ w → IsStop fits code finds after region entry changes 1 s v0 w'
+  commit_stop entry changes a region region' log s v0 v w w' same next wrote placed l h e =
+      subst (λ (x : Client). IsStop fits code finds after region entry changes 1 s v0 x) (sym e)
+      (subst (λ (r : RegionShown). IsStop fits code finds after r entry changes 1 s v0 w) same
+      (stop_is entry changes a region' log s v0 v w next wrote placed l h))
 
-  pub conflict_shown : {A B : Type 0} (entry : A → E) (region : RegionShown) (conflict : Conflict) (v v' : Client)
-      (result : Result B Stop) → result ≡ Err (stop.Conflict conflict)
-      → IfErr result (λ s. IsStop fits code finds after region entry 1 s v v')
-      → WasShown fits code finds after region entry conflict v'
-  conflict_shown entry region conflict v v' result is h = let k = (rw is at h) in k.1
+  pub conflict_shown : {A B : Type 0} (entry : A → E) (changes : A → Bool) (region : RegionShown)
+      (conflict : Conflict) (v v' : Client) (result : Result B Stop) → result ≡ Err (stop.Conflict conflict)
+      → IfErr result (λ s. IsStop fits code finds after region entry changes 1 s v v')
+      → WasShown fits code finds after region entry changes conflict v'
+  conflict_shown entry changes region conflict v v' result is h = let k = (rw is at h) in k.1
 
   -- where the last attempt met a conflict no other try was left
-  last_stop : {A B : Type 0} (entry : A → E) (region : RegionShown) (tries left : ℕ) (v0 v v' : Client)
+  last_stop : {A B : Type 0} (entry : A → E) (changes : A → Bool) (region : RegionShown) (tries left : ℕ) (v0 v v' : Client)
       (result : Result B Stop) → v.attempt.number + left ≡ v0.attempt.number + tries
       → ((conflict : Conflict) → result ≡ Err (stop.Conflict conflict) → left ≡ 1)
-      → IfErr result (λ s. IsStop fits code finds after region entry 1 s v v')
-      → IfErr result (λ s. IsStop fits code finds after region entry tries s v0 v')
-  last_stop entry region tries left v0 v v' (Ok moved) count last h = tt
-  last_stop entry region tries left v0 v v' (Err stop.Memory) count last h = h
-  last_stop entry region tries left v0 v v' (Err (stop.Conflict conflict)) count last h = let one =
+      → IfErr result (λ s. IsStop fits code finds after region entry changes 1 s v v')
+      → IfErr result (λ s. IsStop fits code finds after region entry changes tries s v0 v')
+  last_stop entry changes region tries left v0 v v' (Ok moved) count last h = tt
+  last_stop entry changes region tries left v0 v v' (Err stop.Memory) count last h = h
+  last_stop entry changes region tries left v0 v v' (Err (stop.Conflict conflict)) count last h = let one =
       last conflict refl in (omega (arith, h.0, one, count), h.1)
-  last_stop entry region tries left v0 v v' (Err (stop.Spent version)) count last h = h
+  last_stop entry changes region tries left v0 v v' (Err (stop.Spent version)) count last h = h
 
   adds_from : (region : RegionShown) (entry : E) (v w v' : Client) → w.records ≡ v.records
       → Adds code region entry w v' → Adds code region entry v v'
@@ -145,27 +162,27 @@ module _ {E : Type 0} (fits : List ℕ → Type 0) (code : E → List ℕ) (find
   order_from region entry v w v' (Err e) start k = tt
 
   -- a call, by its last attempt
-  pub has_run : {A : Type 0} (region : RegionShown) (entry : A → E) (tries left left' : ℕ) (v w v' : Client)
-      (answer result : Result A Stop) → answer ≡ result
-      → Trying (λ conflict x. WasShown fits code finds after region entry conflict x) tries left v w
+  pub has_run : {A : Type 0} (region : RegionShown) (entry : A → E) (changes : A → Bool) (tries left left' : ℕ)
+      (v w v' : Client) (answer result : Result A Stop) → answer ≡ result
+      → Trying (λ conflict x. WasShown fits code finds after region entry changes conflict x) tries left v w
       → left ≡ left' + 1 →
       w.grants ≡ v.grants → w.records ≡ v.records → v'.grants ≡ w.grants → v'.attempt.number ≡ w.attempt.number + 1
       → Records code region entry result w v'
       → IfOk result (λ a. WasInOrder fits code finds after region (entry a) w v') →
       (IsAlone w → IfErr result (λ s. IsNoConflict s))
-      → IfErr result (λ s. IsStop fits code finds after region entry 1 s w v')
+      → IfErr result (λ s. IsStop fits code finds after region entry changes 1 s w v')
       → ((conflict : Conflict) → result ≡ Err (stop.Conflict conflict) → left' ≡ 0)
-      → HasRun fits code finds after region entry tries answer v v'
-  has_run region entry tries left left' v w v' answer result is t less grants start same next records order alone
+      → HasRun fits code finds after region entry changes tries answer v v'
+  has_run region entry changes tries left left' v w v' answer result is t less grants start same next records order alone
       stopped last = rw is (record {
         grants = same ∙ grants;
         records = records_from region entry v w v' result start records;
         order = order_from region entry v w v' result start order;
         alone = λ a. alone (grants ∙ a);
-        attempts = tried (λ conflict x. WasShown fits code finds after region entry conflict x) tries left left' v w v'
+        attempts = tried (λ conflict x. WasShown fits code finds after region entry changes conflict x) tries left left' v w v'
             t less next;
-        stopped = last_stop entry region tries left v w v' result
-            (let n = misses_count (λ conflict x. WasShown fits code finds after region entry conflict x) t.missed v w
+        stopped = last_stop entry changes region tries left v w v' result
+            (let n = misses_count (λ conflict x. WasShown fits code finds after region entry changes conflict x) t.missed v w
             t.misses in let c = t.count in omega (arith, n, c))
             (λ conflict met. let none = last conflict met in omega (arith, less, none)) stopped;
       })

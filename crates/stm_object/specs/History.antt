@@ -1,5 +1,5 @@
 -- What is known of the records of all clients, told by an object's entries, and of a call's tries.
-use Rattle.std.specs.Prelude.{◌≡◌, ◌≢◌, ◌⊎◌, ℕ, zero, suc, ◌+◌, List, [], ◌∷◌, Result, Ok, Err, IfOk, IfErr, IsOk}
+use Rattle.std.specs.Prelude.{◌≡◌, ◌≢◌, ◌⊎◌, ℕ, zero, suc, ◌+◌, Bool, true, List, [], ◌∷◌, Result, Ok, Err, IfOk, IfErr, IsOk}
 use Rattle.stm_words.specs.Image.{In}
 use Rattle.stm_core.specs.Client.{Client, Record, inserted}
 use Rattle.stm_core.specs.History.{Sub, all_records}
@@ -10,7 +10,7 @@ use Rattle.stm_region.specs.Closed.{Ends}
 use Rattle.stm_region.specs.declared.limits.TheConstants.{MOST_GRANTS}
 use Rattle.stm_attempt.specs.Begun.{IsPlaced, IsQuiet}
 use Rattle.stm_attempt.specs.Conflicts.{IsReadConflict, IsCommitConflict}
-use Rattle.stm_attempt.specs.Committing.{WasDecided}
+use Rattle.stm_attempt.specs.Committing.{WasDecided, HasWonLock, HasLostTick}
 use Rattle.stm_attempt.specs.declared.conflict.Conflict.{Conflict as ConflictMet}
 use Rattle.stm_attempt.specs.declared.conflict.Stop.{Stop}
 use Rattle.stm_attempt.specs.declared.conflict.Stop.TheVariants.{Memory, Conflict, Spent}
@@ -85,12 +85,14 @@ abbrev pub WasRead : RegionShown → ConflictMet → Client → Type 0
 WasRead region conflict v =
     ∥ ((address : ℕ) × IsReadConflict (stripe_of region.stripes) address conflict v) ∥₁
 
--- the client's attempt was to write what this log has, which is not nothing: the record of some
--- answer's entry, with what the attempt has read and these writes, would have been lawful
+-- the client's attempt was to write what this log has, which is not nothing: the record of the
+-- entry of an answer that changes something, with what the attempt has read and these writes, would
+-- have been lawful
 pub record WouldWrite {E A : Type 0} (fits : List ℕ → Type 0) (code : E → List ℕ)
     (finds : E → List ℕ → Type 0) (after : E → List ℕ → List ℕ) (region : RegionShown)
-    (entry : A → E) (log : LogValue) (v : Client) : Type 0 where
+    (entry : A → E) (changes : A → Bool) (log : LogValue) (v : Client) : Type 0 where
   pub answer : A
+  pub changing : changes answer ≡ true
   pub some : log_pairs log ≢ []
   pub placed : IsPlaced region log
   pub lawful : IsLawful fits code finds after (code (entry answer)) v.attempt.reads (log_pairs log)
@@ -98,9 +100,9 @@ pub record WouldWrite {E A : Type 0} (fits : List ℕ → Type 0) (code : E → 
 -- the client's last step, but for giving back its locks, showed the conflict: in a read, or in a
 -- commit, over the lock of an address that it has read or was to write, or over the clock
 abbrev pub WasShown : {E A : Type 0} → (List ℕ → Type 0) → (E → List ℕ) → (E → List ℕ → Type 0) →
-    (E → List ℕ → List ℕ) → RegionShown → (A → E) → ConflictMet → Client → Type 0
-WasShown fits code finds after region entry conflict v = WasRead region conflict v
-    ⊎ ((log : LogValue) × (WouldWrite fits code finds after region entry log v
+    (E → List ℕ → List ℕ) → RegionShown → (A → E) → (A → Bool) → ConflictMet → Client → Type 0
+WasShown fits code finds after region entry changes conflict v = WasRead region conflict v
+    ⊎ ((log : LogValue) × (WouldWrite fits code finds after region entry changes log v
     × IsCommitConflict (stripe_of region.stripes) log conflict v))
 
 -- one attempt was made, which left no record, and showed a conflict
@@ -131,18 +133,31 @@ pub record AreTries (Shows : ConflictMet → Client → Type 0) (tries : ℕ) (v
 abbrev pub AreAllTries : ℕ → Client → Client → Type 0
 AreAllTries tries v v' = v'.attempt.number ≡ v.attempt.number + tries
 
+-- the clock was found at its last version, and there was something to write. The locks had been
+-- taken, and were given back: the last step but that won one, or is the tick that lost to that
+-- version
+pub record IsSpent {E A : Type 0} (fits : List ℕ → Type 0) (code : E → List ℕ)
+    (finds : E → List ℕ → Type 0) (after : E → List ℕ → List ℕ) (region : RegionShown)
+    (entry : A → E) (changes : A → Bool) (version : ℕ) (v : Client) : Type 0 where
+  pub version_is : version ≡ region.last
+  pub from : v.attempt.next_from ≡ region.last
+  pub gave_back : v.attempt.gave_back ≡ true
+  pub found : HasWonLock v ⊎ HasLostTick version v
+  pub log : LogValue
+  pub written : WouldWrite fits code finds after region entry changes log v
+
 -- why a transaction of such an entry stopped: a log could not grow, and the last step shows no
 -- conflict; or all tries were made, and the last one showed the conflict; or the clock was found at
 -- the last version, with something to write
 -- Not said: which growth of a log was refused
 abbrev pub IsStop : {E A : Type 0} → (List ℕ → Type 0) → (E → List ℕ) → (E → List ℕ → Type 0) →
-    (E → List ℕ → List ℕ) → RegionShown → (A → E) → ℕ → Stop → Client → Client → Type 0
-IsStop fits code finds after region entry tries Memory v v' = IsQuiet v'
-IsStop fits code finds after region entry tries (Conflict conflict) v v' =
-    AreAllTries tries v v' × WasShown fits code finds after region entry conflict v'
-IsStop fits code finds after region entry tries (Spent version) v v' =
-    (version ≡ region.last) × (v'.attempt.next_from ≡ region.last)
-    × ((log : LogValue) × WouldWrite fits code finds after region entry log v')
+    (E → List ℕ → List ℕ) → RegionShown → (A → E) → (A → Bool) → ℕ → Stop → Client → Client →
+    Type 0
+IsStop fits code finds after region entry changes tries Memory v v' = IsQuiet v'
+IsStop fits code finds after region entry changes tries (Conflict conflict) v v' =
+    AreAllTries tries v v' × WasShown fits code finds after region entry changes conflict v'
+IsStop fits code finds after region entry changes tries (Spent version) v v' =
+    IsSpent fits code finds after region entry changes version v'
 
 -- why a transaction that only reads stopped: all tries were made, and the last one showed the
 -- conflict
@@ -155,14 +170,16 @@ IsConflict region tries conflict v v' =
 -- Not said: that it is answered in the end, however many tries it has; how long a try takes
 pub record HasRun {E A : Type 0} (fits : List ℕ → Type 0) (code : E → List ℕ)
     (finds : E → List ℕ → Type 0) (after : E → List ℕ → List ℕ) (region : RegionShown)
-    (entry : A → E) (tries : ℕ) (result : Result A Stop) (v v' : Client) : Type 0 where
+    (entry : A → E) (changes : A → Bool) (tries : ℕ) (result : Result A Stop) (v v' : Client)
+    : Type 0 where
   pub grants : v'.grants ≡ v.grants
   pub records : Records code region entry result v v'
   pub order : IfOk result (λ a. WasInOrder fits code finds after region (entry a) v v')
   pub alone : IsAlone v → IfErr result (λ stop. IsNoConflict stop)
-  pub attempts : AreTries (λ conflict w. WasShown fits code finds after region entry conflict w)
-      tries v v'
-  pub stopped : IfErr result (λ stop. IsStop fits code finds after region entry tries stop v v')
+  pub attempts : AreTries
+      (λ conflict w. WasShown fits code finds after region entry changes conflict w) tries v v'
+  pub stopped : IfErr result
+      (λ stop. IsStop fits code finds after region entry changes tries stop v v')
 
 -- the same of a transaction that only reads: a conflict alone stops it
 pub record HasAsked {E A : Type 0} (fits : List ℕ → Type 0) (code : E → List ℕ)

@@ -1,6 +1,6 @@
 //! The transactions of an object, and their attempts.
 
-ghost use Rattle.std.specs.Prelude.{◌≡◌, ◌+◌, ◌≤◌, IfOk, IfErr, IsOk};
+ghost use Rattle.std.specs.Prelude.{◌≡◌, ◌+◌, ◌≤◌, Bool, false, IfOk, IfErr, IsOk};
 ghost use Rattle.stm_core.specs.Core.{IsFreeHanded};
 ghost use Rattle.stm_object.specs.Bodies.{HasFitting, Did};
 ghost use Rattle.stm_object.specs.History.{IsOpened, Records, WasInOrder, IsAlone, IsNoConflict};
@@ -12,19 +12,25 @@ use stm_attempt::{Attempt, Conflict, Logs, NoGate, ReadAttempt, Stop};
 use stm_region::{Client, Region};
 use stm_words::{TxMem, TxRead};
 
-/// What a transaction does, over any memory, and what it tells of its answer.
+/// What a transaction does, over any memory, and what it tells of its answer. `entry_of` is the
+/// entry of an answer, and `changes` says whether such an answer may write: one that does not
+/// change anything wrote nothing.
 pub trait Body<S: Object> {
     /// What it answers.
     type Answer: Drop;
 
     ghost entry_of: { Self → Self.Answer → S.Entry };
 
+    ghost changes: { Self → Self.Answer → Bool };
+
     /// Reads and writes the memory.
     fn run<M: TxMem>(&self, memory: &mut M) -> Result<Self::Answer, M::Stop>
         requires { HasFitting S.fits S.size (M.view memory.old) }
         ensures origin { M.origin memory.new ≡ M.origin memory.old }
         ensures answer { IfOk result (λ a. Did S.fits S.finds S.after
-            (M.view memory.old) (M.view memory.new) (entry_of self.now a)) };
+            (M.view memory.old) (M.view memory.new) (entry_of self.now a)) }
+        ensures wrote { IfOk result (λ a. changes self.now a ≡ false →
+            (M.view memory.new).writes ≡ (M.view memory.old).writes) };
 
     /// The entry of an answer.
     fn entry(&self, answer: &Self::Answer) -> S::Entry
@@ -51,7 +57,8 @@ pub fn attempt_once<S: Object, B: Body<S>>(
     ensures alone { IsAlone client.old.value → IfErr result (λ stop. IsNoConflict stop) }
     ensures attempt { client.new.value.attempt.number ≡ client.old.value.attempt.number + 1 }
     ensures stopped { IfErr result (λ stop. IsStop S.fits S.Entry.numbers S.finds S.after region.now
-        (λ a. B.entry_of body.now a) 1 stop client.old.value client.new.value) }
+        (λ a. B.entry_of body.now a) (λ a. B.changes body.now a) 1 stop client.old.value
+        client.new.value) }
 {
     let mut attempt = Attempt::begin(region, client, logs);
     let answer = body.run(&mut attempt);
@@ -85,7 +92,8 @@ pub fn transact<S: Object, B: Body<S>>(
     ensures own { client.new.table ≡ client.old.table }
     ensures free_handed { IsFreeHanded client.new.value }
     ensures call { HasRun S.fits S.Entry.numbers S.finds S.after region.now
-        (λ a. B.entry_of body.now a) tries result client.old.value client.new.value }
+        (λ a. B.entry_of body.now a) (λ a. B.changes body.now a) tries result client.old.value
+        client.new.value }
 {
     let backoff = Backoff::new();
     let mut left = tries;

@@ -1,4 +1,4 @@
-//! A memory that many use at once, with transactions over a object.
+//! A memory that many use at once, with transactions over an object.
 
 ghost use Rattle.std.specs.Prelude.{◌≡◌, ◌≤◌, IfOk, IfErr, length};
 ghost use Rattle.stm_core.specs.Event.{opener};
@@ -15,7 +15,7 @@ use stm_attempt::{Conflict, Logs, Stop};
 use stm_region::{Client, Region, RegionFault};
 use stm_words::Version;
 
-/// A memory of a object, which many users use at once. Contracts see its region.
+/// A memory of an object, which many users use at once. Contracts see its region.
 #[derive(Drop)]
 pub struct Shared<S: Object> {
     alloc: Global,
@@ -87,7 +87,8 @@ impl<S: Object> Shared<S> {
         requires tries { 1 ≤ tries }
         ensures own { user.new.table ≡ user.old.table }
         ensures call { HasRun S.fits S.Entry.numbers S.finds S.after self.now
-            (λ a. B.entry_of body.now a) tries result user.old.value user.new.value }
+            (λ a. B.entry_of body.now a) (λ a. B.changes body.now a) tries result user.old.value
+            user.new.value }
     {
         transact(&self.region, &mut user.client, &mut user.logs, body, tries)
     }

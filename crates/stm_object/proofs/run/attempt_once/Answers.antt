@@ -1,7 +1,7 @@
 use Rattle.std.proofs.Common.{rules, inl, ap, ◌∙◌}
 use Rattle.stm_region.specs.Shown.{ClientShown}
 use Rattle.stm_attempt.specs.Meaning.{Origin}
-use Rattle.stm_object.proofs.Lawful.{has_fitting, lawful}
+use Rattle.stm_object.proofs.Lawful.{has_fitting, nothing_written, lawful}
 use Rattle.stm_object.proofs.Histories.{added, in_order}
 use Rattle.stm_object.proofs.Stopping.{shown_by_read, commit_stop}
 use Rattle.stm_object.proofs.run.attempt_once.Goals as goal
@@ -45,8 +45,11 @@ returns-in-Some-clause-stopped g c = (
 pub returns-in-Err-clause-stopped : goal.returns-in-Err-clause-stopped
 returns-in-Err-clause-stopped g c =
     commit_stop g.S.Object.fits g.S.Entry.Tag.numbers g.S.Object.finds g.S.Object.after
-    (λ a. g.B.Body.entry_of c.args.body.now a) c.in-Ok.found _ _ _ _ c.args.client.now.value _ _ _
+    (λ a. g.B.Body.entry_of c.args.body.now a) (λ a. g.B.Body.changes c.args.body.now a) c.in-Ok.found _ _ _ _
+    c.args.client.now.value _ _ _
     (ap (λ (o : Origin). o.region) c.run-answer.ensures.origin ∙ c.begin-attempt.ensures.region) (search rules)
+    (λ no. nothing_written g.S.Object.fits _ _ _ _ _ _ _ _ _ _ _ _ c.begin-attempt.ensures.empty.2
+    c.begin-attempt.ensures.empty.1 c.in-Ok.ensures.origin (c.in-Ok.ensures.wrote no))
     (c.run-answer.new.memory.placed (search rules))
     (lawful g.S.Object.fits g.S.Entry.Tag.numbers g.S.Object.finds g.S.Object.after _ _ _ _ _ _ _ _ _ _ _ _
     (g.B.Body.entry_of c.args.body.now c.in-Ok.found) c.begin-attempt.ensures.empty.2
