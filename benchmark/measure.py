@@ -94,7 +94,7 @@ class Plan:
 
     def __init__(self, arguments, program):
         self.quick = arguments.quick
-        self.seconds = arguments.seconds or (1 if self.quick else 2)
+        self.seconds = arguments.seconds or (0.5 if self.quick else 2)
         self.tries = arguments.tries
         self.ours = Ours(program, self.tries)
         self.judge = Judge(program)
@@ -389,7 +389,7 @@ def read_arguments():
     parser.add_argument("--clients", type=client_counts, metavar="N,N,..",
                         help="how many clients there are, 64 at most (default: 1,2,4)")
     parser.add_argument("--seconds", type=float, metavar="S",
-                        help="how long a run of the program takes, about (default: 2; with --quick 1)")
+                        help="how long a run of the program takes, about (default: 2; with --quick 0.5)")
     parser.add_argument("--reads", type=int, metavar="P",
                         help="in all settings, how many of a hundred tasks only read (default: 50 in 'readers')")
     parser.add_argument("--tries", type=int, default=TRIES, metavar="N",

@@ -231,7 +231,7 @@ struct End {
     std::vector<Word> by_second;
 };
 
-// Whether a client ends no call for too long, or the report no walk, and the answers of each second.
+// Whether a client ends no call for too long, or the report no walk, and the answers by second.
 class Lookout {
 public:
     explicit Lookout(const Run& run)
