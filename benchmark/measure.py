@@ -233,6 +233,13 @@ def pinning():
     return "each to a processor, in turn" + (f"; in {Pinner.missed} runs not" if Pinner.missed else "")
 
 
+def command():
+    """The command line, without what names files of this machine."""
+    words = sys.argv[1:]
+    local = {i + more for i, word in enumerate(words) if word in ("--to", "--program") for more in (0, 1)}
+    return shlex.join(["./bench"] + [word for i, word in enumerate(words) if i not in local])
+
+
 def heading(plan, load):
     kit = lines_of(["rt", "version"]) or ["unknown"]
     compiler = lines_of([os.environ.get("CXX", "g++"), "--version"]) or ["unknown"]
@@ -240,7 +247,7 @@ def heading(plan, load):
     return [
         "# Measured", "",
         "| | |", "|---|---|",
-        f"| command | `{' '.join(['./bench'] + sys.argv[1:])}` |",
+        f"| command | `{command()}` |",
         f"| date | {datetime.datetime.now(datetime.timezone.utc):%Y-%m-%d %H:%M} UTC |",
         f"| commit | {commit()} |",
         f"| kit | {kit[0]} |",
