@@ -7,14 +7,17 @@ use Rattle.vac_order.specs.declared.calls.Calls.{Calls}
 use Rattle.vac_order.specs.declared.point.Point.{Point}
 use Rattle.vac_order.specs.declared.walk.Finding.{Finding}
 use Rattle.vac_order.specs.declared.walk.Finding.TheVariants as finding
-use Rattle.vac_order.specs.Orders.{IsMerge, IsLinearizable}
+use Rattle.vac_order.specs.Orders.{IsMerge, IsOrderOf, IsLinearizable}
 use Rattle.vac_order.specs.Configurations.{Configuration, start, answered, PlacesAtMost, Deepest}
 use Rattle.vac_order.specs.Walk.{IsTimed, IsWhole, Completes}
-use Rattle.vac_order.specs.Walking.{Places, Finds}
+use Rattle.vac_order.specs.Searching.{IsUndecided}
+use Rattle.vac_order.specs.Walking.{Finds}
+use Rattle.std.specs.Prelude.{All, ◌<◌}
+use Rattle.vac_order.proofs.Sorted.{length_calls}
 use Rattle.vac_order.specs.Marks.{is_made}
 use Rattle.vac_order.specs.Calls.{calls_of, rest_of}
 use Rattle.vac_order.specs.Point.{point_at, point_views}
-use Rattle.vac_order.specs.Judging.{calls_at, Judges, JudgesLines}
+use Rattle.vac_order.specs.Judging.{calls_at, Judges}
 use Rattle.vac_order.proofs.Clients.{each_order, turn_order}
 use Rattle.vac_order.proofs.Completing.{linearization_of, completes_start}
 
@@ -45,36 +48,33 @@ none_order n most calls at w d b l =
     let most : answered calls ≤ most + answered whole.to.rest = b l.order whole.to whole.reaches in
     let done = whole.done in let count = d.count in let some = d.some in absurd (omega arith)
 
-pub judges : {M : Type 0} (state : M → State) (calls : Calls) (point : Point M) (n : ℕ) → IsWhole (calls_of calls.lines.items)
+pub judges : {M : Type 0} (state : M → State) (calls : Calls) (point : Point M) (n steps : ℕ) → IsWhole (calls_of calls.lines.items)
     → point.low ≡ 0 → point.beyond.items ≡ [] → state point.machine ≡ empty_state n → (found : Finding (Point M))
-    → Finds (point_views state calls) (point_at state calls point) found → Judges (point_at state calls) n (calls_of calls.lines.items) found
-judges state calls point n w e f g (finding.Order places) h =
+    → Finds (point_views state calls) (point_at state calls point) steps found → Judges (point_at state calls) n (calls_of calls.lines.items) steps found
+judges state calls point n steps w e f g (finding.Order places) h =
     let cs = calls_of calls.lines.items in
-    let both = linearization_of n cs (calls_at cs places.items) w (subst (λ x. Completes x (calls_at cs places.items)) (at_start state calls point n e f g) h) in
-    record { orders = both.0; linearization = both.1 }
-judges state calls point n w e f g (finding.NoOrder most world) h =
+    let both = linearization_of n cs (calls_at cs places.items) w (subst (λ x. Completes x (calls_at cs places.items)) (at_start state calls point n e f g) h.completes) in
+    record { orders = both.0; linearization = both.1; distinct = h.distinct; within = subst (λ k. All (λ p. p < k) places.items) (sym (length_calls calls.lines.items)) h.within }
+judges state calls point n steps w e f g (finding.NoOrder most world) h =
     let cs = calls_of calls.lines.items in
     let at = point_at state calls world in
     let deepest = subst (λ x. Deepest x most at) (at_start state calls point n e f g) h.0 in
     let bound = subst (λ (x : Configuration). PlacesAtMost (answered x.rest) most x) (at_start state calls point n e f g) h.1 in
     record { none = none_order n most cs at w deepest bound; deepest = deepest; bound = bound }
-judges state calls point n w e f g (finding.Unknown most) h = subst (λ x. Places x most) (at_start state calls point n e f g) h
+judges state calls point n steps w e f g (finding.Unknown most) h = subst (λ x. IsUndecided x steps most) (at_start state calls point n e f g) h
 
 -- calls that are kept in another way are whole
 pub whole_kept : (calls kept : List Call) → IsMerge calls kept → IsWhole calls → IsWhole kept
 whole_kept calls kept m w = record { turn = turn_order calls kept m w.turn; last = w.last; timed = each_order (IsTimed w.last) calls kept m w.timed }
 
--- and what is found of them is found of the calls as they are given
-pub judges_kept : {W : Type 0} (at : W → Configuration) (n : ℕ) (calls kept : List Call) → IsMerge calls kept → (found : Finding W) → Judges at n kept found
-    → JudgesLines n calls kept found
-judges_kept at n calls kept m (finding.Order places) h = record {
-  orders = record { left = h.orders.left; merges = λ k. h.orders.merges k ∙ m k; never = h.orders.never };
-  linearization = h.linearization;
-}
-judges_kept at n calls kept m (finding.NoOrder most world) h =
-    λ l. h.none (record {
-      order = l.order;
-      orders = record { left = l.orders.left; merges = λ k. l.orders.merges k ∙ sym (m k); never = l.orders.never };
-      linearization = l.linearization;
-    })
-judges_kept at n calls kept m (finding.Unknown most) h = tt
+-- an order of the calls as they are kept is one of them as they are given
+pub order_given : (calls kept order : List Call) → IsMerge calls kept → IsOrderOf kept order → IsOrderOf calls order
+order_given calls kept order m h = record { left = h.left; merges = λ k. h.merges k ∙ m k; never = h.never }
+
+-- and none of them as they are kept is none
+pub none_given : (n : ℕ) (calls kept : List Call) → IsMerge calls kept → (IsLinearizable n kept → ⊥) → IsLinearizable n calls → ⊥
+none_given n calls kept m h l = h (record {
+  order = l.order;
+  orders = record { left = l.orders.left; merges = λ k. l.orders.merges k ∙ sym (m k); never = l.orders.never };
+  linearization = l.linearization;
+})

@@ -4,6 +4,7 @@ pub mod Places
 pub mod Left
 pub mod Completing
 pub mod Steps
+pub mod Placing
 pub mod Walking
 pub mod Tries
 pub mod Sorted

@@ -17,7 +17,7 @@ use Rattle.vac_order.specs.declared.point.Point.{Point}
 use Rattle.vac_order.specs.Point.{made_of, point_views}
 use Rattle.vac_order.specs.Views.{TellsLeft, TellsNext}
 use Rattle.vac_order.specs.Calls.{call_of, calls_of, are_sorted, given_text, rest_of, can_come, tries_from, IsTry, TellsTry}
-use Rattle.vac_order.proofs.Tries.{at, may_begin, tries_step, tries_none, tries_skip, front_more, of_stands, rest_made}
+use Rattle.vac_order.proofs.Tries.{at, may_begin, tries_step, tries_none, tries_skip, front_more, of_stands, stands_of, rest_made}
 use Rattle.vac_order.proofs.Sorted.{sorted_of, call_here, long_calls, begun_early, begun_late, none_later, all_made, never_left, some_left}
 
 -- where all calls have a place, none is left to try
@@ -210,12 +210,14 @@ pub led_on : (made more : ℕ → Bool) (s : State) (lines : List Line) (p : ℕ
     → (fits s (at (calls_of lines) p) ≡ true)
     × (◌≡◌ {A = Configuration} (record { rest = rest_of more 0 (calls_of lines); state = next })
     (after (record { rest = rest_of made 0 (calls_of lines); state = s }) (at (calls_of lines) p)))
+    × ((j : ℕ) → more j ≡ (made j || j == p))
 led_on made more s lines p line next reply l e r w can m =
     let cs = calls_of lines in
     let state : next ≡ (run s (at cs p).task).0 = sym (ap (λ (c : Call). (run s c.task).0) (call_here lines p line l e) ∙ ap (λ (x : State × Reply). x.0) r) in (
       ap (fits s) (call_here lines p line l e) ∙ ap (λ (x : State × Reply). is_right (given_text line.reply) x.1) r ∙ w,
       ap (λ x. record { rest = x; state = next }) (rest_made made more cs p (long_calls lines p l) can m)
           ∙ ap (λ x. record { rest = without_next (at cs p).client (rest_of made 0 cs); state = x }) state,
+      m,
     )
 
 -- what is next for a search, from what is next among the calls
@@ -226,6 +228,7 @@ told_next state calls point from (Some p) t s = record {
   is = t.is;
   may = may_begin (made_of point) (calls_of calls.lines.items) p t.within t.can;
   can = t.can;
+  left = (stands_of (made_of point) (calls_of calls.lines.items) p t.can).free;
   within = (let l : p < length (calls_of calls.lines.items) = t.within in let e : length (calls_of calls.lines.items) ≡ length calls.lines.items = length-map calls.lines.items call_of in omega arith);
   small = (let l : p < 2 ^ 64 - 1 = s in omega arith);
 }

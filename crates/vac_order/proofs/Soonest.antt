@@ -157,9 +157,9 @@ same_default (x ∷ xs) (suc i) d e l = same_default xs i d e (omega arith)
 
 -- a line that says so is the same whatever shows what is known of it
 pub keep_any : (x : Line) (s : ℕ) (asked : is_task x.task ≡ true) (ended : nat_lt x.end NEVER ≡ is_some x.reply)
-    → ◌≡◌ {A = Line} (record { client = x.client; begin = x.begin; end = x.end; task = x.task; reply = x.reply; soonest = s; asked = asked; ended = ended }) (record x { soonest = s })
+    → ◌≡◌ {A = Line} (record { number = x.number; text = x.text; client = x.client; begin = x.begin; end = x.end; task = x.task; reply = x.reply; soonest = s; asked = asked; ended = ended }) (record x { soonest = s })
 keep_any x s asked ended =
     let one : IsProp (is_task x.task ≡ true) = hlevel props in
     let two : IsProp (nat_lt x.end NEVER ≡ is_some x.reply) = hlevel props in
-    ap (λ a. record { client = x.client; begin = x.begin; end = x.end; task = x.task; reply = x.reply; soonest = s; asked = a; ended = ended }) (one asked x.asked)
-    ∙ ap (λ e. record { client = x.client; begin = x.begin; end = x.end; task = x.task; reply = x.reply; soonest = s; asked = x.asked; ended = e }) (two ended x.ended)
+    ap (λ a. record { number = x.number; text = x.text; client = x.client; begin = x.begin; end = x.end; task = x.task; reply = x.reply; soonest = s; asked = a; ended = ended }) (one asked x.asked)
+    ∙ ap (λ e. record { number = x.number; text = x.text; client = x.client; begin = x.begin; end = x.end; task = x.task; reply = x.reply; soonest = s; asked = x.asked; ended = e }) (two ended x.ended)

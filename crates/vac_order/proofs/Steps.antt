@@ -111,6 +111,18 @@ walk_back start at most placed n path place known w l own =
       some = (let o = w.some in omega arith);
     }
 
+-- where it had placed no more calls
+pub back_less : (start at : Configuration) (most placed : ℕ) (path : List Place) (place : Place) (known : List Configuration)
+    → IsWalk start most at placed [] (path ++ place ∷ []) known → place.placed ≤ placed
+back_less start at most placed path place known w =
+    let total = answered start.rest in
+    let led = leads_pop total most start path place at w.leads in
+    let less : answered place.at.rest ≡ weight place.call + answered (after place.at place.call).rest = answered_after place.at place.call led.made.goes in
+    let same : answered (after place.at place.call).rest ≡ answered at.rest = ap (λ (x : Configuration). answered x.rest) led.is in
+    let old = led.made.count in
+    let own = w.count in
+    omega arith
+
 -- a call that is lost is not tried again
 pub walk_lost : (start at : Configuration) (most placed : ℕ) (c : Call) (tries : List Call) (path : List Place) (known : List Configuration)
     → IsWalk start most at placed (c ∷ tries) path known → IsLost (answered start.rest) most at c → IsWalk start most at placed tries path known

@@ -2,6 +2,7 @@ pub mod Orders
 pub mod Configurations
 pub mod Views
 pub mod Walk
+pub mod Searching
 pub mod Walking
 pub mod Marks
 pub mod Calls

@@ -25,6 +25,7 @@ point_views state calls = record {
   at = point_at state calls;
   count = length calls.lines.items;
   call = λ place. get_or (calls_of calls.lines.items) place no_call;
+  made = made_of;
   can = λ point. can_come (made_of point) (calls_of calls.lines.items);
   tries = λ point. tries_from (made_of point) (calls_of calls.lines.items);
 }

@@ -1,14 +1,16 @@
 -- How the worlds of a search are seen.
-use Rattle.std.specs.Prelude.{◌≡◌, ◌+◌, ◌<◌, ◌^◌, ℕ, Bool, true, false, Option, Some, None, List, [], ◌∷◌}
+use Rattle.std.specs.Prelude.{◌≡◌, ◌+◌, ◌<◌, ◌^◌, ◌==◌, ◌||◌, ℕ, Bool, true, false, Option, Some, None, List, [], ◌∷◌}
 use Rattle.vac_judge.specs.Call.{Call}
 use Rattle.vac_order.specs.Configurations.{Configuration, MayBegin, fits, after}
 
 -- where a world stands, how many places there are, the call that a place names, whether the call
--- at a place may come next, and the calls that are left to try in a world from a place on
+-- at a place has one in the order, whether it may come next, and the calls that are left to try in a
+-- world from a place on
 pub record Views (W : Type 0) : Type 0 where
   pub at : W → Configuration
   pub count : ℕ
   pub call : ℕ → Call
+  pub made : W → ℕ → Bool
   pub can : W → ℕ → Bool
   pub tries : W → ℕ → List Call
 
@@ -21,6 +23,7 @@ pub record IsNext {W : Type 0} (views : Views W) (world : W) (from place : ℕ) 
   pub is : views.tries world from ≡ views.call place ∷ views.tries world (place + 1)
   pub may : MayBegin (views.at world).rest (views.call place)
   pub can : views.can world place ≡ true
+  pub left : views.made world place ≡ false
   pub within : place < views.count
   pub small : place + 1 < 2 ^ 64
 
@@ -35,3 +38,4 @@ LedTo views world place None = fits (views.at world).state (views.call place) �
 LedTo views world place (Some next) =
     (fits (views.at world).state (views.call place) ≡ true)
     × (views.at next ≡ after (views.at world) (views.call place))
+    × ((p : ℕ) → views.made next p ≡ (views.made world p || p == place))

@@ -1,5 +1,6 @@
 -- What the parts of a running search are.
-use Rattle.std.specs.Prelude.{◌≡◌, ◌+◌, ◌==◌, ◌||◌, ℕ, nat_lt, if◌then◌else◌, ◌≤◌, ⊤, vec_len, List, ◌∷◌, map}
+use Rattle.std.specs.Prelude.{◌≡◌, ◌<◌, ◌==◌, ◌||◌, ℕ, max, Bool, false, nat_lt, if◌then◌else◌, ◌≤◌, ⊤, vec_len, All, List, [], ◌∷◌, ◌++◌, map}
+use Rattle.std.specs.List.{list_any, sum_by}
 use Rattle.vac_judge.specs.Call.{Call}
 use Rattle.vac_order.specs.declared.path.Frame.{Frame}
 use Rattle.vac_order.specs.declared.path.Walk.{Walk}
@@ -7,7 +8,8 @@ use Rattle.vac_order.specs.declared.walk.Step.{Step}
 use Rattle.vac_order.specs.declared.walk.Step.TheVariants as step
 use Rattle.vac_order.specs.declared.walk.Finding.{Finding}
 use Rattle.vac_order.specs.declared.walk.Finding.TheVariants as finding
-use Rattle.vac_order.specs.Configurations.{Configuration, Goes, Reaches, answered, PlacesAtMost, Deepest}
+use Rattle.vac_order.specs.Configurations.{Configuration, Goes, answered, PlacesAtMost, Deepest}
+use Rattle.vac_order.specs.Searching.{Search, HasMade, IsUndecided}
 use Rattle.vac_order.specs.Walk.{Place, IsWalk, KeepsDeepest, Completes}
 use Rattle.vac_order.specs.Views.{Views}
 
@@ -20,22 +22,65 @@ place_of views frame = record {
   others = views.tries frame.world frame.next;
 }
 
--- a search that began there, with these calls left to try
-abbrev pub WalksWith : {W : Type 0} → Views W → Configuration → Walk W → List Call → Type 0
-WalksWith views start walk tries =
-    IsWalk start walk.most (views.at walk.world) walk.placed tries
-    (map (place_of views) walk.path.items) (map views.at walk.known.worlds.items)
-    × KeepsDeepest start walk.most walk.best (map views.at walk.known.worlds.items)
+-- no number stands in a list twice
+abbrev pub AreDistinct : List ℕ → Type 0
+AreDistinct numbers = (number : ℕ) → sum_by (λ other. if other == number then 1 else 0) numbers ≤ 1
 
-abbrev pub Walks : {W : Type 0} → Views W → Configuration → Walk W → Type 0
-Walks views start walk = WalksWith views start walk (views.tries walk.world walk.next)
+-- besides those that had one before, the calls at these places have one in a world, each once
+pub record AreMade {W : Type 0} (views : Views W) (first : ℕ → Bool) (places : List ℕ) (world : W) :
+    Type 0 where
+  pub made : (p : ℕ) →
+      views.made world p ≡ (first p || list_any (λ other. other == p) places)
+  pub distinct : AreDistinct places
+  pub within : All (λ p. p < views.count) places
 
--- a search that tries the call at a place, which goes
-pub record Tries {W : Type 0} (views : Views W) (start : Configuration) (walk : Walk W)
-    (place : ℕ) : Type 0 where
-  pub walks : WalksWith views start walk
+-- so it is all along a path, behind these places
+abbrev pub AreMadeBy : {W : Type 0} → Views W → (ℕ → Bool) → List ℕ → List (Frame W) → W → Type 0
+AreMadeBy views first places [] world = AreMade views first places world
+AreMadeBy views first places (frame ∷ path) world =
+    AreMade views first places frame.world
+    × AreMadeBy views first (places ++ frame.place ∷ []) path world
+
+-- the search that a walk is, with these calls left to try
+abbrev pub search_of : {W : Type 0} → Views W → W → ℕ → List (Frame W) → List W → List Call → Search
+search_of views world placed path known tries = record {
+  at = views.at world;
+  placed = placed;
+  tries = tries;
+  path = map (place_of views) path;
+  known = map views.at known;
+}
+
+-- a search that began there and has made so many steps: where it stands, how many answered calls
+-- have a place, its path, the worlds that are known, the deepest of them, how many have a place
+-- there, and the calls that are left to try
+pub record IsSearch {W : Type 0} (views : Views W) (start : Configuration) (steps : ℕ) (world : W)
+    (placed : ℕ) (path : List (Frame W)) (known : List W) (best most : ℕ) (tries : List Call) :
+    Type 0 where
+  pub is : IsWalk start most (views.at world) placed tries (map (place_of views) path)
+      (map views.at known)
+  pub deepest : KeepsDeepest start most best (map views.at known)
+  pub made : HasMade steps start (search_of views world placed path known tries) (max most placed)
+  pub first : ℕ → Bool
+  pub places : AreMadeBy views first [] path world
+
+-- a walk that began there and has made so many steps, with these calls left to try
+abbrev pub WalksWith : {W : Type 0} → Views W → Configuration → ℕ → Walk W → List Call → Type 0
+WalksWith views start steps walk tries =
+    IsSearch views start steps walk.world walk.placed walk.path.items walk.known.worlds.items
+    walk.best walk.most tries
+
+abbrev pub Walks : {W : Type 0} → Views W → Configuration → ℕ → Walk W → Type 0
+Walks views start steps walk =
+    WalksWith views start steps walk (views.tries walk.world walk.next)
+
+-- a search that tries the call at a place, which goes and has no place yet
+pub record Tries {W : Type 0} (views : Views W) (start : Configuration) (steps : ℕ)
+    (walk : Walk W) (place : ℕ) : Type 0 where
+  pub walks : WalksWith views start steps walk
       (views.call place ∷ views.tries walk.world walk.next)
   pub goes : Goes (views.at walk.world) (views.call place)
+  pub left : views.made walk.world place ≡ false
 
 -- the deepest of the worlds that are known is one of them, where there are any
 abbrev pub IsWithin : {W : Type 0} → Walk W → Type 0
@@ -56,30 +101,26 @@ abbrev pub best_of : ℕ → ℕ → ℕ → ℕ → ℕ × ℕ
 best_of number placed best most =
     if number == 0 || nat_lt most placed then (number, placed) else (best, most)
 
--- these places name an order of all calls
-abbrev pub CompletesBy : {W : Type 0} → Views W → Configuration → List ℕ → Type 0
-CompletesBy views start places = Completes start (map views.call places)
+-- these places name an order of all calls, each once
+pub record CompletesBy {W : Type 0} (views : Views W) (start : Configuration) (places : List ℕ) :
+    Type 0 where
+  pub completes : Completes start (map views.call places)
+  pub distinct : AreDistinct places
+  pub within : All (λ place. place < views.count) places
 
 -- no order has more calls placed than lead to this world
 abbrev pub FailsBy : {W : Type 0} → Views W → Configuration → ℕ → W → Type 0
 FailsBy views start most world =
     Deepest start most (views.at world) × PlacesAtMost (answered start.rest) most start
 
--- so many answered calls have a place somewhere
-pub record Places (start : Configuration) (most : ℕ) : Type 0 where
-  pub calls : List Call
-  pub at : Configuration
-  pub reaches : Reaches start calls at
-  pub count : most + answered at.rest ≡ answered start.rest
+-- what a step of a search comes to that has made so many then
+abbrev pub StepsTo : {W : Type 0} → Views W → Configuration → ℕ → Step W → Type 0
+StepsTo views start steps (step.On walk) = Walks views start steps walk
+StepsTo views start steps (step.Found places) = CompletesBy views start places.items
+StepsTo views start steps (step.NoOrder most world) = FailsBy views start most world
 
--- what a step of a search comes to
-abbrev pub StepsTo : {W : Type 0} → Views W → Configuration → Step W → Type 0
-StepsTo views start (step.On walk) = Walks views start walk
-StepsTo views start (step.Found places) = CompletesBy views start places.items
-StepsTo views start (step.NoOrder most world) = FailsBy views start most world
-
--- what is found of a configuration
-abbrev pub Finds : {W : Type 0} → Views W → Configuration → Finding W → Type 0
-Finds views start (finding.Order places) = CompletesBy views start places.items
-Finds views start (finding.NoOrder most world) = FailsBy views start most world
-Finds views start (finding.Unknown most) = Places start most
+-- what is found of a configuration, in so many steps
+abbrev pub Finds : {W : Type 0} → Views W → Configuration → ℕ → Finding W → Type 0
+Finds views start steps (finding.Order places) = CompletesBy views start places.items
+Finds views start steps (finding.NoOrder most world) = FailsBy views start most world
+Finds views start steps (finding.Unknown most) = IsUndecided start steps most

@@ -6,9 +6,13 @@ ghost use Rattle.vac_judge.specs.declared.call.TheConstants.{NEVER};
 
 use vac_model::Task;
 
-/// A call of a client.
+/// A call of a client, and the line of the history that it stands in.
 #[derive(Drop)]
 pub struct Line {
+    /// The number of the line, the first being 1.
+    pub number: u64,
+    /// Its bytes, without its end.
+    pub text: Vec<u8>,
     /// Who called.
     pub client: u32,
     /// A reading of the clock before the call began.

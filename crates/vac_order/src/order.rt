@@ -3,7 +3,7 @@
 ghost use Rattle.std.specs.Prelude.{◌≡◌, ℕ, IfOk};
 ghost use Rattle.vac_model.specs.State.{empty_state};
 ghost use Rattle.vac_order.specs.Calls.{calls_of};
-ghost use Rattle.vac_order.specs.Judging.{Judges, JudgesLines};
+ghost use Rattle.vac_order.specs.Judging.{Judges, JudgesKept};
 ghost use Rattle.vac_order.specs.Point.{point_at};
 ghost use Rattle.vac_order.specs.Walk.{IsWhole};
 
@@ -24,7 +24,7 @@ pub fn judge_order<M: Machine + Drop>(
 ) -> Result<Finding<Point<M>>, AllocError>
     requires { IsWhole (calls_of calls.now.lines.items) }
     ensures { IfOk result (λ found. (n : ℕ) → M.state machine ≡ empty_state n →
-        Judges (point_at M.state calls.now) n (calls_of calls.now.lines.items) found) }
+        Judges (point_at M.state calls.now) n (calls_of calls.now.lines.items) steps found) }
 {
     find_order(alloc, calls, Point::new(alloc, machine), steps)
 }
@@ -48,8 +48,8 @@ pub fn judge_lines<M: Machine + Drop>(
 ) -> Result<Ordered<M>, AllocError>
     requires { IsWhole (calls_of lines.items) }
     ensures { IfOk result (λ ordered. (n : ℕ) → M.state machine ≡ empty_state n →
-        JudgesLines n (calls_of lines.items) (calls_of ordered.calls.lines.items)
-        ordered.finding) }
+        JudgesKept (point_at M.state ordered.calls) n (calls_of lines.items)
+        (calls_of ordered.calls.lines.items) steps ordered.finding) }
 {
     let calls = Calls::new(lines)?;
     let finding = judge_order(alloc, &calls, machine, steps)?;

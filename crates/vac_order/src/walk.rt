@@ -1,7 +1,7 @@
 //! The search for an order: a walk through worlds, one call at a time, and back where nothing is
 //! left to try.
 
-ghost use Rattle.std.specs.Prelude.{◌≡◌, ◌⊎◌, ◌<◌, ◌≤◌, ◌+◌, ◌++◌, ◌∷◌, [], IfOk, IfSome, map, if◌then◌else◌};
+ghost use Rattle.std.specs.Prelude.{◌≡◌, ◌<◌, ◌≤◌, ◌+◌, ◌++◌, ◌∷◌, [], ◌||◌, ◌==◌, ℕ, suc, max, true, false, IfOk, IfSome, map, if◌then◌else◌};
 ghost use Rattle.vac_order.specs.Configurations.{Configuration, after};
 ghost use Rattle.vac_order.specs.Walk.{IsWhole};
 ghost use Rattle.vac_order.specs.Walking.{IsWithin, StaysWithin, Walks, WalksWith, Tries, StepsTo, Finds, places_of, best_of};
@@ -26,9 +26,8 @@ pub enum Finding<W> {
     Order(Vec<usize>),
     /// There is none. The most answered calls have a place in this world, which is so many.
     NoOrder(u64, W),
-    /// Neither is known after so many steps. Somewhere so many answered calls had a place.
-    ///
-    /// Not said: that all steps were made, and that nowhere more of them had one.
+    /// All steps were made, and neither is known. So many answered calls had a place somewhere, and
+    /// nowhere had more.
     Unknown(u64),
 }
 
@@ -65,8 +64,9 @@ fn go_back<W: World + Drop>(
 ) -> Result<Step<W>, AllocError>
     requires { IsWithin walk }
     ensures within { IfOk result StaysWithin }
-    ensures steps { IfOk result (λ step. (start : Configuration)
-        → WalksWith (W.view ground.now) start walk [] → StepsTo (W.view ground.now) start step) }
+    ensures steps { IfOk result (λ step. (start : Configuration) (steps : ℕ)
+        → WalksWith (W.view ground.now) start steps walk []
+        → StepsTo (W.view ground.now) start (suc steps) step) }
 {
     let Walk {
         world,
@@ -116,11 +116,13 @@ fn go_on<W: World + Drop>(
     requires walk { IsWithin walk }
     requires place { place < (W.view ground.now).count }
     ensures within { IfOk result StaysWithin }
-    ensures steps { IfOk result (λ step. (start : Configuration)
-        → Tries (W.view ground.now) start walk place
+    ensures steps { IfOk result (λ step. (start : Configuration) (steps : ℕ)
+        → Tries (W.view ground.now) start steps walk place
         → (W.view ground.now).at next ≡
         after ((W.view ground.now).at walk.world) ((W.view ground.now).call place)
-        → StepsTo (W.view ground.now) start step) }
+        → ((p : ℕ) → (W.view ground.now).made next p ≡
+        ((W.view ground.now).made walk.world p || p == place))
+        → StepsTo (W.view ground.now) start (suc steps) step) }
 {
     if next.is_done(ground) {
         return Ok(Step::Found(places_of(alloc, walk.path.as_slice(), place)?));
@@ -162,8 +164,9 @@ impl<W: World + Drop> Walk<W> {
     fn step(self, alloc: Global, ground: &W::Ground) -> Result<Step<W>, AllocError>
         requires { IsWithin self }
         ensures within { IfOk result StaysWithin }
-        ensures steps { IfOk result (λ step. (start : Configuration)
-            → Walks (W.view ground.now) start self → StepsTo (W.view ground.now) start step) }
+        ensures steps { IfOk result (λ step. (start : Configuration) (steps : ℕ)
+            → Walks (W.view ground.now) start steps self
+            → StepsTo (W.view ground.now) start (suc steps) step) }
     {
         let mut walk = self;
         let Some(place) = walk.world.next_try(ground, walk.next) else {
@@ -179,8 +182,7 @@ impl<W: World + Drop> Walk<W> {
 
 /// How many answered calls have had a place at most.
 fn most_of<W>(walk: &Walk<W>) -> u64
-    ensures { (result ≡ walk.now.placed)
-        ⊎ ((result ≡ walk.now.most) × (walk.now.placed ≤ walk.now.most)) }
+    ensures { result ≡ max walk.now.most walk.now.placed }
 {
     if walk.placed <= walk.most {
         walk.most
@@ -198,7 +200,7 @@ pub fn find_order<W: World + Drop>(
 ) -> Result<Finding<W>, AllocError>
     requires { IsWhole ((W.view ground.now).at start).rest }
     ensures { IfOk result (λ found.
-        Finds (W.view ground.now) ((W.view ground.now).at start) found) }
+        Finds (W.view ground.now) ((W.view ground.now).at start) steps found) }
 {
     if start.is_done(ground) {
         return Ok(Finding::Order(Vec::new(alloc)));
@@ -212,7 +214,7 @@ pub fn find_order<W: World + Drop>(
         best: 0,
         most: 0,
     };
-    'walk: for _ in 0..steps {
+    'walk: for _made in 0..steps {
         match walk.step(alloc, ground)? {
             Step::On(next) => walk = next,
             Step::Found(places) => return Ok(Finding::Order(places)),

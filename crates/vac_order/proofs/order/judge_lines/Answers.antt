@@ -1,12 +1,9 @@
 use Rattle.vac_order.specs.Calls.{calls_of}
-use Rattle.vac_order.specs.Point.{point_at}
-use Rattle.vac_order.proofs.Judged.{whole_kept, judges_kept}
+use Rattle.vac_order.proofs.Judged.{whole_kept}
 use Rattle.vac_order.proofs.order.judge_lines.Goals as goal
 
 pub judge_order-requires : goal.judge_order-requires
 judge_order-requires g c = whole_kept (calls_of c.args.lines.items) (calls_of c.in_ok-calls.calls.lines.items) (c.in_ok-calls.ensures c.requires.turn) c.requires
 
 pub returns : goal.returns
-returns g c = λ n e.
-    judges_kept (point_at g.M.Machine.state c.in_ok-calls.calls) n (calls_of c.args.lines.items) (calls_of c.in_ok-calls.calls.lines.items) (c.in_ok-calls.ensures c.requires.turn)
-    c.in_ok-finding.finding (c.in_ok-finding.ensures n e)
+returns g c = λ n e. record { merges = c.in_ok-calls.ensures c.requires.turn; judged = c.in_ok-finding.ensures n e }

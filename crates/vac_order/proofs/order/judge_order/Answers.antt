@@ -20,8 +20,8 @@ pub returns : goal.returns
 returns g c =
     let state = g.M.Machine.state in
     let calls = c.args.calls.now in
-    if_ok (λ found. Finds (point_views state calls) (point_at state calls c.new.result) found)
-    (λ found. (n : ℕ) → state c.args.machine ≡ empty_state n → Judges (point_at state calls) n (calls_of calls.lines.items) found)
+    if_ok (λ found. Finds (point_views state calls) (point_at state calls c.new.result) c.args.steps found)
+    (λ found. (n : ℕ) → state c.args.machine ≡ empty_state n → Judges (point_at state calls) n (calls_of calls.lines.items) c.args.steps found)
     (λ found h n e.
-    judges state calls c.new.result n c.requires c.new.ensures.low c.new.ensures.beyond (ap state c.new.ensures.machine ∙ e) found h)
+    judges state calls c.new.result n c.args.steps c.requires c.new.ensures.low c.new.ensures.beyond (ap state c.new.ensures.machine ∙ e) found h)
     c.find_order.result c.find_order.ensures

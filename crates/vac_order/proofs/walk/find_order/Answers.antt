@@ -1,44 +1,59 @@
-use Rattle.std.proofs.Common.{◌≤◌, [], map, refl, sym, ap, subst, arith}
-use Rattle.std.specs.Prelude.{vec_len}
+use Rattle.std.proofs.Common.{◌≤◌, ◌<◌, suc, [], map, refl, sym, ap, subst, arith, add-one}
+use Rattle.std.specs.Prelude.{vec_len, All}
 use Rattle.vac_order.specs.Configurations.{answered}
 use Rattle.vac_order.specs.Views.{TellsLeft}
-use Rattle.vac_order.specs.Walk.{IsWalk, KeepsDeepest, Completes}
-use Rattle.vac_order.specs.Walking.{StaysWithin, StepsTo, place_of}
-use Rattle.vac_order.proofs.Walking.{starts, no_calls, places_max}
+use Rattle.vac_order.specs.Walk.{Completes}
+use Rattle.vac_order.specs.Searching.{IsUndecided}
+use Rattle.vac_order.specs.Walking.{AreDistinct, CompletesBy, StaysWithin, StepsTo, Walks}
+use Rattle.vac_order.proofs.Placing.{distinct_none}
+use Rattle.std.proofs.lemmas.List.Elements.{All-nil}
+use Rattle.vac_order.proofs.Walking.{starts, no_calls, undecided}
 use Rattle.vac_order.proofs.walk.find_order.Goals as goal
 
 pub returns-then-is_done : goal.returns-then-is_done
 returns-then-is_done g c =
     let views = g.W.World.view c.args.ground.now in
     let start = views.at c.args.start in
-    subst (Completes start) (ap (map views.call) (sym c.new.ensures.items))
-    (no_calls start (subst (TellsLeft (answered start.rest)) c.if-is_done.true c.is_done.ensures.left))
+    subst (CompletesBy views start) (sym c.new.ensures.items) (record {
+      completes = no_calls start (subst (TellsLeft (answered start.rest)) c.if-is_done.true c.is_done.ensures.left);
+      distinct = distinct_none;
+      within = All-nil (λ p. p < views.count);
+    })
 
 pub walk-init : goal.walk-init
 walk-init g c =
     let views = g.W.World.view c.args.ground.now in
     let start = views.at c.args.start in
-    let none = starts views c.args.start c.requires (subst (TellsLeft (answered start.rest)) c.if-is_done.false c.is_done.ensures.left) c.is_done.ensures.all in
     let within : 0 ≤ vec_len c.new-3.result.worlds = omega arith in (
       within,
-      subst (λ ks. IsWalk start 0 start 0 (views.tries c.args.start 0) (map (place_of views) c.new-2.result.items) ks × KeepsDeepest start 0 0 ks) (ap (map views.at) (sym c.new-3.ensures))
-          (subst (λ ps. IsWalk start 0 start 0 (views.tries c.args.start 0) ps []) (ap (map (place_of views)) (sym c.new-2.ensures.items)) none, refl),
+      starts views c.args.start c.new-2.result c.new-3.result c.new-2.ensures.items c.new-3.ensures c.requires
+          (subst (TellsLeft (answered start.rest)) c.if-is_done.false c.is_done.ensures.left) c.is_done.ensures.all,
     )
 
 pub returns-in-Found : goal.returns-in-Found
 returns-in-Found g c =
     let views = g.W.World.view c.args.ground.now in
     let start = views.at c.args.start in
-    subst (StepsTo views start) c.in-Found.is (c.in_ok-next.ensures.steps start c.walk.invariant.1)
+    subst (StepsTo views start (suc c.walk._made)) c.in-Found.is (c.in_ok-next.ensures.steps start c.walk._made c.walk.invariant.1)
+
+pub returns-in-NoOrder : goal.returns-in-NoOrder
+returns-in-NoOrder g c =
+    let views = g.W.World.view c.args.ground.now in
+    let start = views.at c.args.start in
+    subst (StepsTo views start (suc c.walk._made)) c.in-NoOrder.is (c.in_ok-next.ensures.steps start c.walk._made c.walk.invariant.1)
 
 pub walk-preserved : goal.walk-preserved
 walk-preserved g c =
     let views = g.W.World.view c.args.ground.now in
-    let start = views.at c.args.start in
-    (subst StaysWithin c.in-On.is c.in_ok-next.ensures.within, subst (StepsTo views start) c.in-On.is (c.in_ok-next.ensures.steps start c.walk.invariant.1))
+    let start = views.at c.args.start in (
+      subst StaysWithin c.in-On.is c.in_ok-next.ensures.within,
+      subst (λ n. Walks views start n c.in-On.next) (sym (add-one c.walk._made)) (subst (StepsTo views start (suc c.walk._made)) c.in-On.is (c.in_ok-next.ensures.steps start c.walk._made c.walk.invariant.1)),
+    )
 
 pub returns : goal.returns
 returns g c =
     let views = g.W.World.view c.args.ground.now in
+    let start = views.at c.args.start in
     let walk = c.walk.walk in
-    places_max views (views.at c.args.start) walk (views.tries walk.world walk.next) c.most_of.result c.walk.invariant.1 c.most_of.ensures
+    subst (λ n. IsUndecided start n c.most_of.result) (omega arith)
+    (undecided views start c.walk._made walk (views.tries walk.world walk.next) c.most_of.result c.walk.invariant.1 c.most_of.ensures)

@@ -6,20 +6,20 @@ use Rattle.vac_order.proofs.Walking.{steps_found, steps_known, steps_on}
 use Rattle.vac_order.proofs.walk.go_on.Goals as goal
 
 pub returns-then-is_done-clause-steps : goal.returns-then-is_done-clause-steps
-returns-then-is_done-clause-steps g c = λ start w e.
+returns-then-is_done-clause-steps g c = λ start steps w e m.
     let views = g.W.World.view c.args.ground.now in
-    steps_found views start c.args.walk c.args.place (views.at c.args.next) c.in_ok-places_of.field-0.items w e
-    (subst (TellsLeft (answered (views.at c.args.next).rest)) c.if-is_done.true c.is_done.ensures.left)
+    steps_found views start steps c.args.walk c.args.place c.args.next c.in_ok-places_of.field-0.items w c.requires.place e
+    (subst (TellsLeft (answered (views.at c.args.next).rest)) c.if-is_done.true c.is_done.ensures.left) m
     (c.in_ok-places_of.ensures ∙ ap (λ p. places_of p ++ c.args.place ∷ []) c.as_slice.ensures.value)
 
 pub returns-then-has-clause-steps : goal.returns-then-has-clause-steps
-returns-then-has-clause-steps g c = λ start w e.
+returns-then-has-clause-steps g c = λ start steps w e m.
     let views = g.W.World.view c.args.ground.now in
-    steps_known views start c.args.walk c.args.place (views.at c.args.next) w e (c.has.ensures c.if-has.true)
+    steps_known views start steps c.args.walk c.args.place (views.at c.args.next) w e (c.has.ensures c.if-has.true)
 
 pub returns-clause-steps : goal.returns-clause-steps
-returns-clause-steps g c = λ start w e.
+returns-clause-steps g c = λ start steps w e m.
     let views = g.W.World.view c.args.ground.now in
-    steps_on views start c.args.walk c.args.place c.in-Some.count c.args.next c.push.new.self.items w e
-    (subst (TellsLeft (answered (views.at c.args.next).rest)) c.if-is_done.false c.is_done.ensures.left)
+    steps_on views start steps c.args.walk c.args.place c.in-Some.count c.args.next c.push.new.self w c.requires.place e
+    (subst (TellsLeft (answered (views.at c.args.next).rest)) c.if-is_done.false c.is_done.ensures.left) m
     c.is_done.ensures.all (c.in-Some.ensures ∙ ap (λ b. c.args.walk.placed + cond b 1 0) c.is_answered.ensures) c.in_ok-push.ensures.items

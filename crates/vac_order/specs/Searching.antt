@@ -1,0 +1,93 @@
+-- A search as it is done, step by step: how it stands, and what one step makes of it.
+use Rattle.std.specs.Prelude.{◌≡◌, ◌⊎◌, ◌+◌, ◌≤◌, ℕ, suc, zero, max, true, false, List, [], ◌∷◌, ◌++◌}
+use Rattle.std.specs.List.{Contains}
+use Rattle.vac_judge.specs.Call.{Call}
+use Rattle.vac_order.specs.Configurations.{Configuration, MayBegin, Reaches, fits, after, weight, answered}
+use Rattle.vac_order.specs.Walk.{AreChoices, Place}
+
+-- where a search stands, how many answered calls have a place there, the calls that are left to try,
+-- the path that led there, and the configurations from which nothing is left to try
+pub record Search : Type 0 where
+  pub at : Configuration
+  pub placed : ℕ
+  pub tries : List Call
+  pub path : List Place
+  pub known : List Configuration
+
+-- no step was made: the calls that may come next are all left to try
+pub record HasBegun (start : Configuration) (search : Search) : Type 0 where
+  pub at : search.at ≡ start
+  pub placed : search.placed ≡ 0
+  pub path : search.path ≡ []
+  pub known : search.known ≡ []
+  pub choices : AreChoices start.rest search.tries
+
+-- this call is tried, which may come next; these are left
+pub record Tried (search : Search) (call : Call) (others : List Call) : Type 0 where
+  pub is : search.tries ≡ call ∷ others
+  pub may : MayBegin search.at.rest call
+
+-- a call is tried and passed over: it has another reply, or leads to what is known
+pub record PassesOver (search next : Search) : Type 0 where
+  pub call : Call
+  pub others : List Call
+  pub tried : Tried search call others
+  pub why : (fits search.at.state call ≡ false) ⊎ Contains search.known (after search.at call)
+  pub is : next ≡ record search { tries = others }
+
+-- a call is tried and made, and answered calls are left
+pub record GoesOn (search next : Search) : Type 0 where
+  pub call : Call
+  pub others : List Call
+  pub tried : Tried search call others
+  pub fit : fits search.at.state call ≡ true
+  pub some : 1 ≤ answered (after search.at call).rest
+  pub at : next.at ≡ after search.at call
+  pub placed : next.placed ≡ search.placed + weight call
+  pub choices : AreChoices next.at.rest next.tries
+  pub path : next.path ≡ search.path ++ (record {
+    at = search.at;
+    placed = search.placed;
+    call = call;
+    others = others;
+  }) ∷ []
+  pub known : next.known ≡ search.known
+
+-- nothing is left to try: that is known now, and the search goes back by a place
+pub record GoesBack (search next : Search) : Type 0 where
+  pub path : List Place
+  pub place : Place
+  pub none : search.tries ≡ []
+  pub led : search.path ≡ path ++ place ∷ []
+  pub is : next ≡ record {
+    at = place.at;
+    placed = place.placed;
+    tries = place.others;
+    path = path;
+    known = search.known ++ search.at ∷ [];
+  }
+
+-- what one step makes of a search
+abbrev pub MakesStep : Search → Search → Type 0
+MakesStep search next = PassesOver search next ⊎ GoesOn search next ⊎ GoesBack search next
+
+-- a search that began there has made so many steps, and nowhere placed more answered calls
+abbrev pub HasMade : ℕ → Configuration → Search → ℕ → Type 0
+HasMade zero start search most = HasBegun start search × (most ≡ 0)
+HasMade (suc steps) start search most =
+    (before : Search) × (less : ℕ) × HasMade steps start before less × MakesStep before search
+    × (most ≡ max less search.placed)
+
+-- so many answered calls have a place somewhere
+pub record Places (start : Configuration) (most : ℕ) : Type 0 where
+  pub calls : List Call
+  pub at : Configuration
+  pub reaches : Reaches start calls at
+  pub count : most + answered at.rest ≡ answered start.rest
+
+-- a search that began there has made so many steps, and neither found an order nor seen that there
+-- is none; so many answered calls had a place somewhere, and nowhere had more
+pub record IsUndecided (start : Configuration) (steps most : ℕ) : Type 0 where
+  pub search : Search
+  pub made : HasMade steps start search most
+  pub placed : Places start most
