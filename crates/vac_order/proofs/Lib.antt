@@ -14,3 +14,8 @@ pub mod Points
 pub mod StuckCalls
 pub mod Stable
 pub mod Soonest
+pub mod Turns
+pub mod Telling
+pub mod Kept
+pub mod Founds
+pub mod Printing

@@ -4,7 +4,7 @@ use Rattle.vac_judge.specs.Call.{Call}
 use Rattle.vac_judge.specs.Laws.{IsLinearization}
 use Rattle.vac_order.specs.declared.walk.Finding.{Finding}
 use Rattle.vac_order.specs.declared.walk.Finding.TheVariants as finding
-use Rattle.vac_order.specs.Orders.{IsMerge, IsOrderOf, IsLinearizable}
+use Rattle.vac_order.specs.Orders.{IsOrderOf, IsLinearizable}
 use Rattle.vac_order.specs.Configurations.{Configuration, start, answered, PlacesAtMost, Deepest}
 use Rattle.vac_order.specs.Calls.{no_call}
 use Rattle.vac_order.specs.Searching.{IsUndecided}
@@ -34,9 +34,3 @@ abbrev pub Judges : {W : Type 0} → (W → Configuration) → ℕ → List Call
 Judges at n calls steps (finding.Order places) = IsLinearizedBy n calls places.items
 Judges at n calls steps (finding.NoOrder most world) = HasNoOrder n calls most (at world)
 Judges at n calls steps (finding.Unknown most) = IsUndecided (start n calls) steps most
-
--- what is found of calls as they are kept, each client's as they are given
-pub record JudgesKept {W : Type 0} (at : W → Configuration) (n : ℕ) (calls kept : List Call)
-    (steps : ℕ) (found : Finding W) : Type 0 where
-  pub merges : IsMerge calls kept
-  pub judged : Judges at n kept steps found

@@ -9,3 +9,6 @@ pub mod Calls
 pub mod Point
 pub mod Stuck
 pub mod Judging
+pub mod Reading
+pub mod Found
+pub mod Ordering

@@ -1,10 +1,10 @@
 //! The calls of a history, as a search keeps them.
 
 ghost use Rattle.std.specs.Prelude.{◌≡◌, true, IfOk};
-ghost use Rattle.vac_order.specs.Orders.{IsMerge};
-ghost use Rattle.vac_order.specs.Walk.{InTurn};
-ghost use Rattle.vac_order.specs.Calls.{calls_of, are_sorted};
+ghost use Rattle.vac_order.specs.Calls.{are_sorted};
+ghost use Rattle.vac_order.specs.Reading.{IsHeld, AreKeptLines};
 
+use crate::history::History;
 use crate::line::Line;
 use crate::sorting::sorted_lines;
 use std::alloc::AllocError;
@@ -17,13 +17,12 @@ pub struct Calls {
 }
 
 impl Calls {
-    /// The calls of these lines in the order in which they ended. Each client's stand as they are
-    /// given, where those are in turn.
-    pub fn new(lines: Vec<Line>) -> Result<Calls, AllocError>
-        ensures { IfOk result (λ calls. InTurn (calls_of lines.items) →
-            IsMerge (calls_of lines.items) (calls_of calls.lines.items)) }
+    /// The calls of a history in the order in which they ended, each client's as they stand in it.
+    pub(crate) fn new(history: History) -> Result<Calls, AllocError>
+        requires { IsHeld history }
+        ensures { IfOk result (λ calls. AreKeptLines history.lines.items calls.lines.items) }
     {
-        let lines = sorted_lines(lines)?;
+        let lines = sorted_lines(history.lines)?;
         Ok(Calls { lines })
     }
 

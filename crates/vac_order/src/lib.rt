@@ -3,23 +3,26 @@
 #![tactic(auto)]
 
 mod calls;
+mod ends;
+mod found;
+mod history;
 mod known;
 mod line;
 mod machine;
 mod marks;
 mod order;
+mod ordering;
 mod path;
 mod point;
+mod reading;
+mod sequential;
 mod sorting;
 mod stuck;
 mod walk;
+mod watcher;
 mod world;
 
-pub use calls::Calls;
-pub use line::Line;
-pub use machine::Machine;
-pub use order::{Ordered, judge_lines, judge_order};
-pub use point::Point;
-pub use stuck::{Stuck, stuck_calls};
+pub use ordering::{Outcome, STEPS, order_history};
 pub use walk::{Finding, find_order};
+pub use watcher::Watcher;
 pub use world::World;

@@ -4,6 +4,7 @@ ghost use Rattle.std.specs.Prelude.{◌≡◌, IfOk, true, nat_lt, if◌then◌e
 ghost use Rattle.vac_order.specs.Orders.{IsMerge};
 ghost use Rattle.vac_order.specs.Walk.{InTurn};
 ghost use Rattle.vac_order.specs.Calls.{calls_of, are_sorted, soonest_of};
+ghost use Rattle.vac_order.specs.Reading.{AreSortOf};
 
 use crate::line::Line;
 use std::alloc::AllocError;
@@ -30,6 +31,7 @@ fn keep_soonest(lines: &mut [Line])
 /// The lines in the order in which their calls ended; those that ended at once keep theirs.
 pub(crate) fn sorted_lines(mut lines: Vec<Line>) -> Result<Vec<Line>, AllocError>
     ensures sorted { IfOk result (λ sorted. are_sorted sorted.items ≡ true) }
+    ensures same { IfOk result (λ sorted. AreSortOf lines.items sorted.items) }
     ensures merges { IfOk result (λ sorted. InTurn (calls_of lines.items) →
         IsMerge (calls_of lines.items) (calls_of sorted.items)) }
 {

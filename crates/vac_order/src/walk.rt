@@ -8,6 +8,7 @@ ghost use Rattle.vac_order.specs.Walking.{IsWithin, StaysWithin, Walks, WalksWit
 
 use crate::known::Known;
 use crate::path::{Frame, Walk};
+use crate::watcher::Watcher;
 use crate::world::World;
 use std::alloc::{AllocError, Global};
 
@@ -192,11 +193,12 @@ fn most_of<W>(walk: &Walk<W>) -> u64
 }
 
 /// Looks for an order of the calls that are left in a world, in at most so many steps.
-pub fn find_order<W: World + Drop>(
+pub fn find_order<W: World + Drop, P: Watcher>(
     alloc: Global,
     ground: &W::Ground,
     start: W,
     steps: u64,
+    watcher: &mut P,
 ) -> Result<Finding<W>, AllocError>
     requires { IsWhole ((W.view ground.now).at start).rest }
     ensures { IfOk result (λ found.
@@ -214,7 +216,8 @@ pub fn find_order<W: World + Drop>(
         best: 0,
         most: 0,
     };
-    'walk: for _made in 0..steps {
+    'walk: for made in 0..steps {
+        watcher.tell(walk.placed, made);
         match walk.step(alloc, ground)? {
             Step::On(next) => walk = next,
             Step::Found(places) => return Ok(Finding::Order(places)),

@@ -1,9 +1,9 @@
+use Rattle.std.proofs.Common.{◌^◌, ◌-◌}
 use Rattle.vac_order.specs.Calls.{calls_of}
 use Rattle.vac_order.proofs.Judged.{whole_kept}
 use Rattle.vac_order.proofs.order.judge_lines.Goals as goal
 
 pub judge_order-requires : goal.judge_order-requires
-judge_order-requires g c = whole_kept (calls_of c.args.lines.items) (calls_of c.in_ok-calls.calls.lines.items) (c.in_ok-calls.ensures c.requires.turn) c.requires
-
-pub returns : goal.returns
-returns g c = λ n e. record { merges = c.in_ok-calls.ensures c.requires.turn; judged = c.in_ok-finding.ensures n e }
+judge_order-requires g c =
+    whole_kept (calls_of c.args.history.lines.items) (calls_of c.in_ok-calls.calls.lines.items) c.in_ok-calls.ensures.merges
+    (record { turn = c.requires.turn; last = 2 ^ 64 - 1; timed = c.requires.timed })

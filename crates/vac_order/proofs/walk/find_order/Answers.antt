@@ -34,20 +34,20 @@ pub returns-in-Found : goal.returns-in-Found
 returns-in-Found g c =
     let views = g.W.World.view c.args.ground.now in
     let start = views.at c.args.start in
-    subst (StepsTo views start (suc c.walk._made)) c.in-Found.is (c.in_ok-next.ensures.steps start c.walk._made c.walk.invariant.1)
+    subst (StepsTo views start (suc c.walk.made)) c.in-Found.is (c.in_ok-next.ensures.steps start c.walk.made c.walk.invariant.1)
 
 pub returns-in-NoOrder : goal.returns-in-NoOrder
 returns-in-NoOrder g c =
     let views = g.W.World.view c.args.ground.now in
     let start = views.at c.args.start in
-    subst (StepsTo views start (suc c.walk._made)) c.in-NoOrder.is (c.in_ok-next.ensures.steps start c.walk._made c.walk.invariant.1)
+    subst (StepsTo views start (suc c.walk.made)) c.in-NoOrder.is (c.in_ok-next.ensures.steps start c.walk.made c.walk.invariant.1)
 
 pub walk-preserved : goal.walk-preserved
 walk-preserved g c =
     let views = g.W.World.view c.args.ground.now in
     let start = views.at c.args.start in (
       subst StaysWithin c.in-On.is c.in_ok-next.ensures.within,
-      subst (λ n. Walks views start n c.in-On.next) (sym (add-one c.walk._made)) (subst (StepsTo views start (suc c.walk._made)) c.in-On.is (c.in_ok-next.ensures.steps start c.walk._made c.walk.invariant.1)),
+      subst (λ n. Walks views start n c.in-On.next) (sym (add-one c.walk.made)) (subst (StepsTo views start (suc c.walk.made)) c.in-On.is (c.in_ok-next.ensures.steps start c.walk.made c.walk.invariant.1)),
     )
 
 pub returns : goal.returns
@@ -56,4 +56,4 @@ returns g c =
     let start = views.at c.args.start in
     let walk = c.walk.walk in
     subst (λ n. IsUndecided start n c.most_of.result) (omega arith)
-    (undecided views start c.walk._made walk (views.tries walk.world walk.next) c.most_of.result c.walk.invariant.1 c.most_of.ensures)
+    (undecided views start c.walk.made walk (views.tries walk.world walk.next) c.most_of.result c.walk.invariant.1 c.most_of.ensures)

@@ -1,0 +1,156 @@
+-- How a history is read of which only each client's own order is known.
+use Rattle.std.specs.Prelude.{◌≡◌, ◌≢◌, ◌⊎◌, ◌+◌, ◌-◌, ◌^◌, ◌≤◌, ⊤, ℕ, Bool, true, false, Option, Some, None, Result, Ok, Err, List, [], ◌∷◌, ◌++◌, map, length, get_or, All, IsPermutation, nat_lt, if◌then◌else◌}
+use Rattle.std.specs.List.{list_any}
+use Rattle.std.specs.Ordering.{nat_cmp}
+use Rattle.std.specs.FinMap.{FinMap, get}
+use Rattle.std.specs.Io.KnownBytes.{Consumes, IsAtEnd}
+use Rattle.vac_lines.specs.Lines.{lines_of}
+use Rattle.vac_lines.specs.declared.fault.LineFault.TheVariants.{LongLine}
+use Rattle.vac_streams.specs.declared.fault.StreamFault.{StreamFault}
+use Rattle.vac_streams.specs.declared.fault.StreamFault.TheVariants.{Write}
+use Rattle.vac_streams.specs.declared.next.Next.{Next}
+use Rattle.vac_streams.specs.declared.next.Next.TheVariants.{GoOn, Stop}
+use Rattle.vac_streams.specs.Told as told
+use Rattle.vac_judge.specs.declared.fault.CallFault.{CallFault}
+use Rattle.vac_judge.specs.declared.fault.CallFault.TheVariants as fault
+use Rattle.vac_judge.specs.declared.verdict.Verdict.{Verdict}
+use Rattle.vac_judge.specs.declared.verdict.Verdict.TheVariants.{Fault, Illegal}
+use Rattle.vac_judge.specs.declared.verdict.Wrong.TheVariants.{Client}
+use Rattle.vac_judge.specs.Call.{Call, line_call}
+use Rattle.vac_judge.specs.Order.{overlaps, breaks_client}
+use Rattle.vac_judge.specs.Follows.{EachCall}
+use Rattle.vac_judge.specs.Laws.{Lists}
+use Rattle.vac_order.specs.declared.line.Line.{Line}
+use Rattle.vac_order.specs.declared.history.History.{History}
+use Rattle.vac_order.specs.declared.reading.HistoryText.{HistoryText}
+use Rattle.vac_order.specs.declared.reading.Reading.{Reading}
+use Rattle.vac_order.specs.declared.reading.Reading.TheVariants.{Whole, Wrong}
+use Rattle.vac_order.specs.Calls.{call_of, calls_of, no_call, soonest_of}
+use Rattle.vac_order.specs.Orders.{IsMerge}
+use Rattle.vac_order.specs.Walking.{AreDistinct}
+use Rattle.vac_order.specs.Walk.{InTurn, IsTimed}
+
+-- what is wrong with the first of these lines that is no call, or whose call is not in turn behind
+-- those of its client; these calls stand before them
+abbrev pub wrong_behind : List Call → List (Result Call CallFault) → Option Verdict
+wrong_behind calls [] = None
+wrong_behind calls (Err fault ∷ rest) = Some (Fault (length calls + 1) fault)
+wrong_behind calls (Ok call ∷ rest) =
+    if breaks_client calls call then Some (Illegal (length calls + 1) Client)
+    else wrong_behind (calls ++ call ∷ []) rest
+
+-- what is wrong with the first line of a text that is no call or not in turn
+abbrev pub first_wrong : List ℕ → Option Verdict
+first_wrong bytes = wrong_behind [] (map line_call (lines_of bytes))
+
+-- the texts of lines
+abbrev pub texts_of : List Line → List (List ℕ)
+texts_of lines = map (λ line. line.text.items) lines
+
+-- a line has this number and this text, and is this call's
+pub record IsLineOf (number : ℕ) (text : List ℕ) (call : Call) (line : Line) : Type 0 where
+  pub number_is : line.number ≡ number
+  pub text_is : line.text.items ≡ text
+  pub call_is : call_of line ≡ call
+
+-- the lines have the numbers from this one on
+abbrev pub AreNumbered : ℕ → List Line → Type 0
+AreNumbered number [] = ⊤
+AreNumbered number (line ∷ lines) = (line.number ≡ number) × AreNumbered (number + 1) lines
+
+-- a call had not ended when another began
+abbrev pub began_before : Option ℕ → ℕ → Bool
+began_before None begin = false
+began_before (Some end) begin = nat_lt begin end
+
+-- by the last end of each client it is seen whether a call overlaps an earlier one
+abbrev pub KeepsEnds : FinMap nat_cmp ℕ → List Call → Type 0
+KeepsEnds ends calls = (call : Call) →
+    list_any (overlaps call) calls ≡ began_before (get ends call.client) call.begin
+
+-- the calls that were read are each client's in turn, and their lines are numbered
+pub record IsHeld (history : History) : Type 0 where
+  pub ends : KeepsEnds history.ends (calls_of history.lines.items)
+  pub turn : InTurn (calls_of history.lines.items)
+  pub timed : EachCall (IsTimed (2 ^ 64 - 1)) (calls_of history.lines.items)
+  pub numbered : AreNumbered 1 history.lines.items
+
+-- the numbers of lines
+abbrev pub numbers_of : List Line → List ℕ
+numbers_of lines = map (λ line. line.number) lines
+
+-- the call of the line with a number, the first being 1
+abbrev pub call_at : List Call → ℕ → Call
+call_at calls number = get_or calls (number - 1) no_call
+
+-- a line is the one of these that has its number
+pub record IsLineAt (lines : List Line) (line : Line) : Type 0 where
+  pub first : 1 ≤ line.number
+  pub last : line.number ≤ length lines
+  pub text : get_or (texts_of lines) (line.number - 1) [] ≡ line.text.items
+  pub call : call_at (calls_of lines) line.number ≡ call_of line
+
+-- these are the lines, each once, and each client's calls stand in both lists alike
+pub record AreKeptLines (lines kept : List Line) : Type 0 where
+  pub merges : IsMerge (calls_of lines) (calls_of kept)
+  pub each : All (IsLineAt lines) kept
+  pub distinct : AreDistinct (numbers_of kept)
+
+-- these are the lines in another order, each of which says from when on it and those after it begin
+abbrev pub AreSortOf : List Line → List Line → Type 0
+AreSortOf lines sorted =
+    (items : List Line) × IsPermutation lines items × (sorted ≡ soonest_of items)
+
+-- the call of a line was taken, which is in turn
+pub record Took (before after : History) (text : List ℕ) (call : Call) : Type 0 where
+  pub fits : breaks_client (calls_of before.lines.items) call ≡ false
+  pub held : IsHeld after
+  pub texts : texts_of after.lines.items ≡ texts_of before.lines.items ++ text ∷ []
+  pub calls : calls_of after.lines.items ≡ calls_of before.lines.items ++ call ∷ []
+
+-- a line was taken as a call more
+pub record TookLine (before after : HistoryText) (text : List ℕ) : Type 0 where
+  pub call : Call
+  pub is : line_call text ≡ Ok call
+  pub took : Took before.history after.history text call
+  pub wrong : after.wrong ≡ before.wrong
+
+-- a line is wrong behind those before it, whatever follows
+pub record StopsAt (before after : HistoryText) (line : Result Call CallFault) : Type 0 where
+  pub verdict : Verdict
+  pub wrong : after.wrong ≡ Some verdict
+  pub is : (more : List (Result Call CallFault)) →
+      wrong_behind (calls_of before.history.lines.items) (line ∷ more) ≡ Some verdict
+
+-- the number of the line behind those that were read
+abbrev pub next_line : HistoryText → ℕ
+next_line text = length text.history.lines.items + 1
+
+-- what being told a line makes of a text
+abbrev pub HearsLine : HistoryText → told.Told → Result Next StreamFault → HistoryText → Type 0
+HearsLine x told (Err fault) y = fault ≢ Write
+HearsLine x (told.Line text) (Ok GoOn) y = IsHeld x.history → TookLine x y text
+HearsLine x (told.Line text) (Ok Stop) y = IsHeld x.history → StopsAt x y (line_call text)
+HearsLine x told.LongLine (Ok next) y = (next ≡ Stop) × StopsAt x y (Err (fault.Line LongLine))
+HearsLine x told.Pause (Ok next) y = (next ≡ GoOn) × (y ≡ x)
+
+-- the input was read to its end, and its lines are these calls, each client's in turn
+pub record ReadWhole (unread left : Option (List ℕ)) (history : History) : Type 0 where
+  pub bytes : List ℕ
+  pub consumed : Consumes unread left bytes
+  pub ended : IsAtEnd left
+  pub held : IsHeld history
+  pub texts : texts_of history.lines.items ≡ lines_of bytes
+  pub listed : Lists bytes (calls_of history.lines.items)
+
+-- so much of the input was read as shows its first wrong line: all of it, or whatever follows
+pub record ReadWrong (unread left : Option (List ℕ)) (verdict : Verdict) : Type 0 where
+  pub bytes : List ℕ
+  pub consumed : Consumes unread left bytes
+  pub is : (IsAtEnd left × (first_wrong bytes ≡ Some verdict))
+      ⊎ ((x : List ℕ) → first_wrong (bytes ++ x) ≡ Some verdict)
+
+-- what was read
+abbrev pub WasRead : Option (List ℕ) → Option (List ℕ) → Reading → Type 0
+WasRead unread left (Whole history) = ReadWhole unread left history
+WasRead unread left (Wrong verdict) = ReadWrong unread left verdict

@@ -1,0 +1,113 @@
+//! The calls of a history as they are read, each client's in turn.
+
+ghost use Rattle.std.specs.Prelude.{◌≡◌, ◌<◌, ◌^◌, true, [], not, IfOk, MatchBool};
+ghost use Rattle.vac_model.specs.Ranges.{is_task};
+ghost use Rattle.vac_judge.specs.Order.{breaks_client};
+ghost use Rattle.vac_judge.specs.Parts.{shown_call, shown_end, shown_reply};
+ghost use Rattle.vac_order.specs.Calls.{calls_of, given_text};
+ghost use Rattle.vac_order.specs.Reading.{IsHeld, IsLineOf, Took};
+
+use crate::ends::Ends;
+use crate::line::Line;
+use std::alloc::{AllocError, Global};
+use vac_judge::{Answer, CallLine, NEVER};
+
+/// The calls that were read, in the order of their lines, and when each client's last ended.
+#[derive(Drop)]
+pub(crate) struct History {
+    pub(crate) lines: Vec<Line>,
+    pub(crate) ends: Ends,
+}
+
+/// When a call ended, or [`NEVER`].
+fn end_of(answer: Option<Answer<'_>>) -> u128
+    ensures { result ≡ shown_end answer.entry }
+{
+    match answer {
+        Some(answer) => u128::from(answer.end),
+        None => NEVER,
+    }
+}
+
+/// The text of a reply, where there was one.
+fn reply_of(alloc: Global, answer: Option<Answer<'_>>) -> Result<Option<Vec<u8>>, AllocError>
+    ensures { IfOk result (λ reply. given_text reply ≡ shown_reply answer.entry) }
+{
+    match answer {
+        Some(answer) => Ok(Some(Vec::from_slice(alloc, answer.reply)?)),
+        None => Ok(None),
+    }
+}
+
+/// The line of this number and text, which is this call's.
+fn line_of(alloc: Global, number: u64, text: &[u8], call: CallLine<'_>) -> Result<Line, AllocError>
+    requires { is_task call.task ≡ true }
+    ensures line { IfOk result (λ line.
+        IsLineOf number text.now (shown_call call.entry) line) }
+    ensures begun { IfOk result (λ _. call.entry.begin < 2 ^ 64) }
+{
+    let end = end_of(call.answer);
+    let reply = reply_of(alloc, call.answer)?;
+    Ok(Line {
+        number,
+        text: Vec::from_slice(alloc, text)?,
+        client: call.client,
+        begin: call.begin,
+        end,
+        task: call.task,
+        reply,
+        soonest: call.begin,
+    })
+}
+
+impl History {
+    /// No call.
+    pub(crate) fn new(alloc: Global) -> History
+        ensures held { IsHeld result }
+        ensures lines { result.lines.items ≡ [] }
+    {
+        History {
+            lines: Vec::new(alloc),
+            ends: Ends::new(alloc),
+        }
+    }
+
+    /// Whether a call is in turn behind those of its client.
+    fn is_in_turn(&self, call: &CallLine<'_>) -> bool
+        ensures { IsHeld self.now →
+            result ≡ not (breaks_client (calls_of self.now.lines.items) (shown_call call.now)) }
+    {
+        let begin = u128::from(call.begin);
+        if end_of(call.answer) < begin {
+            return false;
+        }
+        match self.ends.get(call.client) {
+            Some(last) => last <= begin,
+            None => true,
+        }
+    }
+
+    /// Takes the call of a line with this text, where it is in turn. Answers whether it is.
+    pub(crate) fn take(
+        &mut self,
+        alloc: Global,
+        text: &[u8],
+        call: CallLine<'_>,
+    ) -> Result<bool, AllocError>
+        requires { is_task call.task ≡ true }
+        ensures { IfOk result (λ taken. IsHeld self.old → MatchBool taken
+            (Took self.old self.new text.now (shown_call call.entry))
+            (breaks_client (calls_of self.old.lines.items) (shown_call call.entry) ≡ true)) }
+    {
+        if !self.is_in_turn(&call) {
+            return Ok(false);
+        }
+        let number = self.lines.len() as u64 + 1;
+        let client = call.client;
+        let end = end_of(call.answer);
+        let line = line_of(alloc, number, text, call)?;
+        self.ends.insert(client, end)?;
+        self.lines.push(line)?;
+        Ok(true)
+    }
+}

@@ -1,0 +1,27 @@
+//! The plain manager as what runs the tasks of calls.
+
+use crate::machine::Machine;
+use std::alloc::AllocError;
+use vac_model::{Reply, Task};
+use vac_sequential::{Sequential, SequentialFault};
+
+impl Machine for Sequential {
+    ghost state = { λ manager. manager };
+
+    fn make(&self, task: &Task) -> Result<(Sequential, Reply), AllocError> {
+        let mut next = self.copy()?;
+        match next.run(task) {
+            Ok(reply) => Ok((next, reply)),
+            Err(SequentialFault::Memory) => Err(AllocError),
+            Err(SequentialFault::Arguments) => unreachable!(),
+        }
+    }
+
+    fn is_same(&self, other: &Sequential) -> bool {
+        self.is_same(other)
+    }
+
+    fn hash(&self) -> u64 {
+        self.hash()
+    }
+}
