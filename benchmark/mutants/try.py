@@ -37,16 +37,20 @@ class Mutant:
         self.pairs = list(zip([text for key, text in fields if key == "old"],
                               [text for key, text in fields if key == "new"]))
 
-    def build(self, folder):
-        sources = folder / self.name
-        shutil.copytree(PEERS, sources)
-        lines = (sources / self.file).read_text(encoding="utf-8").splitlines()
+    def text(self):
+        """The file with the mistake in it."""
+        lines = (PEERS / self.file).read_text(encoding="utf-8").splitlines()
         for old, new in self.pairs:
             places = [i for i, line in enumerate(lines) if line.strip() == old]
             if len(places) != 1:
                 sys.exit(f"mutants: {self.name}: '{old}' stands {len(places)} times in {self.file}")
             lines[places[0]] = new
-        (sources / self.file).write_text("\n".join(lines) + "\n", encoding="utf-8")
+        return "\n".join(lines) + "\n"
+
+    def build(self, folder):
+        sources = folder / self.name
+        shutil.copytree(PEERS, sources)
+        (sources / self.file).write_text(self.text(), encoding="utf-8")
         program = folder / f"{self.name}.out"
         words = [os.environ.get("CXX", "g++"), "-std=c++17", "-O2", "-w", "-pthread",
                  sources / f"{self.peer}.cpp", "-o", program]
@@ -117,6 +121,7 @@ def read_arguments():
     parser.add_argument("--program", type=Path, default=PROGRAM, help="the program that judges")
     parser.add_argument("--runs", type=int, default=20, help="the most runs of each kind (default: 20)")
     parser.add_argument("--only", action="append", metavar="NAME", help="one of the edits")
+    parser.add_argument("--check", action="store_true", help="looks whether each edit can be made, and runs none")
     return parser.parse_args()
 
 
@@ -124,6 +129,9 @@ def main():
     arguments = read_arguments()
     mutants = [Mutant(path) for path in sorted(HERE.glob("*.edit"))
                if not arguments.only or path.stem in arguments.only]
+    if arguments.check:
+        print(f"mutants: {len([mutant.text() for mutant in mutants])} edits can be made")
+        return
     has_opaque = subprocess.run([arguments.program, "opaque", "--help"], capture_output=True).returncode == 0
     modes = ["--history"] + (["--attempts"] if has_opaque else [])
     trials = [Trial(arguments.program, mode, jitters, arguments.runs) for mode in modes for jitters in (False, True)]
