@@ -4,12 +4,14 @@
 
 #include "attempts.hpp"
 #include "history.hpp"
+#include "options.hpp"
 #include "task.hpp"
+#include "workload.hpp"
 
 #include <atomic>
 #include <cstddef>
 #include <new>
-#include <stdexcept>
+#include <vector>
 
 #include <sys/mman.h>
 
@@ -54,5 +56,15 @@ T* shared_values(std::size_t count)
         new (values + i) T();
     return values;
 }
+
+// What parent and child have of a run.
+struct Run {
+    const std::vector<ClientCalls>& calls;
+    const Options& options;
+    Board& board;
+    Progress* progress;
+    // Of each client the file of its attempts.
+    std::vector<int> files;
+};
 
 } // namespace vacation

@@ -26,18 +26,17 @@
 #include "attempts.hpp"
 #include "board.hpp"
 #include "history.hpp"
+#include "lookout.hpp"
 #include "manager.hpp"
+#include "options.hpp"
 #include "watch.hpp"
 #include "workload.hpp"
 
 #include <atomic>
-#include <chrono>
 #include <cstdio>
-#include <cstdlib>
 #include <exception>
 #include <optional>
 #include <string>
-#include <string_view>
 #include <thread>
 #include <vector>
 
@@ -49,73 +48,6 @@
 #include <unistd.h>
 
 namespace vacation {
-
-struct Options {
-    std::uint64_t blocks = 1024;
-    std::uint64_t tries = 64;
-    // The run ends where a client ends no call for so many seconds.
-    std::uint64_t patience = 60;
-    // Draws pauses between steps; 0: none.
-    std::uint64_t jitter = 0;
-    bool history = false;
-    bool attempts = false;
-
-    bool is_watched() const { return attempts || jitter != 0; }
-};
-
-constexpr char USAGE[] =
-    "usage: %s [--blocks N] [--tries N] [--patience SECONDS] [--jitter SEED]\n"
-    "    [--history | --attempts] < TASKS\n";
-
-// The status of a run that was ended because something stood still.
-constexpr int STOOD_STILL = 3;
-
-inline std::optional<std::uint64_t> number_up_to(std::string_view text, std::uint64_t most)
-{
-    std::uint64_t value = 0;
-    const auto [end, error] = std::from_chars(text.data(), text.data() + text.size(), value);
-    if (error != std::errc{} || end != text.data() + text.size() || value < 1 || value > most)
-        return std::nullopt;
-    return value;
-}
-
-struct NumberOption {
-    std::string_view name;
-    std::uint64_t Options::*value;
-    std::uint64_t most;
-};
-
-constexpr NumberOption NUMBER_OPTIONS[] = {
-    {"--blocks", &Options::blocks, MOST_BLOCKS},
-    {"--tries", &Options::tries, 1u << 20},
-    {"--patience", &Options::patience, 3600},
-    {"--jitter", &Options::jitter, UINT64_MAX},
-};
-
-inline std::optional<Options> read_options(int count, char** words)
-{
-    Options options;
-    for (int i = 1; i < count; ++i) {
-        const std::string_view name = words[i];
-        bool is_known = name == "--history" || name == "--attempts";
-        options.history |= name == "--history";
-        options.attempts |= name == "--attempts";
-        for (const NumberOption& option : NUMBER_OPTIONS) {
-            if (name != option.name)
-                continue;
-            const auto value = number_up_to(i + 1 < count ? words[++i] : "", option.most);
-            if (!value)
-                return std::nullopt;
-            options.*option.value = *value;
-            is_known = true;
-        }
-        if (!is_known)
-            return std::nullopt;
-    }
-    if (options.history && options.attempts)
-        return std::nullopt;
-    return options;
-}
 
 // ---- the clients
 
@@ -160,16 +92,6 @@ void run_call(Client& client, const Call& call, const Options& options, Progress
         progress.history[before] = {client.place(), begin, nanoseconds(), &call, reply};
     count.store(before + 1, std::memory_order_release);
 }
-
-// What the child process has of a run.
-struct Run {
-    const std::vector<ClientCalls>& calls;
-    const Options& options;
-    Board& board;
-    Progress* progress;
-    // Of each client the file of its attempts.
-    std::vector<int> files;
-};
 
 // The whole life of a client, in its thread. The opening is client 0.
 template <class Runtime>
@@ -221,85 +143,7 @@ int run_child(const Run& run)
     return 0;
 }
 
-// ---- the process that looks after them
-
-// How the child ended: by itself, or because something stood still.
-struct End {
-    int status = 0;
-    std::optional<std::string> stood_still;
-    // Answers of all clients by the end of each whole second.
-    std::vector<Word> by_second;
-};
-
-// Whether a client ends no call for too long, or the report no walk, and the answers by second.
-class Lookout {
-public:
-    explicit Lookout(const Run& run)
-        : run_(run), calls_(run.calls.size(), 0), since_(run.calls.size(), nanoseconds()),
-          all_ended_(nanoseconds())
-    {
-    }
-
-    std::optional<std::string> look(Word now)
-    {
-        bool have_ended = true;
-        for (std::size_t i = 0; i < calls_.size(); ++i) {
-            const Progress& progress = run_.progress[i];
-            const bool waits = i != 0 && run_.board.begun.load() == 0;
-            have_ended &= progress.ended.load() != 0;
-            if (progress.calls() != calls_[i] || progress.ended.load() != 0 || waits) {
-                calls_[i] = progress.calls();
-                since_[i] = now;
-            } else if (is_too_long(now - since_[i])) {
-                return "client " + std::to_string(run_.calls[i].client) + " has answered nothing";
-            }
-        }
-        if (!have_ended)
-            all_ended_ = now;
-        if (is_too_long(now - all_ended_))
-            return "what the clients left has not been walked through";
-        return std::nullopt;
-    }
-
-    void count_seconds(Word now, std::vector<Word>& by_second) const
-    {
-        const Word begun = run_.board.begun.load();
-        if (begun == 0 || now < begun + (by_second.size() + 1) * 1'000'000'000)
-            return;
-        Word answered = 0;
-        for (std::size_t i = 1; i < calls_.size(); ++i) {
-            if (run_.progress[i].ended.load() != 0)
-                return;
-            answered += run_.progress[i].answered.load();
-        }
-        by_second.push_back(answered);
-    }
-
-private:
-    bool is_too_long(Word nanos) const { return nanos > run_.options.patience * 1'000'000'000; }
-
-    const Run& run_;
-    std::vector<Word> calls_, since_;
-    Word all_ended_;
-};
-
-inline End look_after(pid_t child, const Run& run)
-{
-    End end;
-    Lookout lookout(run);
-    while (::waitpid(child, &end.status, WNOHANG) == 0) {
-        std::this_thread::sleep_for(std::chrono::milliseconds(5));
-        const Word now = nanoseconds();
-        lookout.count_seconds(now, end.by_second);
-        end.stood_still = lookout.look(now);
-        if (end.stood_still) {
-            ::kill(child, SIGKILL);
-            ::waitpid(child, &end.status, 0);
-            break;
-        }
-    }
-    return end;
-}
+// ---- what is written
 
 inline double seconds_of(const Run& run)
 {
