@@ -12,8 +12,9 @@
 //     bool commit();                       // .. this one, which also ends by
 //                                          // `return exit.fail(CONFLICT, addr)`
 //     Word place() const;                  // of the attempt that has ended: `2 * v` for a writer
-//                                          // of version v, `2 * v + 1` for one that only read,
-//                                          // or that met a conflict, what was there at version v
+//                                          // of version v, `2 * v + 1` for one that only read at
+//                                          // version v; for one that met a conflict, even at its
+//                                          // begin, `2 * v + 1` where its reads are of version v
 //
 // An attempt that leaves is at its end: no lock may be held then. No body holds anything that must
 // be destroyed. The second word of `Shared` says whether the order of the calls will be asked for;
