@@ -91,6 +91,7 @@ def function_at(text, old):
     if not indent or not owners:
         return name
     owner = re.sub(r"^<.*?> (?=\w)|\{.*", "", owners[-1][2].strip())
+    owner = re.sub(r"^(\w+)<([A-Z]\w+)> for ", r"\1\2 for ", owner)
     while re.search(r"<[^<>]*>", owner):
         owner = re.sub(r"<[^<>]*>", "", owner)
     trait, _, of = owner.strip().partition(" for ")
@@ -200,14 +201,33 @@ class Bed:
         """What a try of the plant comes to, and what shows it: first its functions alone, then the crate, unless no
         clause is meant to refuse it."""
         texts = plant.texts()
-        functions = plant.functions()
-        if functions:
-            status, said = self.check(texts, [word for name in functions for word in ("--only", name)])
-            came_to, shown = judged(status, said)
-            is_settled = came_to != PROVED or not plant.by.startswith("clause")
-            if came_to != UNSURE and is_settled:
-                return came_to, shown
-        return judged(*self.check(texts, []))
+        flags = [word for name in plant.functions() for word in ("--only", name)]
+        came_to, shown = self.attempt_by(texts, flags) if flags else (UNSURE, [])
+        if came_to == UNSURE or (came_to == PROVED and plant.by.startswith("clause")):
+            return self.attempt_by(texts, [])
+        return came_to, shown
+
+    def attempt_by(self, texts, flags):
+        """The same by one check; where answers by hand no longer fit, once more without these."""
+        status, said = self.check(texts, flags)
+        came_to, shown = judged(status, said)
+        texts, dropped = self.without_answers(texts, said)
+        if came_to != HAND or not dropped:
+            return came_to, shown
+        came_to, shown = judged(*self.check(texts, flags))
+        names = {name.strip(" !") for line in shown for name in line.split(": ", 1)[-1].split(",")}
+        if came_to == CLAUSE and names <= dropped and not any("!" in line for line in shown):
+            return HAND, [f"{line}, which wanted a proof by hand before" for line in shown]
+        return came_to, shown
+
+    def without_answers(self, texts, said):
+        """The texts without the answers by hand that no longer fit, and the names of these."""
+        texts, dropped = dict(texts), set()
+        for file, name in ANSWER.findall(said):
+            text = texts.get(file) or Path(f"{self.crate.folder}/{file}").read_text()
+            texts[file] = re.sub(rf"(?ms)^pub {re.escape(name)} :.*?(?=^pub |^abbrev |\Z)", "", text)
+            dropped.add(name)
+        return texts, dropped
 
     def close(self):
         """Removes what it kept."""
@@ -217,6 +237,7 @@ class Bed:
 GOALS = re.compile(r"^fn (\S+): (?:no proof|not proved): (?!it calls|it passes)(?:.*`search` did not prove (.*)|(.*))")
 FALSE = re.compile(r"^note: \S+: .*\(`([^`]+)`\).*allow values at which this goal is false")
 BY_HAND = re.compile(r"^\./(proofs/\S+\.antt):(\d+):\d+: error: (.*)")
+ANSWER = re.compile(r"(?m)^\./(proofs/\S+/Answers\.antt):\d+:\d+: error: `([^`]+)`")
 UNREAD = re.compile(r"^(?:\./)?src/\S+: error|\berror\[[\w-]+\]")
 
 
@@ -268,8 +289,10 @@ def tried_by_rows(plant):
             Path(f"{room}/crates/{plant.crate}/{path}").write_text(text)
         how = {"cwd": f"{room}/crates/{rows}", "stdin": subprocess.DEVNULL, "errors": "replace"}
         ran = subprocess.run(["rt", "try", "--test"], capture_output=True, check=False, **how)
-    said = (ran.stdout + ran.stderr).strip().split("\n")
-    return (PROVED if ran.returncode == 0 else ROW), said[-3:]
+    said = ran.stdout + ran.stderr
+    failed = re.findall(r"^test (\S+) \.\.\. FAILED", said, re.M)
+    came_to = PROVED if ran.returncode == 0 else ROW if "test result: FAILED" in said else UNSURE
+    return came_to, failed or said.strip().split("\n")[-3:]
 
 
 def try_crate(name, plants, options, counts):
