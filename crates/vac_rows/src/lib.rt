@@ -41,6 +41,8 @@ mod scripts;
 #[cfg(test)]
 mod spent;
 #[cfg(test)]
+mod states;
+#[cfg(test)]
 mod tasks;
 #[cfg(test)]
 mod threads;

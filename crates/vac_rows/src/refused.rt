@@ -45,6 +45,15 @@ fn open(rt: &(impl Abort + Print), alloc: Global) -> (Manager, Client)
     }
 }
 
+/// Opens a manager with one lock word, which is not used.
+fn open_with_one_lock_word(rt: &(impl Abort + Print), alloc: Global) {
+    if let Err(fault) = Manager::with_stripes(alloc, BLOCKS, LAST, 1) {
+        same(rt, &fault, &Fault::Memory);
+        note(rt, "with stripes");
+        holds(rt, Manager::with_stripes(alloc, BLOCKS, LAST, 1).is_ok());
+    }
+}
+
 fn make(rt: &(impl Abort + Print), alloc: Global, line: &Line<'_>) -> Task {
     if let Ok(task) = task_of(alloc, line) {
         return task;
@@ -237,6 +246,7 @@ fn audited(rt: &(impl Abort + Print), alloc: Global, words: &[u64]) -> Result<Re
 #[test]
 fn refused_calls_are_made_again(rt: HostRuntime) {
     let alloc = rt.alloc();
+    open_with_one_lock_word(&rt, alloc);
     let (manager, client) = open(&rt, alloc);
     let mut session = Session::of(&manager, client);
     two_clients(&rt, alloc, &mut session);
