@@ -7,7 +7,7 @@ use Rattle.stm_words.specs.Image.{In, Agrees}
 use Rattle.stm_words.specs.View.{HasRead, SameFrame, Words}
 use Rattle.stm_words.specs.Pairs.{map_of}
 use Rattle.stm_words.specs.Seen.{same_or, get_here, get_other}
-use Rattle.stm_words.proofs.Paired.{with_pairs-append, get-with_pairs, in_later}
+use Rattle.stm_words.specs.Paired.{with_pairs-append, get-with_pairs, in_later}
 use Rattle.stm_core.specs.Client.{Client}
 use Rattle.stm_logs.specs.Log.{LogValue, empty_log}
 use Rattle.stm_region.specs.Shown.{RegionShown}

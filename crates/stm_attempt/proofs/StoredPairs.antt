@@ -6,7 +6,7 @@ use Rattle.std.specs.FinMap.{get}
 use Rattle.std.specs.List.{flat_map}
 use mathlib.Core.Option.{some}
 use Rattle.stm_words.specs.Image.{In}
-use Rattle.stm_words.proofs.Paired.{in_later}
+use Rattle.stm_words.specs.Paired.{in_later}
 use Rattle.stm_core.specs.Client.{Client, Stamp, committed, writes_to, old_version, RecordLaw}
 use Rattle.stm_core.specs.Event.{put, after}
 use Rattle.stm_core.proofs.Held.{old_in}

@@ -1,10 +1,15 @@
--- What a record's writes make of every image that agrees with its reads.
-use Rattle.std.specs.Prelude.{◌≡◌, ℕ, ◌<◌, Bool, true, List, [], slice_index, length}
+-- What a record's writes make of every image that agrees with its reads: a record leads from what
+-- its transaction found to what it left.
+use Rattle.std.proofs.Common.{◌≡◌, ℕ, ◌<◌, Bool, true, false, List, [], ◌∷◌, Option, unwrap_or, slice_index, length, refl, sym, ap, subst, ◌∙◌, arith}
+use Rattle.std.specs.FinMap.{empty, get-empty, len-empty, len-entries}
+use Rattle.std.specs.Ordering.{nat_cmp}
 use Rattle.stm_words.specs.Image.{Agrees, laid}
 use Rattle.stm_words.specs.View.{View, Sees, memory}
+use Rattle.stm_words.specs.Paired.{agrees-map_of, laid-entries, length-laid}
+use Rattle.stm_core.specs.Client.{Client}
 use Rattle.stm_logs.specs.Log.{LogValue, empty_log, log_pairs}
 use Rattle.stm_region.specs.Shown.{RegionShown, ClientShown}
-use Rattle.stm_attempt.specs.Meaning.{memory_of, origin_of}
+use Rattle.stm_attempt.specs.Meaning.{memory_of, Origin, origin_of}
 
 -- what may hold of the first so many words of a memory
 abbrev pub Property : Type 1
@@ -62,3 +67,49 @@ pub record IsFitting (fits : List ℕ → Type 0) (m : ℕ → ℕ) (n : ℕ) : 
 abbrev pub KeepsFitting : (fits : List ℕ → Type 0) (reads writes : List (ℕ × ℕ)) → Type 0
 KeepsFitting fits reads writes =
     (image : List ℕ) → fits image → Agrees image reads → fits (laid image writes)
+
+-- where nothing is laid over the image
+unwritten : (image : List ℕ) (a : ℕ) →
+    memory image (empty {K = ℕ} {X = ℕ} {R = nat_cmp}) a ≡ slice_index image a
+unwritten image a =
+    ap (λ (o : Option ℕ). unwrap_or o (slice_index image a)) (get-empty nat_cmp a)
+
+no_length : {A : Type 0} (xs : List A) → length xs ≡ 0 → xs ≡ []
+no_length [] e = refl
+no_length (x ∷ xs) e = absurd (omega (arith, e))
+
+-- nothing is to be written where nothing is logged
+pub nothing_logged : log_pairs empty_log ≡ []
+nothing_logged =
+    no_length (log_pairs empty_log) (sym (len-entries empty_log.words) ∙ len-empty nat_cmp ℕ)
+
+module _ (fits : List ℕ → Type 0) (P Q : Property) (local_p : IsLocal P) (local_q : IsLocal Q) where
+  leads_on : (region region' : RegionShown) (v v' : Client) (w w' : LogValue) → w ≡ empty_log →
+      Carries P Q (memory_of true region fits v w) (memory_of true region' fits v' w') →
+      Leads fits P Q v'.attempt.reads (log_pairs w')
+  leads_on region region' v v' w w' e carries image f agrees p =
+      let seen : Sees (memory_of true region' fits v' w') image =
+      record { fits = f; agrees = agrees-map_of image v'.attempt.reads agrees } in
+      let before : P (memory image w.words) (length image) =
+      local_p (words_of image) (memory image w.words) (length image)
+      (λ a less. rw e (unwritten image a)) p in
+      let after : Q (memory image w'.words) (length image) = carries image seen before in
+      let long = length-laid image (log_pairs w') in
+      rw long (local_q (memory image w'.words) (words_of (laid image (log_pairs w')))
+      (length image) (λ a less. laid-entries w'.words image a less) after)
+
+  -- every record leads from P to Q where its transaction carries P to Q
+  pub records_lead : RecordsLead fits P Q
+  records_lead true true region region' name name' logs logs' c c' w w' runs e origin carries =
+      leads_on region region' c.value c'.value w w' e carries
+  records_lead true false region region' name name' logs logs' c c' w w' runs e origin carries =
+      absurd (let n : false ≡ true = ap (λ (o : Origin). o.in_use) origin in cc)
+  records_lead false in_use' region region' name name' logs logs' c c' w w' runs e origin carries =
+      absurd (let n = runs in cc)
+
+  -- the same of a transaction that only reads
+  pub readings_lead : ReadingsLead fits P Q
+  readings_lead running running' region region' name name' c c' runs origin carries =
+      subst (λ (ps : List (ℕ × ℕ)). Leads fits P Q c'.value.attempt.reads ps) nothing_logged
+      (records_lead running running' region region' name name' 0 0 c c' empty_log empty_log runs
+      refl origin carries)

@@ -12,7 +12,7 @@ use Rattle.stm_region.specs.Findings.{StandsOn}
 use Rattle.stm_attempt.specs.Begun.{still}
 use Rattle.std.proofs.Common.{refl, subst, ◌∙◌}
 use Rattle.std.proofs.Math.Logic.{∥∥₁_map}
-use Rattle.stm_words.proofs.Paired.{agrees-map_of}
+use Rattle.stm_words.specs.Paired.{agrees-map_of}
 
 -- the memory of a client in a region, with what it has read, and what it is to write; none once
 -- its attempt is over

@@ -9,7 +9,7 @@ use stm_words::Law;
 /// What the records of transactions make of images, as a contract. Where a transaction began with
 /// nothing written, and on every image on which its memory may stand leaves the words of a fitting
 /// image where it found some, its record keeps fitting images that agree with its reads. The same
-/// lemmas are there for any property of the words (`proofs/Leading.antt`).
+/// lemmas are there for any property of the words (`specs/Leading.antt`).
 pub fn records_keep_fitting<L: Law>()
     ensures records { RecordsLead L.fits (IsFitting L.fits) (IsFitting L.fits) }
     ensures readings { ReadingsLead L.fits (IsFitting L.fits) (IsFitting L.fits) }

@@ -5,6 +5,7 @@ use lib.ListN.{get_elem?}
 use mathlib.Core.Logic.{dite}
 use native.Mathlib.Decide.{ℕ_discrete}
 use Rattle.stm_words.specs.Image.{In}
+pub use Rattle.stm_core.specs.Merging.{nothing_in}
 
 module _ {A : Type 0} where
   pub at_set : (l : List A) (i j : ℕ) (a b : A) → get_elem? (set l i a) j ≡ some b → ((j ≡ i) × (a ≡ b)) ⊎ ((j ≢ i) × (get_elem? l j ≡ some b))
@@ -78,9 +79,6 @@ by_bool false f g = g refl
 
 pub clash : {X : Type 0} {b : Bool} → b ≡ true → b ≡ false → X
 clash p q = absurd (let k : true ≡ false = sym p ∙ q in cc)
-
-pub nothing_in : {A : Type 0} (x : A) → In x [] → ⊥
-nothing_in {A = A} x g = some-ne-none x (sym g.1)
 
 pub not_true : (b : Bool) → (b ≡ true → ⊥) → b ≡ false
 not_true true f = absurd (f refl)

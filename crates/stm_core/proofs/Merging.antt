@@ -7,37 +7,9 @@ use Rattle.stm_core.specs.Version.{At}
 use Rattle.stm_core.specs.Records.{Ordered}
 use Rattle.stm_core.specs.Invariant.{Sorted}
 use Rattle.stm_core.specs.History.{Sub, done, keep, skip, all_records}
-use Rattle.stm_core.proofs.Lists.{nothing_in, by_bool, clash}
-use Rattle.stm_core.proofs.Orders.{in_cons, in_merged, merged_left, merged_right, inserted_ordered, merged_ordered, behind, before_le}
-
-module _ {A : Type 0} where
-  pub sub_same : (l : List A) → Sub l l
-  sub_same [] = done
-  sub_same (x ∷ xs) = keep x (sub_same xs)
-
-  pub sub_trans : {l m n : List A} → Sub l m → Sub m n → Sub l n
-  sub_trans done q = done
-  sub_trans (keep x p) (keep y q) = keep x (sub_trans p q)
-  sub_trans (skip y p) (keep z q) = skip y (sub_trans p q)
-  sub_trans (keep x p) (skip z q) = skip z (sub_trans (keep x p) q)
-  sub_trans (skip y p) (skip z q) = skip z (sub_trans (skip y p) q)
-
-  pub in_sub : {l m : List A} (x : A) → Sub l m → In x l → In x m
-  in_sub x done i = absurd (nothing_in x i)
-  in_sub x (keep y {xs = l} p) i = ⊎_elim (λ e. (0, ap some e)) (λ j. let q = in_sub x p j in (suc q.0, q.1)) (in_cons y x l i)
-  in_sub x (skip z p) i = let q = in_sub x p i in (suc q.0, q.1)
-
-sub_inserted : (y : Record) (l : List Record) → Sub l (inserted y l)
-sub_inserted y [] = done
-sub_inserted y (x ∷ l) = go (before y x) (sub_inserted y l)
-  where
-    go : (b : Bool) → Sub l (inserted y l) → Sub (x ∷ l) (cond b (y ∷ x ∷ l) (x ∷ inserted y l))
-    go true p = skip y (sub_same (x ∷ l))
-    go false p = keep x p
-
-pub sub_left : (l m : List Record) → Sub l (merged l m)
-sub_left l [] = sub_same l
-sub_left l (y ∷ m) = sub_trans (sub_inserted y l) (sub_left (inserted y l) m)
+pub use Rattle.stm_core.specs.Merging.{sub_same, sub_trans, in_sub, sub_left}
+use Rattle.stm_core.proofs.Lists.{nothing_in, clash}
+use Rattle.stm_core.proofs.Orders.{in_merged, merged_left, merged_right, inserted_ordered, merged_ordered, before_le}
 
 one_in : (y : Record) (l : List Record) → Sub (y ∷ []) (inserted y l)
 one_in y [] = keep y done
@@ -67,7 +39,7 @@ sub_all p l [] s o q f g = rw (append-nil p) s
 sub_all p l (y ∷ m) s o q f g =
     subst (λ k. Sub k (merged (inserted y l) m)) (append_assoc p (y ∷ []) m)
     (sub_all (p ++ y ∷ []) (inserted y l) m (sub_last y s (sorted_of l o) (λ x i. g x y i (0, refl))) (inserted_ordered y l o (λ x i. f x y i (0, refl))) q.1
-    (λ x z i j. ⊎_elim (λ e. subst (λ (k : Record). k.writer ≡ true → z.writer ≡ true → k.version ≢ z.version) e (q.0 z j).1) (λ k. f x z k (suc j.0, j.1)) (Rattle.stm_core.proofs.Orders.in_inserted y l x i))
+    (λ x z i j. ⊎_elim (λ e. subst (λ (k : Record). k.writer ≡ true → z.writer ≡ true → k.version ≢ z.version) e (q.0 z j).1) (λ k. f x z k (suc j.0, j.1)) (Rattle.stm_core.specs.Merging.in_inserted y l x i))
     (λ x z i j. ⊎_elim (λ k. g x z k (suc j.0, j.1)) (λ e. subst (λ k. before z k ≡ false) e (q.0 z j).0) (Rattle.stm_core.proofs.Lists.in_snoc p y x i)))
 
 pub sub_right : (l m : List Record) → Ordered l → Ordered m → ((x y : Record) → In x l → In y m → x.writer ≡ true → y.writer ≡ true → x.version ≢ y.version) → Sub m (merged l m)

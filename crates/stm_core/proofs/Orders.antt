@@ -1,56 +1,11 @@
 -- Lists of records in order: what stands in them, and that they stay in order.
-use Rattle.std.proofs.Common.{◌≡◌, ◌≢◌, ℕ, zero, suc, ◌<◌, ◌≤◌, ◌⊎◌, inl, inr, ⊎_elim, Bool, true, false, cond, eqb, ltb, ◌||◌, ◌&&◌, List, [], ◌∷◌, refl, sym, ap, subst, arith}
-use mathlib.Core.Option.{some, some-injective}
-use lib.ListN.{get_elem?}
+use Rattle.std.proofs.Common.{◌≡◌, ◌≢◌, ℕ, suc, ◌<◌, ◌≤◌, ◌⊎◌, inl, inr, ⊎_elim, Bool, true, false, cond, eqb, ltb, ◌||◌, ◌&&◌, List, [], ◌∷◌, refl, sym, subst, arith}
 use Rattle.std.proofs.lemmas.Bool.Decides.{nat_tests}
 use Rattle.stm_words.specs.Image.{In}
 use Rattle.stm_core.specs.Client.{Record, before, rank, inserted, merged}
 use Rattle.stm_core.specs.Records.{Follows, Ordered}
+pub use Rattle.stm_core.specs.Merging.{in_cons, in_inserted, in_merged, inserted_in, inserted_old, merged_left, merged_right}
 use Rattle.stm_core.proofs.Lists.{nothing_in, not_true, clash, by_bool}
-
-module _ {A : Type 0} where
-  pub in_cons : (x y : A) (xs : List A) → In y (x ∷ xs) → (x ≡ y) ⊎ In y xs
-  in_cons x y xs i = go i.0 i.1
-    where
-      go : (j : ℕ) → get_elem? (x ∷ xs) j ≡ some y → (x ≡ y) ⊎ In y xs
-      go zero e = inl (some-injective x y e)
-      go (suc j) e = inr (j, e)
-
-pub in_inserted : (r : Record) (l : List Record) (x : Record) → In x (inserted r l) → (r ≡ x) ⊎ In x l
-in_inserted r [] x i = in_cons r x [] i
-in_inserted r (y ∷ l) x i = go (before r y) i (λ h. in_inserted r l x h)
-  where
-    go : (b : Bool) → In x (cond b (r ∷ y ∷ l) (y ∷ inserted r l)) → (In x (inserted r l) → (r ≡ x) ⊎ In x l) → (r ≡ x) ⊎ In x (y ∷ l)
-    go true j f = in_cons r x (y ∷ l) j
-    go false j f = ⊎_elim (λ e. inr (0, ap some e)) (λ k. ⊎_elim (λ e. inl e) (λ o. inr (suc o.0, o.1)) (f k)) (in_cons y x (inserted r l) j)
-
-pub in_merged : (l m : List Record) (x : Record) → In x (merged l m) → In x l ⊎ In x m
-in_merged l [] x i = inl i
-in_merged l (y ∷ m) x i = ⊎_elim (λ p. ⊎_elim (λ e. inr (0, ap some e)) (λ o. inl o) (in_inserted y l x p)) (λ p. inr (suc p.0, p.1)) (in_merged (inserted y l) m x i)
-
-pub inserted_in : (r : Record) (l : List Record) → In r (inserted r l)
-inserted_in r [] = (0, refl)
-inserted_in r (y ∷ l) = go (before r y) (inserted_in r l)
-  where
-    go : (b : Bool) → In r (inserted r l) → In r (cond b (r ∷ y ∷ l) (y ∷ inserted r l))
-    go true i = (0, refl)
-    go false i = (suc i.0, i.1)
-
-pub inserted_old : (r : Record) (l : List Record) (x : Record) → In x l → In x (inserted r l)
-inserted_old r [] x i = absurd (nothing_in x i)
-inserted_old r (y ∷ l) x i = go (before r y) (in_cons y x l i) (λ h. inserted_old r l x h)
-  where
-    go : (b : Bool) → (y ≡ x) ⊎ In x l → (In x l → In x (inserted r l)) → In x (cond b (r ∷ y ∷ l) (y ∷ inserted r l))
-    go true j f = ⊎_elim (λ e. (1, ap some e)) (λ h. (suc (suc h.0), h.1)) j
-    go false j f = ⊎_elim (λ e. (0, ap some e)) (λ h. let q = f h in (suc q.0, q.1)) j
-
-pub merged_left : (l m : List Record) (x : Record) → In x l → In x (merged l m)
-merged_left l [] x i = i
-merged_left l (y ∷ m) x i = merged_left (inserted y l) m x (inserted_old y l x i)
-
-pub merged_right : (l m : List Record) (x : Record) → In x m → In x (merged l m)
-merged_right l [] x i = absurd (nothing_in x i)
-merged_right l (y ∷ m) x i = ⊎_elim (λ e. subst (λ z. In z (merged (inserted y l) m)) e (merged_left (inserted y l) m y (inserted_in y l))) (λ h. merged_right (inserted y l) m x h) (in_cons y x m i)
 
 -- the order of places is strict
 before_is : (a b c d e f : ℕ) → (ltb a d || (eqb a d && (ltb b e || (eqb b e && ltb c f)))) ≡ true → (a < d) ⊎ ((a ≡ d) × ((b < e) ⊎ ((b ≡ e) × (c < f))))

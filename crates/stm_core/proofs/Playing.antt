@@ -409,7 +409,7 @@ module _ (lawful : RecordLaw) (lk : ℕ → ℕ) where
   }
 
   -- and the list of events with it decides what the histories have
-  event_traced : (start : Core) (es : List Event) (c : Core) (a : Event) (old h : List Record) → Trace lk start es c (old ++ h) → CanPlay lawful lk a c → Trace lk start (es ++ a ∷ []) (played lk a c) (earlier_after a old h ++ history_after lk a c h)
+  pub event_traced : (start : Core) (es : List Event) (c : Core) (a : Event) (old h : List Record) → Trace lk start es c (old ++ h) → CanPlay lawful lk a c → Trace lk start (es ++ a ∷ []) (played lk a c) (earlier_after a old h ++ history_after lk a c h)
   event_traced start es c (acts k e) old h t may =
       let rs = made lk (acts k e) c in
       let one = at_most_one lawful lk start es c (old ++ h) t k e may in
@@ -431,7 +431,7 @@ module _ (lawful : RecordLaw) (lk : ℕ → ℕ) where
     pub trace : Trace lk start es c (old ++ new)
     pub first : c.first ≡ start.first
 
-  first_stays : (e : Event) (c : Core) → (played lk e c).first ≡ c.first
+  pub first_stays : (e : Event) (c : Core) → (played lk e c).first ≡ c.first
   first_stays (acts k e) c = sym (ap (λ (f : Frame). f.first) (frame_stays (record { client = k; place = c.events; renewal = c.renewal }) lk e (k - 1) (client_of c k) c))
   first_stays _ c = refl
 

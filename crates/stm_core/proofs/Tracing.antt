@@ -74,7 +74,7 @@ module _ (lk : ℕ → ℕ) where
   core_after lawful (e ∷ es) c d h = core_after lawful es (played lk e c) d h.1
 
 -- a step stays where it is when an event more comes
-step_stays : (es : List Event) (x : Event) (k a n : ℕ) (e : Action) → IsStepOf es k a n e → IsStepOf (es ++ x ∷ []) k a n e
+pub step_stays : (es : List Event) (x : Event) (k a n : ℕ) (e : Action) → IsStepOf es k a n e → IsStepOf (es ++ x ∷ []) k a n e
 step_stays es x k a n e s = (at_longer es x (acts k e) n s.0, begins_before k es x (suc n) (in_range es n (acts k e) s.0) ∙ s.1)
 
 -- the client is as it was, as far as a list of events shows it
@@ -506,6 +506,31 @@ module _ (lawful : RecordLaw) (lk : ℕ → ℕ) (start : Core) (es : List Event
         go (wins f none run number began rv is at' wv undecided) = inl none
         go (decides r f one run number ends says o) = inr (r, one)
 
+    -- what the client was to write before the step, where it is to write it after the step, or in a record
+    abbrev pub Since : ℕ → List (ℕ × ℕ) → Type 0
+    Since ticked_at writes = ((it.attempt.phase ≡ running) × (0 < it.attempt.wv) × (it.attempt.ticked_at ≡ ticked_at) × (it.attempt.writes ≡ writes)) ⊎ (ticked_at ≡ c.events)
+
+    writing_since : then.attempt.phase ≡ running → 0 < then.attempt.wv → Since then.attempt.ticked_at then.attempt.writes
+    writing_since run above = go turn_it
+      where
+        go : Turn (stamp_of c k) e (found lk c e) (client_of c k) (after (stamp_of c k) lk e (found lk c e) (client_of c k)) (made lk (acts k e) c) → Since then.attempt.ticked_at then.attempt.writes
+        go (opens is none run' number began rv wv) = absurd (omega (arith, above, wv))
+        go (rests f none q) = let t = q.ticked run above in inl ((q.runs run).0, t.0, sym t.2, sym t.4)
+        go (wins f none run' number began rv is at' wv undecided) = inr at'
+        go (decides r f one run' number ends says o) = absurd (ends run)
+
+    -- a record that the step decides as a writer's
+    pub decided_since : (r : Record) → In r (made lk (acts k e) c) → r.writer ≡ true → Since r.point r.writes
+    decided_since r m writer = go turn_it
+      where
+        go : Turn (stamp_of c k) e (found lk c e) (client_of c k) (after (stamp_of c k) lk e (found lk c e) (client_of c k)) (made lk (acts k e) c) → Since r.point r.writes
+        go (opens is none run' number began rv wv) = not_in r (made lk (acts k e) c) none m
+        go (rests f none q) = not_in r (made lk (acts k e) c) none m
+        go (wins f none run' number began rv is at' wv undecided) = not_in r (made lk (acts k e) c) none m
+        go (decides x f one run' number ends says o) =
+            subst (λ (y : Record). y.writer ≡ true → Since y.point y.writes) (in_one x r (made lk (acts k e) c) one m)
+            (λ u. ⊎_elim (λ p. inl (run', p.0, sym p.1, sym p.4)) (λ p. inr p.1) (o.writer u)) writer
+
     other : (j : ℕ) → j ≢ k - 1 → is_begin_of (suc j) (acts k e) ≡ false
     other j n = not_its k (suc j) e (λ z. n (let a = may.0.0 in omega arith))
 
@@ -596,6 +621,24 @@ module _ (lawful : RecordLaw) (lk : ℕ → ℕ) (start : Core) (es : List Event
       (λ j o a. inl (who_set c.clients (k - 1) (renewing v) (λ j o. (u : Client) × At c.clients j u × (o.is_gathered ≡ false → u.is_gathered ≡ false) × Rests u o)
       (v, may.0.1, (λ s. may.0.2), record { number = refl; runs = λ r. ending_idle r; ticked = λ r z. ending_idle r; commits = λ z. (let q : false ≡ true = z in absurd cc) }) (λ j o b n. (o, b, (λ s. s), same o o refl refl refl refl refl refl refl refl)) j o a))
       (let a = length-set c.clients (k - 1) (renewing v) in omega (arith, a)) h' from old many
+
+  -- who is to write after an event was to write the same before it, or won its tick by it
+  abbrev pub WroteBefore : Client → ℕ → Client → Type 0
+  WroteBefore o j v = At c.clients j v × (v.attempt.phase ≡ running) × (0 < v.attempt.wv) × (v.attempt.ticked_at ≡ o.attempt.ticked_at) × (v.attempt.writes ≡ o.attempt.writes)
+
+  abbrev pub IsWriting : ℕ → Client → Type 0
+  IsWriting j o = o.attempt.phase ≡ running → 0 < o.attempt.wv → ((v : Client) × WroteBefore o j v) ⊎ (o.attempt.ticked_at ≡ c.events)
+
+  pub writing_before : (x : Event) → CanPlay lawful lk x c → (j : ℕ) (o : Client) → At (played lk x c).clients j o → IsWriting j o
+  writing_before (acts k e) may = who_set c.clients (k - 1) (then k e may) (λ j o. IsWriting j o)
+      (λ run above. ⊎_elim (λ p. inl (client_of c k, (may.0.1, p.0, p.1, p.2, p.3))) (λ p. inr p) (writing_since k e may run above))
+      (λ j o a n run above. inl (o, (a, run, above, refl, refl)))
+  writing_before (splits k) may = λ j o a. ⊎_elim
+      (λ p. who_set c.clients (k - 1) (giving (client_of c k)) (λ j o. IsWriting j o) (λ run above. inl (client_of c k, (may.0.1, run, above, refl, refl))) (λ j o a n run above. inl (o, (a, run, above, refl, refl))) j o p)
+      (λ p run above. ending_idle (ap (λ (y : Client). y.attempt.phase) p.1 ∙ run)) (last_at (set c.clients (k - 1) (giving (client_of c k))) (fresh (client_of c k)) o j a)
+  writing_before (gathers k l) may = who_set (set c.clients (k - 1) (taking (client_of c k) (client_of c l))) (l - 1) gone (λ j o. IsWriting j o) (λ run above. ending_idle run)
+      (λ j o a n. who_set c.clients (k - 1) (taking (client_of c k) (client_of c l)) (λ j o. IsWriting j o) (λ run above. inl (client_of c k, (may.0.1, run, above, refl, refl))) (λ j o a n run above. inl (o, (a, run, above, refl, refl))) j o a)
+  writing_before (renews k last) may = who_set c.clients (k - 1) (renewing (client_of c k)) (λ j o. IsWriting j o) (λ run above. ending_idle run) (λ j o a n run above. inl (o, (a, run, above, refl, refl)))
 
 -- a list of events that decides nothing yet
 pub opening_trace : (lk : ℕ → ℕ) (image : List ℕ) (last stripes : ℕ) → Trace lk (opened image last stripes) [] (opened image last stripes) []

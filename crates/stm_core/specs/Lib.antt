@@ -6,6 +6,7 @@ pub mod Version
 pub mod Records
 pub mod Invariant
 pub mod History
+pub mod Merging
 pub mod Listed
 pub mod Theorem
 pub mod Examples

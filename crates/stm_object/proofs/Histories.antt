@@ -1,17 +1,16 @@
 -- Serial lawful records are a history, and a decided attempt stands in it.
 use Rattle.std.proofs.Common.{◌≡◌, ℕ, zero, List, [], ◌∷◌, refl, sym, ap, ◌∙◌, subst}
 use Rattle.stm_words.specs.Image.{In, laid}
-use Rattle.stm_words.proofs.Paired.{in_later}
+use Rattle.stm_words.specs.Paired.{in_later}
 use Rattle.stm_core.specs.Client.{Client, Record, inserted}
 use Rattle.stm_core.specs.Event.{finish}
 use Rattle.stm_core.specs.History.{Serial, Sub, image_after, all_records}
-use Rattle.stm_core.proofs.Merging.{in_sub}
-use Rattle.stm_core.proofs.Orders.{inserted_in}
+use Rattle.stm_core.specs.Merging.{in_sub, inserted_in}
 use Rattle.stm_region.specs.Shown.{RegionShown, ClientShown, acted}
 use Rattle.stm_region.specs.Closed.{Ends}
 use Rattle.stm_attempt.specs.Committing.{HasCommitted, DecidesWith, WasDecided, commit_record}
 use Rattle.stm_object.specs.Object.{IsLawful}
-use Rattle.stm_object.specs.History.{IsHistory, IsOpened, Adds, WasInOrder, Closes}
+use Rattle.stm_object.specs.History.{IsHistory, IsOpened, Adds, AddsReader, WasInOrder, Closes}
 
 -- the record of a commit has its tag, and the numbers of its attempt and its renewal
 tag_of : (region : RegionShown) (tag : List ℕ) (v : Client) (pairs : List (ℕ × ℕ)) (version : ℕ)
@@ -42,6 +41,19 @@ added code entry region region' pairs version v w u v' same done start end = rec
   records = ap (λ (x : Client). x.records) end
       ∙ (done.records ∙ ap (λ (rs : List Record). inserted (commit_record region' (code entry) w pairs version) rs)
       start);
+}
+
+-- a commit of nothing adds a record that writes nothing
+pub spared : (region : RegionShown) (tag : List ℕ) (pairs : List (ℕ × ℕ)) (version : ℕ) (v w u v' : Client)
+    → pairs ≡ [] → HasCommitted region tag pairs w u version → w.records ≡ v.records → v' ≡ u → AddsReader v v'
+spared region tag pairs version v w u v' none done start end = record {
+  made = commit_record region tag w [] version;
+  reader = refl;
+  writes = refl;
+  records = ap (λ (x : Client). x.records) end
+      ∙ (done.records
+      ∙ (ap (λ (ps : List (ℕ × ℕ)). inserted (commit_record region tag w ps version) w.records) none
+      ∙ ap (λ (rs : List Record). inserted (commit_record region tag w [] version) rs) start));
 }
 
 -- a finished reader adds the record of its entry

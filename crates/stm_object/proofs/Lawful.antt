@@ -1,6 +1,6 @@
 -- A body that was run over a running transaction makes a lawful record.
 use Rattle.std.proofs.Common.{◌≡◌, ℕ, suc, ◌<◌, Bool, true, false, List, [], ◌∷◌, Option, length, slice_index, unwrap_or, refl, sym, ap, ◌∙◌, arith}
-use Rattle.std.specs.FinMap.{entries, get-empty, len-empty, len-entries}
+use Rattle.std.specs.FinMap.{entries, get-empty}
 use Rattle.std.specs.Ordering.{nat_cmp}
 use Rattle.stm_words.specs.Image.{laid}
 use Rattle.stm_words.specs.View.{Words}
@@ -8,8 +8,7 @@ use Rattle.stm_core.specs.Client.{Client}
 use Rattle.stm_logs.specs.Log.{LogValue, empty_log, log_pairs}
 use Rattle.stm_region.specs.Shown.{RegionShown, ClientShown}
 use Rattle.stm_attempt.specs.Meaning.{memory_of, Origin, origin_of}
-use Rattle.stm_attempt.specs.Leading.{Property, IsLocal}
-use Rattle.stm_attempt.proofs.Leading.{records_lead, readings_lead}
+use Rattle.stm_attempt.specs.Leading.{Property, IsLocal, nothing_logged, records_lead, readings_lead}
 use Rattle.stm_object.specs.Object.{IsLawful}
 use Rattle.stm_object.specs.Bodies.{Are, HasFitting, Did}
 
@@ -31,13 +30,6 @@ has_fitting fits size true region region' v w u same h e = record {
     ),
   );
 }
-
-no_length : {A : Type 0} (xs : List A) → length xs ≡ 0 → xs ≡ []
-no_length [] e = refl
-no_length (x ∷ xs) e = absurd (omega (arith, e))
-
-nothing_logged : log_pairs empty_log ≡ []
-nothing_logged = no_length (log_pairs empty_log) (sym (len-entries empty_log.words) ∙ len-empty nat_cmp ℕ)
 
 -- a body that left the writes as they were has nothing to write
 pub nothing_written : (fits : List ℕ → Type 0) (in_use in_use' : Bool) (region region' : RegionShown) (n n' l l' : ℕ)

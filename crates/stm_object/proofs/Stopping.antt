@@ -11,7 +11,7 @@ use Rattle.stm_attempt.specs.declared.conflict.Conflict.{Conflict}
 use Rattle.stm_attempt.specs.declared.conflict.Stop.{Stop}
 use Rattle.stm_attempt.specs.declared.conflict.Stop.TheVariants as stop
 use Rattle.stm_object.specs.Object.{IsLawful}
-use Rattle.stm_object.specs.History.{Adds, Records, WasInOrder, IsAlone, IsNoConflict, WasRead, WasShown, WouldWrite, IsStop, IsConflict, Missed, Misses, AreTries, HasRun, HasAsked}
+use Rattle.stm_object.specs.History.{Adds, AddsReader, Spares, Records, WasInOrder, IsAlone, IsNoConflict, WasRead, WasShown, WouldWrite, IsStop, IsConflict, Missed, Misses, AreTries, HasRun, HasAsked}
 
 -- a read showed the conflict that the attempt kept
 pub shown_by_read : (region region' : RegionShown) (conflict : Conflict) (v v' : Client) → region' ≡ region
@@ -161,6 +161,16 @@ module _ {E : Type 0} (fits : List ℕ → Type 0) (code : E → List ℕ) (find
   }
   order_from region entry v w v' (Err e) start k = tt
 
+  spares_from : {A X : Type 0} (changes : A → Bool) (v w v' : Client) (result : Result A X) → w.records ≡ v.records
+      → Spares changes result w v' → Spares changes result v v'
+  spares_from changes v w v' (Ok a) start k = λ no. let r = k no in record {
+    made = r.made;
+    reader = r.reader;
+    writes = r.writes;
+    records = r.records ∙ ap (λ (rs : List Record). inserted r.made rs) start;
+  }
+  spares_from changes v w v' (Err e) start k = tt
+
   -- a call, by its last attempt
   pub has_run : {A : Type 0} (region : RegionShown) (entry : A → E) (changes : A → Bool) (tries left left' : ℕ)
       (v w v' : Client) (answer result : Result A Stop) → answer ≡ result
@@ -168,16 +178,17 @@ module _ {E : Type 0} (fits : List ℕ → Type 0) (code : E → List ℕ) (find
       → left ≡ left' + 1 →
       w.grants ≡ v.grants → w.records ≡ v.records → v'.grants ≡ w.grants → v'.attempt.number ≡ w.attempt.number + 1
       → Records code region entry result w v'
-      → IfOk result (λ a. WasInOrder fits code finds after region (entry a) w v') →
+      → IfOk result (λ a. WasInOrder fits code finds after region (entry a) w v') → Spares changes result w v' →
       (IsAlone w → IfErr result (λ s. IsNoConflict s))
       → IfErr result (λ s. IsStop fits code finds after region entry changes 1 s w v')
       → ((conflict : Conflict) → result ≡ Err (stop.Conflict conflict) → left' ≡ 0)
       → HasRun fits code finds after region entry changes tries answer v v'
-  has_run region entry changes tries left left' v w v' answer result is t less grants start same next records order alone
-      stopped last = rw is (record {
+  has_run region entry changes tries left left' v w v' answer result is t less grants start same next records order
+      spares alone stopped last = rw is (record {
         grants = same ∙ grants;
         records = records_from region entry v w v' result start records;
         order = order_from region entry v w v' result start order;
+        spares = spares_from changes v w v' result start spares;
         alone = λ a. alone (grants ∙ a);
         attempts = tried (λ conflict x. WasShown fits code finds after region entry changes conflict x) tries left left' v w v'
             t less next;

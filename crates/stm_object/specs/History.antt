@@ -1,5 +1,5 @@
 -- What is known of the records of all clients, told by an object's entries, and of a call's tries.
-use Rattle.std.specs.Prelude.{◌≡◌, ◌≢◌, ◌⊎◌, ℕ, zero, suc, ◌+◌, Bool, true, List, [], ◌∷◌, Result, Ok, Err, IfOk, IfErr, IsOk}
+use Rattle.std.specs.Prelude.{◌≡◌, ◌≢◌, ◌⊎◌, ℕ, zero, suc, ◌+◌, Bool, true, false, List, [], ◌∷◌, Result, Ok, Err, IfOk, IfErr, IsOk}
 use Rattle.stm_words.specs.Image.{In}
 use Rattle.stm_core.specs.Client.{Client, Record, inserted}
 use Rattle.stm_core.specs.History.{Sub, all_records}
@@ -39,6 +39,17 @@ pub record Adds {E : Type 0} (code : E → List ℕ) (region : RegionShown) (ent
   pub attempt_is : made.attempt ≡ v'.attempt.number
   pub renewal_is : made.renewal ≡ region.renewal
   pub records : v'.records ≡ inserted made v.records
+
+-- exactly one record was added, which writes nothing
+pub record AddsReader (v v' : Client) : Type 0 where
+  pub made : Record
+  pub reader : made.writer ≡ false
+  pub writes : made.writes ≡ []
+  pub records : v'.records ≡ inserted made v.records
+
+-- an answer that changes nothing left a record that writes nothing
+abbrev pub Spares : {A X : Type 0} → (A → Bool) → Result A X → Client → Client → Type 0
+Spares changes result v v' = IfOk result (λ a. changes a ≡ false → AddsReader v v')
 
 -- at an answer the record of its entry was added, at a refusal none
 abbrev pub Records : {E A X : Type 0} → (E → List ℕ) → RegionShown → (A → E) → Result A X →
@@ -175,6 +186,7 @@ pub record HasRun {E A : Type 0} (fits : List ℕ → Type 0) (code : E → List
   pub grants : v'.grants ≡ v.grants
   pub records : Records code region entry result v v'
   pub order : IfOk result (λ a. WasInOrder fits code finds after region (entry a) v v')
+  pub spares : Spares changes result v v'
   pub alone : IsAlone v → IfErr result (λ stop. IsNoConflict stop)
   pub attempts : AreTries
       (λ conflict w. WasShown fits code finds after region entry changes conflict w) tries v v'

@@ -7,6 +7,9 @@ use stm_words::{Law, Tag};
 
 /// A shared object by its sequential specification: which lists of data words it may be, and what
 /// each operation with its answer finds in them and leaves.
+///
+/// Not said: that two entries have two codes. A record has the code alone, so where two entries
+/// share one it tells of either.
 pub trait Object {
     /// An operation with its answer: the tag of its record.
     type Entry: Tag + Drop;

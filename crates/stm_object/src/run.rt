@@ -4,7 +4,7 @@ ghost use Rattle.std.specs.Prelude.{◌≡◌, ◌+◌, ◌≤◌, Bool, false, 
 ghost use Rattle.stm_core.specs.Core.{IsFreeHanded};
 ghost use Rattle.stm_object.specs.Bodies.{HasFitting, Did};
 ghost use Rattle.stm_object.specs.History.{IsOpened, Records, WasInOrder, IsAlone, IsNoConflict};
-ghost use Rattle.stm_object.specs.History.{IsConflict, IsStop, HasRun, HasAsked};
+ghost use Rattle.stm_object.specs.History.{IsConflict, IsStop, HasRun, HasAsked, Spares};
 
 use crate::object::{Object, ObjectLaw};
 use crossbeam_utils::Backoff;
@@ -13,8 +13,9 @@ use stm_region::{Client, Region};
 use stm_words::{TxMem, TxRead};
 
 /// What a transaction does, over any memory, and what it tells of its answer. `entry_of` is the
-/// entry of an answer, and `changes` says whether such an answer may write: one that does not
-/// change anything wrote nothing.
+/// entry of an answer, and `changes` says of which answers the body may have written.
+///
+/// Not said: that an answer for which `changes` is true wrote something.
 pub trait Body<S: Object> {
     /// What it answers.
     type Answer: Drop;
@@ -54,6 +55,7 @@ pub fn attempt_once<S: Object, B: Body<S>>(
         client.old.value client.new.value }
     ensures order { IfOk result (λ a. WasInOrder S.fits S.Entry.numbers S.finds S.after region.now
         (B.entry_of body.now a) client.old.value client.new.value) }
+    ensures spares { Spares (λ a. B.changes body.now a) result client.old.value client.new.value }
     ensures alone { IsAlone client.old.value → IfErr result (λ stop. IsNoConflict stop) }
     ensures attempt { client.new.value.attempt.number ≡ client.old.value.attempt.number + 1 }
     ensures stopped { IfErr result (λ stop. IsStop S.fits S.Entry.numbers S.finds S.after region.now

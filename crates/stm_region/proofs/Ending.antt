@@ -12,6 +12,7 @@ use Rattle.stm_core.proofs.Renewing.{opening_rules, begins_rules, past_before}
 use Rattle.stm_core.proofs.Whole.{closes, all_grants, knows, own_sorted}
 use Rattle.stm_region.specs.Shown.{Opened, RegionShown, opened_with}
 use Rattle.stm_core.specs.Guards.{stripe_of}
+use Rattle.stm_region.specs.declared.layout.TheConstants.{FIRST_LOCK}
 use Rattle.stm_region.specs.Layout.{padding, first_cell}
 use Rattle.stm_region.specs.Rule.{listed, IsCoreState}
 use Rattle.stm_region.specs.Closed.{Ends}
@@ -33,16 +34,16 @@ drop_all (x ∷ xs) ys (suc n) e = drop_all xs ys n (omega arith)
 image_behind : (image : List ℕ) (stripes : ℕ) → drop (first_cell stripes) (replicate (first_cell stripes) 0 ++ image) ≡ image
 image_behind image stripes = drop_all (replicate (first_cell stripes) 0) image (first_cell stripes) (length-replicate (first_cell stripes) 0)
 
-laid_out : (image : List ℕ) (stripes : ℕ) → replicate (first_cell stripes) 0 ++ image ≡ 0 ∷ (replicate 15 0 ++ (replicate stripes 0 ++ (replicate (padding stripes) 0 ++ image)))
+laid_out : (image : List ℕ) (stripes : ℕ) → replicate (first_cell stripes) 0 ++ image ≡ 0 ∷ (replicate (FIRST_LOCK - 1) 0 ++ (replicate stripes 0 ++ (replicate (padding stripes) 0 ++ image)))
 laid_out image stripes =
-    let e : first_cell stripes ≡ suc (15 + (stripes + padding stripes)) = omega arith in
-    rw e (ap (λ xs. 0 ∷ xs) (zeros 15 (stripes + padding stripes) image ∙ ap (λ xs. replicate 15 0 ++ xs) (zeros stripes (padding stripes) image)))
+    let e : first_cell stripes ≡ suc (FIRST_LOCK - 1 + (stripes + padding stripes)) = omega arith in
+    rw e (ap (λ xs. 0 ∷ xs) (zeros (FIRST_LOCK - 1) (stripes + padding stripes) image ∙ ap (λ xs. replicate (FIRST_LOCK - 1) 0 ++ xs) (zeros stripes (padding stripes) image)))
 
 module _ (fits : List ℕ → Type 0) (lawful : RecordLaw) where
   opens : {S : Type 0} (image : List ℕ) (last stripes : ℕ) → fits image → last < 2 ^ 62 → 0 < stripes → IsCoreState {S = S} fits lawful record { image = image; last = last; stripes = stripes; first = image; renewal = 0; start = opener } (opening (replicate (first_cell stripes) 0 ++ image) [] opener)
   opens image last stripes f top one = record {
     core = opened image last stripes;
-    gap = replicate 15 0;
+    gap = replicate (FIRST_LOCK - 1) 0;
     pad = replicate (padding stripes) 0;
     words = laid_out image stripes;
     views = refl;
@@ -68,7 +69,7 @@ module _ (fits : List ℕ → Type 0) (lawful : RecordLaw) where
       (subst (λ ys. IsCoreState {S = S} fits lawful record { image = ys; last = last; stripes = stripes; first = ys; renewal = 0; start = opener } (opening (replicate (first_cell stripes) 0 ++ image) [] opener)) (sym (image_behind image stripes)) (opens image last stripes f top one))
 
 -- the data words, from their place on
-cells_behind : (gap pad : List ℕ) (c : Core) (s : ℕ) → length gap ≡ 15 → length c.locks ≡ s → length pad ≡ padding s → drop (first_cell s) (listed gap pad c) ≡ c.cells
+cells_behind : (gap pad : List ℕ) (c : Core) (s : ℕ) → length gap ≡ FIRST_LOCK - 1 → length c.locks ≡ s → length pad ≡ padding s → drop (first_cell s) (listed gap pad c) ≡ c.cells
 cells_behind gap pad c s g l p =
     let e : first_cell s ≡ suc (length gap + (length c.locks + length pad)) = omega arith in
     rw e (behind gap (c.locks ++ (pad ++ c.cells)) (length c.locks + length pad) ∙ (behind c.locks (pad ++ c.cells) (length pad) ∙ drop_all pad c.cells (length pad) refl))
@@ -122,7 +123,7 @@ pub reopens : {S : Type 0} (fits : List ℕ → Type 0) (lawful : RecordLaw) (r 
     → IsCoreState {S = S} fits lawful record { image = words; last = last; stripes = r.stripes; first = r.first; renewal = r.renewal + 1; start = renewing v } (opening (replicate (first_cell r.stripes) 0 ++ words) [] (renewing v))
 reopens {S} fits lawful r v words version last h free may f one = record {
   core = begun_on r.first words (r.renewal + 1) last r.stripes (renewing v);
-  gap = replicate 15 0;
+  gap = replicate (FIRST_LOCK - 1) 0;
   pad = replicate (padding r.stripes) 0;
   words = laid_out words r.stripes;
   views = refl;

@@ -24,6 +24,7 @@ use Rattle.stm_core.proofs.Whole.{whole_shared, opening_fits, knows}
 use Rattle.stm_core.proofs.Histories.{image_fits}
 use Rattle.stm_core.proofs.Facts.{some_fits, grants_of_two, ahead, all_lawful, one_version}
 use Rattle.stm_region.specs.Shown.{Opened, RegionShown, joined, opened_with, bounds, unplaced}
+use Rattle.stm_region.specs.declared.layout.TheConstants.{FIRST_LOCK}
 use Rattle.stm_region.specs.Layout.{place, first_cell, InRange, IsLaid, IsStore}
 use Rattle.stm_region.specs.Findings.{IsLockWord, IsVersion, StandsOn, IsRightAfter, IsOneEvent, IsOfOneVersionAt, DecidesAt, Tells, Happens, acting, IsEarlier, AreEarlier}
 use Rattle.stm_region.specs.Traced.{IsTraced}
@@ -335,7 +336,7 @@ module _ (fits : List ℕ → Type 0) (lawful : RecordLaw) (law : Keeping fits l
         (acts_in words key run slots id me e word (λ _. new) (λ _. acting fits lawful r e (step 0 0 0 0 none) me new) is range may (λ c i a l. sym (does (found lk c e))) (λ n t h. stored me e s n new t h))
 
     pub subtracts_here : (words : ℕ) (key : Opened) → Runs words key r → (t : RegionShown) → t ≡ r → (slots id : ℕ) (me : Me S Client) (e : Action) (k word : ℕ)
-        → e ≡ give_back k → word ≡ 16 + k → k < r.stripes → May lawful lk (bounds r) (give_back k) me.0
+        → e ≡ give_back k → word ≡ FIRST_LOCK + k → k < r.stripes → May lawful lk (bounds r) (give_back k) me.0
         → (word < words) × Allows (IsCoreState fits lawful key) slots id me word (λ n. (n + (18446744073709551616 - 1)) % 18446744073709551616) (acting fits lawful t e (step 0 0 0 0 none) me)
     subtracts_here words key run t q slots id me e k word gives is range may =
         subst (λ x. (word < words) × Allows (IsCoreState fits lawful key) slots id me word (λ n. (n + (18446744073709551616 - 1)) % 18446744073709551616) (acting fits lawful t x (step 0 0 0 0 none) me)) (sym gives)

@@ -4,6 +4,7 @@ use Rattle.stm_core.specs.Client.{Client}
 use Rattle.stm_core.specs.Core.{Core, found, left, written}
 use Rattle.stm_core.specs.Event.{Action, begin, probe, fetch, check, lock, tick, validate, put, release, give_back, finish}
 use Rattle.stm_core.specs.Guards.{stripe_of}
+use Rattle.stm_region.specs.declared.layout.TheConstants.{FIRST_LOCK}
 use Rattle.stm_region.specs.Layout.{place, padding, first_cell, InRange}
 use Rattle.stm_region.specs.Rule.{listed}
 
@@ -33,23 +34,23 @@ set_again (x ∷ xs) (suc i) = ap (λ ys. x ∷ ys) (set_again xs i)
 pub stripe_lt : (s a : ℕ) → 0 < s → stripe_of s a < s
 stripe_lt s a h = omega arith
 
-module _ (gap pad : List ℕ) (c : Core) (s : ℕ) (g : length gap ≡ 15) (l : length c.locks ≡ s) (p : length pad ≡ padding s) where
+module _ (gap pad : List ℕ) (c : Core) (s : ℕ) (g : length gap ≡ FIRST_LOCK - 1) (l : length c.locks ≡ s) (p : length pad ≡ padding s) where
   all : List ℕ
   all = listed gap pad c
 
-  lock_place : (k : ℕ) → 16 + k ≡ suc (length gap + k)
+  lock_place : (k : ℕ) → FIRST_LOCK + k ≡ suc (length gap + k)
   lock_place k = omega arith
 
   cell_place : (a : ℕ) → first_cell s + a ≡ suc (length gap + (length c.locks + (length pad + a)))
   cell_place a = omega arith
 
-  lock_there : (k : ℕ) → k < s → slice_index (listed gap pad c) (16 + k) ≡ slice_index c.locks k
+  lock_there : (k : ℕ) → k < s → slice_index (listed gap pad c) (FIRST_LOCK + k) ≡ slice_index c.locks k
   lock_there k h = rw (lock_place k) (get_right gap (c.locks ++ (pad ++ c.cells)) k ∙ get_left c.locks (pad ++ c.cells) k (omega arith))
 
   cell_there : (a : ℕ) → slice_index (listed gap pad c) (first_cell s + a) ≡ slice_index c.cells a
   cell_there a = rw (cell_place a) (get_right gap (c.locks ++ (pad ++ c.cells)) (length c.locks + (length pad + a)) ∙ (get_right c.locks (pad ++ c.cells) (length pad + a) ∙ get_right pad c.cells a))
 
-  lock_set : (k n : ℕ) → k < s → slice_set (listed gap pad c) (16 + k) n ≡ listed gap pad (record c { locks = slice_set c.locks k n })
+  lock_set : (k n : ℕ) → k < s → slice_set (listed gap pad c) (FIRST_LOCK + k) n ≡ listed gap pad (record c { locks = slice_set c.locks k n })
   lock_set k n h = rw (lock_place k) (ap (λ zs. c.clock ∷ zs) (set_right gap (c.locks ++ (pad ++ c.cells)) k n ∙ ap (λ zs. gap ++ zs) (set_left c.locks (pad ++ c.cells) k n (omega arith))))
 
   cell_set : (a n : ℕ) → slice_set (listed gap pad c) (first_cell s + a) n ≡ listed gap pad (record c { cells = slice_set c.cells a n })
@@ -109,7 +110,7 @@ stays c (release k) m = lock_stays c k m
 stays c (give_back k) m = lock_stays c k m
 stays c _ m = same c
 
-lock_in : (s size words k : ℕ) → words ≡ first_cell s + size → k < s → 16 + k < words
+lock_in : (s size words k : ℕ) → words ≡ first_cell s + size → k < s → FIRST_LOCK + k < words
 lock_in s size words k w h = let p : s ≤ first_cell s = omega arith in omega arith
 
 cell_in : (s size words a : ℕ) → words ≡ first_cell s + size → a < size → first_cell s + a < words

@@ -6,15 +6,13 @@ use Rattle.stm_core.specs.Core.{left}
 use Rattle.stm_core.specs.Event.{Action, begin, probe, fetch, check, lock, tick, validate, put, release, give_back, finish}
 use Rattle.stm_region.specs.Shown.{Opened}
 use Rattle.stm_core.specs.Guards.{stripe_of}
-use Rattle.stm_region.specs.declared.layout.TheConstants.{CLOCK, FIRST_LOCK, LINE_WORDS, LINE_START}
+use Rattle.stm_region.specs.declared.layout.TheConstants.{CLOCK, FIRST_LOCK, LINE_WORDS}
 use Rattle.stm_words.specs.declared.version.TheConstants.{VERSION_LIMIT}
 use Rattle.stm_core.specs.declared.limits.TheConstants.{MOST_WORDS, MOST_STRIPES}
 
--- how many words stand between the lock words and the data words: the rest of a line, and so many
--- more as the data words begin behind the next
+-- how many words stand between the lock words and the data words: the rest of a line
 abbrev pub padding : ℕ → ℕ
-padding stripes =
-    LINE_START + (LINE_WORDS - 1) - (stripes + (LINE_WORDS - 1)) % LINE_WORDS
+padding stripes = (LINE_WORDS - 1) - (stripes + (LINE_WORDS - 1)) % LINE_WORDS
 
 -- the first data word
 abbrev pub first_cell : ℕ → ℕ

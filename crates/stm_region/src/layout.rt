@@ -1,6 +1,6 @@
 //! Where the words of a region stand in its table: the clock, a gap, the lock words, a padding and
-//! the data words.
-ghost use Rattle.std.specs.Prelude.{◌≡◌, ◌+◌, ◌++◌, ◌≤◌, length, replicate, IfOk};
+//! the data words. Lock words and data words begin with a cache line.
+ghost use Rattle.std.specs.Prelude.{◌≡◌, ◌+◌, ◌%◌, ◌++◌, ◌≤◌, length, replicate, IfOk};
 ghost use Rattle.stm_region.specs.Layout.{first_cell, padding};
 
 use crate::limits::{MOST_STRIPES, MOST_WORDS};
@@ -9,15 +9,18 @@ use std::alloc::{AllocError, Allocator};
 /// The place of the clock.
 pub(crate) const CLOCK: usize = 0;
 
-/// The place of the first lock word. Those before it leave the clock alone on its cache lines.
-pub(crate) const FIRST_LOCK: usize = 16;
-
 /// A cache line has so many words.
 const LINE_WORDS: usize = 8;
 
-/// The first data word stands so many places behind a multiple of a line. The usual allocator puts
-/// the table 16 bytes behind the start of a line, so that a line of data words begins there.
+/// A line of the table begins so many places behind a multiple of a line: the usual allocator puts
+/// a table 16 bytes behind the start of a line.
 const LINE_START: usize = 6;
+
+/// The place of the first lock word, where a line begins. One line is left empty before it, so that
+/// the clock shares neither its own line nor the next with a lock word.
+pub(crate) const FIRST_LOCK: usize = LINE_WORDS + LINE_START;
+
+const _: () = prove!(FIRST_LOCK % LINE_WORDS == LINE_START);
 
 /// The words of a region at its opening: the clock and the lock words at 0, and the image.
 pub(crate) fn lay_out<A: Allocator>(
@@ -38,19 +41,19 @@ pub(crate) fn lay_out<A: Allocator>(
     Ok(words)
 }
 
-/// The place of the first data word.
+/// The place of the first data word, where a line begins.
 pub(crate) fn first_cell(stripes: u32) -> usize
     requires { stripes ≤ MOST_STRIPES }
-    ensures { result ≡ first_cell stripes }
+    ensures place { result ≡ first_cell stripes }
+    ensures line { result % LINE_WORDS ≡ LINE_START }
 {
     FIRST_LOCK + stripes as usize + padding(stripes)
 }
 
-/// How many words stand between the lock words and the data words: the rest of a line, and so many
-/// more as the data words begin behind the next.
+/// How many words stand between the lock words and the data words: the rest of a line.
 fn padding(stripes: u32) -> usize
     requires { stripes ≤ MOST_STRIPES }
     ensures { result ≡ padding stripes }
 {
-    LINE_START + (LINE_WORDS - 1) - (stripes as usize + (LINE_WORDS - 1)) % LINE_WORDS
+    (LINE_WORDS - 1) - (stripes as usize + (LINE_WORDS - 1)) % LINE_WORDS
 }

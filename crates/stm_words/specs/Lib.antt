@@ -5,3 +5,4 @@ pub mod Seen
 pub mod Plain
 pub mod PlainSeen
 pub mod Pairs
+pub mod Paired

@@ -1,5 +1,5 @@
-use Rattle.stm_attempt.specs.Leading.{IsFitting}
-use Rattle.stm_attempt.proofs.Leading.{records_lead, readings_lead, fitting_local, keeps_fitting}
+use Rattle.stm_attempt.specs.Leading.{IsFitting, records_lead, readings_lead}
+use Rattle.stm_attempt.proofs.Leading.{fitting_local, keeps_fitting}
 use Rattle.stm_attempt.proofs.theorem.records_keep_fitting.Goals as goal
 
 pub returns-clause-records : goal.returns-clause-records

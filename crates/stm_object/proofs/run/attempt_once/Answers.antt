@@ -2,7 +2,7 @@ use Rattle.std.proofs.Common.{rules, inl, ap, ◌∙◌}
 use Rattle.stm_region.specs.Shown.{ClientShown}
 use Rattle.stm_attempt.specs.Meaning.{Origin}
 use Rattle.stm_object.proofs.Lawful.{has_fitting, nothing_written, lawful}
-use Rattle.stm_object.proofs.Histories.{added, in_order}
+use Rattle.stm_object.proofs.Histories.{added, spared, in_order}
 use Rattle.stm_object.proofs.Stopping.{shown_by_read, commit_stop}
 use Rattle.stm_object.proofs.run.attempt_once.Goals as goal
 
@@ -32,6 +32,14 @@ returns-in-Ok-commit-clause-records g c =
     added g.S.Entry.Tag.numbers (g.B.Body.entry_of c.args.body.now c.in-Ok.found) _ _ _ _ c.args.client.now.value _ _
     _ (ap (λ (o : Origin). o.region) c.run-answer.ensures.origin ∙ c.begin-attempt.ensures.region)
     (rw c.entry-entry.ensures at c.in-Ok-commit.ensures.ok)
+    (ap (λ (o : Origin). o.client.value.records) c.run-answer.ensures.origin
+    ∙ ap (λ (x : ClientShown). x.value.records) c.begin-attempt.ensures.value) (search rules)
+
+pub returns-in-Ok-commit-clause-spares : goal.returns-in-Ok-commit-clause-spares
+returns-in-Ok-commit-clause-spares g c = λ no.
+    spared _ _ _ _ c.args.client.now.value _ _ _
+    (nothing_written g.S.Object.fits _ _ _ _ _ _ _ _ _ _ _ _ c.begin-attempt.ensures.empty.2
+    c.begin-attempt.ensures.empty.1 c.in-Ok.ensures.origin (c.in-Ok.ensures.wrote no)) c.in-Ok-commit.ensures.ok
     (ap (λ (o : Origin). o.client.value.records) c.run-answer.ensures.origin
     ∙ ap (λ (x : ClientShown). x.value.records) c.begin-attempt.ensures.value) (search rules)
 

@@ -30,7 +30,7 @@ returns-in_default-2 g c = record {
       c.tries.client.value c.attempt_once.new.client.value (Err _) c.attempt_once.result (search rules)
       c.tries.invariant.trying (omega (arith, c.tries.invariant.some))
       c.tries.invariant.grants c.tries.invariant.records c.attempt_once.ensures.grants c.attempt_once.ensures.attempt
-      c.attempt_once.ensures.records c.attempt_once.ensures.order c.attempt_once.ensures.alone
+      c.attempt_once.ensures.records c.attempt_once.ensures.order c.attempt_once.ensures.spares c.attempt_once.ensures.alone
       c.attempt_once.ensures.stopped (λ conflict is. search rules);
 }
 
@@ -40,7 +40,7 @@ returns-in_default-clause-call g c = has_run g.S.Object.fits g.S.Entry.Tag.numbe
     c.args.client.now.value c.tries.client.value c.attempt_once.new.client.value _ c.attempt_once.result
     (search rules) c.tries.invariant.trying (omega (arith, c.tries.invariant.some))
     c.tries.invariant.grants c.tries.invariant.records c.attempt_once.ensures.grants c.attempt_once.ensures.attempt
-    c.attempt_once.ensures.records c.attempt_once.ensures.order c.attempt_once.ensures.alone
+    c.attempt_once.ensures.records c.attempt_once.ensures.order c.attempt_once.ensures.spares c.attempt_once.ensures.alone
     c.attempt_once.ensures.stopped (λ conflict is. search rules)
 
 pub returns-in_default-3-clause-call : goal.returns-in_default-3-clause-call
@@ -49,5 +49,5 @@ returns-in_default-3-clause-call g c = has_run g.S.Object.fits g.S.Entry.Tag.num
     (c.tries.left - 1) c.args.client.now.value c.tries.client.value c.attempt_once.new.client.value _
     c.attempt_once.result (search rules) c.tries.invariant.trying (omega (arith, c.tries.invariant.some))
     c.tries.invariant.grants c.tries.invariant.records c.attempt_once.ensures.grants c.attempt_once.ensures.attempt
-    c.attempt_once.ensures.records c.attempt_once.ensures.order c.attempt_once.ensures.alone
+    c.attempt_once.ensures.records c.attempt_once.ensures.order c.attempt_once.ensures.spares c.attempt_once.ensures.alone
     c.attempt_once.ensures.stopped (λ conflict is. search rules)

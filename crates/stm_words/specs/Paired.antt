@@ -11,24 +11,30 @@ use Rattle.stm_words.specs.Pairs.{with_pairs, map_of}
 use Rattle.stm_words.specs.Seen.{same_or, get_here, get_other}
 
 -- one pair more at the end is an insertion
-pub with_pairs-append : (m : Words) (ps : List (ℕ × ℕ)) (a v : ℕ) → with_pairs m (ps ++ (a, v) ∷ []) ≡ insert (with_pairs m ps) a v
+pub with_pairs-append : (m : Words) (ps : List (ℕ × ℕ)) (a v : ℕ) →
+    with_pairs m (ps ++ (a, v) ∷ []) ≡ insert (with_pairs m ps) a v
 with_pairs-append m [] a v = refl
 with_pairs-append m (p ∷ ps) a v = with_pairs-append (insert m p.0 p.1) ps a v
 
+-- what stands in a list stands there with one more before it
 pub in_later : {A : Type 0} (x y : A) (xs : List A) → In x xs → In x (y ∷ xs)
 in_later x y xs i = (suc i.0, i.1)
 
 same_pair : (p : ℕ × ℕ) (a v : ℕ) → p.0 ≡ a → p.1 ≡ v → p ≡ (a, v)
 same_pair p a v e f = λ i. (e i, f i)
 
-pub get-with_pairs : (m : Words) (ps : List (ℕ × ℕ)) (a v : ℕ) → get (with_pairs m ps) a ≡ Some v → (get m a ≡ Some v) ⊎ In (a, v) ps
+-- a value of a map with pairs is the map's, or one of the pairs'
+pub get-with_pairs : (m : Words) (ps : List (ℕ × ℕ)) (a v : ℕ) →
+    get (with_pairs m ps) a ≡ Some v → (get m a ≡ Some v) ⊎ In (a, v) ps
 get-with_pairs m [] a v e = inl e
 get-with_pairs m (p ∷ ps) a v e =
     elim (get-with_pairs (insert m p.0 p.1) ps a v e) [
       | inl put ↦ elim (same_or a p.0) [
         | inl here ↦ (
-            let there : get (insert m p.0 p.1) p.0 ≡ Some v = subst (λ (b : ℕ). get (insert m p.0 p.1) b ≡ Some v) here put in
-            let value : p.1 ≡ v = ap (λ (o : Option ℕ). unwrap_or o 0) (sym (get_here m p.0 p.1) ∙ there) in
+            let there : get (insert m p.0 p.1) p.0 ≡ Some v =
+            subst (λ (b : ℕ). get (insert m p.0 p.1) b ≡ Some v) here put in
+            let value : p.1 ≡ v =
+            ap (λ (o : Option ℕ). unwrap_or o 0) (sym (get_here m p.0 p.1) ∙ there) in
             inr (zero, ap some (same_pair p a v (sym here) value)))
         | inr else ↦ inl (sym (get_other m p.0 p.1 a else) ∙ put)
       ]
@@ -39,7 +45,8 @@ not_both : {A : Type 0} {x : A} → None ≡ Some x → ⊥
 not_both e = cc
 
 -- an image that agrees with the pairs agrees with their map
-pub agrees-map_of : (image : List ℕ) (ps : List (ℕ × ℕ)) → Agrees image ps → (a v : ℕ) → get (map_of ps) a ≡ Some v → Has image a v
+pub agrees-map_of : (image : List ℕ) (ps : List (ℕ × ℕ)) → Agrees image ps → (a v : ℕ) →
+    get (map_of ps) a ≡ Some v → Has image a v
 agrees-map_of image ps h a v e =
     elim (get-with_pairs empty ps a v e) [
       | inl none ↦ absurd (not_both (sym (get-empty nat_cmp a) ∙ none))
@@ -62,29 +69,41 @@ none_below x (e ∷ es) h =
     let t : eq_by_cmp nat_cmp x e.0 ≡ false = grind (arith, nat_tests) in
     rw t (none_below x es (second _ _ h))
 
-laid-find : (es : List (ℕ × ℕ)) (image : List ℕ) (a : ℕ) → T (is_sorted nat_cmp es) → a < length image → slice_index (laid image es) a ≡ unwrap_or (find nat_cmp a es) (slice_index image a)
+laid-find : (es : List (ℕ × ℕ)) (image : List ℕ) (a : ℕ) → T (is_sorted nat_cmp es) →
+    a < length image →
+    slice_index (laid image es) a ≡ unwrap_or (find nat_cmp a es) (slice_index image a)
 laid-find [] image a h l = refl
 laid-find (e ∷ es) image a h l =
     let n = length-set image e.0 e.1 in
     let inside : a < length (slice_set image e.0 e.1) = omega (arith, n) in
-    let rest : slice_index (laid (slice_set image e.0 e.1) es) a ≡ unwrap_or (find nat_cmp a es) (slice_index (slice_set image e.0 e.1) a) = laid-find es (slice_set image e.0 e.1) a (second _ _ h) inside in
+    let rest : slice_index (laid (slice_set image e.0 e.1) es) a
+    ≡ unwrap_or (find nat_cmp a es) (slice_index (slice_set image e.0 e.1) a) =
+    laid-find es (slice_set image e.0 e.1) a (second _ _ h) inside in
     elim (same_or a e.0) [
       | inl q ↦ (
           let t : eq_by_cmp nat_cmp a e.0 ≡ true = grind (arith, nat_tests) in
           let none : find nat_cmp a es ≡ None = rw q (none_below e.0 es (first _ _ h)) in
-          let set_here : slice_index (slice_set image e.0 e.1) a ≡ e.1 = rw q (get_or-set_same image e.0 e.1 0 (omega arith)) in
-          rest ∙ ap (λ (o : Option ℕ). unwrap_or o (slice_index (slice_set image e.0 e.1) a)) none ∙ set_here ∙ sym (rw t refl))
+          let set_here : slice_index (slice_set image e.0 e.1) a ≡ e.1 =
+          rw q (get_or-set_same image e.0 e.1 0 (omega arith)) in
+          rest
+          ∙ ap (λ (o : Option ℕ). unwrap_or o (slice_index (slice_set image e.0 e.1) a)) none
+          ∙ set_here ∙ sym (rw t refl))
       | inr ne ↦ (
           let t : eq_by_cmp nat_cmp a e.0 ≡ false = grind (arith, nat_tests) in
-          let other : slice_index (slice_set image e.0 e.1) a ≡ slice_index image a = get_or-set_other image e.0 a e.1 0 ne in
+          let other : slice_index (slice_set image e.0 e.1) a ≡ slice_index image a =
+          get_or-set_other image e.0 a e.1 0 ne in
           rest ∙ ap (unwrap_or (find nat_cmp a es)) other ∙ sym (rw t refl))
     ]
 
 -- the pairs of a map laid over an image give the memory of both
-pub laid-entries : (writes : Words) (image : List ℕ) (a : ℕ) → a < length image → slice_index (laid image (entries writes)) a ≡ memory image writes a
+pub laid-entries : (writes : Words) (image : List ℕ) (a : ℕ) → a < length image →
+    slice_index (laid image (entries writes)) a ≡ memory image writes a
 laid-entries writes image a l =
-    laid-find (entries writes) image a (entries_sorted writes) l ∙ ap (λ (o : Option ℕ). unwrap_or o (slice_index image a)) (sym (get-entries writes a))
+    laid-find (entries writes) image a (entries_sorted writes) l
+    ∙ ap (λ (o : Option ℕ). unwrap_or o (slice_index image a)) (sym (get-entries writes a))
 
+-- an image with pairs laid over it is as long as the image
 pub length-laid : (image : List ℕ) (ps : List (ℕ × ℕ)) → length (laid image ps) ≡ length image
 length-laid image [] = refl
-length-laid image (p ∷ ps) = length-laid (slice_set image p.0 p.1) ps ∙ length-set image p.0 p.1
+length-laid image (p ∷ ps) =
+    length-laid (slice_set image p.0 p.1) ps ∙ length-set image p.0 p.1
