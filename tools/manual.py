@@ -13,20 +13,25 @@ COLUMN_GAP = 2
 
 @dataclass
 class Help:
-    """The help of a command: what it does, its usage, and its commands and options with their texts."""
+    """The help of a command: what it does, its usage, its commands and options with their texts, and the
+    lines of its example."""
     about: str
     usage: str
     commands: list
     options: list
+    example: list
 
 
 def read_help(text):
-    """The help that a program prints, one line for each entry."""
+    """The help that a program prints, one line for each entry; an example stands at its end."""
     about, _, rest = text.partition("\n\nUsage: ")
     usage, *parts = rest.split("\n\n")
-    found = {"Commands:": [], "Options:": []}
+    found, example = {"Commands:": [], "Options:": []}, []
     for part in parts:
         heading, *lines = part.strip("\n").split("\n")
+        if heading == "Example:":
+            example = [line.removeprefix("  ") for line in lines]
+            continue
         for line in lines:
             entry = re.fullmatch(rf" +(\S.*?) {{{COLUMN_GAP},}}(\S.*)", line)
             if heading not in found or entry is None:
@@ -34,7 +39,7 @@ def read_help(text):
             found[heading].append(entry.groups())
     if not about or not usage:
         raise ValueError("the help has no usage")
-    return Help(about, usage, found["Commands:"], found["Options:"])
+    return Help(about, usage, found["Commands:"], found["Options:"], example)
 
 
 # What a page says.
@@ -194,6 +199,7 @@ def program_page(whole, commands, using, version, day):
         lines += [f".SS {literal(name)}", marked(text) + "."]
         if name in commands:
             lines += [option_of(*option) for option in commands[name].options]
+            lines += [code_of(commands[name].example)] if commands[name].example else []
     lines += [".SH OPTIONS", *[option_of(*option) for option in whole.options]]
     lines += [".SH EXIT STATUS", table_of(of_the_program(ends))]
     lines += [".SH DIAGNOSTICS", "The last line names the fault:", table_of(faults)]

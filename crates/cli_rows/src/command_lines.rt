@@ -44,7 +44,14 @@ fn command_lines(rt: HostRuntime) -> Result<(), Fail> {
         let mut input = SCRIPT;
         let mut out = Vec::new(rt.alloc());
         let mut errors = Vec::new(rt.alloc());
-        let ended = run_words(&rt, words.as_slice(), &mut input, &mut out, &mut errors);
+        let ended = run_words(
+            &rt,
+            &rt,
+            words.as_slice(),
+            &mut input,
+            &mut out,
+            &mut errors,
+        );
         let wants = (status, answers, status == 0);
         assert_eq!(rt; (ended, out.as_slice(), errors.is_empty()), wants);
     }
@@ -58,13 +65,27 @@ fn help(rt: HostRuntime) -> Result<(), Fail> {
         let mut out = Vec::new(rt.alloc());
         let mut errors = Vec::new(rt.alloc());
         let mut input: &[u8] = b"";
-        let ended = run_words(&rt, words.as_slice(), &mut input, &mut out, &mut errors);
+        let ended = run_words(
+            &rt,
+            &rt,
+            words.as_slice(),
+            &mut input,
+            &mut out,
+            &mut errors,
+        );
         assert_eq!(rt;
             (ended, out.is_empty(), errors.is_empty()),
             (0, false, true)
         );
         let mut broken = Sink::new(rt.alloc(), 1, 0, Stop::Nothing);
-        let ended = run_words(&rt, words.as_slice(), &mut input, &mut broken, &mut errors);
+        let ended = run_words(
+            &rt,
+            &rt,
+            words.as_slice(),
+            &mut input,
+            &mut broken,
+            &mut errors,
+        );
         assert_eq!(rt; ended, 1);
     }
     Ok(())
@@ -77,7 +98,14 @@ fn a_version_that_is_not_written_whole(rt: HostRuntime) -> Result<(), Fail> {
         let mut errors = Vec::new(rt.alloc());
         let mut input: &[u8] = b"";
         let mut broken = Sink::new(rt.alloc(), 1, stops_at, Stop::Nothing);
-        let ended = run_words(&rt, words.as_slice(), &mut input, &mut broken, &mut errors);
+        let ended = run_words(
+            &rt,
+            &rt,
+            words.as_slice(),
+            &mut input,
+            &mut broken,
+            &mut errors,
+        );
         let wants = (1, &VERSION[..stops_at], true);
         assert_eq!(rt; (ended, broken.taken.as_slice(), errors.is_empty()), wants);
     }
@@ -90,10 +118,24 @@ fn faults_of_runs(rt: HostRuntime) -> Result<(), Fail> {
     let mut errors = Vec::new(rt.alloc());
     let mut input = Pieces::of(SCRIPT, 30, 1, ErrorKind::Other);
     let mut out = Sink::new(rt.alloc(), NEVER, NEVER, Stop::Nothing);
-    let unread = run_words(&rt, words.as_slice(), &mut input, &mut out, &mut errors);
+    let unread = run_words(
+        &rt,
+        &rt,
+        words.as_slice(),
+        &mut input,
+        &mut out,
+        &mut errors,
+    );
     let mut input = SCRIPT;
     let mut sink = Sink::new(rt.alloc(), 7, 1, Stop::Fails(ErrorKind::Other));
-    let unwritten = run_words(&rt, words.as_slice(), &mut input, &mut sink, &mut errors);
+    let unwritten = run_words(
+        &rt,
+        &rt,
+        words.as_slice(),
+        &mut input,
+        &mut sink,
+        &mut errors,
+    );
     assert_eq!(rt; (unread, unwritten, errors.is_empty()), (1, 1, true));
     let wants = (b"true\n100\nfault read\n".as_slice(), true);
     assert_eq!(rt; (out.taken.as_slice(), out.is_flushed), wants);

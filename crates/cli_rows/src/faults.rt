@@ -77,7 +77,14 @@ fn reads_that_fail(rt: HostRuntime) -> Result<(), Fail> {
             let mut errors = Vec::new(rt.alloc());
             let mut input = Pieces::of(row.input, 9, fails_at, ErrorKind::Other);
             let mut out = Sink::new(rt.alloc(), NEVER, NEVER, Stop::Nothing);
-            let ended = run_words(&rt, words.as_slice(), &mut input, &mut out, &mut errors);
+            let ended = run_words(
+                &rt,
+                &rt,
+                words.as_slice(),
+                &mut input,
+                &mut out,
+                &mut errors,
+            );
             let wants = (1, b"fault read\n".as_slice(), true, true);
             assert_eq!(rt;
                 (
@@ -103,7 +110,14 @@ fn reads_that_are_interrupted(rt: HostRuntime) -> Result<(), Fail> {
             let mut errors = Vec::new(rt.alloc());
             let mut input = Pieces::of(row.input, 9, fails_at, ErrorKind::Interrupted);
             let mut out = Sink::new(rt.alloc(), NEVER, NEVER, Stop::Nothing);
-            let ended = run_words(&rt, words.as_slice(), &mut input, &mut out, &mut errors);
+            let ended = run_words(
+                &rt,
+                &rt,
+                words.as_slice(),
+                &mut input,
+                &mut out,
+                &mut errors,
+            );
             let wants = (0, row.output, true, true);
             assert_eq!(rt;
                 (
@@ -129,7 +143,14 @@ fn writes_that_fail_once(rt: HostRuntime) -> Result<(), Fail> {
         let mut errors = Vec::new(rt.alloc());
         let mut input = row.input;
         let mut out = Sink::new(rt.alloc(), 7, 1, Stop::Fails(ErrorKind::Other));
-        let ended = run_words(&rt, words.as_slice(), &mut input, &mut out, &mut errors);
+        let ended = run_words(
+            &rt,
+            &rt,
+            words.as_slice(),
+            &mut input,
+            &mut out,
+            &mut errors,
+        );
         assert_eq!(rt;
             (ended, out.taken.as_slice()),
             (1, row.first),
@@ -142,7 +163,14 @@ fn writes_that_fail_once(rt: HostRuntime) -> Result<(), Fail> {
         let mut errors = Vec::new(rt.alloc());
         let mut input: &[u8] = b"";
         let mut out = Sink::new(rt.alloc(), 7, 1, Stop::Fails(ErrorKind::Other));
-        let ended = run_words(&rt, words.as_slice(), &mut input, &mut out, &mut errors);
+        let ended = run_words(
+            &rt,
+            &rt,
+            words.as_slice(),
+            &mut input,
+            &mut out,
+            &mut errors,
+        );
         assert_eq!(rt; (ended, out.taken.len()), (1, 7), "{line:?}");
     }
     Ok(())
@@ -155,7 +183,14 @@ fn flushes_that_fail(rt: HostRuntime) -> Result<(), Fail> {
         let mut errors = Vec::new(rt.alloc());
         let mut input = row.input;
         let mut out = Sink::without_flush(rt.alloc());
-        let ended = run_words(&rt, words.as_slice(), &mut input, &mut out, &mut errors);
+        let ended = run_words(
+            &rt,
+            &rt,
+            words.as_slice(),
+            &mut input,
+            &mut out,
+            &mut errors,
+        );
         assert_eq!(rt;
             (ended, out.taken.as_slice()),
             (1, row.output),
@@ -168,7 +203,14 @@ fn flushes_that_fail(rt: HostRuntime) -> Result<(), Fail> {
         let mut errors = Vec::new(rt.alloc());
         let mut input: &[u8] = b"";
         let mut out = Sink::without_flush(rt.alloc());
-        let ended = run_words(&rt, words.as_slice(), &mut input, &mut out, &mut errors);
+        let ended = run_words(
+            &rt,
+            &rt,
+            words.as_slice(),
+            &mut input,
+            &mut out,
+            &mut errors,
+        );
         assert_eq!(rt; (ended, out.taken.ends_with(b"\n")), (1, true), "{line:?}");
     }
     Ok(())

@@ -1,6 +1,6 @@
 //! Tests of the load and of the program's calls: scripts, dumps, checks and command lines over
-//! input and output that fail, drawn tasks, loads of one client and of several that meet, and the
-//! times of a history.
+//! input and output that fail, histories held against work, drawn tasks, loads of one client and of
+//! several that meet, and the times of a history.
 #![tactic(auto)]
 
 #[cfg(test)]
@@ -29,3 +29,5 @@ mod small_load;
 mod stamps;
 #[cfg(test)]
 mod streams;
+#[cfg(test)]
+mod work;

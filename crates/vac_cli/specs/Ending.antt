@@ -16,6 +16,10 @@ fault_line stream.Write = []
 fault_line stream.Memory = as_line (codes "fault memory")
 fault_line stream.Bound = as_line (codes "fault bound")
 
+-- the last line where a file could not be opened
+abbrev pub unopened_line : List ℕ
+unopened_line = as_line (codes "fault open")
+
 -- a fault of a judge is the one of the same name
 abbrev pub as_stream_fault : JudgeFault → StreamFault
 as_stream_fault judge.Read = stream.Read
@@ -29,6 +33,12 @@ load_fault_line load.Arguments = as_line (codes "fault arguments")
 load_fault_line load.Memory = as_line (codes "fault memory")
 load_fault_line load.Spawn = as_line (codes "fault spawn")
 load_fault_line (load.Opening fault) = as_line (codes "fault opening")
+
+-- status 0 where this was done, 1 where that stopped it
+-- Not said: that the line of a fault comes, or comes whole; that it is the fault that was met; that
+-- the output is flushed. Tests play streams that fail.
+abbrev pub Ends : ℕ → Type 0 → Type 0 → Type 0
+Ends status done stopped = ((status ≡ 0) × done) ⊎ ((status ≡ 1) × stopped)
 
 -- a fault that can stop what only writes
 abbrev pub CanStopWriting : StreamFault → Type 0

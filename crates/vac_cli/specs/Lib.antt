@@ -1,3 +1,4 @@
 pub mod Program
 pub mod Load
 pub mod Ending
+pub mod Judging

@@ -1,5 +1,5 @@
 -- What the program does with a command line: its status, and what it reads and writes.
-use Rattle.std.specs.Prelude.{◌≡◌, ◌≢◌, ℕ, ◌≤◌, ◌⊎◌, Bool, true, false, Option, List, []}
+use Rattle.std.specs.Prelude.{◌≡◌, ℕ, ◌≤◌, ◌⊎◌, Bool, true, false, Option, List, []}
 use Rattle.std.specs.Prelude.{◌++◌, codes}
 use Rattle.std.specs.Io.KnownBytes.{Appends}
 use Rattle.clap.specs.Words.{IsAmong, Text, fault_of}
@@ -16,20 +16,11 @@ use Rattle.vac_lines.specs.Writing.{AppendsPrefix}
 use Rattle.vac_script.specs.Script.{WroteAll, WrotePrefix}
 use Rattle.vac_script.specs.Dump.{Dumped, DumpStopped}
 use Rattle.vac_script.specs.Check.{Checked, CheckStopped}
-use Rattle.vac_judge.specs.Reading.{HasJudged, HasJudgedInPart}
-use Rattle.vac_judge.specs.declared.fault.JudgeFault.{JudgeFault}
-use Rattle.vac_judge.specs.declared.fault.JudgeFault.TheVariants as judge
 use Rattle.vac_worklist.specs.Worklist.{WroteTasks, WroteTasksPrefix}
 use Rattle.vac_cli.specs.Load.{LoadWrote, LoadEnded}
-use Rattle.vac_cli.specs.Ending.{NamedAfter, NamedAfterWriting, fault_line, as_stream_fault}
-use Rattle.vac_cli.specs.Ending.{load_fault_line}
+use Rattle.vac_cli.specs.Ending.{Ends, NamedAfter, NamedAfterWriting, fault_line, load_fault_line}
+use Rattle.vac_cli.specs.Judging.{JudgesBy}
 use Rattle.vac_options.specs.CommandLine.{vacation, AsksFor}
-
--- status 0 where this was done, 1 where that stopped it
--- Not said: that the line of a fault comes, or comes whole; that it is the fault that was met; that
--- the output is flushed. Tests play streams that fail.
-abbrev pub Ends : ℕ → Type 0 → Type 0 → Type 0
-Ends status done stopped = ((status ≡ 0) × done) ⊎ ((status ≡ 1) × stopped)
 
 -- a load is run where its settings fit each other, and writes its history or its two lines; where
 -- they do not fit, the command line is refused
@@ -50,36 +41,40 @@ Lists status s held holds =
     ⊎ ((is_settings s ≡ false) × (status ≡ 2)
     × AppendsPrefix held holds (load_fault_line Arguments))
 
--- a fault ended a judgement: one of the output, and a prefix of the verdict was written; or
--- another, and nothing was written but a prefix of the line that names it
--- Not said: which fault stands for which cause.
-abbrev pub JudgeStopped : ℕ → Option (List ℕ) → Option (List ℕ) → Option (List ℕ)
+-- a script is run on a system of so many blocks, and its output is written
+abbrev pub Runs : ℕ → ℕ → Option (List ℕ) → Option (List ℕ) → Option (List ℕ)
     → Option (List ℕ) → Type 0
-JudgeStopped blocks unread left held holds =
-    HasJudgedInPart blocks unread left held holds
-    ⊎ ((fault : JudgeFault) × (fault ≢ judge.Write)
-    × AppendsPrefix held holds (fault_line (as_stream_fault fault)))
-
--- what the program does where its words ask for this
-abbrev pub Does : Asked → ℕ → Option (List ℕ) → Option (List ℕ) → Option (List ℕ)
-    → Option (List ℕ) → Type 0
-Does (Run blocks) status unread left held holds =
+Runs blocks status unread left held holds =
     Ends status (WroteAll blocks unread left held holds)
     (NamedAfter (WrotePrefix blocks unread left held) holds)
-Does (Dump blocks) status unread left held holds =
+
+-- the memory that a script leaves is written
+abbrev pub Dumps : ℕ → ℕ → Option (List ℕ) → Option (List ℕ) → Option (List ℕ)
+    → Option (List ℕ) → Type 0
+Dumps blocks status unread left held holds =
     Ends status (Dumped blocks unread left held holds)
     (NamedAfter (DumpStopped blocks unread left held) holds)
-Does Check status unread left held holds =
+
+-- the words of a memory are audited: 0 where they are those of a balanced state
+abbrev pub Checks : ℕ → Option (List ℕ) → Option (List ℕ) → Option (List ℕ)
+    → Option (List ℕ) → Type 0
+Checks status unread left held holds =
     Ends status (Checked true unread left held holds)
     (Checked false unread left held holds
     ⊎ NamedAfter (CheckStopped unread left held) holds)
-Does (Judge blocks) status unread left held holds =
-    Ends status (HasJudged blocks true unread left held holds)
-    (HasJudged blocks false unread left held holds
-    ⊎ JudgeStopped blocks unread left held holds)
-Does (Load settings how) status unread left held holds =
+
+-- what the program does where its words ask for this, and each file has the bytes that are known of
+-- it
+abbrev pub Does : (Text → Option (List ℕ)) → Asked → ℕ → Option (List ℕ) → Option (List ℕ)
+    → Option (List ℕ) → Option (List ℕ) → Type 0
+Does files (Run blocks) status unread left held holds = Runs blocks status unread left held holds
+Does files (Dump blocks) status unread left held holds = Dumps blocks status unread left held holds
+Does files Check status unread left held holds = Checks status unread left held holds
+Does files (Judge blocks tasks) status unread left held holds =
+    JudgesBy files tasks blocks status unread left held holds
+Does files (Load settings how) status unread left held holds =
     (left ≡ unread) × Loads how.history status settings held holds
-Does (Tasks settings) status unread left held holds =
+Does files (Tasks settings) status unread left held holds =
     (left ≡ unread) × Lists status settings held holds
 
 -- what the program says of itself: its name and version, and what proved and built it
@@ -102,12 +97,12 @@ Shows error.DisplayVersion status held holds =
 Shows kind status held holds = (status ≡ 2) × (holds ≡ held)
 
 -- clap takes the words, and what they ask for was done
-pub record Obeyed (words : List Text) (status : ℕ) (unread left held holds : Option (List ℕ)) :
-    Type 0 where
+pub record Obeyed (files : Text → Option (List ℕ)) (words : List Text) (status : ℕ)
+    (unread left held holds : Option (List ℕ)) : Type 0 where
   pub taken : fault_of vacation words ≡ []
   pub asked : Asked
   pub asks : AsksFor words asked
-  pub done : Does asked status unread left held holds
+  pub done : Does files asked status unread left held holds
 
 -- memory was refused, or clap does not take the words: what it says of them was shown, and nothing
 -- was read
@@ -119,8 +114,10 @@ pub record Explained (words : List Text) (status : ℕ) (unread left held holds 
   pub unused : left ≡ unread
   pub shown : Shows kind status held holds
 
--- what the program does with the words of a command line
-abbrev pub Serves : List Text → ℕ → Option (List ℕ) → Option (List ℕ) → Option (List ℕ)
-    → Option (List ℕ) → Type 0
-Serves words status unread left held holds =
-    Obeyed words status unread left held holds ⊎ Explained words status unread left held holds
+-- what the program does with the words of a command line, where each file has the bytes that are
+-- known of it
+abbrev pub Serves : (Text → Option (List ℕ)) → List Text → ℕ → Option (List ℕ) → Option (List ℕ)
+    → Option (List ℕ) → Option (List ℕ) → Type 0
+Serves files words status unread left held holds =
+    Obeyed files words status unread left held holds
+    ⊎ Explained words status unread left held holds

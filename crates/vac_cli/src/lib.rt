@@ -3,6 +3,8 @@
 //! Scripts over streams, and what is read and printed line by line, are handed on from below.
 #![tactic(auto)]
 
+mod files;
+mod judging;
 mod load;
 mod noting;
 mod program;
@@ -10,6 +12,7 @@ mod stats;
 mod status;
 mod telling;
 
+pub use files::Open;
 pub use program::{refuse_words, run_words};
 pub use vac_lines::{LineFault, print_reply, read_line};
 pub use vac_script::{check_words, dump_script, run_script};

@@ -15,7 +15,7 @@ ghost use Rattle.vac_lines.specs.Text.{field_text, report_text};
 
 use crate::noting::{load_noted, run_told};
 use crate::stats::{Span, tell_stats};
-use crate::status::{DONE, FAULT, end_by, end_load_by};
+use crate::status::{DONE, FAULT, end_by, end_by_settings, end_load_by};
 use std::alloc::{AllocError, Global};
 use std::io::Write;
 use std::sync::Wait;
@@ -58,7 +58,7 @@ fn load_reported<T: Threads + Wait + Clock + Sync + AllocGlobal, W: Write, E: Wr
     ensures { Loads false result settings.now (W.contents output.old) (W.contents output.new) }
 {
     if !settings.is_in_range() {
-        return end_load_by(LoadFault::Arguments, output);
+        return end_by_settings(rt.alloc(), settings, output, errors);
     }
     let Ok(keepers) = no_keepers(rt.alloc(), settings.clients) else {
         return end_load_by(LoadFault::Memory, output);

@@ -8,7 +8,7 @@ ghost use Rattle.vac_cli.specs.Program.{Loads};
 
 use crate::load::tell_load;
 use crate::stats::{Span, tell_stats};
-use crate::status::{DONE, end_by, end_load_by};
+use crate::status::{DONE, end_by, end_by_settings, end_load_by};
 use crate::telling::run_load_told;
 use std::alloc::{AllocError, Global};
 use std::io::Write;
@@ -78,7 +78,7 @@ pub(crate) fn load_noted<T: Threads + Wait + Clock + Sync + AllocGlobal, W: Writ
     ensures { Loads true result settings.now (W.contents output.old) (W.contents output.new) }
 {
     if !settings.is_in_range() {
-        return end_load_by(LoadFault::Arguments, output);
+        return end_by_settings(rt.alloc(), settings, output, errors);
     }
     let alloc = rt.alloc();
     let start = Instant::now(rt).ok();

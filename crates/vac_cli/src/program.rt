@@ -5,11 +5,12 @@ ghost use Rattle.std.specs.Io.KnownBytes.{Appends};
 ghost use Rattle.clap.specs.Words.{kind_of};
 ghost use Rattle.clap.specs.declared.error.kind.ErrorKind.TheVariants.{DisplayVersion};
 ghost use Rattle.vac_model.specs.Ranges.{is_block_count};
-ghost use Rattle.vac_cli.specs.Ending.{as_stream_fault};
-ghost use Rattle.vac_cli.specs.Program.{Does, Lists, Shows, Serves};
+ghost use Rattle.vac_cli.specs.Program.{Runs, Dumps, Checks, Lists, Shows, Serves};
 
+use crate::files::Open;
+use crate::judging::judge;
 use crate::load::load;
-use crate::status::{DONE, FAULT, REFUSED, end_by, end_load_by};
+use crate::status::{DONE, FAULT, REFUSED, end_by, end_by_settings};
 use clap::Error;
 use clap::error::ErrorKind;
 use std::alloc::Global;
@@ -17,9 +18,8 @@ use std::io::{Read, Write};
 use std::sync::Wait;
 use std::thread::Threads;
 use std::time::Clock;
-use vac_judge::{JudgeFault, judge_history};
 use vac_lines::write_and_flush;
-use vac_load::{LoadFault, Settings};
+use vac_load::Settings;
 use vac_options::{Asked, VERSION, read_asked};
 use vac_script::{check_words, dump_script, run_script};
 use vac_streams::StreamFault;
@@ -41,8 +41,9 @@ pub fn run_words<
     R: Read,
     W: Write,
     E: Write + Send,
->(rt: &T, words: &[String], input: &mut R, output: &mut W, errors: &mut E) -> u8
-    ensures { Serves (map string_bytes words.now) result
+    F: Open,
+>(rt: &T, files: &F, words: &[String], input: &mut R, output: &mut W, errors: &mut E) -> u8
+    ensures { Serves (F.holds files.now) (map string_bytes words.now) result
         (R.remaining input.old) (R.remaining input.new)
         (W.contents output.old) (W.contents output.new) }
 {
@@ -51,9 +52,9 @@ pub fn run_words<
         Ok(Asked::Run(blocks)) => run(alloc, blocks, input, output),
         Ok(Asked::Dump(blocks)) => dump(alloc, blocks, input, output),
         Ok(Asked::Check) => check(alloc, input, output),
-        Ok(Asked::Judge(blocks)) => judge(alloc, blocks, input, output),
+        Ok(Asked::Judge(blocks, tasks)) => judge(alloc, files, blocks, tasks, input, output),
         Ok(Asked::Load(settings, how)) => load(rt, &settings, how, output, errors),
-        Ok(Asked::Tasks(settings)) => list_tasks(alloc, &settings, output),
+        Ok(Asked::Tasks(settings)) => list_tasks(alloc, &settings, output, errors),
         Err(error) => show(alloc, &error, output, errors),
     }
 }
@@ -76,7 +77,7 @@ pub fn refuse_words<E: Write>(errors: &mut E) -> u8
 /// Runs a script and answers the status.
 fn run<R: Read, W: Write>(alloc: Global, blocks: u32, input: &mut R, output: &mut W) -> u8
     requires { is_block_count blocks ≡ true }
-    ensures { Does (Asked.Run blocks) result (R.remaining input.old) (R.remaining input.new)
+    ensures { Runs blocks result (R.remaining input.old) (R.remaining input.new)
         (W.contents output.old) (W.contents output.new) }
 {
     match run_script(alloc, blocks, input, output) {
@@ -88,7 +89,7 @@ fn run<R: Read, W: Write>(alloc: Global, blocks: u32, input: &mut R, output: &mu
 /// Dumps the memory that a script leaves, and answers the status.
 fn dump<R: Read, W: Write>(alloc: Global, blocks: u32, input: &mut R, output: &mut W) -> u8
     requires { is_block_count blocks ≡ true }
-    ensures { Does (Asked.Dump blocks) result (R.remaining input.old) (R.remaining input.new)
+    ensures { Dumps blocks result (R.remaining input.old) (R.remaining input.new)
         (W.contents output.old) (W.contents output.new) }
 {
     match dump_script(alloc, blocks, input, output) {
@@ -99,7 +100,7 @@ fn dump<R: Read, W: Write>(alloc: Global, blocks: u32, input: &mut R, output: &m
 
 /// Audits words, and answers the status: 0 where they are those of a balanced state.
 fn check<R: Read, W: Write>(alloc: Global, input: &mut R, output: &mut W) -> u8
-    ensures { Does Asked.Check result (R.remaining input.old) (R.remaining input.new)
+    ensures { Checks result (R.remaining input.old) (R.remaining input.new)
         (W.contents output.old) (W.contents output.new) }
 {
     match check_words(alloc, input, output) {
@@ -109,39 +110,19 @@ fn check<R: Read, W: Write>(alloc: Global, input: &mut R, output: &mut W) -> u8
     }
 }
 
-/// Judges a history, and answers the status: 0 where it is legal.
-fn judge<R: Read, W: Write>(alloc: Global, blocks: u32, input: &mut R, output: &mut W) -> u8
-    requires { is_block_count blocks ≡ true }
-    ensures { Does (Asked.Judge blocks) result (R.remaining input.old) (R.remaining input.new)
-        (W.contents output.old) (W.contents output.new) }
-{
-    match judge_history(alloc, blocks, input, output) {
-        Ok(true) => DONE,
-        Ok(false) => FAULT,
-        Err(fault) => end_by(as_stream_fault(fault), output),
-    }
-}
-
-/// The fault of the same name.
-fn as_stream_fault(fault: JudgeFault) -> StreamFault
-    ensures { result ≡ as_stream_fault fault }
-{
-    match fault {
-        JudgeFault::Read => StreamFault::Read,
-        JudgeFault::Write => StreamFault::Write,
-        JudgeFault::Memory => StreamFault::Memory,
-        JudgeFault::Bound => StreamFault::Bound,
-    }
-}
-
 /// Writes the tasks of a load, and answers the status.
 #[tactic(auto, using(crate::proofs::Ending::nothing_then))]
-fn list_tasks<W: Write>(alloc: Global, settings: &Settings, output: &mut W) -> u8
+fn list_tasks<W: Write, E: Write>(
+    alloc: Global,
+    settings: &Settings,
+    output: &mut W,
+    errors: &mut E,
+) -> u8
     ensures { Lists result settings.now (W.contents output.old) (W.contents output.new) }
 {
     match write_tasks(alloc, settings, output) {
         Ok(()) => DONE,
-        Err(TasksFault::Arguments) => end_load_by(LoadFault::Arguments, output),
+        Err(TasksFault::Arguments) => end_by_settings(alloc, settings, output, errors),
         Err(TasksFault::Memory) => end_by(StreamFault::Memory, output),
         Err(TasksFault::Write) => end_by(StreamFault::Write, output),
     }

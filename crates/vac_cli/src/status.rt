@@ -2,11 +2,12 @@
 
 ghost use Rattle.std.specs.Prelude.{◌≡◌, ◌≤◌, ◌↔◌};
 ghost use Rattle.vac_lines.specs.Writing.{AppendsPrefix};
-ghost use Rattle.vac_cli.specs.Ending.{fault_line, load_fault_line};
+ghost use Rattle.vac_cli.specs.Ending.{fault_line, unopened_line, load_fault_line};
 
+use std::alloc::Global;
 use std::io::Write;
 use vac_lines::write_and_flush;
-use vac_load::LoadFault;
+use vac_load::{LoadFault, Settings};
 use vac_streams::StreamFault;
 
 /// The status of a program that did its work or showed its help.
@@ -53,6 +54,16 @@ pub(crate) fn end_by<W: Write>(fault: StreamFault, output: &mut W) -> u8
     FAULT
 }
 
+/// Writes the last line of a program that could not open a file, and answers its status.
+pub(crate) fn end_unopened<W: Write>(output: &mut W) -> u8
+    ensures status { result ≡ 1 }
+    ensures line { AppendsPrefix (W.contents output.old) (W.contents output.new)
+        unopened_line }
+{
+    write_last(b"fault open\n", output);
+    FAULT
+}
+
 /// The last line of a load that met a fault.
 fn load_fault_line(fault: LoadFault) -> &'static [u8]
     ensures { result.now ≡ load_fault_line fault }
@@ -79,4 +90,37 @@ pub(crate) fn end_load_by<W: Write>(fault: LoadFault, output: &mut W) -> u8
     };
     write_last(load_fault_line(fault), output);
     status
+}
+
+/// How many blocks a load needs for each item: one for an item of each kind, and one for a customer.
+const BLOCKS_OF_ITEM: u64 = 4;
+
+/// Says on `errors` which numbers of a load do not fit each other: the one thing that is left to be
+/// wrong, once each of them is in its range. Whether that could be written changes nothing.
+fn tell_settings<E: Write>(alloc: Global, settings: &Settings, errors: &mut E) {
+    let (items, blocks) = (settings.items, settings.blocks);
+    let least = BLOCKS_OF_ITEM.saturating_mul(u64::from(items));
+    let Ok(line) = format!(in alloc;
+        "error: --items {items} needs --blocks {least} at least, and --blocks is {blocks}\n"
+    ) else {
+        return;
+    };
+    let _ = write_and_flush(errors, line.as_bytes());
+}
+
+/// Ends a load whose settings do not fit each other, says on `errors` which, and answers the status
+/// of a refused command line.
+pub(crate) fn end_by_settings<W: Write, E: Write>(
+    alloc: Global,
+    settings: &Settings,
+    output: &mut W,
+    errors: &mut E,
+) -> u8
+    ensures status { result ≡ 2 }
+    ensures line { AppendsPrefix (W.contents output.old) (W.contents output.new)
+        (load_fault_line LoadFault.Arguments) }
+{
+    tell_settings(alloc, settings, errors);
+    write_last(load_fault_line(LoadFault::Arguments), output);
+    REFUSED
 }

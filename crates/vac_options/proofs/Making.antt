@@ -1,5 +1,5 @@
 -- Commands with options more.
-use Rattle.std.proofs.Common.{◌≡◌, ◌∙◌, ◌++◌, List, [], ◌∷◌, Bool, Some, false, refl, sym, ap, ap₂}
+use Rattle.std.proofs.Common.{◌≡◌, ◌∙◌, ◌++◌, ℕ, List, [], ◌∷◌, Bool, Some, false, refl, sym, ap, ap₂}
 use Rattle.std.specs.Prelude.{◌||◌, Option, Result, Ok, Err, IfOk, IsOkAnd}
 use Rattle.std.specs.declared.alloc.AllocError.{AllocError}
 use Rattle.clap.specs.Words.{App, Shape, Rule, Text, AddsArg, AddsSubcommand, app_of, rule_of, with_rule, with_subcommand}
@@ -7,7 +7,7 @@ use Rattle.clap.specs.declared.builder.command.Command.{Command}
 use Rattle.clap.specs.declared.builder.arg.Arg.{Arg}
 use Rattle.clap.specs.declared.builder.value_parser.ValueParser.{ValueParser}
 use Rattle.clap.specs.declared.builder.texts.Texts.TheVariants.{One}
-use Rattle.vac_options.specs.CommandLine.{IsOption, IsCommand, AddsOptions, AddsCommands, with_commands, with_rules, with_options, client_options, task_options, telling_options, load_options}
+use Rattle.vac_options.specs.CommandLine.{short_option, IsOption, IsCommand, AddsOptions, AddsCommands, with_commands, with_rules, with_options, client_options, task_options, telling_options, load_options}
 
 -- ---- options
 
@@ -19,6 +19,13 @@ parser_is o q p e f g = e ∙ ap (λ (x : ValueParser). Some x) (f ∙ g)
 pub parser_set : (a b : Arg) (p : ValueParser) (r : Rule) → b ≡ record a { value_parser = b.value_parser } → b.value_parser ≡ Some p → IsOption a r → IsOption b (record r { parser = Some p })
 parser_set a b p r e given is = record {
   rule = ap rule_of e ∙ ap₂ (λ (s : Rule) (o : Option ValueParser). record s { parser = o }) is.rule given;
+  own = ap (λ (x : Arg). x.global) e ∙ is.own;
+}
+
+-- an option with this short name
+pub short_set : (a b : Arg) (letter : ℕ) (r : Rule) → b ≡ record a { short = Some letter } → IsOption a r → IsOption b (short_option letter r)
+short_set a b letter r e is = record {
+  rule = ap rule_of e ∙ ap (λ (s : Rule). record s { short = Some letter }) is.rule;
   own = ap (λ (x : Arg). x.global) e ∙ is.own;
 }
 
@@ -60,6 +67,17 @@ option_more given middle (Err e) a options option s h is = tt
 option_more given (Err e) (Ok after) a options option s h is = absurd h
 option_more (Err e) (Ok before) (Ok after) a options option s h is = absurd s
 option_more (Ok first) (Ok before) (Ok after) a options option s h is = one_more first before after a options option s h is
+
+-- a command with one option more
+pub command_and : (given result : Result Command AllocError) (a : Arg) (name : Text) (options : List Rule) (option : Rule)
+    → IfOk given (λ c. IsCommand c (with_options name options)) → IfOk result (λ after. IsOkAnd given (λ before. AddsArg before a after)) → IsOption a option
+    → IfOk result (λ c. IsCommand c (with_options name (options ++ option ∷ [])))
+command_and given (Err e) a name options option c h is = tt
+command_and (Err e) (Ok after) a name options option c h is = absurd h
+command_and (Ok before) (Ok after) a name options option c h is = record {
+  app = h.shape is.own ∙ ap₂ with_rule c.app is.rule;
+  own = h.globals ∙ or_false _ a.global is.own ∙ c.own;
+}
 
 -- a command with these options
 pub command_with : (first : Command) (second third result : Result Command AllocError) (name : Text) → IsCommand first (with_options name []) → Gets (Ok first) client_options second

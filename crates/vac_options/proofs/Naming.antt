@@ -39,7 +39,7 @@ use Rattle.clap.specs.Values.{is_request}
 use Rattle.clap.specs.Walk.{action_of, arg_by_id}
 use Rattle.std.proofs.Common.{nat_lt}
 use Rattle.vac_options.specs.declared.asked.TheConstants.{MOST_SEED}
-use Rattle.vac_options.specs.CommandLine.{vacation, blocks_option, number_option, seed_option, flag, Gives, GivesIn, Says, IsFlag, HasSettings, Names}
+use Rattle.vac_options.specs.CommandLine.{vacation, blocks_option, clients_option, tasks_option, rounds_option, tries_option, items_option, asks_option, user_option, seed_option, flag, Gives, GivesIn, Says, IsFlag, HasSettings, Names}
 use Rattle.vac_options.proofs.FoundRows.{Each, IsFit, found_each, found_passes, is_counted, no_fault, no_some, same_some}
 use Rattle.vac_options.proofs.Walks.{AllFit}
 use Rattle.vac_options.proofs.Given.{IsGiven, IsEntered, level_gives, subcommand_entered, top_passes}
@@ -141,6 +141,14 @@ with_blocks name = record (shape_at 0) { name = name }
 with_settings : Text → Shape
 with_settings name = record (shape_at 4) { name = name }
 
+-- the subcommand that judges
+judging : Shape
+judging = shape_at 3
+
+judging_fit : AllFit judging.rules
+unfolding shape_at judging
+judging_fit = (fit refl refl refl, (fit refl refl refl, (fit refl refl refl, tt)))
+
 blocks_fit : (name : Text) → AllFit (with_blocks name).rules
 unfolding shape_at with_blocks
 blocks_fit name = (fit refl refl refl, (fit refl refl refl, tt))
@@ -166,11 +174,10 @@ settings_fit name = (
 
 -- ---- what the words give
 
-settings_number : (of : Text) (rows : List Row) → IsEntered (with_settings of) rows → (name : Text) (least most : ℕ) (default : Text)
-    → arg_by_id (with_settings of).rules name ≡ Some (filled (number_option name least most default)) → GivesIn rows name least most
-settings_number of rows e name least most default own = number_given rows (filled (number_option name least most default)) least most refl
-    (subst (IsGiven (filled (number_option name least most default))) e.rows_are
-    (level_gives (with_settings of) e.words (filled (number_option name least most default)) (settings_fit of) e.passes own (omega arith)))
+settings_number : (of : Text) (rows : List Row) → IsEntered (with_settings of) rows → (a : Rule) (least most : ℕ) → a.parser ≡ Some (vp.Signed (pos least) (pos most))
+    → arg_by_id (with_settings of).rules a.id ≡ Some a → 0 < length a.defaults → GivesIn rows a.id least most
+settings_number of rows e a least most parser own some =
+    number_given rows a least most parser (subst (IsGiven a) e.rows_are (level_gives (with_settings of) e.words a (settings_fit of) e.passes own some))
 
 settings_seed : (of : Text) (rows : List Row) → IsEntered (with_settings of) rows → GivesIn rows (codes "seed") 0 MOST_SEED
 unfolding shape_at with_settings
@@ -184,15 +191,15 @@ settings_flag of rows e name own = flag_given rows name
 settings_given : (of : Text) (rows : List Row) → IsEntered (with_settings of) rows → HasSettings rows
 unfolding shape_at with_settings
 settings_given of rows e = record {
-  clients = settings_number of rows e (codes "clients") 1 MOST_CLIENTS (codes "4") refl;
-  tasks = settings_number of rows e (codes "tasks") 1 MOST_TASKS (codes "100") refl;
-  items = settings_number of rows e (codes "items") 1 MOST_ITEMS (codes "16") refl;
-  asks = settings_number of rows e (codes "asks") 1 MOST_PARTS (codes "4") refl;
-  user = settings_number of rows e (codes "user") 0 PERCENT (codes "80") refl;
+  clients = settings_number of rows e (filled clients_option) 1 MOST_CLIENTS refl refl (omega arith);
+  tasks = settings_number of rows e (filled tasks_option) 1 MOST_TASKS refl refl (omega arith);
+  items = settings_number of rows e (filled items_option) 1 MOST_ITEMS refl refl (omega arith);
+  asks = settings_number of rows e (filled asks_option) 1 MOST_PARTS refl refl (omega arith);
+  user = settings_number of rows e (filled user_option) 0 PERCENT refl refl (omega arith);
   seed = settings_seed of rows e;
-  blocks = settings_number of rows e (codes "blocks") 1 MOST_BLOCKS (codes "1024") refl;
-  tries = settings_number of rows e (codes "tries") 1 MOST_TRIES (codes "64") refl;
-  rounds = settings_number of rows e (codes "rounds") 1 MOST_ROUNDS (codes "1") refl;
+  blocks = settings_number of rows e (filled blocks_option) 1 MOST_BLOCKS refl refl (omega arith);
+  tries = settings_number of rows e (filled tries_option) 1 MOST_TRIES refl refl (omega arith);
+  rounds = settings_number of rows e (filled rounds_option) 1 MOST_ROUNDS refl refl (omega arith);
   flags = record {
     progress = settings_flag of rows e (codes "progress") refl;
     stats = settings_flag of rows e (codes "stats") refl;
@@ -204,6 +211,11 @@ blocks_given : (of : Text) (rows : List Row) → IsEntered (with_blocks of) rows
 unfolding shape_at with_blocks
 blocks_given of rows e = number_given rows (filled blocks_option) 1 MOST_BLOCKS refl
     (subst (IsGiven (filled blocks_option)) e.rows_are (level_gives (with_blocks of) e.words (filled blocks_option) (blocks_fit of) e.passes refl (omega arith)))
+
+judging_blocks : (rows : List Row) → IsEntered judging rows → GivesIn rows (codes "blocks") 1 MOST_BLOCKS
+unfolding shape_at judging
+judging_blocks rows e = number_given rows (filled blocks_option) 1 MOST_BLOCKS refl
+    (subst (IsGiven (filled blocks_option)) e.rows_are (level_gives judging e.words (filled blocks_option) judging_fit e.passes refl (omega arith)))
 
 -- ---- the subcommand that the words name
 
@@ -228,8 +240,8 @@ dump_alone : IsAlone (codes "dump") (with_blocks (codes "dump"))
 unfolding shape_at with_blocks
 dump_alone = (λ e. absurd (differ _ _ refl e), (λ e. refl, (λ e. absurd (differ _ _ refl e), (λ e. absurd (differ _ _ refl e), (λ e. absurd (differ _ _ refl e), (λ e. absurd (differ _ _ refl e), (λ e. absurd (differ _ _ refl e), tt)))))))
 
-judge_alone : IsAlone (codes "judge") (with_blocks (codes "judge"))
-unfolding shape_at with_blocks
+judge_alone : IsAlone (codes "judge") judging
+unfolding shape_at judging
 judge_alone = (λ e. absurd (differ _ _ refl e), (λ e. absurd (differ _ _ refl e), (λ e. absurd (differ _ _ refl e), (λ e. refl, (λ e. absurd (differ _ _ refl e), (λ e. absurd (differ _ _ refl e), (λ e. absurd (differ _ _ refl e), tt)))))))
 
 load_alone : IsAlone (codes "load") (with_settings (codes "load"))
@@ -248,7 +260,7 @@ pub dump_blocks : (words : List Text) (rows : List Row) → fault_of vacation wo
 dump_blocks words rows fault names = blocks_given _ rows (enters _ _ words rows dump_alone fault names)
 
 pub judge_blocks : (words : List Text) (rows : List Row) → fault_of vacation words ≡ [] → Names words (codes "judge") rows → GivesIn rows (codes "blocks") 1 MOST_BLOCKS
-judge_blocks words rows fault names = blocks_given _ rows (enters _ _ words rows judge_alone fault names)
+judge_blocks words rows fault names = judging_blocks rows (enters _ _ words rows judge_alone fault names)
 
 pub load_settings : (words : List Text) (rows : List Row) → fault_of vacation words ≡ [] → Names words (codes "load") rows → HasSettings rows
 load_settings words rows fault names = settings_given _ rows (enters _ _ words rows load_alone fault names)

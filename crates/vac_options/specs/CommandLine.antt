@@ -1,10 +1,11 @@
 -- The command line that the program takes, in clap's terms, and what its words ask for.
 use Rattle.std.specs.Prelude.{◌≡◌, ℕ, ◌+◌, pos, ◌≤◌, ◌⊎◌, Bool, true, false, Some, codes}
-use Rattle.std.specs.Prelude.{List, [], ◌∷◌, ◌++◌}
+use Rattle.std.specs.Prelude.{List, [], ◌∷◌, ◌++◌, Option, option_map}
+use Rattle.std.specs.Borrow.{Bor}
 use Rattle.std.specs.Str.Parse.{IsNumeral, digits_value, without_leading_plus}
 use Rattle.clap.specs.Simple.{new_shape}
 use Rattle.clap.specs.Values.{bool_text}
-use Rattle.clap.specs.Walk.{one_of}
+use Rattle.clap.specs.Walk.{first_of, one_of}
 use Rattle.clap.specs.Words.{App, Shape, Rule, Row, Text, app_of, new_rule, rule_of, subcommand_of}
 use Rattle.clap.specs.Words.{with_rule, with_subcommand}
 use Rattle.clap.specs.declared.builder.action.ArgAction.TheVariants.{SetTrue}
@@ -42,17 +43,21 @@ number_option name least most default = record (valued_option name) {
   defaults = default ∷ [];
 }
 
+-- an option that has a short name too: a character, by its code
+abbrev pub short_option : ℕ → Rule → Rule
+short_option letter option = record option { short = Some letter }
+
 -- `--blocks`: how many items, customers and bookings there is room for
 abbrev pub blocks_option : Rule
 blocks_option = number_option (codes "blocks") 1 MOST_BLOCKS (codes "1024")
 
--- `--clients`: how many clients there are
+-- `-c`, `--clients`: how many clients there are
 abbrev pub clients_option : Rule
-clients_option = number_option (codes "clients") 1 MOST_CLIENTS (codes "4")
+clients_option = short_option 99 (number_option (codes "clients") 1 MOST_CLIENTS (codes "4"))
 
--- `--tasks`: how many tasks each client has in each round
+-- `-t`, `--tasks`: how many tasks each client has in each round
 abbrev pub tasks_option : Rule
-tasks_option = number_option (codes "tasks") 1 MOST_TASKS (codes "100")
+tasks_option = short_option 116 (number_option (codes "tasks") 1 MOST_TASKS (codes "100"))
 
 -- `--rounds`: how often the clients do so
 abbrev pub rounds_option : Rule
@@ -66,28 +71,36 @@ tries_option = number_option (codes "tries") 1 MOST_TRIES (codes "64")
 abbrev pub client_options : List Rule
 client_options = clients_option ∷ tasks_option ∷ rounds_option ∷ tries_option ∷ []
 
--- `--items`: how many items there are of each kind, and how many customers
+-- `-r`, `--items`: how many items there are of each kind, and how many customers
 abbrev pub items_option : Rule
-items_option = number_option (codes "items") 1 MOST_ITEMS (codes "16")
+items_option = short_option 114 (number_option (codes "items") 1 MOST_ITEMS (codes "16"))
 
--- `--asks`: the most items that a task names
+-- `-n`, `--asks`: the most items that a task names
 abbrev pub asks_option : Rule
-asks_option = number_option (codes "asks") 1 MOST_PARTS (codes "4")
+asks_option = short_option 110 (number_option (codes "asks") 1 MOST_PARTS (codes "4"))
 
--- `--user`: how many of a hundred tasks are trips
+-- `-u`, `--user`: how many of a hundred tasks are trips
 abbrev pub user_option : Rule
-user_option = number_option (codes "user") 0 PERCENT (codes "80")
+user_option = short_option 117 (number_option (codes "user") 0 PERCENT (codes "80"))
 
--- the option of the seed, any number of 64 bits
+-- `-s`, `--seed`: what the tasks are drawn from, any number of 64 bits
 abbrev pub seed_option : Rule
-seed_option = record (valued_option (codes "seed")) {
+seed_option = short_option 115 (record (valued_option (codes "seed")) {
   parser = Some (parser.Unsigned 0 MOST_SEED);
   defaults = codes "1" ∷ [];
-}
+})
 
 -- those that say what the tasks are
 abbrev pub task_options : List Rule
 task_options = items_option ∷ asks_option ∷ user_option ∷ seed_option ∷ blocks_option ∷ []
+
+-- `--tasks FILE`: the tasks that a history is held against
+abbrev pub file_option : Rule
+file_option = valued_option (codes "tasks")
+
+-- the options of a judge
+abbrev pub judging_options : List Rule
+judging_options = blocks_option ∷ file_option ∷ []
 
 -- a flag `--name`
 abbrev pub flag : Text → Rule
@@ -124,7 +137,7 @@ script_commands = with_options (codes "run") (blocks_option ∷ [])
 -- those that judge what others did
 abbrev pub judging_commands : List Shape
 judging_commands = with_options (codes "check") []
-    ∷ with_options (codes "judge") (blocks_option ∷ []) ∷ []
+    ∷ with_options (codes "judge") judging_options ∷ []
 
 -- those that run loads and write their tasks
 abbrev pub load_commands : List Shape
@@ -191,6 +204,10 @@ Says rows name is_set = one_of name rows ≡ Some (bool_text is_set)
 abbrev pub IsFlag : List Row → Text → Type 0
 IsFlag rows name = Says rows name true ⊎ Says rows name false
 
+-- it names this file, or none
+abbrev pub NamesFile : List Row → Text → Option (Bor Text) → Type 0
+NamesFile rows option file = first_of option rows ≡ option_map (λ name. name.now) file
+
 -- what it says of each flag of a load
 pub record HasFlags (rows : List Row) : Type 0 where
   pub progress : IsFlag rows (codes "progress")
@@ -240,8 +257,9 @@ AsksFor words (Run blocks) = (rows : List Row) × Names words (codes "run") rows
 AsksFor words (Dump blocks) = (rows : List Row) × Names words (codes "dump") rows
     × Gives rows (codes "blocks") blocks × (is_block_count blocks ≡ true)
 AsksFor words Check = (rows : List Row) × Names words (codes "check") rows
-AsksFor words (Judge blocks) = (rows : List Row) × Names words (codes "judge") rows
+AsksFor words (Judge blocks tasks) = (rows : List Row) × Names words (codes "judge") rows
     × Gives rows (codes "blocks") blocks × (is_block_count blocks ≡ true)
+    × NamesFile rows (codes "tasks") tasks
 AsksFor words (Load settings how) = (rows : List Row) × Names words (codes "load") rows
     × AreGiven rows settings × IsTold rows how
 AsksFor words (Tasks settings) = (rows : List Row) × Names words (codes "tasks") rows

@@ -7,7 +7,7 @@ ghost use Rattle.clap.specs.Words.{subcommand_of, subcommand_rows_of};
 ghost use Rattle.vac_model.specs.declared.limits.TheConstants.{MOST_BLOCKS};
 ghost use Rattle.vac_model.specs.Ranges.{is_block_count};
 ghost use Rattle.vac_options.specs.CommandLine.{vacation, Gives, GivesIn, HasSettings, AreGiven};
-ghost use Rattle.vac_options.specs.CommandLine.{Says, IsFlag, HasFlags, IsTold, AsksFor};
+ghost use Rattle.vac_options.specs.CommandLine.{Says, IsFlag, HasFlags, IsTold, NamesFile, AsksFor};
 
 use crate::options::command_line;
 use clap::{ArgMatches, Error};
@@ -30,15 +30,16 @@ pub struct How {
 }
 
 /// What a command line asks for.
-pub enum Asked {
+pub enum Asked<'a> {
     /// To run a script for a system of so many blocks.
     Run(u32),
     /// To dump the memory that the script leaves.
     Dump(u32),
     /// To audit the words of a memory.
     Check,
-    /// To judge a history over a system of so many blocks.
-    Judge(u32),
+    /// To judge a history over a system of so many blocks, and to hold it against the tasks in a file
+    /// where one is named.
+    Judge(u32, Option<&'a str>),
     /// To run a load, and what it is to tell of itself.
     Load(Settings, How),
     /// To write the tasks of a load.
@@ -46,7 +47,7 @@ pub enum Asked {
 }
 
 /// What clap finds in a command line.
-fn read_words(alloc: Global, words: &[String]) -> Result<ArgMatches, Error>
+fn read_words<'a>(alloc: Global, words: &'a [String]) -> Result<ArgMatches<'a>, Error>
     ensures fails { FailsBy (fault_of vacation (map string_bytes words.now)) result }
     ensures found { IfOk result (λ m.
         subcommand_rows_of m ≡ subcommand_of vacation (map string_bytes words.now)) }
@@ -116,6 +117,13 @@ fn blocks_of(matches: &ArgMatches) -> u32
     number_of(matches, "blocks")
 }
 
+/// The file of tasks that a judge names.
+fn file_of<'a>(matches: &ArgMatches<'a>) -> Option<&'a str>
+    ensures { NamesFile (rows_of (found_of matches.now)) (codes "tasks") result }
+{
+    matches.get_str("tasks")
+}
+
 /// The settings of a load that its options give, or the defaults.
 fn settings_of(matches: &ArgMatches) -> Settings
     requires { HasSettings (rows_of (found_of matches.now)) }
@@ -138,7 +146,7 @@ fn settings_of(matches: &ArgMatches) -> Settings
 /// What a command line asks for. An error is the help that it asks for, or why it is refused.
 ///
 /// Not said: where clap could name two faults, which of them.
-pub fn read_asked(alloc: Global, words: &[String]) -> Result<Asked, Error>
+pub fn read_asked<'a>(alloc: Global, words: &'a [String]) -> Result<Asked<'a>, Error>
     ensures fails { FailsBy (fault_of vacation (map string_bytes words.now)) result }
     ensures asked { IfOk result (λ asked. AsksFor (map string_bytes words.now) asked) }
 {
@@ -153,7 +161,7 @@ pub fn read_asked(alloc: Global, words: &[String]) -> Result<Asked, Error>
         return Ok(Asked::Check);
     }
     if let Some(judge) = named(&matches, "judge") {
-        return Ok(Asked::Judge(blocks_of(judge)));
+        return Ok(Asked::Judge(blocks_of(judge), file_of(judge)));
     }
     if let Some(tasks) = named(&matches, "tasks") {
         return Ok(Asked::Tasks(settings_of(tasks)));

@@ -1,11 +1,12 @@
 //! The command line that the program takes, as clap reads it.
 
-ghost use Rattle.std.specs.Prelude.{◌≡◌, [], ◌∷◌, IfOk, IsOkAnd};
-ghost use Rattle.clap.specs.Words.{AddsArg, AddsSubcommand, app_of};
+ghost use Rattle.std.specs.Prelude.{◌≡◌, [], ◌∷◌, codes, IfOk, IsOkAnd};
+ghost use Rattle.clap.specs.Words.{AddsArg, AddsSubcommand, Rule, app_of};
 ghost use Rattle.vac_options.specs.CommandLine.{valued_option, number_parser, number_option};
 ghost use Rattle.vac_options.specs.CommandLine.{blocks_option, clients_option, tasks_option};
 ghost use Rattle.vac_options.specs.CommandLine.{rounds_option, tries_option, flag, telling_options};
 ghost use Rattle.vac_options.specs.CommandLine.{items_option, asks_option, user_option, seed_option};
+ghost use Rattle.vac_options.specs.CommandLine.{short_option, file_option, judging_options};
 ghost use Rattle.vac_options.specs.CommandLine.{client_options, task_options, load_options};
 ghost use Rattle.vac_options.specs.CommandLine.{with_options, top_command, script_commands};
 ghost use Rattle.vac_options.specs.CommandLine.{judging_commands, load_commands, vacation};
@@ -54,6 +55,14 @@ fn number_option<'a>(
         .default_value(default)
 }
 
+/// An option with a short name beside its long one.
+fn short_option<'a>(letter: char, option: Arg<'a>) -> Arg<'a>
+    ensures { (rule : Rule) → IsOption option.entry rule
+        → IsOption result (short_option letter rule) }
+{
+    option.short(letter)
+}
+
 /// The option that says how many blocks a system has.
 fn blocks_option<'a>(alloc: Global) -> Arg<'a>
     ensures { IsOption result blocks_option }
@@ -72,28 +81,30 @@ fn blocks_option<'a>(alloc: Global) -> Arg<'a>
 fn clients_option<'a>(alloc: Global) -> Arg<'a>
     ensures { IsOption result clients_option }
 {
-    number_option(
+    let option = number_option(
         alloc,
         "clients",
         1,
         MOST_CLIENTS,
         "4",
         "How many clients call the system, each in a thread of its own",
-    )
+    );
+    short_option('c', option)
 }
 
 /// The option that says how many tasks a client asks for.
 fn tasks_option<'a>(alloc: Global) -> Arg<'a>
     ensures { IsOption result tasks_option }
 {
-    number_option(
+    let option = number_option(
         alloc,
         "tasks",
         1,
         MOST_TASKS,
         "100",
         "How many tasks each client asks for in each round",
-    )
+    );
+    short_option('t', option)
 }
 
 /// The option that says how many rounds there are.
@@ -128,51 +139,55 @@ fn tries_option<'a>(alloc: Global) -> Arg<'a>
 fn items_option<'a>(alloc: Global) -> Arg<'a>
     ensures { IsOption result items_option }
 {
-    number_option(
+    let option = number_option(
         alloc,
         "items",
         1,
         MOST_ITEMS,
         "16",
         "How many items of each kind there are; the blocks must be four times as many",
-    )
+    );
+    short_option('r', option)
 }
 
 /// The option that says how many items a task names.
 fn asks_option<'a>(alloc: Global) -> Arg<'a>
     ensures { IsOption result asks_option }
 {
-    number_option(
+    let option = number_option(
         alloc,
         "asks",
         1,
         MOST_PARTS as u32,
         "4",
         "The most items that a task names",
-    )
+    );
+    short_option('n', option)
 }
 
 /// The option that says how many tasks are trips.
 fn user_option<'a>(alloc: Global) -> Arg<'a>
     ensures { IsOption result user_option }
 {
-    number_option(
+    let option = number_option(
         alloc,
         "user",
         0,
         PERCENT,
         "80",
         "How many of a hundred tasks are trips",
-    )
+    );
+    short_option('u', option)
 }
 
 /// The option that says what the tasks are drawn from.
 fn seed_option<'a>(alloc: Global) -> Arg<'a>
     ensures { IsOption result seed_option }
 {
-    valued_option(alloc, "seed", "What the tasks are drawn from")
+    let option = valued_option(alloc, "seed", "What the tasks are drawn from")
         .value_parser(value_parser!(u64))
-        .default_value("1")
+        .default_value("1");
+    short_option('s', option)
 }
 
 /// Adds an option, unless memory was refused before.
@@ -216,20 +231,33 @@ fn add_task_options<'a>(
     add_option(command, blocks_option(alloc))
 }
 
-/// A flag.
-fn flag<'a>(alloc: Global, name: &'a str, help: &'a str) -> Arg<'a>
+/// The option that names a file of tasks.
+fn file_option<'a>(alloc: Global) -> Arg<'a>
+    ensures { IsOption result file_option }
+{
+    Arg::new(alloc, "tasks")
+        .long("tasks")
+        .value_name("FILE")
+        .help("A file of the tasks that were handed out, as tasks writes them: all must be done")
+}
+
+/// A flag. The help of the subcommand says what it does where it does something there.
+fn flag<'a>(alloc: Global, name: &'a str, is_shown: bool, help: &'a str) -> Arg<'a>
     ensures { IsOption result (flag name.now) }
 {
     Arg::new(alloc, name)
         .long(name)
         .help(help)
+        .hide(!is_shown)
         .action(ArgAction::SetTrue)
 }
 
-/// Adds the flags that say what a load tells of itself, unless memory was refused before.
+/// Adds the flags that say what a load tells of itself, unless memory was refused before. Where no
+/// load is run they change nothing, and the help does not show them.
 fn add_telling_options<'a>(
     alloc: Global,
     command: Result<Command<'a>, AllocError>,
+    is_run: bool,
 ) -> Result<Command<'a>, AllocError>
     ensures { IfOk result (λ after. IsOkAnd command.entry
         (λ before. AddsOptions before telling_options after)) }
@@ -237,26 +265,29 @@ fn add_telling_options<'a>(
     let progress = flag(
         alloc,
         "progress",
-        "With load: tells on standard error how many tasks were answered, at most twice a second",
+        is_run,
+        "Tells on standard error how many tasks were answered, at most twice a second",
     );
     let stats = flag(
         alloc,
         "stats",
-        "With load: tells on standard error how long the clients took, and how often they tried",
+        is_run,
+        "Tells on standard error how long the clients took, and how often they tried",
     );
     let history = flag(
         alloc,
         "history",
-        "With load: writes its calls as a history for judge, the two lines on standard error",
+        is_run,
+        "Writes its calls as a history for judge, the two lines on standard error",
     );
     add_option(add_option(add_option(command, progress), stats), history)
 }
 
-/// A subcommand without options.
-fn plain_command<'a>(alloc: Global, name: &'a str, about: &'a str) -> Command<'a>
+/// A subcommand without options. Its help ends with an example.
+fn plain_command<'a>(alloc: Global, name: &'a str, about: &'a str, example: &'a str) -> Command<'a>
     ensures { IsCommand result (with_options name.now []) }
 {
-    Command::new(alloc, name).about(about)
+    Command::new(alloc, name).about(about).after_help(example)
 }
 
 /// A subcommand that works on a system of so many blocks.
@@ -264,19 +295,40 @@ fn script_command<'a>(
     alloc: Global,
     name: &'a str,
     about: &'a str,
+    example: &'a str,
 ) -> Result<Command<'a>, AllocError>
     ensures { IfOk result (λ c. IsCommand c (with_options name.now (blocks_option ∷ []))) }
 {
-    plain_command(alloc, name, about).arg(blocks_option(alloc))
+    plain_command(alloc, name, about, example).arg(blocks_option(alloc))
 }
 
-/// A subcommand with the options of a load.
-fn load_command<'a>(alloc: Global, name: &'a str, about: &'a str) -> Result<Command<'a>, AllocError>
+/// The subcommand that judges a history.
+fn judge_command<'a>(alloc: Global) -> Result<Command<'a>, AllocError>
+    ensures { IfOk result (λ c. IsCommand c (with_options (codes "judge") judging_options)) }
+{
+    let command = script_command(
+        alloc,
+        "judge",
+        "Judges the history on standard input: whether its calls, in their order, are right",
+        "Example:\n  echo '1 0 5 newcust 3 -> true' | vacation judge",
+    );
+    add_option(command, file_option(alloc))
+}
+
+/// A subcommand with the options of a load, which it runs or does not.
+fn load_command<'a>(
+    alloc: Global,
+    name: &'a str,
+    is_run: bool,
+    about: &'a str,
+    example: &'a str,
+) -> Result<Command<'a>, AllocError>
     ensures { IfOk result (λ c. IsCommand c (with_options name.now load_options)) }
 {
-    let command = add_client_options(alloc, Ok(plain_command(alloc, name, about)));
+    let command = plain_command(alloc, name, about, example);
+    let command = add_client_options(alloc, Ok(command));
     let command = add_task_options(alloc, command);
-    add_telling_options(alloc, command)
+    add_telling_options(alloc, command, is_run)
 }
 
 /// Adds a subcommand, unless memory was refused before.
@@ -298,11 +350,17 @@ fn add_script_commands<'a>(
     ensures { IfOk result (λ after. IsOkAnd top.entry
         (λ before. AddsCommands before script_commands after)) }
 {
-    let run = script_command(alloc, "run", "Runs the commands on standard input");
+    let run = script_command(
+        alloc,
+        "run",
+        "Runs the commands on standard input",
+        "Example:\n  printf 'add car 7 100 50\\nfree car 7\\n' | vacation run",
+    );
     let dump = script_command(
         alloc,
         "dump",
         "Runs the commands on standard input and writes the memory that they leave",
+        "Example:\n  echo 'add car 7 100 50' | vacation dump --blocks 1",
     );
     add_command(add_command(top, run), dump)
 }
@@ -318,12 +376,16 @@ fn add_load_commands<'a>(
     let load = load_command(
         alloc,
         "load",
+        true,
         "Lets clients call the system with tasks drawn at random, and reports what they left",
+        "Example:\n  vacation load --clients 2 --tasks 1000",
     );
     let tasks = load_command(
         alloc,
         "tasks",
+        false,
         "Writes the tasks of a load, a line each, and runs nothing",
+        "Example:\n  vacation tasks --clients 2 --tasks 3",
     );
     add_command(add_command(top, load), tasks)
 }
@@ -340,13 +402,9 @@ fn add_judging_commands<'a>(
         alloc,
         "check",
         "Audits the words of a memory on standard input, as dump writes them",
+        "Example:\n  echo 'add car 7 100 50' | vacation dump | vacation check",
     );
-    let judge = script_command(
-        alloc,
-        "judge",
-        "Judges the history on standard input: whether its calls, in their order, are right",
-    );
-    add_command(add_command(top, Ok(check)), judge)
+    add_command(add_command(top, Ok(check)), judge_command(alloc))
 }
 
 /// The program without its subcommands.

@@ -30,6 +30,7 @@ fn main(rt: HostRuntime) -> ExitCode {
     };
     let status = run_words(
         &rt,
+        &rt,
         words.as_slice(),
         &mut rt.stdin(),
         &mut rt.stdout(),

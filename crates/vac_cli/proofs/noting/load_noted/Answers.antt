@@ -8,8 +8,8 @@ use Rattle.vac_cli.proofs.noting.load_noted.Goals as goal
 -- src/noting.rt:87:9
 pub returns-in_default : goal.returns-in_default
 returns-in_default g c =
-    let e = c.end_load_by-in_default.ensures in
-    ended_for_memory true c.args.settings.now _ (g.W.Write.contents c.args.output.now) (g.W.Write.contents c.end_load_by-in_default.new.output) (search rules) e.low e.high e.refused e.line
+    let e = c.end_load_by.ensures in
+    ended_for_memory true c.args.settings.now _ (g.W.Write.contents c.args.output.now) (g.W.Write.contents c.end_load_by.new.output) (search rules) e.low e.high e.refused e.line
 
 -- src/noting.rt:100:9
 pub returns-then-not-are_whole : goal.returns-then-not-are_whole

@@ -5,4 +5,4 @@ use Rattle.vac_options.proofs.options.add_judging_commands.Goals as goal
 pub returns : goal.returns
 returns c =
     let s1 = command_more _ _ (Ok c.plain_command-check.result) _ [] _ (no_command c.args.top) c.add_command.ensures c.plain_command-check.ensures in
-    command_more _ _ _ _ _ _ s1 c.add_command-2.ensures c.script_command-judge.ensures
+    command_more _ _ _ _ _ _ s1 c.add_command-2.ensures c.judge_command.ensures

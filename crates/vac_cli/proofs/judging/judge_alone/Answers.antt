@@ -1,7 +1,7 @@
 use Rattle.std.proofs.Common.{leb-true, inr}
 use Rattle.std.proofs.lemmas.Bool.{and_parts}
 use Rattle.vac_cli.proofs.Judgement.{judge_stopped}
-use Rattle.vac_cli.proofs.program.judge.Goals as goal
+use Rattle.vac_cli.proofs.judging.judge_alone.Goals as goal
 
 pub judge_history-requires-clause-some : goal.judge_history-requires-clause-some
 judge_history-requires-clause-some g c = leb-true _ _ (and_parts _ _ c.requires).0

@@ -1,0 +1,75 @@
+-- What the program does with a history: its status, and what it reads and writes.
+use Rattle.std.specs.Prelude.{◌≡◌, ◌≢◌, ◌⊎◌, ℕ, Bool, true, false, Option, Some, None, List}
+use Rattle.std.specs.Borrow.{Bor}
+use Rattle.vac_lines.specs.Writing.{AppendsPrefix}
+use Rattle.vac_streams.specs.declared.fault.StreamFault.TheVariants.{Memory}
+use Rattle.vac_judge.specs.Reading.{HasJudged, HasJudgedInPart}
+use Rattle.vac_judge.specs.HeldReading.{HasHeld, HasHeldInPart}
+use Rattle.vac_judge.specs.declared.fault.JudgeFault.{JudgeFault}
+use Rattle.vac_judge.specs.declared.fault.JudgeFault.TheVariants as judge
+use Rattle.vac_cli.specs.Ending.{Ends, fault_line, unopened_line, as_stream_fault}
+
+-- a fault other than one of the output ended a judgement: nothing was written but a prefix of the
+-- line that names it
+abbrev pub NamedAlone : Option (List ℕ) → Option (List ℕ) → Type 0
+NamedAlone held holds = (fault : JudgeFault) × (fault ≢ judge.Write)
+    × AppendsPrefix held holds (fault_line (as_stream_fault fault))
+
+-- a fault ended a judgement: one of the output, and a prefix of the verdict was written; or
+-- another, and nothing was written but a prefix of the line that names it
+-- Not said: which fault stands for which cause.
+abbrev pub JudgeStopped : ℕ → Option (List ℕ) → Option (List ℕ) → Option (List ℕ)
+    → Option (List ℕ) → Type 0
+JudgeStopped blocks unread left held holds =
+    HasJudgedInPart blocks unread left held holds ⊎ NamedAlone held holds
+
+-- a history is judged: 0 where it is legal
+abbrev pub Judges : ℕ → ℕ → Option (List ℕ) → Option (List ℕ) → Option (List ℕ)
+    → Option (List ℕ) → Type 0
+Judges blocks status unread left held holds =
+    Ends status (HasJudged blocks true unread left held holds)
+    (HasJudged blocks false unread left held holds
+    ⊎ JudgeStopped blocks unread left held holds)
+
+-- a history was judged and held against the work in a file of which these bytes are known, and this
+-- says whether it is legal and of all the work
+-- Not said: how much of the work is left to read, where no contract knows its bytes.
+abbrev pub HasHeldFile : Option (List ℕ) → ℕ → Bool → Option (List ℕ) → Option (List ℕ)
+    → Option (List ℕ) → Option (List ℕ) → Type 0
+HasHeldFile tasks blocks legal unread left held holds =
+    (rest : Option (List ℕ)) × HasHeld blocks legal tasks rest unread left held holds
+
+-- a fault ended it: one of the output, and a prefix of the verdict was written; or another, and
+-- nothing was written but a prefix of the line that names it
+-- Not said: which fault stands for which cause.
+abbrev pub WorkStopped : Option (List ℕ) → ℕ → Option (List ℕ) → Option (List ℕ)
+    → Option (List ℕ) → Option (List ℕ) → Type 0
+WorkStopped tasks blocks unread left held holds =
+    ((rest : Option (List ℕ)) × HasHeldInPart blocks tasks rest unread left held holds)
+    ⊎ NamedAlone held holds
+
+-- the file of the work was not opened: a prefix of the line that says so was written, or of that of
+-- want of memory
+-- Not said: that it could not be opened.
+abbrev pub NotOpened : ℕ → Option (List ℕ) → Option (List ℕ) → Type 0
+NotOpened status held holds = (status ≡ 1) × (AppendsPrefix held holds unopened_line
+    ⊎ AppendsPrefix held holds (fault_line Memory))
+
+-- a history is judged and held against the work in a file of which these bytes are known: 0 where
+-- it is legal and of all the work; where the file was not opened, nothing is read
+abbrev pub JudgesWork : Option (List ℕ) → ℕ → ℕ → Option (List ℕ) → Option (List ℕ)
+    → Option (List ℕ) → Option (List ℕ) → Type 0
+JudgesWork tasks blocks status unread left held holds =
+    Ends status (HasHeldFile tasks blocks true unread left held holds)
+    (HasHeldFile tasks blocks false unread left held holds
+    ⊎ WorkStopped tasks blocks unread left held holds)
+    ⊎ ((left ≡ unread) × NotOpened status held holds)
+
+-- a history is judged; where a file is named, it is held against the work in that, of which the
+-- bytes are known that this file has
+abbrev pub JudgesBy : (List ℕ → Option (List ℕ)) → Option (Bor (List ℕ)) → ℕ → ℕ
+    → Option (List ℕ) → Option (List ℕ) → Option (List ℕ) → Option (List ℕ) → Type 0
+JudgesBy files None blocks status unread left held holds =
+    Judges blocks status unread left held holds
+JudgesBy files (Some name) blocks status unread left held holds =
+    JudgesWork (files name.now) blocks status unread left held holds
