@@ -193,13 +193,15 @@ numbers_distinct ns (p ∷ ps) d e h x =
         let whole = times_cons x (get_or ns p 0) (numbers_at ns ps) in omega arith
 
 -- what is found of the lines as they are kept
-module _ (lines kept : List Line) (k : AreKeptLines lines kept) (bytes : List ℕ) (texts : texts_of lines ≡ lines_of bytes) (listed : Lists bytes (calls_of lines)) where
+module _ (lines kept : List Line) (k : AreKeptLines lines kept) (bytes : List ℕ) (texts : texts_of lines ≡ lines_of bytes) (listed : Lists bytes (calls_of lines))
+    (right : first_wrong bytes ≡ None) where
   long : length (calls_of lines) ≡ length lines
   long = length-map lines call_of
 
   kept_are : AreKept bytes (calls_of lines) (numbers_of kept)
   kept_are = record {
     listed = listed;
+    right = right;
     numbers_are = record {
       distinct = k.distinct;
       first = numbers_first lines kept k.each;
@@ -271,10 +273,10 @@ module _ (lines kept : List Line) (k : AreKeptLines lines kept) (bytes : List �
 
 -- what is found of a text that was read, whole or up to its first wrong line
 pub text_whole : (n steps : ℕ) (unread left : Option (List ℕ)) (history : History) (result : Outcome) (text : List ℕ) → ReadWhole unread left history
-    → ((bytes : List ℕ) → texts_of history.lines.items ≡ lines_of bytes → Lists bytes (calls_of history.lines.items) → FindsText n steps bytes result text)
+    → ((bytes : List ℕ) → texts_of history.lines.items ≡ lines_of bytes → Lists bytes (calls_of history.lines.items) → first_wrong bytes ≡ None → FindsText n steps bytes result text)
     → HasText n steps unread left result text
 text_whole n steps unread left history result text r f =
-    let found = f r.bytes r.texts r.listed in
+    let found = f r.bytes r.texts r.listed r.right in
     record {
       bytes = r.bytes;
       consumed = r.consumed;

@@ -19,3 +19,4 @@ pub mod Telling
 pub mod Kept
 pub mod Founds
 pub mod Printing
+pub mod Lawful

@@ -155,6 +155,9 @@ module _ {O : Type 0} where
         ended = h.ended;
         held = t.held;
         texts = t.texts_are ∙ ap (λ l. texts_of l ++ t.more_texts) e ∙ same;
+        right = whole_told h.bytes
+            ∙ ap (λ l. wrong_behind [] (map call_told l)) (sym h.lines) ∙ ap (wrong_behind []) (sym (append-nil (map call_told (lines_in h.told))))
+            ∙ ap (λ (l : List Call). wrong_behind l (map call_told (lines_in h.told) ++ [])) (sym (ap calls_of e)) ∙ t.same [];
         listed = sym (ap (map line_call) same) ∙ t.listed ∙ ap (map Ok) (sym (t.calls_are ∙ ap (λ l. calls_of l ++ t.more_calls) e));
       }
 

@@ -18,9 +18,9 @@ use Rattle.vac_order.specs.Walking.{AreDistinct}
 use Rattle.vac_order.specs.Stuck.{AreStuck}
 use Rattle.vac_order.specs.Reading.{first_wrong, call_at}
 
--- what is found: a line that is wrong; the numbers of the lines in an order that is a linearization;
--- that there is none, the most answered calls that have a place, and there the lines of the calls
--- that are stuck, each with the reply that was expected; or that neither is known
+-- what is found: a line that is wrong; the numbers of the lines in an order that is a
+-- linearization; that there is none, the most answered calls that have a place, and there the lines
+-- of the calls that are stuck, each with the reply that was expected; or that neither is known
 pub data Found : Type 0 where
   Wrong : (verdict : Verdict) → Found
   Order : (numbers : List ℕ) → Found
@@ -46,9 +46,11 @@ pub record IsOrdered (n : ℕ) (bytes : List ℕ) (numbers : List ℕ) : Type 0 
   pub orders : IsOrderOf calls (numbered calls numbers)
   pub linearization : IsLinearization n (numbered calls numbers)
 
--- the lines of a text are calls, which a search has in the order of these numbers
+-- the lines of a text are calls, each client's in turn, which a search has in the order of these
+-- numbers
 pub record AreKept (bytes : List ℕ) (calls : List Call) (numbers : List ℕ) : Type 0 where
   pub listed : Lists bytes calls
+  pub right : first_wrong bytes ≡ None
   pub numbers_are : AreNumbers calls numbers
   pub merges : IsMerge calls (numbered calls numbers)
 
@@ -56,8 +58,10 @@ pub record AreKept (bytes : List ℕ) (calls : List Call) (numbers : List ℕ) :
 abbrev pub told_by : List ℕ → List Stuck → List (ℕ × Reply)
 told_by numbers stuck = map (λ one. (get_or numbers one.place 0, one.expected)) stuck
 
--- no order of the calls is a linearization. At most so many answered calls, one after the other, may
--- come next and give their replies; where as many did, these that may come next have other replies
+-- no order of the calls is a linearization. At most so many answered calls, one after the other,
+-- may come next and give their replies; where as many did, the answered ones that may come next are
+-- told, each with what the manager would answer
+-- Not said: in which order they are told.
 pub record HasNone (n : ℕ) (bytes : List ℕ) (most : ℕ) (stuck : List (ℕ × Reply)) : Type 0 where
   pub calls : List Call
   pub numbers : List ℕ
@@ -73,8 +77,8 @@ pub record HasNone (n : ℕ) (bytes : List ℕ) (most : ℕ) (stuck : List (ℕ 
   pub are : AreStuck state made (numbered calls numbers) found
   pub told : stuck ≡ told_by numbers found
 
--- after so many steps neither an order is found nor that there is none; so many answered calls had a
--- place in what was tried, and nowhere had more
+-- after so many steps neither an order is found nor that there is none; so many answered calls had
+-- a place in what was tried, and nowhere had more
 pub record IsOpen (n : ℕ) (bytes : List ℕ) (steps most : ℕ) : Type 0 where
   pub calls : List Call
   pub numbers : List ℕ

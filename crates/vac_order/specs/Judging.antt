@@ -14,8 +14,8 @@ use Rattle.vac_order.specs.Walking.{AreDistinct}
 abbrev pub calls_at : List Call → List ℕ → List Call
 calls_at calls places = map (λ place. get_or calls place no_call) places
 
--- the calls at these places, each once, are an order of all that is a linearization, for a system of
--- n blocks
+-- the calls at these places, each once, are an order of all that is a linearization, for a system
+-- of n blocks
 pub record IsLinearizedBy (n : ℕ) (calls : List Call) (places : List ℕ) : Type 0 where
   pub orders : IsOrderOf calls (calls_at calls places)
   pub linearization : IsLinearization n (calls_at calls places)

@@ -12,3 +12,4 @@ pub mod Judging
 pub mod Reading
 pub mod Found
 pub mod Ordering
+pub mod Laws

@@ -16,7 +16,8 @@ outcome_of (NoOrder most stuck) = outcome.Illegal
 outcome_of (Undecided most) = outcome.Undecided
 
 -- this is found of a text, is its text, and is answered so
-pub record FindsText (n steps : ℕ) (bytes : List ℕ) (result : Outcome) (text : List ℕ) : Type 0 where
+pub record FindsText (n steps : ℕ) (bytes : List ℕ) (result : Outcome) (text : List ℕ) :
+    Type 0 where
   pub found : Found
   pub is : IsFound n steps bytes found
   pub answered : result ≡ outcome_of found
@@ -34,8 +35,8 @@ pub record HasText (n steps : ℕ) (unread left : Option (List ℕ)) (result : O
   pub of_input : IfSome unread (λ input. FindsText n steps input result text)
 
 -- what is found was written and nothing else, and is answered
-pub record HasOrdered (n steps : ℕ) (result : Outcome) (unread left held holds : Option (List ℕ)) :
-    Type 0 where
+pub record HasOrdered (n steps : ℕ) (result : Outcome)
+    (unread left held holds : Option (List ℕ)) : Type 0 where
   pub text : List ℕ
   pub is : HasText n steps unread left result text
   pub written : Appends held holds text

@@ -142,6 +142,7 @@ pub record ReadWhole (unread left : Option (List ℕ)) (history : History) : Typ
   pub held : IsHeld history
   pub texts : texts_of history.lines.items ≡ lines_of bytes
   pub listed : Lists bytes (calls_of history.lines.items)
+  pub right : first_wrong bytes ≡ None
 
 -- so much of the input was read as shows its first wrong line: all of it, or whatever follows
 pub record ReadWrong (unread left : Option (List ℕ)) (verdict : Verdict) : Type 0 where

@@ -5,8 +5,8 @@ use Rattle.vac_judge.specs.Call.{Call}
 use Rattle.vac_order.specs.Configurations.{Configuration, MayBegin, Reaches, fits, after, weight, answered}
 use Rattle.vac_order.specs.Walk.{AreChoices, Place}
 
--- where a search stands, how many answered calls have a place there, the calls that are left to try,
--- the path that led there, and the configurations from which nothing is left to try
+-- where a search stands, how many answered calls have a place there, the calls that are left to
+-- try, the path that led there, and the configurations from which nothing is left to try
 pub record Search : Type 0 where
   pub at : Configuration
   pub placed : ℕ
@@ -36,6 +36,8 @@ pub record PassesOver (search next : Search) : Type 0 where
   pub is : next ≡ record search { tries = others }
 
 -- a call is tried and made, and answered calls are left
+-- Not said: that a configuration that is known is not entered again; in which order the calls that
+-- may come next are tried.
 pub record GoesOn (search next : Search) : Type 0 where
   pub call : Call
   pub others : List Call

@@ -80,8 +80,8 @@ fn print_all_stuck(lines: &[Line], stuck: &[Stuck], out: &mut Vec<u8>) -> Result
     Ok(())
 }
 
-/// Appends that there is no order, at most so many answered calls having a place, and the calls that
-/// are stuck there.
+/// Appends that there is no order, at most so many answered calls having a place, and the calls
+/// that are stuck there.
 pub(crate) fn print_no_order(
     most: u64,
     lines: &[Line],

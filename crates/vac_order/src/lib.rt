@@ -7,6 +7,7 @@ mod ends;
 mod found;
 mod history;
 mod known;
+mod laws;
 mod line;
 mod machine;
 mod marks;
@@ -22,6 +23,7 @@ mod walk;
 mod watcher;
 mod world;
 
+pub use laws::{an_order_that_is_found_is_a_linearization, where_none_is_found_there_is_none};
 pub use ordering::{Outcome, STEPS, order_history};
 pub use walk::{Finding, find_order};
 pub use watcher::Watcher;

@@ -1,6 +1,6 @@
 //! Ordering a history: what is read, found and written.
 
-ghost use Rattle.std.specs.Prelude.{◌≡◌, ◌≤◌, ◌≢◌, ℕ, List, [], IfOk, IfErr};
+ghost use Rattle.std.specs.Prelude.{◌≡◌, ◌≤◌, ◌≢◌, ℕ, None, List, [], IfOk, IfErr};
 ghost use Rattle.vac_order.specs.declared.line.Line.{Line};
 ghost use Rattle.vac_model.specs.State.{empty_state};
 ghost use Rattle.vac_lines.specs.Lines.{lines_of};
@@ -9,7 +9,7 @@ ghost use Rattle.vac_streams.specs.declared.fault.StreamFault.TheVariants.{Write
 ghost use Rattle.vac_order.specs.Calls.{calls_of};
 ghost use Rattle.vac_order.specs.Judging.{Judges};
 ghost use Rattle.vac_order.specs.Point.{point_at};
-ghost use Rattle.vac_order.specs.Reading.{IsHeld, AreKeptLines, texts_of};
+ghost use Rattle.vac_order.specs.Reading.{IsHeld, AreKeptLines, texts_of, first_wrong};
 ghost use Rattle.vac_order.specs.Ordering.{FindsText, HasText, HasOrdered, HasStopped};
 
 use crate::found::{print_no_order, print_order, print_undecided};
@@ -65,7 +65,7 @@ fn print_finding<M: Machine + Drop>(
         AreKeptLines lines ordered.now.calls.lines.items →
         Judges (point_at M.state ordered.now.calls) n (calls_of ordered.now.calls.lines.items)
         steps ordered.now.finding → texts_of lines ≡ lines_of bytes →
-        Lists bytes (calls_of lines) → text.old.items ≡ [] →
+        Lists bytes (calls_of lines) → first_wrong bytes ≡ None → text.old.items ≡ [] →
         FindsText n steps bytes outcome text.new.items) }
 {
     let lines = ordered.calls.as_slice();
@@ -97,8 +97,9 @@ fn order_calls<P: Watcher>(
     requires some { 1 ≤ blocks }
     requires most { blocks ≤ MOST_BLOCKS }
     requires held { IsHeld history }
-    ensures { IfOk result (λ found. (bytes : List ℕ) → texts_of history.lines.items ≡ lines_of bytes →
-        Lists bytes (calls_of history.lines.items) →
+    ensures { IfOk result (λ found. (bytes : List ℕ) →
+        texts_of history.lines.items ≡ lines_of bytes →
+        Lists bytes (calls_of history.lines.items) → first_wrong bytes ≡ None →
         FindsText blocks steps bytes found.0 found.1.items) }
 {
     let manager = open(alloc, blocks)?;

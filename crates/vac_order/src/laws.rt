@@ -1,0 +1,14 @@
+//! Laws on what is found. Each is the contract of a function that does nothing.
+
+ghost use Rattle.vac_order.specs.Laws.{OrderIsLinearization, NoOrderMeansNone};
+
+/// Where an order is found, some order of the calls of the history is a linearization: each
+/// client's calls stand in it as they came, and those that it leaves out were never answered.
+pub fn an_order_that_is_found_is_a_linearization()
+    ensures { OrderIsLinearization }
+{}
+
+/// Where it is found that there is none, no order of the calls of the history is a linearization.
+pub fn where_none_is_found_there_is_none()
+    ensures { NoOrderMeansNone }
+{}
