@@ -7,3 +7,4 @@ pub mod Numbering
 pub mod Tagging
 pub mod Replaying
 mod Stepping
+mod Opacity

@@ -7,3 +7,4 @@ pub mod StateView
 pub mod Follows
 pub mod Refusals
 pub mod Numbered
+pub mod Opacity

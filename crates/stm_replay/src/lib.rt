@@ -18,4 +18,4 @@ mod theorem;
 pub use event::{Entry, Event, NotAllowed, Writes};
 pub use limits::MOST_CLIENTS;
 pub use replay::Core;
-pub use theorem::{law_theorem, running_theorem};
+pub use theorem::{law_theorem, opaque, running_theorem};

@@ -1,7 +1,8 @@
-//! What the running core shows of the core, as contracts of functions that do nothing.
+//! What the running core shows of the core, and opacity, as contracts of functions that do nothing.
 
 ghost use Rattle.stm_replay.specs.Follows.{RunningFollows};
 ghost use Rattle.stm_replay.specs.Numbered.{AllowedWithNumbers, EveryEventIsPlayable, EveryListHasNumbers, LegalHistories, PlayedWithNumbers, SameButTags};
+ghost use Rattle.stm_replay.specs.Opacity.{EveryListIsOpaque};
 
 use std::alloc::Allocator;
 use stm_words::Law;
@@ -24,4 +25,12 @@ pub fn law_theorem<L: Law, A: Allocator>()
     ensures history { LegalHistories L.lawful }
     ensures numbers { EveryListHasNumbers }
     ensures events { EveryEventIsPlayable A }
+{}
+
+/// Opacity, as a contract (Guerraoui, Kapałka), in the model of atomic steps: in every list of
+/// allowed events, committed, live and aborted attempts fit one order that keeps the order of
+/// attempts of which one is over when the other begins, and each reads what the committed ones
+/// before it leave.
+pub fn opaque<L: Law>()
+    ensures { EveryListIsOpaque L.lawful }
 {}
