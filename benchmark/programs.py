@@ -119,18 +119,20 @@ class Pinner(threading.Thread):
         return True
 
 
-def execute(words, stdin, environment, clients):
-    """Runs a command with its clients pinned; its output and its errors."""
+def execute(words, stdin, environment, clients=None):
+    """Runs a command, with so many clients pinned; its output and its errors."""
     with subprocess.Popen(words, stdin=stdin, stdout=subprocess.PIPE, stderr=subprocess.PIPE, text=True,
                           env=os.environ | environment) as process:
         pinner = Pinner(process, clients)
-        pinner.start()
+        if clients:
+            pinner.start()
         try:
             output, errors = process.communicate(timeout=PATIENCE)
         except subprocess.TimeoutExpired:
             process.kill()
             give_up(f"{shlex.join(map(str, words))} took longer than {PATIENCE} seconds")
-    pinner.join()
+    if clients:
+        pinner.join()
     if process.returncode != 0:
         give_up(f"{shlex.join(map(str, words))} ended with status {process.returncode}: "
                 f"{output[-200:]}{errors[-200:]}")
@@ -157,7 +159,7 @@ class Ours:
     def history(self, settings, _):
         """The history of a run, and its report."""
         words = [word for word in self.command(settings) if word != "--stats"] + ["--history"]
-        output, errors = execute(words, subprocess.DEVNULL, {}, settings["clients"])
+        output, errors = execute(words, subprocess.DEVNULL, {})
         return output, errors.splitlines()[1]
 
 
@@ -168,13 +170,13 @@ class Peer:
         self.name, self.words, self.tries = name, words, tries
         self.environment = environment or {}
 
-    def execute(self, settings, tasks, *more):
+    def execute(self, settings, tasks, *more, pinned=None):
         words = [*self.words, "--blocks", str(settings["blocks"]), "--tries", str(self.tries), *more]
         with open(tasks, "rb") as stdin:
-            return execute(words, stdin, self.environment, settings["clients"])
+            return execute(words, stdin, self.environment, pinned)
 
     def run(self, settings, tasks):
-        output, errors = self.execute(settings, tasks)
+        output, errors = self.execute(settings, tasks, pinned=settings["clients"])
         run = Run(*output.splitlines(), errors)
         if run.seconds is None:
             give_up(f"{self.name} tells no seconds on standard error")
