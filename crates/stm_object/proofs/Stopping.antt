@@ -11,7 +11,7 @@ use Rattle.stm_attempt.specs.declared.conflict.Conflict.{Conflict}
 use Rattle.stm_attempt.specs.declared.conflict.Stop.{Stop}
 use Rattle.stm_attempt.specs.declared.conflict.Stop.TheVariants as stop
 use Rattle.stm_object.specs.Object.{IsLawful}
-use Rattle.stm_object.specs.History.{Adds, AddsReader, Spares, Records, WasInOrder, IsAlone, IsNoConflict, WasRead, WasShown, WouldWrite, IsStop, IsConflict, Missed, Misses, AreTries, HasRun, HasAsked}
+use Rattle.stm_object.specs.History.{Adds, Spares, Records, WasInOrder, IsAlone, IsNoConflict, WasRead, WasShown, WouldWrite, IsStop, IsConflict, Missed, Misses, AreTries, HasRun, HasAsked}
 
 -- a read showed the conflict that the attempt kept
 pub shown_by_read : (region region' : RegionShown) (conflict : Conflict) (v v' : Client) → region' ≡ region
