@@ -33,7 +33,8 @@ use Rattle.vac_lines.proofs.Decimals.{all_digits, number_in_word}
 use Rattle.vac_lines.proofs.Spacing.{Each, IsPlain, each_both, words_cut, words_clean}
 use Rattle.vac_lines.proofs.TaskReading.{both, small_id, small_amount, small_units, ask_words, has_id, is_good_change, words_plain, task_some}
 use Rattle.vac_judge.specs.Call.{Call, Parts, is_arrow, parts_of, call_parts, parts_call, at_client, at_time, at_end, reply_at, is_no_end, is_no_reply, line_call}
-use Rattle.vac_judge.specs.declared.call.TheConstants.{MOST_CLIENT, NEVER}
+use Rattle.vac_spans.specs.declared.client.TheConstants.{MOST_CLIENT}
+use Rattle.vac_judge.specs.declared.call.TheConstants.{NEVER}
 use Rattle.vac_lines.specs.declared.line.TheConstants.{LINE_BYTES}
 use Rattle.vac_judge.specs.Parts.{IsCutAtArrow}
 use Rattle.vac_judge.specs.CallText.{call_text, end_text, answer_text, IsPick, IsReply, IsUnanswered, IsWritten, CallTextsAreRead}

@@ -1,7 +1,5 @@
 -- A verdict that is not legal names the first line that is not right, and why it is not.
-use Rattle.std.proofs.Common.{◌≡◌, ◌⊎◌, ℕ, ◌+◌, ◌<◌, ◌≤◌, suc, zero, Bool, true, false, List, [], ◌∷◌, ◌++◌, length, map, Option, Some, None, Result, Ok, Err, refl, sym, ap, ◌∙◌, subst, inl, inr, arith, nat_lt}
-use Rattle.std.specs.List.{list_any}
-use Rattle.std.proofs.lemmas.Bool.Decides.{nat_tests}
+use Rattle.std.proofs.Common.{◌≡◌, ℕ, ◌+◌, suc, Bool, true, false, List, [], ◌∷◌, ◌++◌, length, map, Option, Some, None, Result, Ok, Err, refl, sym, ap, ◌∙◌, subst, arith}
 use mathlib.Core.List.{reverse_aux}
 use Rattle.vac_model.specs.State.{State, empty_state}
 use Rattle.vac_model.specs.Run.{run}
@@ -12,150 +10,17 @@ use Rattle.vac_judge.specs.declared.verdict.Wrong.{Wrong}
 use Rattle.vac_judge.specs.declared.verdict.Wrong.TheVariants as wrong
 use Rattle.vac_judge.specs.declared.verdict.Verdict.TheVariants.{Fault, Illegal}
 use Rattle.vac_judge.specs.Call.{Call, line_call}
-use Rattle.vac_judge.specs.Order.{overlaps, ended_before, breaks_client, breaks_time, is_right, wrong_of}
+use Rattle.vac_spans.proofs.Order as spans
+use Rattle.vac_spans.proofs.Order.{passes, fails}
+use Rattle.vac_judge.specs.Order.{span_of, breaks_client, breaks_time, is_right, wrong_of}
 use Rattle.vac_judge.specs.Verdict.{judged, unless_wrong, verdict_on}
-use Rattle.vac_judge.specs.Laws.{IsAt, IsAnswerOf, GiveReplies, KeepPrecedence, IsLinearization, state_after}
-use Rattle.vac_judge.specs.Wrongs.{TakeTurns, IsCause, IsFirstWrong, IsFirstFault, IllegalIsFirstWrong, FaultIsFirst}
-use Rattle.vac_judge.proofs.Order.{both_false, false_both, found, turn_from, turn_test, time_from, time_test, answer_of, of_answer, right_of, wrong_none}
+use Rattle.vac_judge.specs.Laws.{IsAnswerOf, GiveReplies, IsLinearization, state_after}
+use Rattle.vac_judge.specs.Wrongs.{IsCause, IsFirstWrong, IsFirstFault, IllegalIsFirstWrong, FaultIsFirst}
+use Rattle.vac_judge.proofs.Order.{found, answer_of, of_answer, right_of, wrong_none}
 use Rattle.vac_judge.proofs.Linearized.{AllRight, linearized, right_from}
-
--- ---- places of a list with one more call
-
-none_some : (c : Call) → None ≡ Some c → ⊥
-none_some c e = cc
-
-some_same : (a b : Call) → Some a ≡ Some b → a ≡ b
-some_same a b e = cc
-
-at_front : (cs ds : List Call) (i : ℕ) (a : Call) → IsAt cs i a → IsAt (cs ++ ds) i a
-at_front [] ds i a e = absurd (none_some a e)
-at_front (c ∷ cs) ds zero a e = e
-at_front (c ∷ cs) ds (suc i) a e = at_front cs ds i a e
-
-at_last : (cs : List Call) (c : Call) → IsAt (cs ++ c ∷ []) (length cs) c
-at_last [] c = refl
-at_last (d ∷ cs) c = at_last cs c
-
-at_inside : (cs : List Call) (i : ℕ) (a : Call) → IsAt cs i a → i < length cs
-at_inside [] i a e = absurd (none_some a e)
-at_inside (c ∷ cs) zero a e = omega arith
-at_inside (c ∷ cs) (suc i) a e = let h = at_inside cs i a e in omega (arith, h)
-
--- it is one of them, or the last
-at_either : (cs : List Call) (c : Call) (i : ℕ) (a : Call) → IsAt (cs ++ c ∷ []) i a → IsAt cs i a ⊎ ((i ≡ length cs) × (c ≡ a))
-at_either [] c zero a e = inr (refl, some_same c a e)
-at_either [] c (suc i) a e = absurd (none_some a e)
-at_either (d ∷ cs) c zero a e = inl e
-at_either (d ∷ cs) c (suc i) a e =
-    elim (at_either cs c i a e) [
-      | inl h ↦ inl h
-      | inr h ↦ inr (ap suc h.0, h.1)
-    ]
-
--- ---- tests on earlier calls, which are listed from the newest on
-
-none_back : (p : Call → Bool) (xs ys : List Call) → list_any p xs ≡ false → list_any p ys ≡ false → list_any p (reverse_aux xs ys) ≡ false
-none_back p [] ys h g = g
-none_back p (x ∷ xs) ys h g =
-    let both = both_false (p x) (list_any p xs) h in
-    none_back p xs (x ∷ ys) both.1 (false_both (p x) (list_any p ys) both.0 g)
-
-none_front : (p : Call → Bool) (xs ys : List Call) → list_any p (reverse_aux xs ys) ≡ false → (list_any p xs ≡ false) × (list_any p ys ≡ false)
-none_front p [] ys h = (refl, h)
-none_front p (x ∷ xs) ys h =
-    let both = none_front p xs (x ∷ ys) h in
-    let own = both_false (p x) (list_any p ys) both.1 in
-    (false_both (p x) (list_any p xs) own.0 both.0, own.1)
-
-none_at : (p : Call → Bool) (cs : List Call) (i : ℕ) (a : Call) → list_any p cs ≡ false → IsAt cs i a → p a ≡ false
-none_at p [] i a h e = absurd (none_some a e)
-none_at p (c ∷ cs) zero a h e = subst (λ d. p d ≡ false) (some_same c a e) (both_false (p c) (list_any p cs) h).0
-none_at p (c ∷ cs) (suc i) a h e = none_at p cs i a (both_false (p c) (list_any p cs) h).1 e
-
-none_from : (p : Call → Bool) (cs : List Call) → ((i : ℕ) (a : Call) → IsAt cs i a → p a ≡ false) → list_any p cs ≡ false
-none_from p [] h = refl
-none_from p (c ∷ cs) h = false_both (p c) (list_any p cs) (h 0 c refl) (none_from p cs (λ i a e. h (suc i) a e))
 
 false_true : false ≡ true → ⊥
 false_true e = cc
-
--- a test that does not fail passes
-passes : (b : Bool) → (b ≡ false → ⊥) → b ≡ true
-passes true h = refl
-passes false h = absurd (h refl)
-
-fails : (b : Bool) → (b ≡ true → ⊥) → b ≡ false
-fails true h = absurd (h refl)
-fails false h = refl
-
--- ---- clients and times of one more call
-
-turns_of : (cs : List Call) (c : Call) → TakeTurns cs → breaks_client (reverse_aux cs []) c ≡ false → TakeTurns (cs ++ c ∷ [])
-turns_of cs c t h =
-    let both = both_false (nat_lt c.end c.begin) (list_any (overlaps c) (reverse_aux cs [])) h in
-    let own = time_from c.end c.begin both.0 in
-    let none = (none_front (overlaps c) cs [] both.1).0 in
-    record {
-      times = λ i a e. elim (at_either cs c i a e) [
-        | inl h ↦ t.times i a h
-        | inr h ↦ subst (λ (d : Call). d.begin ≤ d.end) h.1 own
-      ];
-      clients = λ i j a b e f l same. elim (at_either cs c j b f) [
-        | inl g ↦ elim (at_either cs c i a e) [
-          | inl h ↦ t.clients i j a b h g l same
-          | inr h ↦ let inside = at_inside cs j b g in absurd (omega (arith, inside, l, h.0))
-        ]
-        | inr g ↦ elim (at_either cs c i a e) [
-          | inl h ↦
-              let test : overlaps c a ≡ false = none_at (overlaps c) cs i a none h in
-              let turn : a.end ≤ c.begin = turn_from a.client c.client c.begin a.end test (same ∙ ap (λ (d : Call). d.client) (sym g.1)) in
-              subst (λ (d : Call). a.end ≤ d.begin) g.1 turn
-          | inr h ↦ absurd (omega (arith, l, h.0, g.0))
-        ]
-      ];
-    }
-
-of_turns : (cs : List Call) (c : Call) → TakeTurns (cs ++ c ∷ []) → breaks_client (reverse_aux cs []) c ≡ false
-of_turns cs c t =
-    let own : c.begin ≤ c.end = t.times (length cs) c (at_last cs c) in
-    let none : list_any (overlaps c) cs ≡ false =
-    none_from (overlaps c) cs (λ i a e. turn_test a.client c.client c.begin a.end
-    (λ same. t.clients i (length cs) a c (at_front cs (c ∷ []) i a e) (at_last cs c) (at_inside cs i a e) same)) in
-    false_both (nat_lt c.end c.begin) (list_any (overlaps c) (reverse_aux cs [])) (time_test c.end c.begin own) (none_back (overlaps c) cs [] none refl)
-
-precedence_of : (cs : List Call) (c : Call) → TakeTurns (cs ++ c ∷ []) → KeepPrecedence cs → breaks_time (reverse_aux cs []) c ≡ false → KeepPrecedence (cs ++ c ∷ [])
-precedence_of cs c t k h i j a b e f less =
-    let own : c.begin ≤ c.end = t.times (length cs) c (at_last cs c) in
-    let none = (none_front (ended_before c) cs [] h).0 in
-    elim (at_either cs c i a e) [
-      | inl g ↦ elim (at_either cs c j b f) [
-        | inl x ↦ k i j a b g x less
-        | inr x ↦ let inside = at_inside cs i a g in omega (arith, inside, x.0)
-      ]
-      | inr g ↦ elim (at_either cs c j b f) [
-        | inl x ↦
-            let after : b.begin ≤ c.end = time_from c.end b.begin (none_at (ended_before c) cs j b none x) in
-            let same : c.end ≡ a.end = ap (λ (d : Call). d.end) g.1 in
-            absurd (omega (arith, after, same, less))
-        | inr x ↦
-            let first : c.end ≡ a.end = ap (λ (d : Call). d.end) g.1 in
-            let last : c.begin ≡ b.begin = ap (λ (d : Call). d.begin) x.1 in
-            absurd (omega (arith, own, first, last, less))
-      ]
-    ]
-
-of_precedence : (cs : List Call) (c : Call) → KeepPrecedence (cs ++ c ∷ []) → breaks_time (reverse_aux cs []) c ≡ false
-of_precedence cs c k =
-    none_back (ended_before c) cs []
-    (none_from (ended_before c) cs (λ i a e. fails (ended_before c a) (λ ended.
-    let less : c.end < a.begin = before_of c.end a.begin ended in
-    let back = k (length cs) i c a (at_last cs c) (at_front cs (c ∷ []) i a e) less in
-    let inside = at_inside cs i a e in
-    omega (arith, back, inside))))
-    refl
-  where
-    before_of : (x y : ℕ) → nat_lt x y ≡ true → x < y
-    before_of x y h = grind (arith, nat_tests)
 
 -- ---- which cause is found
 
@@ -193,29 +58,29 @@ abbrev TestsOn : ℕ → List Call → Call → Wrong → Type 0
 TestsOn n cs c w = Tests (breaks_client (reverse_aux cs []) c) (breaks_time (reverse_aux cs []) c) (is_right c.reply (expected n cs c)) (expected n cs c) w
 
 cause_of : (n : ℕ) (cs : List Call) (c : Call) (w : Wrong) → IsLinearization n cs → TestsOn n cs c w → IsCause n cs c w
-cause_of n cs c wrong.Client l h = λ t. false_true (sym (of_turns cs c t) ∙ h)
+cause_of n cs c wrong.Client l h = λ t. false_true (sym (spans.of_turns span_of cs c t) ∙ h)
 cause_of n cs c wrong.Time l h = (
-  turns_of cs c (record { times = l.times; clients = l.clients }) h.0,
-  λ k. false_true (sym (of_precedence cs c k) ∙ h.1),
+  spans.turns_of span_of cs c (record { times = l.times; clients = l.clients }) h.0,
+  λ k. false_true (sym (spans.of_precedence span_of cs c k) ∙ h.1),
 )
 cause_of n cs c (wrong.Reply e) l h =
-    let turns = turns_of cs c (record { times = l.times; clients = l.clients }) h.0 in (
+    let turns = spans.turns_of span_of cs c (record { times = l.times; clients = l.clients }) h.0 in (
       turns,
-      precedence_of cs c turns l.precedence h.1,
+      spans.precedence_of span_of cs c turns l.precedence h.1,
       h.3,
       λ a. false_true (sym h.2 ∙ of_answer (expected n cs c) c.reply (subst (λ r. IsAnswerOf r c.reply) h.3 a)),
     )
 
 of_cause : (n : ℕ) (cs : List Call) (c : Call) (w : Wrong) → IsLinearization n cs → IsCause n cs c w → TestsOn n cs c w
 of_cause n cs c wrong.Client l h =
-    passes (breaks_client (reverse_aux cs []) c) (λ e. h (turns_of cs c (record { times = l.times; clients = l.clients }) e))
+    passes (breaks_client (reverse_aux cs []) c) (λ e. h (spans.turns_of span_of cs c (record { times = l.times; clients = l.clients }) e))
 of_cause n cs c wrong.Time l h = (
-  of_turns cs c h.0,
-  passes (breaks_time (reverse_aux cs []) c) (λ e. h.1 (precedence_of cs c h.0 l.precedence e)),
+  spans.of_turns span_of cs c h.0,
+  passes (breaks_time (reverse_aux cs []) c) (λ e. h.1 (spans.precedence_of span_of cs c h.0 l.precedence e)),
 )
 of_cause n cs c (wrong.Reply e) l h = (
-  of_turns cs c h.0,
-  of_precedence cs c h.1,
+  spans.of_turns span_of cs c h.0,
+  spans.of_precedence span_of cs c h.1,
   fails (is_right c.reply (expected n cs c)) (λ r. h.3 (subst (λ x. IsAnswerOf x c.reply) (sym h.2) (answer_of (expected n cs c) c.reply r))),
   h.2,
 )

@@ -1,5 +1,6 @@
 -- What judging a line says of the verdict on it and those behind it.
 use Rattle.std.proofs.Common.{◌≡◌, ℕ, ◌+◌, List, ◌∷◌, length, Option, Some, None, Result, Ok, Err, refl, sym, ap, ◌∙◌}
+use Rattle.std.proofs.lemmas.List.{length-map}
 use Rattle.vac_model.specs.State.{State}
 use Rattle.vac_model.specs.Run.{run}
 use Rattle.vac_judge.specs.declared.fault.CallFault.{CallFault}
@@ -7,39 +8,39 @@ use Rattle.vac_judge.specs.declared.judge.Judge.{Judge}
 use Rattle.vac_judge.specs.declared.verdict.Wrong.{Wrong}
 use Rattle.vac_judge.specs.declared.verdict.Verdict.TheVariants.{Fault, Illegal}
 use Rattle.vac_judge.specs.Call.{Call}
+use Rattle.vac_judge.specs.Order.{span_of}
 use Rattle.vac_judge.specs.Verdict.{judged, unless_wrong}
 use Rattle.vac_judge.specs.Judging.{Follows, Judges, Takes, Ends}
 
 -- a call was judged as the next
-abbrev pub JudgesNext : Judge → Judge → ℕ → Call → Option Wrong → Type 0
-JudgesNext judge after line call found =
-    (s : State) (earlier : List Call) → Follows judge s earlier → line ≡ judge.calls + 1 → Judges after s earlier call found
+abbrev pub JudgesNext : Judge → Judge → Call → Option Wrong → Type 0
+JudgesNext judge after call found =
+    (s : State) (earlier : List Call) → Follows judge s earlier → Judges after s earlier call found
 
 -- the number of the next line
-number_is : (judge : Judge) (line : ℕ) (s : State) (earlier : List Call) → line ≡ judge.calls + 1 → Follows judge s earlier → length earlier + 1 ≡ line
-number_is judge line s earlier n f = sym (n ∙ ap (λ k. k + 1) f.keeps.calls_are)
+number_is : (judge : Judge) (line : ℕ) (s : State) (earlier : List Call) → line ≡ judge.spans.count + 1 → Follows judge s earlier → length earlier + 1 ≡ line
+number_is judge line s earlier n f = sym (n ∙ ap (λ k. k + 1) (f.spans.count_is ∙ length-map earlier span_of))
 
-pub ends_fault : (judge : Judge) (read : Result Call CallFault) (line : ℕ) (fault : CallFault) → read ≡ Err fault → line ≡ judge.calls + 1 → Ends judge read (Fault line fault)
+pub ends_fault : (judge : Judge) (read : Result Call CallFault) (line : ℕ) (fault : CallFault) → read ≡ Err fault → line ≡ judge.spans.count + 1 → Ends judge read (Fault line fault)
 ends_fault judge read line fault e n = record {
   on = λ s earlier f more. ap (λ l. judged s earlier (l ∷ more)) e ∙ ap (λ k. Fault k fault) (number_is judge line s earlier n f);
 }
 
-pub ends_wrong : (judge after : Judge) (read : Result Call CallFault) (call : Call) (line : ℕ) (wrong : Wrong) → read ≡ Ok call → line ≡ judge.calls + 1
-    → JudgesNext judge after line call (Some wrong) → Ends judge read (Illegal line wrong)
+pub ends_wrong : (judge after : Judge) (read : Result Call CallFault) (call : Call) (line : ℕ) (wrong : Wrong) → read ≡ Ok call → line ≡ judge.spans.count + 1
+    → JudgesNext judge after call (Some wrong) → Ends judge read (Illegal line wrong)
 ends_wrong judge after read call line wrong e n h = record {
   on = λ s earlier f more. ap (λ l. judged s earlier (l ∷ more)) e
-      ∙ ap (λ w. unless_wrong w (length earlier + 1) (judged (run s call.task).0 (call ∷ earlier) more)) (h s earlier f n).found_is
+      ∙ ap (λ w. unless_wrong w (length earlier + 1) (judged (run s call.task).0 (call ∷ earlier) more)) (h s earlier f).found_is
       ∙ ap (λ k. Illegal k wrong) (number_is judge line s earlier n f);
 }
 
-pub takes_call : (judge after : Judge) (read : Result Call CallFault) (call : Call) (line : ℕ) → read ≡ Ok call → line ≡ judge.calls + 1
-    → JudgesNext judge after line call None → Takes judge after read
-takes_call judge after read call line e n h = record {
+pub takes_call : (judge after : Judge) (read : Result Call CallFault) (call : Call) → read ≡ Ok call → JudgesNext judge after call None → Takes judge after read
+takes_call judge after read call e h = record {
   on = λ s earlier f. (
     (run s call.task).0,
     call ∷ earlier,
-    (h s earlier f n).taken refl,
+    (h s earlier f).taken refl,
     λ more. ap (λ l. judged s earlier (l ∷ more)) e
-        ∙ ap (λ w. unless_wrong w (length earlier + 1) (judged (run s call.task).0 (call ∷ earlier) more)) (h s earlier f n).found_is,
+        ∙ ap (λ w. unless_wrong w (length earlier + 1) (judged (run s call.task).0 (call ∷ earlier) more)) (h s earlier f).found_is,
   );
 }

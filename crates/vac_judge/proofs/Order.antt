@@ -1,8 +1,7 @@
 -- What the tests on a call say of it and the calls before it.
-use Rattle.std.proofs.Common.{◌≡◌, ℕ, ◌≤◌, ◌==◌, ◌&&◌, ◌||◌, Bool, true, false, cond, List, [], ◌∷◌, Option, Some, None, refl, sym, ap, ◌∙◌, arith, nat_lt}
+use Rattle.std.proofs.Common.{◌≡◌, ℕ, ◌≤◌, Bool, true, false, cond, List, [], ◌∷◌, Option, Some, None, refl, sym, ap, ◌∙◌, nat_lt}
 use Rattle.std.specs.Prelude.{⊤}
 use Rattle.std.specs.List.{list_any}
-use Rattle.std.proofs.lemmas.Bool.Decides.{nat_tests}
 use Rattle.std.proofs.lemmas.Slice.Eq.{bytes_eq-Decides}
 use Rattle.vac_model.specs.State.{State}
 use Rattle.vac_model.specs.Run.{run}
@@ -11,7 +10,9 @@ use Rattle.vac_lines.specs.Text.{reply_text}
 use Rattle.vac_judge.specs.declared.verdict.Wrong.{Wrong}
 use Rattle.vac_judge.specs.declared.verdict.Wrong.TheVariants as wrong
 use Rattle.vac_judge.specs.Call.{Call}
-use Rattle.vac_judge.specs.Order.{overlaps, ended_before, breaks_client, breaks_time, is_right, wrong_of}
+use Rattle.vac_spans.specs.Order as spans
+pub use Rattle.vac_spans.proofs.Tests.{both_false, false_both, turn_from, turn_test, time_from, time_test}
+use Rattle.vac_judge.specs.Order.{span_of, breaks_client, breaks_time, is_right, wrong_of}
 use Rattle.vac_judge.specs.Laws.{IsAnswerOf}
 
 -- a fact of each element
@@ -30,40 +31,21 @@ pub record IsRight (s : State) (earlier : List Call) (c : Call) : Type 0 where
   pub fits : Each (λ e. FitsBefore e c) earlier
   pub reply : IsAnswerOf (run s c.task).1 c.reply
 
-pub turn_from : (a b x y : ℕ) → (a == b && nat_lt x y) ≡ false → a ≡ b → y ≤ x
-turn_from a b x y h e = grind (arith, nat_tests)
-
-pub turn_test : (a b x y : ℕ) → (a ≡ b → y ≤ x) → (a == b && nat_lt x y) ≡ false
-turn_test a b x y h = grind (arith, nat_tests)
-
-pub time_from : (x y : ℕ) → nat_lt x y ≡ false → y ≤ x
-time_from x y h = grind (arith, nat_tests)
-
-pub time_test : (x y : ℕ) → y ≤ x → nat_lt x y ≡ false
-time_test x y h = grind (arith, nat_tests)
-
-pub both_false : (a b : Bool) → (a || b) ≡ false → (a ≡ false) × (b ≡ false)
-both_false true b h = cc
-both_false false b h = (refl, h)
-
-pub false_both : (a b : Bool) → a ≡ false → b ≡ false → (a || b) ≡ false
-false_both a b h g = rw (h, g) refl
-
 -- two tests that pass none say that all fit
-fits_all : (c : Call) (earlier : List Call) → list_any (overlaps c) earlier ≡ false → list_any (ended_before c) earlier ≡ false → Each (λ e. FitsBefore e c) earlier
+fits_all : (c : Call) (earlier : List Call) → list_any (spans.overlaps span_of c) earlier ≡ false → list_any (spans.ended_before span_of c) earlier ≡ false → Each (λ e. FitsBefore e c) earlier
 fits_all c [] h g = tt
 fits_all c (e ∷ es) h g =
-    let x = both_false (overlaps c e) (list_any (overlaps c) es) h in
-    let y = both_false (ended_before c e) (list_any (ended_before c) es) g in
+    let x = both_false (spans.overlaps span_of c e) (list_any (spans.overlaps span_of c) es) h in
+    let y = both_false (spans.ended_before span_of c e) (list_any (spans.ended_before span_of c) es) g in
     (record { turn = turn_from e.client c.client c.begin e.end x.0; time = time_from c.end e.begin y.0 }, fits_all c es x.1 y.1)
 
-none_overlaps : (c : Call) (earlier : List Call) → Each (λ e. FitsBefore e c) earlier → list_any (overlaps c) earlier ≡ false
+none_overlaps : (c : Call) (earlier : List Call) → Each (λ e. FitsBefore e c) earlier → list_any (spans.overlaps span_of c) earlier ≡ false
 none_overlaps c [] h = refl
-none_overlaps c (e ∷ es) h = false_both (overlaps c e) (list_any (overlaps c) es) (turn_test e.client c.client c.begin e.end h.0.turn) (none_overlaps c es h.1)
+none_overlaps c (e ∷ es) h = false_both (spans.overlaps span_of c e) (list_any (spans.overlaps span_of c) es) (turn_test e.client c.client c.begin e.end h.0.turn) (none_overlaps c es h.1)
 
-none_ended : (c : Call) (earlier : List Call) → Each (λ e. FitsBefore e c) earlier → list_any (ended_before c) earlier ≡ false
+none_ended : (c : Call) (earlier : List Call) → Each (λ e. FitsBefore e c) earlier → list_any (spans.ended_before span_of c) earlier ≡ false
 none_ended c [] h = refl
-none_ended c (e ∷ es) h = false_both (ended_before c e) (list_any (ended_before c) es) (time_test c.end e.begin h.0.time) (none_ended c es h.1)
+none_ended c (e ∷ es) h = false_both (spans.ended_before span_of c e) (list_any (spans.ended_before span_of c) es) (time_test c.end e.begin h.0.time) (none_ended c es h.1)
 
 -- the order of the tests
 abbrev pub found : Bool → Bool → Bool → Option Wrong → Option Wrong
@@ -91,7 +73,7 @@ of_answer r (Some text) h = (bytes_eq-Decides text (reply_text r)).1 (sym h)
 pub right_of : (s : State) (earlier : List Call) (c : Call) → wrong_of s earlier c ≡ None → IsRight s earlier c
 right_of s earlier c h =
     let tests = found_none (breaks_client earlier c) (breaks_time earlier c) (is_right c.reply (run s c.task).1) (wrong.Reply (run s c.task).1) h in
-    let client = both_false (nat_lt c.end c.begin) (list_any (overlaps c) earlier) tests.0 in
+    let client = both_false (nat_lt c.end c.begin) (list_any (spans.overlaps span_of c) earlier) tests.0 in
     record {
       own = time_from c.end c.begin client.0;
       fits = fits_all c earlier client.1 tests.1;
@@ -101,7 +83,7 @@ right_of s earlier c h =
 pub wrong_none : (s : State) (earlier : List Call) (c : Call) → IsRight s earlier c → wrong_of s earlier c ≡ None
 wrong_none s earlier c h =
     let last : Option Wrong = Some (wrong.Reply (run s c.task).1) in
-    let client : breaks_client earlier c ≡ false = false_both (nat_lt c.end c.begin) (list_any (overlaps c) earlier) (time_test c.end c.begin h.own) (none_overlaps c earlier h.fits) in
+    let client : breaks_client earlier c ≡ false = false_both (nat_lt c.end c.begin) (list_any (spans.overlaps span_of c) earlier) (time_test c.end c.begin h.own) (none_overlaps c earlier h.fits) in
     let reply : is_right c.reply (run s c.task).1 ≡ true = of_answer (run s c.task).1 c.reply h.reply in
     ap (λ b. found b (breaks_time earlier c) (is_right c.reply (run s c.task).1) last) client
     ∙ ap (λ b. found false b (is_right c.reply (run s c.task).1) last) (none_ended c earlier h.fits)

@@ -9,11 +9,12 @@ use Rattle.vac_model.specs.declared.tasks.Task.{Task}
 use Rattle.vac_lines.specs.declared.fault.LineFault.{LineFault}
 use Rattle.vac_lines.specs.declared.fault.LineFault.TheVariants.{LongLine, BadByte, BadNumber}
 use Rattle.vac_lines.specs.Lines.{words_of}
-use Rattle.vac_lines.specs.Words.{number_between, memory_word_of}
+use Rattle.vac_lines.specs.Words.{memory_word_of}
+use Rattle.vac_spans.specs.Client.{client_of}
 use Rattle.vac_lines.specs.LineTable.{line_task, is_bad_byte}
 use Rattle.vac_judge.specs.declared.fault.CallFault.{CallFault}
 use Rattle.vac_judge.specs.declared.fault.CallFault.TheVariants.{BadCall, Line}
-use Rattle.vac_judge.specs.declared.call.TheConstants.{CALL_BYTES, MOST_CLIENT_DIGITS, MOST_CLIENT, NEVER}
+use Rattle.vac_judge.specs.declared.call.TheConstants.{CALL_BYTES, NEVER}
 
 -- a call of a client, with readings of the clock before it began and after it was answered, the
 -- task that was asked for, and the text of the reply; one that was never answered ends later than
@@ -67,7 +68,7 @@ abbrev pub ◌>>=◌ : {A B : Type 0} → Result A CallFault → (A → Result B
 
 -- CLIENT: 0 to 4,294,967,295, of 1 to 10 digits
 abbrev pub at_client : List ℕ → Result ℕ CallFault
-at_client word = ok_or (number_between MOST_CLIENT_DIGITS 0 MOST_CLIENT word) (Line BadNumber)
+at_client word = ok_or (client_of word) (Line BadNumber)
 
 -- BEGIN and END: 0 to 2 ^ 64 - 1, of 1 to 20 digits
 abbrev pub at_time : List ℕ → Result ℕ CallFault

@@ -1,7 +1,8 @@
 -- What judging a call, or a line, does to a judge.
-use Rattle.std.specs.Prelude.{◌≡◌, ◌⊎◌, ◌+◌, ◌^◌, Option, Some, None, Result, List, ◌∷◌}
+use Rattle.std.specs.Prelude.{Bool, ◌≡◌, ◌⊎◌, ◌+◌, ◌^◌, Option, Some, None, Result, List, ◌∷◌, map}
 use Rattle.vac_model.specs.State.{State}
 use Rattle.vac_model.specs.Run.{run}
+use Rattle.vac_spans.specs.Keeping.{Keeps}
 use Rattle.vac_judge.specs.declared.fault.CallFault.{CallFault}
 use Rattle.vac_judge.specs.declared.fault.JudgeFault.{JudgeFault}
 use Rattle.vac_judge.specs.declared.fault.JudgeFault.TheVariants as fault
@@ -10,25 +11,27 @@ use Rattle.vac_judge.specs.declared.verdict.Wrong.{Wrong}
 use Rattle.vac_judge.specs.declared.verdict.Wrong.TheVariants.{Client, Time, Reply}
 use Rattle.vac_judge.specs.declared.verdict.Verdict.{Verdict}
 use Rattle.vac_judge.specs.Call.{Call}
-use Rattle.vac_judge.specs.Order.{breaks_client, breaks_time, wrong_of}
+use Rattle.vac_judge.specs.Order.{span_of, breaks_client, breaks_time, wrong_of}
 use Rattle.vac_judge.specs.Verdict.{judged}
 use Rattle.vac_plain.specs.PlainState.{IsStateOf}
-use Rattle.vac_judge.specs.Follows.{Keeps}
 use Rattle.std.specs.Prelude.{true, false}
 
 -- the judge has judged these calls, which leave the state s
 pub record Follows (judge : Judge) (s : State) (earlier : List Call) : Type 0 where
   pub heap : IsStateOf judge.heap s
-  pub keeps : Keeps judge.ends judge.latest judge.calls earlier
+  pub spans : Keeps judge.spans (map span_of earlier)
+
+-- what was found, by whether a call breaks the order of its client and that of time
+abbrev pub TimesSay : Bool → Bool → Option Wrong → Type 0
+TimesSay client time None = (client ≡ false) × (time ≡ false)
+TimesSay client time (Some Client) = client ≡ true
+TimesSay client time (Some Time) = (client ≡ false) × (time ≡ true)
+TimesSay client time (Some (Reply expected)) = ⊥
 
 -- this is wrong with the times of a call
 abbrev pub JudgesTimes : List Call → Call → Option Wrong → Type 0
-JudgesTimes earlier call None =
-    (breaks_client earlier call ≡ false) × (breaks_time earlier call ≡ false)
-JudgesTimes earlier call (Some Client) = breaks_client earlier call ≡ true
-JudgesTimes earlier call (Some Time) =
-    (breaks_client earlier call ≡ false) × (breaks_time earlier call ≡ true)
-JudgesTimes earlier call (Some (Reply expected)) = ⊥
+JudgesTimes earlier call found =
+    TimesSay (breaks_client earlier call) (breaks_time earlier call) found
 
 -- this is wrong with a call; where nothing is, it was taken
 pub record Judges (after : Judge) (s : State) (earlier : List Call) (call : Call)
@@ -52,4 +55,4 @@ pub record Ends (judge : Judge) (line : Result Call CallFault) (verdict : Verdic
 -- Not said: that memory was refused where Memory is answered.
 abbrev pub IsStop : Judge → JudgeFault → Type 0
 IsStop judge stop =
-    (stop ≡ fault.Memory) ⊎ ((stop ≡ fault.Bound) × (judge.calls + 1 ≡ 2 ^ 64))
+    (stop ≡ fault.Memory) ⊎ ((stop ≡ fault.Bound) × (judge.spans.count + 1 ≡ 2 ^ 64))

@@ -1,19 +1,21 @@
 -- The verdict is right: a history is legal exactly where the order in which its calls are given is
 -- a linearization of it (Herlihy and Wing, TOPLAS 1990). A call that was never answered ends later
 -- than all times, and takes effect where it stands.
-use Rattle.std.specs.Prelude.{◌≡◌, ◌↔◌, ⊤, ℕ, ◌<◌, ◌≤◌, Option, Some, None, Ok, List, [], ◌∷◌, map, slice_get, true, reverse}
+use Rattle.std.specs.Prelude.{◌≡◌, ◌↔◌, ⊤, ℕ, Option, Some, None, Ok, List, [], ◌∷◌, map, true, reverse}
 use Rattle.vac_model.specs.State.{State, empty_state}
 use Rattle.vac_model.specs.Run.{run}
 use Rattle.vac_model.specs.declared.replies.Reply.{Reply}
+use Rattle.vac_spans.specs.Laws as spans
 use Rattle.vac_lines.specs.Lines.{lines_of}
 use Rattle.vac_lines.specs.Text.{reply_text}
 use Rattle.vac_judge.specs.declared.verdict.Verdict.TheVariants.{Legal}
 use Rattle.vac_judge.specs.Call.{Call, line_call}
+use Rattle.vac_judge.specs.Order.{span_of}
 use Rattle.vac_judge.specs.Verdict.{verdict_on, is_legal, summary_of}
 
 -- this call stands at a place of the order
 abbrev pub IsAt : List Call → ℕ → Call → Type 0
-IsAt calls place call = slice_get calls place ≡ Some call
+IsAt calls place call = spans.IsAt calls place call
 
 -- a call may have been answered this: it was, or it was never answered
 abbrev pub IsAnswerOf : Reply → Option (List ℕ) → Type 0
@@ -28,17 +30,15 @@ GiveReplies s (call ∷ rest) =
 
 -- no call ends before it begins
 abbrev pub TakeTime : List Call → Type 0
-TakeTime calls = (i : ℕ) (a : Call) → IsAt calls i a → a.begin ≤ a.end
+TakeTime calls = spans.TakeTime span_of calls
 
 -- the calls of each client do not overlap, and stand in their order
 abbrev pub AreSequential : List Call → Type 0
-AreSequential calls = (i j : ℕ) (a b : Call) → IsAt calls i a → IsAt calls j b → i < j →
-    a.client ≡ b.client → a.end ≤ b.begin
+AreSequential calls = spans.AreSequential span_of calls
 
 -- a call that had ended before another began stands before it
 abbrev pub KeepPrecedence : List Call → Type 0
-KeepPrecedence calls = (i j : ℕ) (a b : Call) → IsAt calls i a → IsAt calls j b →
-    a.end < b.begin → i < j
+KeepPrecedence calls = spans.KeepPrecedence span_of calls
 
 -- the order in which the calls are given is a linearization of them, for a system of n blocks
 pub record IsLinearization (n : ℕ) (calls : List Call) : Type 0 where

@@ -1,34 +1,31 @@
 -- When a call does not fit the calls before it. Earlier calls are listed from the newest on.
-use Rattle.std.specs.Prelude.{ℕ, ◌+◌, ◌==◌, ◌&&◌, ◌||◌, Bool, true, Option, Some, None, List, [], ◌∷◌, nat_lt, if◌then◌else◌}
-use Rattle.std.specs.List.{list_any}
+use Rattle.std.specs.Prelude.{ℕ, Bool, true, Option, Some, None, List, if◌then◌else◌}
 use Rattle.std.specs.Str.{bytes_eq}
 use Rattle.vac_model.specs.State.{State}
 use Rattle.vac_model.specs.Run.{run}
 use Rattle.vac_model.specs.declared.replies.Reply.{Reply}
 use Rattle.vac_lines.specs.Text.{reply_text}
+use Rattle.vac_spans.specs.declared.span.Span.{Span}
+use Rattle.vac_spans.specs.Order as spans
 use Rattle.vac_judge.specs.declared.verdict.Wrong.{Wrong}
 use Rattle.vac_judge.specs.declared.verdict.Wrong.TheVariants as wrong
 use Rattle.vac_judge.specs.Call.{Call}
 
--- both calls are of one client
-abbrev pub same_client : Call → Call → Bool
-same_client call earlier = earlier.client == call.client
+-- who called, and when
+abbrev pub span_of : Call → Span
+span_of call = record { client = call.client; begin = call.begin; end = call.end }
 
 -- the call began before an earlier one of its client had ended
 abbrev pub overlaps : Call → Call → Bool
-overlaps call earlier = same_client call earlier && nat_lt call.begin earlier.end
-
--- the call had ended before an earlier one in the order began
-abbrev pub ended_before : Call → Call → Bool
-ended_before call earlier = nat_lt call.end earlier.begin
+overlaps call earlier = spans.overlaps span_of call earlier
 
 -- the call ends before it begins, or overlaps an earlier one of its client
 abbrev pub breaks_client : List Call → Call → Bool
-breaks_client earlier call = nat_lt call.end call.begin || list_any (overlaps call) earlier
+breaks_client earlier call = spans.breaks_client span_of earlier call
 
 -- the call stands behind one that began only after this one had ended
 abbrev pub breaks_time : List Call → Call → Bool
-breaks_time earlier call = list_any (ended_before call) earlier
+breaks_time earlier call = spans.breaks_time span_of earlier call
 
 -- the text of a reply is the one expected; where there was none, any would be right
 abbrev pub is_right : Option (List ℕ) → Reply → Bool
@@ -46,6 +43,4 @@ wrong_of s earlier call =
 
 -- how many clients made these calls
 abbrev pub clients_of : List Call → ℕ
-clients_of [] = 0
-clients_of (call ∷ earlier) =
-    if list_any (same_client call) earlier then clients_of earlier else clients_of earlier + 1
+clients_of calls = spans.clients_of span_of calls

@@ -3,6 +3,7 @@
 use Rattle.std.specs.Prelude.{◌≡◌, ◌↔◌, ℕ, ◌+◌, Ok, Err, Result, List, [], ◌∷◌, ◌++◌, map, length}
 use Rattle.vac_model.specs.State.{empty_state}
 use Rattle.vac_model.specs.Run.{run}
+use Rattle.vac_spans.specs.Laws as spans
 use Rattle.vac_lines.specs.Lines.{lines_of}
 use Rattle.vac_judge.specs.declared.fault.CallFault.{CallFault}
 use Rattle.vac_judge.specs.declared.verdict.Wrong.{Wrong}
@@ -10,13 +11,13 @@ use Rattle.vac_judge.specs.declared.verdict.Wrong.TheVariants.{Client, Time, Rep
 use Rattle.vac_judge.specs.declared.verdict.Verdict.TheVariants.{Fault, Illegal}
 use Rattle.vac_judge.specs.Call.{Call, line_call}
 use Rattle.vac_judge.specs.Verdict.{verdict_on}
-use Rattle.vac_judge.specs.Laws.{IsAnswerOf, TakeTime, AreSequential, KeepPrecedence}
+use Rattle.vac_judge.specs.Order.{span_of}
+use Rattle.vac_judge.specs.Laws.{IsAnswerOf, KeepPrecedence}
 use Rattle.vac_judge.specs.Laws.{IsLinearization, state_after}
 
 -- no call ends before it begins, and the calls of each client are in turn
-pub record TakeTurns (calls : List Call) : Type 0 where
-  pub times : TakeTime calls
-  pub clients : AreSequential calls
+abbrev pub TakeTurns : List Call → Type 0
+TakeTurns calls = spans.TakeTurns span_of calls
 
 -- why no order goes on with a call behind calls in a legal one: clients come first, then times,
 -- then the reply, which is another than the sequential manager's

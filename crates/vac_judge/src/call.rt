@@ -4,6 +4,7 @@ ghost use Rattle.std.specs.Prelude.{◌≡◌, ◌≢◌, true, false, IfOk, IfE
 ghost use Rattle.vac_model.specs.Ranges.{is_task};
 ghost use Rattle.vac_judge.specs.Call.{line_call, parts_call, whole_call, is_half};
 ghost use Rattle.vac_judge.specs.Call.{at_client, at_time, at_end, reply_at};
+ghost use Rattle.vac_judge.specs.Order.{span_of};
 ghost use Rattle.vac_judge.specs.Parts.{shown_parts, shown_call, shown_end, shown_reply};
 
 use crate::arrow::{CallParts, cut_parts};
@@ -11,15 +12,10 @@ use crate::fault::CallFault;
 use std::alloc::Global;
 use vac_lines::{LineFault, has_bad_byte, read_line, read_memory_word};
 use vac_model::Task;
+use vac_spans::{Span, read_client};
 
 /// The most bytes that a line of a history has before its end.
 pub const CALL_BYTES: usize = 4096;
-
-/// The most digits of a client's number. Zeros in front count.
-const MOST_CLIENT_DIGITS: usize = 10;
-
-/// The greatest number of a client.
-const MOST_CLIENT: u32 = u32::MAX;
 
 /// The END of a call that was never answered: later than all times.
 pub const NEVER: u128 = 1 << 64;
@@ -54,12 +50,23 @@ pub struct CallLine<'a> {
 
 impl CallLine<'_> {
     /// When the call ended, or [`NEVER`].
-    pub(crate) fn end(&self) -> u128
+    fn end(&self) -> u128
         ensures { result ≡ shown_end self.now.answer }
     {
         match self.answer {
             Some(answer) => u128::from(answer.end),
             None => NEVER,
+        }
+    }
+
+    /// Who called, and when.
+    pub(crate) fn span(&self) -> Span
+        ensures { result ≡ span_of (shown_call self.now) }
+    {
+        Span {
+            client: self.client,
+            begin: self.begin,
+            end: self.end(),
         }
     }
 }
@@ -68,13 +75,7 @@ impl CallLine<'_> {
 pub(crate) fn client_at(word: &[u8]) -> Result<u32, CallFault>
     ensures { result ≡ at_client word.now }
 {
-    if word.len() > MOST_CLIENT_DIGITS {
-        return Err(CallFault::Line(LineFault::BadNumber));
-    }
-    match read_memory_word(word) {
-        Some(client) if client <= u64::from(MOST_CLIENT) => Ok(client as u32),
-        _ => Err(CallFault::Line(LineFault::BadNumber)),
-    }
+    read_client(word).ok_or(CallFault::Line(LineFault::BadNumber))
 }
 
 /// The reading of the clock that a word writes.

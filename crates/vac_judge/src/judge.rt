@@ -1,6 +1,6 @@
 //! Judging one call after another.
 
-ghost use Rattle.std.specs.Prelude.{◌≡◌, ◌≢◌, ◌≤◌, ◌+◌, IfOk, OnOk, IfErr, MatchOption, List, [], ◌∷◌, true};
+ghost use Rattle.std.specs.Prelude.{◌≡◌, ◌≢◌, ◌≤◌, ◌<◌, ◌^◌, ◌+◌, IfOk, OnOk, IfErr, MatchOption, List, [], ◌∷◌, true};
 ghost use Rattle.std.specs.Str.{bytes_eq};
 ghost use Rattle.vac_model.specs.Ranges.{is_task};
 ghost use Rattle.vac_model.specs.State.{State, empty_state};
@@ -13,7 +13,6 @@ ghost use Rattle.vac_judge.specs.Judging.{IsStop};
 ghost use Rattle.vac_judge.specs.Verdict.{summary_of};
 
 use crate::call::{Answer, CallLine, read_call};
-use crate::ends::Ends;
 use crate::fault::{CallFault, JudgeFault};
 use crate::verdict::{Summary, Verdict, Wrong};
 use std::alloc::{AllocError, Global};
@@ -22,6 +21,7 @@ use vac_lines::{LineFault, print_reply};
 use vac_model::Reply;
 use vac_model::limits::MOST_BLOCKS;
 use vac_plain::Heap;
+use vac_spans::{Misplaced, Spans};
 
 /// A judge of a history that is given line by line: the state that the calls so far leave, and
 /// what the order of a further call is judged by.
@@ -30,12 +30,7 @@ use vac_plain::Heap;
 #[derive(Drop)]
 pub struct Judge {
     heap: Heap,
-    /// When each client's last call ended.
-    ends: Ends,
-    /// The latest reading at which a call began.
-    latest: u64,
-    /// How many calls there are.
-    calls: u64,
+    spans: Spans,
     /// The text of the last reply that was expected.
     expected: Vec<u8>,
 }
@@ -85,9 +80,7 @@ impl Judge {
     {
         Ok(Judge {
             heap: Heap::new(alloc, blocks)?,
-            ends: Ends::new(alloc),
-            latest: 0,
-            calls: 0,
+            spans: Spans::new(alloc),
             expected: Vec::new(alloc),
         })
     }
@@ -97,27 +90,19 @@ impl Judge {
         ensures { (s : State) (earlier : List Call) → Follows self.now s earlier →
             JudgesTimes earlier (shown_call call.now) result }
     {
-        let begin = u128::from(call.begin);
-        let end = call.end();
-        if end < begin {
-            return Some(Wrong::Client);
+        match self.spans.find(&call.span()) {
+            Some(Misplaced::Client) => Some(Wrong::Client),
+            Some(Misplaced::Time) => Some(Wrong::Time),
+            None => None,
         }
-        if let Some(last) = self.ends.get(call.client) {
-            if begin < last {
-                return Some(Wrong::Client);
-            }
-        }
-        if end < u128::from(self.latest) {
-            return Some(Wrong::Time);
-        }
-        None
     }
 
-    /// Judges a call with this line's number, and takes it where it is right.
-    fn judge_call(&mut self, line: u64, call: &CallLine<'_>) -> Result<Option<Wrong>, AllocError>
+    /// Judges a call, and takes it where it is right.
+    fn judge_call(&mut self, call: &CallLine<'_>) -> Result<Option<Wrong>, AllocError>
         requires in_range { is_task call.now.task ≡ true }
+        requires room { self.old.spans.count + 1 < 2 ^ 64 }
         ensures { IfOk result (λ found. (s : State) (earlier : List Call) →
-            Follows self.old s earlier → line ≡ self.old.calls + 1 →
+            Follows self.old s earlier →
             Judges self.new s earlier (shown_call call.now) found) }
     {
         if let Some(wrong) = self.judge_times(call) {
@@ -127,9 +112,7 @@ impl Judge {
         if !is_right(&mut self.expected, call.answer, &reply)? {
             return Ok(Some(Wrong::Reply(reply)));
         }
-        self.ends.insert(call.client, call.end())?;
-        self.latest = self.latest.max(call.begin);
-        self.calls = line;
+        self.spans.push(&call.span())?;
         Ok(None)
     }
 
@@ -146,12 +129,13 @@ impl Judge {
             (λ verdict. IsEnd self.old (line_call text.now) verdict)) }
         ensures refused { IfErr result (λ fault. IsStop self.old fault) }
     {
-        if self.calls == u64::MAX {
+        let count = self.spans.count();
+        if count == u64::MAX {
             return Err(JudgeFault::Bound);
         }
-        let line = self.calls + 1;
+        let line = count + 1;
         match read_call(alloc, text) {
-            Ok(call) => match self.judge_call(line, &call)? {
+            Ok(call) => match self.judge_call(&call)? {
                 Some(wrong) => Ok(Some(Verdict::Illegal { line, wrong })),
                 None => Ok(None),
             },
@@ -169,8 +153,8 @@ impl Judge {
             result ≡ summary_of s earlier }
     {
         Summary {
-            calls: self.calls,
-            clients: self.ends.len(),
+            calls: self.spans.count(),
+            clients: self.spans.clients(),
             report: self.heap.report(),
         }
     }

@@ -10,7 +10,6 @@ mod answers;
 mod arrow;
 mod by_client;
 mod call;
-mod ends;
 mod fault;
 mod held;
 mod holding;

@@ -13,11 +13,11 @@ false_true : false ≡ true → ⊥
 false_true e = cc
 
 -- a test that does not fail passes
-passes : (b : Bool) → (b ≡ false → ⊥) → b ≡ true
+pub passes : (b : Bool) → (b ≡ false → ⊥) → b ≡ true
 passes true h = refl
 passes false h = absurd (h refl)
 
-fails : (b : Bool) → (b ≡ true → ⊥) → b ≡ false
+pub fails : (b : Bool) → (b ≡ true → ⊥) → b ≡ false
 fails true h = absurd (h refl)
 fails false h = refl
 

@@ -9,7 +9,7 @@ use vac_lines::read_memory_word;
 const MOST_CLIENT_DIGITS: usize = 10;
 
 /// The greatest number of a client.
-const MOST_CLIENT: u32 = u32::MAX;
+pub const MOST_CLIENT: u32 = u32::MAX;
 
 /// The client that a word names: 0 to 4,294,967,295, of 1 to 10 digits.
 pub fn read_client(word: &[u8]) -> Option<u32>

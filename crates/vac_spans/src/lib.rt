@@ -8,6 +8,6 @@ mod ends;
 mod span;
 mod spans;
 
-pub use client::read_client;
+pub use client::{MOST_CLIENT, read_client};
 pub use span::{Misplaced, Span};
 pub use spans::Spans;

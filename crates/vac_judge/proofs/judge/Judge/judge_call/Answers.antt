@@ -1,20 +1,20 @@
-use Rattle.std.proofs.Common.{◌≡◌, true, false, Some, sym, ap, ◌∙◌}
-use Rattle.std.specs.FinMap.{insert}
+use Rattle.std.proofs.Common.{◌≡◌, true, false, Some, sym, ap, ◌∙◌, ◌∷◌, map, subst}
 use Rattle.vac_model.specs.Run.{run}
 use Rattle.vac_judge.specs.declared.verdict.Wrong.TheVariants.{Reply}
 use Rattle.vac_judge.specs.Parts.{shown_call}
-use Rattle.vac_judge.specs.Order.{is_right}
-use Rattle.vac_judge.proofs.Keeping.{wrong_times, wrong_reply, no_wrong, keeps_more}
+use Rattle.vac_spans.specs.Keeping.{Keeps}
+use Rattle.vac_judge.specs.Order.{span_of, is_right}
+use Rattle.vac_judge.proofs.Keeping.{wrong_times, wrong_reply, no_wrong, well_placed}
 use Rattle.vac_judge.proofs.judge.Judge.judge_call.Goals as goal
 
 pub returns-in-Some : goal.returns-in-Some
-returns-in-Some c = λ s earlier f n. record {
+returns-in-Some c = λ s earlier f. record {
   found_is = wrong_times s earlier (shown_call c.args.call.now) c.in-Some.wrong (c.in-Some.ensures s earlier f);
   taken = λ e. absurd (no_wrong c.in-Some.wrong e);
 }
 
 pub returns-then-not-branch : goal.returns-then-not-branch
-returns-then-not-branch c = λ s earlier f n.
+returns-then-not-branch c = λ s earlier f.
     let call = shown_call c.args.call.now in
     let reply = c.run-reply.ensures.reply s f.heap in
     let same : false ≡ is_right call.reply (run s call.task).1 =
@@ -25,17 +25,17 @@ returns-then-not-branch c = λ s earlier f n.
     }
 
 pub returns : goal.returns
-returns c = λ s earlier f n.
+returns c = λ s earlier f.
     let call = shown_call c.args.call.now in
     let reply = c.run-reply.ensures.reply s f.heap in
     let times = c.in_default.ensures s earlier f in
     let same : true ≡ is_right call.reply (run s call.task).1 =
     sym c.if-not-branch.false ∙ c.in_ok-is_right.ensures ∙ ap (is_right call.reply) (sym reply) in
-    let kept = c.in_ok-insert.ensures ∙ ap (insert c.args.self.now.ends call.client) c.end.ensures in
+    let placed = well_placed earlier call c.span.result c.span.ensures times in
     record {
       found_is = wrong_reply s earlier call true times same;
       taken = λ e. record {
         heap = c.run-reply.ensures.state s f.heap;
-        keeps = keeps_more _ _ _ _ _ _ call earlier f.keeps times kept c.max-self.ensures n;
+        spans = subst (λ t. Keeps c.push.new.self (t ∷ map span_of earlier)) c.span.ensures (c.in_ok-push.ensures.kept (map span_of earlier) f.spans placed);
       };
     }

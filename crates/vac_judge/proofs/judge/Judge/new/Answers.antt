@@ -1,5 +1,4 @@
-use Rattle.vac_judge.proofs.Keeping.{keeps_none}
 use Rattle.vac_judge.proofs.judge.Judge.new.Goals as goal
 
 pub returns-clause-empty : goal.returns-clause-empty
-returns-clause-empty c = record { heap = c.in_ok-new.ensures; keeps = keeps_none _ c.new-2.ensures }
+returns-clause-empty c = record { heap = c.in_ok-new.ensures; spans = c.new-2.ensures }
