@@ -1,5 +1,5 @@
 -- What the calls of a load took, and what that has to do with how they ended.
-use Rattle.std.specs.Prelude.{◌≤◌, ℕ, ◌+◌, ◌*◌}
+use Rattle.std.specs.Prelude.{◌≡◌, ◌≤◌, ℕ, ◌+◌, ◌*◌}
 use Rattle.vac_manager.specs.declared.placed.Effort.{Effort}
 use Rattle.vac_load.specs.declared.efforts.Efforts.{Efforts}
 use Rattle.vac_load.specs.declared.tally.Tally.{Tally}
@@ -14,11 +14,20 @@ no_effort = record {
   moved = 0;
   lost_lock = 0;
   lost_tick = 0;
+  roots = 0;
+  heads = 0;
+  nodes = 0;
+  uses = 0;
+  stocks = 0;
 }
 
 -- how many attempts ended in a conflict
 abbrev pub conflicts_in : Efforts → ℕ
 conflicts_in e = e.held + e.newer + e.moved + e.lost_lock + e.lost_tick
+
+-- how many of these were over a lock, by which word it is of
+abbrev pub locks_in : Efforts → ℕ
+locks_in e = e.roots + e.heads + e.nodes + e.uses + e.stocks
 
 -- with what one call more took
 abbrev pub with_call : Effort → Efforts → Efforts
@@ -29,6 +38,11 @@ with_call c e = record {
   moved = e.moved + c.moved;
   lost_lock = e.lost_lock + c.lost_lock;
   lost_tick = e.lost_tick + c.lost_tick;
+  roots = e.roots + c.roots;
+  heads = e.heads + c.heads;
+  nodes = e.nodes + c.nodes;
+  uses = e.uses + c.uses;
+  stocks = e.stocks + c.stocks;
 }
 
 -- both added up
@@ -40,6 +54,11 @@ both_efforts d e = record {
   moved = d.moved + e.moved;
   lost_lock = d.lost_lock + e.lost_lock;
   lost_tick = d.lost_tick + e.lost_tick;
+  roots = d.roots + e.roots;
+  heads = d.heads + e.heads;
+  nodes = d.nodes + e.nodes;
+  uses = d.uses + e.uses;
+  stocks = d.stocks + e.stocks;
 }
 
 -- how tasks ended, each of which was asked for with so many tries
@@ -50,13 +69,16 @@ pub record CountsShown : Type 0 where
 -- the calls of tasks that ended so, by so many tries each, took this: one attempt each for an
 -- answer and for a spent clock, at most one for want of memory, which may come before the call, and
 -- beside these only attempts that ended in a conflict, at least as many as its tries for each busy
--- task; together no more than so many tries for each task
+-- task; together no more than so many tries for each task, of which one at least met no conflict
+-- where the task is not busy; each conflict but a lost tick is counted by its lock's word too
 -- Not said: of one task, that a busy one met as many conflicts as it had tries and that none took
 -- more attempts: the sums are compared.
--- Not said: of which kind a conflict was; that no attempt is left out together with its conflict or
--- its answered call.
+-- Not said: of which kind a conflict was, or over which word; that no attempt is left out together
+-- with its conflict or its answered call.
 pub record IsEffort (tries : ℕ) (t : Tally) (e : Efforts) : Type 0 where
   pub least : conflicts_in e + t.answered + t.spent ≤ e.attempts
   pub most : e.attempts ≤ conflicts_in e + t.answered + t.memory + t.spent
   pub busy : t.busy * tries ≤ conflicts_in e
   pub few : e.attempts ≤ total t * tries
+  pub others : conflicts_in e + t.answered + t.memory + t.spent ≤ total t * tries
+  pub locks : locks_in e + e.lost_tick ≡ conflicts_in e

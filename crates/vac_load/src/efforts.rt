@@ -2,12 +2,12 @@
 
 ghost use Rattle.std.specs.Prelude.{◌≡◌, ◌<◌, ◌≤◌, ◌+◌, ◌^◌};
 ghost use Rattle.vac_manager.specs.Placed.{conflicts_of};
-ghost use Rattle.vac_load.specs.Attempted.{no_effort, conflicts_in, with_call, both_efforts};
+ghost use Rattle.vac_load.specs.Attempted.{no_effort, conflicts_in, locks_in, with_call, both_efforts};
 
 use vac_manager::Effort;
 
-/// How many attempts the calls of a load took, and how many of these ended in a conflict of each
-/// kind.
+/// How many attempts the calls of a load took, how many of these ended in a conflict of each kind,
+/// and how many of the conflicts were over the lock of which word.
 #[derive(Clone, Copy, Debug, PartialEq, Eq)]
 pub struct Efforts {
     /// How many attempts were begun.
@@ -22,6 +22,16 @@ pub struct Efforts {
     pub lost_lock: u64,
     /// How many lost the last tick that is tried.
     pub lost_tick: u64,
+    /// How many were over the lock of a root.
+    pub roots: u64,
+    /// How many were over that of a head of a free list.
+    pub heads: u64,
+    /// How many were over that of one of the first four words of a block.
+    pub nodes: u64,
+    /// How many were over that of its fifth word.
+    pub uses: u64,
+    /// How many were over that of one of its last three words.
+    pub stocks: u64,
 }
 
 impl Efforts {
@@ -36,6 +46,11 @@ impl Efforts {
             moved: 0,
             lost_lock: 0,
             lost_tick: 0,
+            roots: 0,
+            heads: 0,
+            nodes: 0,
+            uses: 0,
+            stocks: 0,
         }
     }
 
@@ -43,6 +58,7 @@ impl Efforts {
     pub(crate) fn add(&mut self, effort: Effort)
         requires few { self.old.attempts < 2 ^ 62 }
         requires conflicts { conflicts_in self.old ≤ self.old.attempts }
+        requires locks { locks_in self.old ≤ conflicts_in self.old }
         requires fits { conflicts_of effort ≤ effort.attempts }
         ensures { self.new ≡ with_call effort self.old }
     {
@@ -52,6 +68,11 @@ impl Efforts {
         self.moved += u64::from(effort.moved);
         self.lost_lock += u64::from(effort.lost_lock);
         self.lost_tick += u64::from(effort.lost_tick);
+        self.roots += u64::from(effort.roots);
+        self.heads += u64::from(effort.heads);
+        self.nodes += u64::from(effort.nodes);
+        self.uses += u64::from(effort.uses);
+        self.stocks += u64::from(effort.stocks);
     }
 
     /// Both added up.
@@ -59,6 +80,8 @@ impl Efforts {
         requires fits { self.attempts + other.attempts < 2 ^ 63 }
         requires conflicts { conflicts_in self ≤ self.attempts }
         requires others { conflicts_in other ≤ other.attempts }
+        requires locks { locks_in self ≤ conflicts_in self }
+        requires others_locks { locks_in other ≤ conflicts_in other }
         ensures { result ≡ both_efforts self other }
     {
         Efforts {
@@ -68,6 +91,11 @@ impl Efforts {
             moved: self.moved + other.moved,
             lost_lock: self.lost_lock + other.lost_lock,
             lost_tick: self.lost_tick + other.lost_tick,
+            roots: self.roots + other.roots,
+            heads: self.heads + other.heads,
+            nodes: self.nodes + other.nodes,
+            uses: self.uses + other.uses,
+            stocks: self.stocks + other.stocks,
         }
     }
 }

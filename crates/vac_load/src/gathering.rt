@@ -12,6 +12,7 @@ ghost use Rattle.vac_load.specs.Load.{Gathered, IsCrew, AreKnown, IsInRenewal, R
 
 use crate::counts::Counts;
 use crate::load::LoadFault;
+use crate::phases::Phases;
 use crate::seats::Seat;
 use crate::workers::{Crew, Worked, Worker, run_all};
 use std::alloc::Global;
@@ -127,12 +128,14 @@ pub(crate) fn run_clients<
     D: Draws + Send + Drop,
     G: Gate + Send + Drop,
     K: Keep + Send + Drop,
+    S: Phases + Copy + Send + Drop,
 >(
     rt: &R,
     alloc: Global,
     settings: &Settings,
     session: Session<'_>,
     seats: Vec<Seat<D, G, K>>,
+    phases: S,
 ) -> Result<Round<D, G, K>, LoadFault>
     requires alone { HasAllGrants session.client.value }
     requires settings { is_settings settings.now ≡ true }
@@ -158,6 +161,6 @@ pub(crate) fn run_clients<
         return Err(LoadFault::Memory);
     };
     let crew = split_crew(alloc, session, seats)?;
-    let crew = run_all(rt, alloc, *settings, crew)?;
+    let crew = run_all(rt, alloc, *settings, crew, phases)?;
     Ok(gather_all(crew, left))
 }

@@ -76,7 +76,7 @@ fn run_in_range<
     D: Draws + Send + Drop,
     G: Gate + Send + Drop,
     K: Keep + Send + Drop,
-    S: Phases,
+    S: Phases + Copy + Send + Drop,
 >(
     rt: &R,
     alloc: Global,
@@ -84,7 +84,7 @@ fn run_in_range<
     opening: &mut D,
     keep: &mut K,
     seats: Vec<Seat<D, G, K>>,
-    phases: &mut S,
+    phases: S,
 ) -> Result<(LoadReport, Efforts, Vec<Seat<D, G, K>>), LoadFault>
     requires settings { is_settings settings.now ≡ true }
     requires number { vec_len seats ≡ settings.now.clients }
@@ -104,9 +104,7 @@ fn run_in_range<
         return Err(LoadFault::Opening(fault));
     }
     let client = session.into_client();
-    phases.begin();
-    let progress = run_rounds(rt, alloc, settings, manager, client, seats)?;
-    phases.end();
+    let progress = run_rounds(rt, alloc, settings, manager, client, seats, phases)?;
     let Progress { manager, round } = progress;
     let Round {
         client,
@@ -162,7 +160,7 @@ pub fn run_load_with<
         &mut opening,
         &mut Unkept,
         seats,
-        &mut NoPhases,
+        NoPhases,
     ) {
         Ok((report, _efforts, _seats)) => Ok(report),
         Err(fault) => Err(fault),
@@ -181,21 +179,20 @@ pub fn run_load<R: Threads + Wait + AllocGlobal>(
     ensures refused { IfErr result (λ fault.
         IsLoadFault gives settings.now (stream_of settings.now.seed 0) fault) }
 {
-    match run_load_counted(rt, settings, NoGate, &mut NoPhases) {
+    match run_load_counted(rt, settings, NoGate, NoPhases) {
         Ok((report, _)) => Ok(report),
         Err(fault) => Err(fault),
     }
 }
 
 /// Runs a load as `run_load` does, each client with a copy of the gate. Beside the report, answers
-/// what the calls of all clients in all rounds took. The phases are told when the rounds begin and
-/// when they are over.
-pub fn run_load_counted<R: Threads + Wait + AllocGlobal, G: Gate + Copy + Send + Drop, S: Phases>(
-    rt: &R,
-    settings: &Settings,
-    gate: G,
-    phases: &mut S,
-) -> Result<(LoadReport, Efforts), LoadFault>
+/// what the calls of all clients in all rounds took. The phases are told by each client when it
+/// stands ready and when it is done, in each round.
+pub fn run_load_counted<
+    R: Threads + Wait + AllocGlobal,
+    G: Gate + Copy + Send + Drop,
+    S: Phases + Copy + Send + Drop,
+>(rt: &R, settings: &Settings, gate: G, phases: S) -> Result<(LoadReport, Efforts), LoadFault>
     ensures arguments { IsErrOf result LoadFault.Arguments
         ↔ (is_settings settings.now ≡ false) }
     ensures loaded { IfOk result (λ r. LoadedBySeed settings.now r.0.tally r.0.report) }
@@ -222,13 +219,13 @@ pub fn run_load_counted<R: Threads + Wait + AllocGlobal, G: Gate + Copy + Send +
 pub fn run_load_kept<
     R: Threads + Wait + AllocGlobal,
     G: Gate + Copy + Send + Drop,
-    S: Phases,
+    S: Phases + Copy + Send + Drop,
     K: Keep + Send + Drop,
 >(
     rt: &R,
     settings: &Settings,
     gate: G,
-    phases: &mut S,
+    phases: S,
     keepers: Keepers<K>,
 ) -> Result<(LoadReport, Efforts, Keepers<K>), LoadFault>
     ensures arguments { IsErrOf result LoadFault.Arguments

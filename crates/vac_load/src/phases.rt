@@ -1,22 +1,22 @@
-//! What is told when the rounds of a load begin and end.
+//! What is told of how far the clients of a load are.
 
-/// What is called around the rounds of a load.
+/// What the clients of a load tell how far they are, each in its own thread.
+///
+/// Not said: that it is told at these places, which is read in the code.
 pub trait Phases {
-    /// Called once, right before the first round.
-    ///
-    /// Not said: when it is called, which is read in the code.
-    fn begin(&mut self);
+    /// Told by each client in each round, right before its first task.
+    fn ready(&self);
 
-    /// Called once, right after the last round, if all of them were run.
-    fn end(&mut self);
+    /// Told by each client in each round, right after its last task.
+    fn done(&self);
 }
 
-/// What is called where nobody asks.
-#[derive(Drop)]
+/// What is told where nobody asks.
+#[derive(Clone, Copy, Drop)]
 pub(crate) struct NoPhases;
 
 impl Phases for NoPhases {
-    fn begin(&mut self) {}
+    fn ready(&self) {}
 
-    fn end(&mut self) {}
+    fn done(&self) {}
 }

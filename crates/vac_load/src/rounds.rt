@@ -12,6 +12,7 @@ ghost use Rattle.vac_load.specs.Load.{AreKnown, IsInRenewal, RanAll, RanMore};
 
 use crate::gathering::{Round, run_clients};
 use crate::load::LoadFault;
+use crate::phases::Phases;
 use crate::seats::Seat;
 use std::alloc::Global;
 use std::sync::Wait;
@@ -62,11 +63,18 @@ fn renew(
 }
 
 /// Renews the clock and runs one more round, in which the seats go on.
-fn go_on<R: Threads + Wait, D: Draws + Send + Drop, G: Gate + Send + Drop, K: Keep + Send + Drop>(
+fn go_on<
+    R: Threads + Wait,
+    D: Draws + Send + Drop,
+    G: Gate + Send + Drop,
+    K: Keep + Send + Drop,
+    S: Phases + Copy + Send + Drop,
+>(
     rt: &R,
     alloc: Global,
     settings: &Settings,
     progress: Progress<D, G, K>,
+    phases: S,
 ) -> Result<Progress<D, G, K>, LoadFault>
     requires own { progress.round.client.table ≡ progress.manager.table }
     requires alone { HasAllGrants progress.round.client.value }
@@ -105,7 +113,7 @@ fn go_on<R: Threads + Wait, D: Draws + Send + Drop, G: Gate + Send + Drop, K: Ke
         client,
         seats,
         tally: more,
-    } = run_clients(rt, alloc, settings, session, seats)?;
+    } = run_clients(rt, alloc, settings, session, seats, phases)?;
     let round = Round {
         client,
         seats,
@@ -120,6 +128,7 @@ pub(crate) fn run_rounds<
     D: Draws + Send + Drop,
     G: Gate + Send + Drop,
     K: Keep + Send + Drop,
+    S: Phases + Copy + Send + Drop,
 >(
     rt: &R,
     alloc: Global,
@@ -127,6 +136,7 @@ pub(crate) fn run_rounds<
     manager: Manager,
     client: Client,
     seats: Vec<Seat<D, G, K>>,
+    phases: S,
 ) -> Result<Progress<D, G, K>, LoadFault>
     requires own { client.table ≡ manager.table }
     requires alone { HasAllGrants client.value }
@@ -150,10 +160,10 @@ pub(crate) fn run_rounds<
         (fault ≡ LoadFault.Memory) ⊎ (fault ≡ LoadFault.Spawn)) }
 {
     let session = Session::of(&manager, client);
-    let round = run_clients(rt, alloc, settings, session, seats)?;
+    let round = run_clients(rt, alloc, settings, session, seats, phases)?;
     let mut progress = Progress { manager, round };
     'rounds: for done in 1..settings.rounds {
-        progress = go_on(rt, alloc, settings, progress)?;
+        progress = go_on(rt, alloc, settings, progress, phases)?;
     }
     Ok(progress)
 }

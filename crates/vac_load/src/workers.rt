@@ -8,6 +8,7 @@ ghost use Rattle.vac_load.specs.Load.{DidWork, DidAllWork, IsPromise};
 use crate::counts::Counts;
 use crate::load::LoadFault;
 use crate::looping::count_loop;
+use crate::phases::Phases;
 use crate::seats::Seat;
 use std::alloc::Global;
 use std::snapshot::Snapshot;
@@ -47,10 +48,11 @@ impl<'m, D: Draws, G, K: Keep> Promise<Worked<'m, D, G, K>> for WorkOf<'m, D, G,
 type Handle<'m, D, G, K> = PromisedHandle<Worked<'m, D, G, K>, WorkOf<'m, D, G, K>>;
 
 /// Lets a worker run its tasks.
-fn work<'m, D: Draws, G: Gate, K: Keep>(
+fn work<'m, D: Draws, G: Gate, K: Keep, S: Phases + Drop>(
     alloc: Global,
     settings: &Settings,
     worker: Worker<'m, D, G, K>,
+    phases: S,
 ) -> Worked<'m, D, G, K>
     requires settings { is_settings settings.now ≡ true }
     ensures { DidWork D.leads K.notes settings.now worker.entry result }
@@ -61,6 +63,7 @@ fn work<'m, D: Draws, G: Gate, K: Keep>(
         mut gate,
         mut keep,
     } = seat;
+    phases.ready();
     let tally = count_loop(
         alloc,
         &mut session,
@@ -69,6 +72,7 @@ fn work<'m, D: Draws, G: Gate, K: Keep>(
         &mut gate,
         &mut keep,
     );
+    phases.done();
     let seat = Seat { draws, gate, keep };
     let worker = Worker { session, seat };
     Worked { worker, tally }
@@ -82,11 +86,13 @@ fn start<
     D: Draws + Send + Drop + 's,
     G: Gate + Send + Drop + 's,
     K: Keep + Send + Drop + 's,
+    S: Phases + Copy + Send + Drop + 's,
 >(
     scope: &Scope<'s, E>,
     alloc: Global,
     settings: Settings,
     worker: Worker<'m, D, G, K>,
+    phases: S,
 ) -> Result<Handle<'m, D, G, K>, LoadFault>
     requires settings { is_settings settings ≡ true }
     ensures promise { IfOk result (λ handle. IsPromise settings worker.entry handle.promise) }
@@ -99,7 +105,7 @@ fn start<
     let run = move || -> Worked<'_, D, G, K>
         requires { is_settings settings ≡ true }
         ensures { DidWork D.leads K.notes settings worker.entry result }
-    { work(alloc, &settings, worker) };
+    { work(alloc, &settings, worker, phases) };
     match scope.spawn_with(promise, run) {
         Ok(handle) => Ok(handle),
         Err(_refused) => Err(LoadFault::Spawn),
@@ -114,11 +120,13 @@ fn start_all<
     D: Draws + Send + Drop + 's,
     G: Gate + Send + Drop + 's,
     K: Keep + Send + Drop + 's,
+    S: Phases + Copy + Send + Drop + 's,
 >(
     scope: &Scope<'s, E>,
     alloc: Global,
     settings: Settings,
     workers: Vec<Worker<'m, D, G, K>>,
+    phases: S,
     handles: &mut Vec<Handle<'m, D, G, K>>,
 ) -> Result<(), LoadFault>
     requires settings { is_settings settings ≡ true }
@@ -131,7 +139,7 @@ fn start_all<
     ensures refused { IfErr result (λ fault. fault ≡ LoadFault.Spawn) }
 {
     for worker in workers {
-        let handle = start(scope, alloc, settings, worker)?;
+        let handle = start(scope, alloc, settings, worker, phases)?;
         handles.push_reserved(handle);
     }
     Ok(())
@@ -172,12 +180,14 @@ fn run_in<
     D: Draws + Send + Drop + 's,
     G: Gate + Send + Drop + 's,
     K: Keep + Send + Drop + 's,
+    S: Phases + Copy + Send + Drop + 's,
 >(
     scope: &Scope<'s, E>,
     rt: &R,
     alloc: Global,
     settings: Settings,
     crew: Crew<Worker<'m, D, G, K>>,
+    phases: S,
 ) -> Result<Crew<Worked<'m, D, G, K>>, LoadFault>
     requires settings { is_settings settings ≡ true }
     ensures worked { IfOk result (λ r. DidAllWork D.leads K.notes settings crew.entry r) }
@@ -191,8 +201,8 @@ fn run_in<
     let Ok(done) = Vec::with_capacity(alloc, others.len()) else {
         return Err(LoadFault::Memory);
     };
-    let first = start(scope, alloc, settings, first)?;
-    let started = start_all(scope, alloc, settings, others, &mut handles);
+    let first = start(scope, alloc, settings, first, phases)?;
+    let started = start_all(scope, alloc, settings, others, phases, &mut handles);
     let first = first.join(rt);
     let others = join_all(rt, handles, done);
     started?;
@@ -207,11 +217,13 @@ pub(crate) fn run_all<
     D: Draws + Send + Drop,
     G: Gate + Send + Drop,
     K: Keep + Send + Drop,
+    S: Phases + Copy + Send + Drop,
 >(
     rt: &R,
     alloc: Global,
     settings: Settings,
     crew: Crew<Worker<'m, D, G, K>>,
+    phases: S,
 ) -> Result<Crew<Worked<'m, D, G, K>>, LoadFault>
     requires settings { is_settings settings ≡ true }
     ensures worked { IfOk result (λ r. DidAllWork D.leads K.notes settings crew.entry r) }
@@ -226,6 +238,6 @@ pub(crate) fn run_all<
             ensures worked { IfOk result (λ r. DidAllWork D.leads K.notes settings crew.entry r) }
             ensures refused { IfErr result (λ fault.
                 (fault ≡ LoadFault.Memory) ⊎ (fault ≡ LoadFault.Spawn)) }
-        { run_in(scope, rt, alloc, settings, crew) },
+        { run_in(scope, rt, alloc, settings, crew, phases) },
     )
 }

@@ -3,6 +3,7 @@ pub mod Lawful
 pub mod Trying
 pub mod Openings
 pub mod Adding
+pub mod Counting
 pub mod Placing
 pub mod Leaving
 pub mod Histories

@@ -1,16 +1,16 @@
 -- Places of records, and what attempts took.
-use Rattle.std.proofs.Common.{◌≡◌, ◌+◌, List, [], ◌∷◌, length, Result, Ok, Err, Some, IfErr, refl, sym, ap, subst, ◌∙◌, arith}
+use Rattle.std.proofs.Common.{◌≡◌, ◌+◌, ◌≤◌, List, [], ◌∷◌, length, Result, Ok, Err, Some, IfErr, refl, sym, ap, subst, ◌∙◌, arith}
 use Rattle.stm_core.specs.Client.{Client}
 use Rattle.stm_region.specs.Shown.{RegionShown}
 use Rattle.stm_attempt.specs.declared.conflict.Conflict.{Conflict}
-use Rattle.stm_attempt.specs.declared.conflict.Conflict.TheVariants.{Held, Newer, Moved, LostLock, LostTick}
 use Rattle.stm_attempt.specs.declared.conflict.Stop.{Stop}
 use Rattle.stm_attempt.specs.declared.conflict.Stop.TheVariants as stop
 use Rattle.vac_model.specs.declared.replies.Reply.{Reply}
 use Rattle.vac_model.specs.declared.tasks.Task.{Task}
 use Rattle.vac_manager.specs.declared.placed.Effort.{Effort}
 use Rattle.vac_manager.specs.Called.{Tried, IsStop, WasShown}
-use Rattle.vac_manager.specs.Placed.{conflicted, conflicts_of, effort_of, ended, left_by, newest, StopsWith, HasShown, HaveShown, Tallies}
+use Rattle.vac_manager.proofs.Counting.{one_conflict, each_located}
+use Rattle.vac_manager.specs.Placed.{conflicted, conflicts_of, locks_of, effort_of, ended, left_by, newest, StopsWith, HasShown, HaveShown, Tallies}
 
 -- all attempts so far met conflicts
 pub record Met (region : RegionShown) (v v' : Client) (e : Effort) : Type 0 where
@@ -19,6 +19,7 @@ pub record Met (region : RegionShown) (v v' : Client) (e : Effort) : Type 0 wher
   pub effort : e ≡ effort_of conflicts
   pub begun : v.attempt.number + e.attempts ≡ v'.attempt.number
   pub all : conflicts_of e ≡ e.attempts
+  pub locks : locks_of e ≤ e.attempts
 
 pub none_met : (region : RegionShown) (v : Client) (e : Effort) → e ≡ effort_of [] → Met region v v e
 none_met region v e same = record {
@@ -27,36 +28,20 @@ none_met region v e same = record {
   effort = same;
   begun = let z : e.attempts ≡ 0 = ap (λ (x : Effort). x.attempts) same in omega (arith, z);
   all = ap (λ (x : Effort). conflicts_of x) same ∙ sym (ap (λ (x : Effort). x.attempts) same);
+  locks = let z : locks_of e ≡ 0 = ap (λ (x : Effort). locks_of x) same in omega (arith, z);
 }
 
 attempts_are : (cs : List Conflict) → (effort_of cs).attempts ≡ length cs
 attempts_are [] = refl
-attempts_are (Held lock word ∷ cs) = let e = attempts_are cs in omega (arith, e)
-attempts_are (Newer lock version rv ∷ cs) = let e = attempts_are cs in omega (arith, e)
-attempts_are (Moved lock first second ∷ cs) = let e = attempts_are cs in omega (arith, e)
-attempts_are (LostLock lock found ∷ cs) = let e = attempts_are cs in omega (arith, e)
-attempts_are (LostTick found ∷ cs) = let e = attempts_are cs in omega (arith, e)
-
-one_conflict : (c : Conflict) (e : Effort) → conflicts_of (conflicted c e) ≡ conflicts_of e + 1
-one_conflict (Held lock word) e = omega arith
-one_conflict (Newer lock version rv) e = omega arith
-one_conflict (Moved lock first second) e = omega arith
-one_conflict (LostLock lock found) e = omega arith
-one_conflict (LostTick found) e = omega arith
-
-one_attempt : (c : Conflict) (e : Effort) → (conflicted c e).attempts ≡ e.attempts + 1
-one_attempt (Held lock word) e = refl
-one_attempt (Newer lock version rv) e = refl
-one_attempt (Moved lock first second) e = refl
-one_attempt (LostLock lock found) e = refl
-one_attempt (LostTick found) e = refl
+attempts_are (c ∷ cs) = let k = one_conflict c (effort_of cs) in let e = attempts_are cs in omega (arith, k.attempts, e)
 
 -- the next attempt met one more
 pub met_more : (region : RegionShown) (v w w' : Client) (e : Effort) (c : Conflict) → Met region v w e → w'.attempt.number ≡ w.attempt.number + 1 → w'.records ≡ v.records → w'.grants ≡ v.grants → WasShown region c w' → Met region v w' (conflicted c e)
 met_more region v w w' e c h next records grants shown =
     let long = attempts_are h.conflicts in
     let few : e.attempts ≡ length h.conflicts = ap (λ (x : Effort). x.attempts) h.effort ∙ long in
-    let one = one_attempt c e in
+    let k = one_conflict c e in
+    let one = k.attempts in
     let b = h.begun in
     let last : HasShown region v (length (c ∷ h.conflicts)) c = record {
       client = w';
@@ -70,7 +55,9 @@ met_more region v w w' e c h next records grants shown =
       shown = (last, h.shown);
       effort = ap (λ (x : Effort). conflicted c x) h.effort;
       begun = omega (arith, one, b, next);
-      all = let k = one_conflict c e in let a = h.all in omega (arith, k, a, one);
+      all = let a = h.all in omega (arith, k.kinds, a, one);
+      locks = let t = each_located (c ∷ h.conflicts) in let f : conflicted c e ≡ effort_of (c ∷ h.conflicts) = ap (λ (x : Effort). conflicted c x) h.effort in
+          let q : locks_of (conflicted c e) + (conflicted c e).lost_tick ≡ conflicts_of (conflicted c e) = rw f t in let a = h.all in omega (arith, q, k.kinds, a, one);
     }
 
 -- and that one is the newest

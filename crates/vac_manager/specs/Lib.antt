@@ -1,6 +1,7 @@
 pub mod Law
 pub mod Legal
 pub mod Called
+pub mod Sites
 pub mod Placed
 pub mod Keeping
 pub mod Faults

@@ -15,6 +15,9 @@ use Rattle.vac_manager.specs.declared.fault.Fault.TheVariants as fault
 use Rattle.vac_manager.specs.declared.placed.Place.{Place}
 use Rattle.vac_manager.specs.declared.placed.Placed.{Placed}
 use Rattle.vac_manager.specs.declared.placed.Effort.{Effort}
+use Rattle.vac_manager.specs.declared.sites.Site.{Site}
+use Rattle.vac_manager.specs.declared.sites.Site.TheVariants.{Root, Head, Node, Use, Stock}
+use Rattle.vac_manager.specs.Sites.{site_of}
 use Rattle.vac_manager.specs.Called.{Adds, IsUnplaced, Spares, WasShown}
 use Rattle.vac_manager.specs.Legal.{WasLegal}
 
@@ -67,22 +70,43 @@ nothing_done = record {
   moved = 0;
   lost_lock = 0;
   lost_tick = 0;
+  roots = 0;
+  heads = 0;
+  nodes = 0;
+  uses = 0;
+  stocks = 0;
 }
 
 -- how many attempts ended in a conflict
 abbrev pub conflicts_of : Effort → ℕ
 conflicts_of e = e.held + e.newer + e.moved + e.lost_lock + e.lost_tick
 
+-- how many of these were over a lock, by which word it is of
+abbrev pub locks_of : Effort → ℕ
+locks_of e = e.roots + e.heads + e.nodes + e.uses + e.stocks
+
 -- one attempt more
 abbrev pub one_more : Effort → Effort
 one_more e = record e { attempts = e.attempts + 1 }
 
--- one attempt more, which ended in this conflict
+-- one conflict more over the lock of such a word
+abbrev pub over : Site → Effort → Effort
+over Root e = record e { roots = e.roots + 1 }
+over Head e = record e { heads = e.heads + 1 }
+over Node e = record e { nodes = e.nodes + 1 }
+over Use e = record e { uses = e.uses + 1 }
+over Stock e = record e { stocks = e.stocks + 1 }
+
+-- one attempt more, which ended in this conflict: it is counted by its kind, and by its lock's word
 abbrev pub conflicted : Conflict → Effort → Effort
-conflicted (Held lock word) e = record (one_more e) { held = e.held + 1 }
-conflicted (Newer lock version rv) e = record (one_more e) { newer = e.newer + 1 }
-conflicted (Moved lock first second) e = record (one_more e) { moved = e.moved + 1 }
-conflicted (LostLock lock found) e = record (one_more e) { lost_lock = e.lost_lock + 1 }
+conflicted (Held lock word) e =
+    over (site_of lock) (record (one_more e) { held = e.held + 1 })
+conflicted (Newer lock version rv) e =
+    over (site_of lock) (record (one_more e) { newer = e.newer + 1 })
+conflicted (Moved lock first second) e =
+    over (site_of lock) (record (one_more e) { moved = e.moved + 1 })
+conflicted (LostLock lock found) e =
+    over (site_of lock) (record (one_more e) { lost_lock = e.lost_lock + 1 })
 conflicted (LostTick found) e = record (one_more e) { lost_tick = e.lost_tick + 1 }
 
 -- one attempt more, which ended so

@@ -17,6 +17,7 @@ mod placed;
 mod renew;
 mod report;
 mod session;
+mod sites;
 mod told;
 
 pub use client::Client;

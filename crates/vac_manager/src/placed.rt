@@ -2,8 +2,11 @@
 
 ghost use Rattle.std.specs.Prelude.{◌≡◌, ◌≤◌, ◌<◌};
 ghost use Rattle.vac_model.specs.declared.limits.TheConstants.{MOST_TRIES};
-ghost use Rattle.vac_manager.specs.Placed.{nothing_done, conflicts_of, ended};
+ghost use Rattle.vac_manager.specs.Placed.{nothing_done, conflicts_of, locks_of};
+ghost use Rattle.vac_manager.specs.Placed.{over, conflicted, ended};
+ghost use Rattle.vac_manager.specs.Sites.{site_of};
 
+use crate::sites::{Site, site_of};
 use stm_attempt::{Conflict, Stop};
 use stm_words::Version;
 use vac_model::Reply;
@@ -27,7 +30,8 @@ pub struct Placed {
     pub place: Place,
 }
 
-/// What a call took: how many attempts, and how many of them ended in a conflict of each kind.
+/// What a call took: how many attempts, how many of them ended in a conflict of each kind, and how
+/// many of the conflicts were over the lock of which word.
 #[derive(Clone, Copy, Debug, PartialEq, Eq)]
 pub struct Effort {
     /// How many attempts were begun.
@@ -42,6 +46,16 @@ pub struct Effort {
     pub lost_lock: u32,
     /// How many lost the last tick that is tried.
     pub lost_tick: u32,
+    /// How many were over the lock of a root.
+    pub roots: u32,
+    /// How many were over that of a head of a free list.
+    pub heads: u32,
+    /// How many were over that of one of the first four words of a block.
+    pub nodes: u32,
+    /// How many were over that of its fifth word.
+    pub uses: u32,
+    /// How many were over that of one of its last three words.
+    pub stocks: u32,
 }
 
 /// What a call leaves beside its reply: the place of its record, if it was answered, and what it
@@ -76,6 +90,54 @@ impl Effort {
             moved: 0,
             lost_lock: 0,
             lost_tick: 0,
+            roots: 0,
+            heads: 0,
+            nodes: 0,
+            uses: 0,
+            stocks: 0,
+        }
+    }
+
+    /// Counts a conflict by the word of its lock.
+    fn count_over(&mut self, lock: u32)
+        requires few { locks_of self.old < MOST_TRIES }
+        ensures { self.new ≡ over (site_of lock) self.old }
+    {
+        match site_of(lock) {
+            Site::Root => self.roots += 1,
+            Site::Head => self.heads += 1,
+            Site::Node => self.nodes += 1,
+            Site::Use => self.uses += 1,
+            Site::Stock => self.stocks += 1,
+        }
+    }
+
+    /// Counts an attempt that ended in a conflict, by its kind and by the word of its lock.
+    fn count_conflict(&mut self, conflict: Conflict)
+        requires few { self.old.attempts < MOST_TRIES }
+        requires conflicts { conflicts_of self.old ≤ self.old.attempts }
+        requires locks { locks_of self.old ≤ self.old.attempts }
+        ensures { self.new ≡ conflicted conflict self.old }
+    {
+        self.attempts += 1;
+        match conflict {
+            Conflict::Held { lock, .. } => {
+                self.held += 1;
+                self.count_over(lock)
+            }
+            Conflict::Newer { lock, .. } => {
+                self.newer += 1;
+                self.count_over(lock)
+            }
+            Conflict::Moved { lock, .. } => {
+                self.moved += 1;
+                self.count_over(lock)
+            }
+            Conflict::LostLock { lock, .. } => {
+                self.lost_lock += 1;
+                self.count_over(lock)
+            }
+            Conflict::LostTick { .. } => self.lost_tick += 1,
         }
     }
 
@@ -83,18 +145,12 @@ impl Effort {
     pub(crate) fn count(&mut self, end: &Result<Reply, Stop>)
         requires few { self.old.attempts < MOST_TRIES }
         requires conflicts { conflicts_of self.old ≤ self.old.attempts }
+        requires locks { locks_of self.old ≤ self.old.attempts }
         ensures { self.new ≡ ended end.now self.old }
     {
-        self.attempts += 1;
-        let Err(Stop::Conflict(conflict)) = end else {
-            return;
-        };
-        match conflict {
-            Conflict::Held { .. } => self.held += 1,
-            Conflict::Newer { .. } => self.newer += 1,
-            Conflict::Moved { .. } => self.moved += 1,
-            Conflict::LostLock { .. } => self.lost_lock += 1,
-            Conflict::LostTick { .. } => self.lost_tick += 1,
+        match end {
+            Err(Stop::Conflict(conflict)) => self.count_conflict(*conflict),
+            Ok(_) | Err(Stop::Memory) | Err(Stop::Spent { .. }) => self.attempts += 1,
         }
     }
 }
