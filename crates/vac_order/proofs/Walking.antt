@@ -304,7 +304,7 @@ starts views world path known p k whole l choices = record {
       (subst (λ ps. IsWalk (views.at world) 0 (views.at world) 0 (views.tries world 0) ps []) (ap (map (place_of views)) (sym p))
       (walk_start (views.at world) (views.tries world 0) whole (l.1 refl) choices));
   deepest = subst (λ ks. KeepsDeepest (views.at world) 0 0 ks) (ap (map views.at) (sym k)) refl;
-  made = (record { at = refl; placed = refl; path = ap (map (place_of views)) p; known = ap (map views.at) k; choices = choices }, refl);
+  made = (record { at = refl; placed = refl; path = ap (map (place_of views)) p; known = ap (map views.at) k; some = l.1 refl; choices = choices }, refl);
   first = views.made world;
   places = subst (λ fs. AreMadeBy views (views.made world) [] fs world) (sym p) (made_none views world);
 }

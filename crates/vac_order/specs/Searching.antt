@@ -14,12 +14,13 @@ pub record Search : Type 0 where
   pub path : List Place
   pub known : List Configuration
 
--- no step was made: the calls that may come next are all left to try
+-- no step was made: answered calls are left, and those that may come next are all left to try
 pub record HasBegun (start : Configuration) (search : Search) : Type 0 where
   pub at : search.at ≡ start
   pub placed : search.placed ≡ 0
   pub path : search.path ≡ []
   pub known : search.known ≡ []
+  pub some : 1 ≤ answered start.rest
   pub choices : AreChoices start.rest search.tries
 
 -- this call is tried, which may come next; these are left
