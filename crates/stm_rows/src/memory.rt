@@ -2,10 +2,14 @@
 
 use crate::same::{close, same, version};
 use linked_list_allocator::LocalHeap;
+use std::alloc::{Allocator, Global};
 use std::test::Fail;
-use stm_attempt::{Attempt, Logs, NoGate, Refusal};
-use stm_region::Region;
-use stm_words::{Addr, FreeLaw, TxMem, TxRead};
+use stm_attempt::{Attempt, Logs, NoGate, Refusal, Stop};
+use stm_region::{Region, RegionFault};
+use stm_words::{Addr, FreeLaw, TxMem, TxRead, Version};
+
+/// How many words were read or written, what came then, and what the commit answered.
+type Ended = (u32, Option<Refusal>, Result<Version, Stop>);
 
 #[test]
 fn a_refused_write_leaves_the_attempt(rt: HostRuntime) -> Result<(), Fail> {
@@ -71,5 +75,77 @@ fn a_refused_read_leaves_the_attempt(rt: HostRuntime) -> Result<(), Fail> {
     same(&rt, &read, &1_024);
     same(&rt, &again, &Err(Refusal::Memory));
     same(&rt, &committed, &Ok(version(&rt, 0)));
+    Ok(())
+}
+
+/// How many of 200 words an attempt writes whose logs take their memory here, whether what came
+/// then was want of memory, and what its commit answers.
+fn write_in<A: Allocator + Copy>(alloc: Global, logs_in: A) -> Result<Ended, RegionFault> {
+    let (region, mut client) = Region::<FreeLaw>::new(alloc, &[0; 200], 100, 64)?;
+    let mut logs = Logs::new(logs_in);
+    let mut attempt = Attempt::begin(&region, &mut client, &mut logs);
+    let mut ended = (0, None);
+    for i in 0..200 {
+        if let Err(refused) = attempt.write(Addr(i), 1) {
+            ended.1 = Some(refused);
+            break;
+        }
+        ended.0 = i + 1;
+    }
+    Ok((ended.0, ended.1, attempt.commit(&1u64, &mut NoGate)))
+}
+
+/// The same of 5,000 reads.
+fn read_in<A: Allocator + Copy>(alloc: Global, logs_in: A) -> Result<Ended, RegionFault> {
+    let (region, mut client) = Region::<FreeLaw>::new(alloc, &[3; 200], 100, 64)?;
+    let mut logs = Logs::new(logs_in);
+    let mut attempt = Attempt::begin(&region, &mut client, &mut logs);
+    let mut ended = (0, None);
+    for i in 0..5_000 {
+        if let Err(refused) = attempt.read(Addr(i % 200)) {
+            ended.1 = Some(refused);
+            break;
+        }
+        ended.0 = i + 1;
+    }
+    Ok((ended.0, ended.1, attempt.commit(&1u64, &mut NoGate)))
+}
+
+/// In heaps of these sizes no growth of the write log has room, the first one has, and so on.
+#[test]
+fn each_growth_is_refused_to_an_attempt_that_writes(rt: HostRuntime) -> Result<(), Fail> {
+    for (size, most) in [
+        (1_000, 0),
+        (4_000, 31),
+        (9_000, 63),
+        (20_000, 127),
+        (40_000, 200),
+    ] {
+        let heap = LocalHeap::new(rt.alloc(), size)?;
+        let found = write_in(rt.alloc(), &heap)?;
+        let refused = (most < 200).then_some(Refusal::Memory);
+        let committed = version(&rt, u64::from(most.min(1)));
+        same(&rt, &found, &(most, refused, Ok(committed)));
+        same(&rt, &heap.used(), &0);
+    }
+    Ok(())
+}
+
+/// The same of the read log.
+#[test]
+fn each_growth_is_refused_to_an_attempt_that_reads(rt: HostRuntime) -> Result<(), Fail> {
+    for (size, most) in [
+        (1_000, 0),
+        (5_000, 1_024),
+        (10_000, 2_048),
+        (20_500, 4_096),
+        (100_000, 5_000),
+    ] {
+        let heap = LocalHeap::new(rt.alloc(), size)?;
+        let found = read_in(rt.alloc(), &heap)?;
+        let refused = (most < 5_000).then_some(Refusal::Memory);
+        same(&rt, &found, &(most, refused, Ok(version(&rt, 0))));
+        same(&rt, &heap.used(), &0);
+    }
     Ok(())
 }
