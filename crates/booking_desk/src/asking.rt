@@ -45,14 +45,14 @@ fn ask(session: &mut Session<'_>, task: &Task, asks: u32) -> Result<Reply, Fault
 
 /// A desk after its round, with its client.
 #[derive(Drop)]
-pub(crate) struct Served {
-    pub(crate) client: Client,
-    pub(crate) desk: Desk,
+pub struct Served {
+    pub client: Client,
+    pub desk: Desk,
 }
 
 /// One round of a desk: it goes on with its trips until none is left, or the clock is at its last
-/// version.
-pub(crate) fn serve(
+/// version. Where memory is refused, the client is dropped, and its records with it.
+pub fn serve(
     alloc: Global,
     manager: &Manager,
     settings: DeskSettings,

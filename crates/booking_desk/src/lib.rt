@@ -9,6 +9,7 @@ mod run;
 mod settings;
 mod trips;
 
+pub use asking::{Served, serve};
 pub use desk::Desk;
 pub use run::{DeskFault, DeskReport, run_desks};
 pub use settings::{DeskSettings, MOST_ASKS, MOST_ROUNDS, MOST_TRIPS};

@@ -3,3 +3,5 @@
 
 #[cfg(test)]
 mod desks;
+#[cfg(test)]
+mod given_up;
