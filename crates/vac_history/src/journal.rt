@@ -36,6 +36,8 @@ impl<W: Watch> Journal<W> {
     /// An empty journal, whose times are those of this watch.
     pub fn new(alloc: Global, watch: W) -> Journal<W>
         ensures empty { result.notes.items ≡ [] }
+        ensures watch { result.watch ≡ watch }
+        ensures fresh { result.latest ≡ 0 }
         ensures whole { result.is_whole ≡ true }
     {
         Journal {
@@ -71,7 +73,8 @@ impl<W: Watch> Keep for Journal<W> {
 
     ghost ready = { λ journal. vec_len journal.notes < vec_capacity journal.notes };
 
-    /// Reads the watch, and where room is refused does not: the journal is not whole from then on.
+    /// Reads the watch once. Where room is refused it is not read, and the journal is not whole from
+    /// then on.
     ///
     /// Not said: that the call begins right after it.
     fn begin(&mut self) -> Result<(), AllocError>
@@ -81,6 +84,8 @@ impl<W: Watch> Keep for Journal<W> {
         ensures partial { OnErr result (self.new.is_whole ≡ false) }
         ensures read { OnOk result (IsStamp W.shows self.old.watch self.new.watch
             self.old.latest self.new.latest) }
+        ensures unread { OnErr result
+            ((self.new.watch ≡ self.old.watch) × (self.new.latest ≡ self.old.latest)) }
     {
         if self.notes.reserve(1).is_err() {
             self.is_whole = false;
@@ -90,8 +95,8 @@ impl<W: Watch> Keep for Journal<W> {
         Ok(())
     }
 
-    /// Not said: that the call ended right before it; that a call without room is not made, to which
-    /// its caller sees.
+    /// Not said: that `begin` was called since the last call was kept, and that the call ended right
+    /// before it; that a call without room is not made. Its caller sees to that.
     fn keep(&mut self, task: Task, placed: Placed)
         requires { vec_len self.old.notes < vec_capacity self.old.notes }
         ensures kept { HasKept task placed
