@@ -6,6 +6,8 @@
 #[cfg(test)]
 mod beside;
 #[cfg(test)]
+mod busy;
+#[cfg(test)]
 mod command_lines;
 #[cfg(test)]
 mod draws;

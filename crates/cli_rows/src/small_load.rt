@@ -9,6 +9,7 @@ pub(crate) const SETTINGS: Settings = Settings {
     tasks: 3,
     items: 2,
     asks: 4,
+    reads: 0,
     user: 50,
     seed: 1,
     blocks: 1024,

@@ -5,7 +5,7 @@ use std::io;
 use std::test::Fail;
 use std::time::{Clock, Duration, Instant};
 use stm_words::Version;
-use vac_history::{Journal, write_history};
+use vac_history::{Journal, Since, write_history};
 use vac_manager::{Keep, Place, Placed};
 use vac_model::{Command, Reply, Task};
 
@@ -28,7 +28,7 @@ impl Clock for Readings {
 }
 
 /// Keeps a call that made this customer by this version.
-fn keep(journal: &mut Journal<'_, Readings>, id: u32, version: u64) -> Result<(), Fail> {
+fn keep(journal: &mut Journal<Since<'_, Readings>>, id: u32, version: u64) -> Result<(), Fail> {
     let version = Version::new(version).ok_or("a version")?;
     let place = Place {
         renewal: 0,
@@ -51,8 +51,8 @@ fn calls_have_the_readings_around_them(rt: HostRuntime) -> Result<(), Fail> {
         count: Cell::new(0),
     };
     let start = Instant::now(&clock).ok();
-    let mut opening = Journal::new(rt.alloc(), &clock, start);
-    let mut client = Journal::new(rt.alloc(), &clock, start);
+    let mut opening = Journal::new(rt.alloc(), Since::new(&clock, start));
+    let mut client = Journal::new(rt.alloc(), Since::new(&clock, start));
     keep(&mut opening, 1, 1)?;
     keep(&mut client, 2, 3)?;
     keep(&mut opening, 3, 2)?;

@@ -63,8 +63,8 @@ fn load_reported<T: Threads + Wait + Clock + Sync + AllocGlobal, W: Write, E: Wr
     let Ok(keepers) = no_keepers(rt.alloc(), settings.clients) else {
         return end_load_by(LoadFault::Memory, output);
     };
-    let mut span = Span::new(rt);
-    match run_told(rt, settings, how, keepers, &mut span, errors) {
+    let span = Span::new(rt, settings.clients);
+    match run_told(rt, settings, how, keepers, &span, errors) {
         Ok((report, efforts, _kept)) => {
             if how.stats {
                 let answered = report.tally.answered;

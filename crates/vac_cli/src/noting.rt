@@ -16,7 +16,7 @@ use std::sync::Wait;
 use std::thread::Threads;
 use std::time::{Clock, Instant};
 use stm_attempt::NoGate;
-use vac_history::{HistoryFault, Journal, are_whole, write_history};
+use vac_history::{HistoryFault, Journal, Since, are_whole, write_history};
 use vac_load::{Efforts, Keepers, LoadFault, LoadReport, Settings, run_load_kept};
 use vac_manager::Keep;
 use vac_options::How;
@@ -28,13 +28,13 @@ fn journals<'a, T: Clock>(
     clock: &'a T,
     start: Option<Instant>,
     count: u32,
-) -> Result<Vec<Journal<'a, T>>, AllocError>
+) -> Result<Vec<Journal<Since<'a, T>>>, AllocError>
     ensures number { IfOk result (λ v. vec_len v ≡ count) }
     ensures empty { IfOk result (λ v. All (λ j. j.notes.items ≡ []) v.items) }
 {
     let mut journals = Vec::with_capacity(alloc, count as usize)?;
     for number in 0..count {
-        journals.push(Journal::new(alloc, clock, start))?;
+        journals.push(Journal::new(alloc, Since::new(clock, start)))?;
     }
     Ok(journals)
 }
@@ -49,7 +49,7 @@ pub(crate) fn run_told<
     settings: &Settings,
     how: How,
     keepers: Keepers<K>,
-    span: &mut Span<T>,
+    span: &Span<T>,
     errors: &mut E,
 ) -> Result<(LoadReport, Efforts, Keepers<K>), LoadFault>
     ensures arguments { IsErrOf result LoadFault.Arguments
@@ -86,11 +86,11 @@ pub(crate) fn load_noted<T: Threads + Wait + Clock + Sync + AllocGlobal, W: Writ
         return end_load_by(LoadFault::Memory, output);
     };
     let keepers = Keepers {
-        opening: Journal::new(alloc, rt, start),
+        opening: Journal::new(alloc, Since::new(rt, start)),
         clients,
     };
-    let mut span = Span::new(rt);
-    let (report, efforts, kept) = match run_told(rt, settings, how, keepers, &mut span, errors) {
+    let span = Span::new(rt, settings.clients);
+    let (report, efforts, kept) = match run_told(rt, settings, how, keepers, &span, errors) {
         Ok(loaded) => loaded,
         Err(fault) => return end_load_by(fault, output),
     };

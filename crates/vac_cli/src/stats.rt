@@ -2,6 +2,8 @@
 
 use std::alloc::{AllocError, Global};
 use std::io::Write;
+use std::sync::atomic::{AtomicU32, AtomicU64, Ordering};
+use std::thread;
 use std::time::{Clock, Instant};
 use vac_load::{Efforts, Phases};
 
@@ -11,42 +13,107 @@ const SECOND: u128 = 1_000_000_000;
 /// The nanoseconds of a microsecond.
 const MICROSECOND: u64 = 1_000;
 
-/// When the clients of a load began, and how long they took: 0 where the time cannot be read.
+/// How often a client that stands ready lets others run at most before it begins without them.
+const MOST_TURNS: u32 = 1_000_000;
+
+/// How long the clients of a load took: from when all of them stood ready for the first time to
+/// when the last one was done. It is 0 where the time cannot be read.
 #[derive(Drop)]
 pub(crate) struct Span<'a, T> {
     rt: &'a T,
-    begin: Option<Instant>,
-    nanos: u64,
+    clients: u32,
+    /// When its nanoseconds begin to count.
+    start: Option<Instant>,
+    /// How many clients stand ready.
+    ready: AtomicU32,
+    /// How many clients are done.
+    done: AtomicU32,
+    /// How often all clients stood ready.
+    rounds: AtomicU32,
+    begin: AtomicU64,
+    end: AtomicU64,
 }
 
 impl<'a, T: Clock> Span<'a, T> {
-    /// The span of clients that did not begin.
-    pub(crate) fn new(rt: &'a T) -> Span<'a, T> {
+    /// The span of so many clients that did not begin.
+    pub(crate) fn new(rt: &'a T, clients: u32) -> Span<'a, T> {
         Span {
             rt,
-            begin: None,
-            nanos: 0,
+            clients,
+            start: Instant::now(rt).ok(),
+            ready: AtomicU32::new(0),
+            done: AtomicU32::new(0),
+            rounds: AtomicU32::new(0),
+            begin: AtomicU64::new(0),
+            end: AtomicU64::new(0),
         }
     }
 
     /// How many nanoseconds it has.
     pub(crate) fn nanos(&self) -> u64 {
-        self.nanos
+        let end = self.end.load(Ordering::SeqCst);
+        end.saturating_sub(self.begin.load(Ordering::SeqCst))
+    }
+
+    /// How many nanoseconds have passed.
+    fn passed(&self) -> u64 {
+        let Some(start) = self.start else {
+            return 0;
+        };
+        match start.elapsed(self.rt) {
+            Ok(since) => u64::try_from(since.as_nanos()).unwrap_or(u64::MAX),
+            Err(_) => 0,
+        }
+    }
+
+    /// Adds a client to these, and says whether they are all. Then they count from none again.
+    fn are_all(&self, clients: &AtomicU32) -> bool {
+        let before = clients.fetch_add(1, Ordering::SeqCst);
+        if before.saturating_add(1) < self.clients {
+            return false;
+        }
+        clients.store(0, Ordering::SeqCst);
+        true
+    }
+
+    /// Lets others run until all clients stand ready.
+    fn wait_for_all(&self, round: u32) {
+        for _ in 0..MOST_TURNS {
+            if self.rounds.load(Ordering::SeqCst) != round {
+                return;
+            }
+            thread::yield_now();
+        }
+    }
+
+    /// Comes back once all clients stand ready. Where one cannot be started, the others begin
+    /// without it.
+    fn stand_ready(&self) {
+        let round = self.rounds.load(Ordering::SeqCst);
+        if !self.are_all(&self.ready) {
+            return self.wait_for_all(round);
+        }
+        if round == 0 {
+            self.begin.store(self.passed(), Ordering::SeqCst);
+        }
+        self.rounds.fetch_add(1, Ordering::SeqCst);
+    }
+
+    /// Notes the time once all clients are done.
+    fn end_one(&self) {
+        if self.are_all(&self.done) {
+            self.end.store(self.passed(), Ordering::SeqCst);
+        }
     }
 }
 
-impl<T: Clock> Phases for Span<'_, T> {
-    fn begin(&mut self) {
-        self.begin = Instant::now(self.rt).ok();
+impl<T: Clock> Phases for &Span<'_, T> {
+    fn ready(&self) {
+        self.stand_ready();
     }
 
-    fn end(&mut self) {
-        let Some(begin) = self.begin else {
-            return;
-        };
-        if let Ok(since) = begin.elapsed(self.rt) {
-            self.nanos = u64::try_from(since.as_nanos()).unwrap_or(u64::MAX);
-        }
+    fn done(&self) {
+        self.end_one();
     }
 }
 
@@ -56,8 +123,8 @@ fn each(count: u128, whole: u128) -> u128 {
 }
 
 /// The line that tells the numbers of a load: the seconds of its clients, how many tasks they had
-/// answered in a second, how many attempts they made, how many of these ended by which conflict,
-/// and how many there were for each task that was answered.
+/// answered in a second, how many attempts they made, how many of these ended by which conflict, over
+/// the lock of which word, and how many there were for each task that was answered.
 fn stats_line(
     alloc: Global,
     nanos: u64,
@@ -74,12 +141,18 @@ fn stats_line(
         moved,
         lost_lock,
         lost_tick,
+        roots,
+        heads,
+        nodes,
+        uses,
+        stocks,
     } = efforts;
     let thousandths = each(u128::from(attempts) * 1_000, u128::from(answered));
     let (whole, part) = (thousandths / 1_000, thousandths % 1_000);
     format!(in alloc;
         "seconds {seconds}.{rest:06} tasks-per-second {rate} attempts {attempts} held {held} \
             newer {newer} moved {moved} lost-lock {lost_lock} lost-tick {lost_tick} \
+            roots {roots} heads {heads} nodes {nodes} uses {uses} stocks {stocks} \
             attempts-per-task {whole}.{part:03}\n"
     )
 }

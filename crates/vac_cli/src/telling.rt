@@ -52,12 +52,12 @@ impl Progress {
     }
 
     /// Runs the load, and then lets the teller end.
-    fn run<T: Threads + Wait + Clock + AllocGlobal, K: Keep + Send + Drop>(
+    fn run<T: Threads + Wait + Clock + Sync + AllocGlobal, K: Keep + Send + Drop>(
         &self,
         rt: &T,
         settings: &Settings,
         keepers: Keepers<K>,
-        span: &mut Span<T>,
+        span: &Span<T>,
     ) -> Result<(LoadReport, Efforts, Keepers<K>), LoadFault>
         ensures arguments { IsErrOf result LoadFault.Arguments
             ↔ (is_load settings.now (vec_len keepers.clients) ≡ false) }
@@ -136,7 +136,7 @@ pub(crate) fn run_load_told<
     rt: &T,
     settings: &Settings,
     keepers: Keepers<K>,
-    span: &mut Span<T>,
+    span: &Span<T>,
     errors: &mut E,
 ) -> Result<(LoadReport, Efforts, Keepers<K>), LoadFault>
     ensures arguments { IsErrOf result LoadFault.Arguments
