@@ -1,5 +1,6 @@
 -- How a judgement ends by a fault.
-use Rattle.std.proofs.Common.{◌≡◌, ◌++◌, ◌∙◌, ap, inl, inr, ℕ, List, [], append-nil, Option, Some, None}
+use Rattle.std.proofs.Common.{◌≡◌, ◌≢◌, ◌⊎◌, ◌++◌, ◌∙◌, ap, sym, subst, inl, inr, ℕ, List, [], append-nil, Option, Some, None}
+use Rattle.std.specs.Io.KnownBytes.{Appends}
 use Rattle.std.proofs.Math.Seq.{take-nil}
 use Rattle.vac_lines.specs.Writing.{AppendsPrefix}
 use Rattle.vac_judge.specs.declared.fault.JudgeFault.{JudgeFault}
@@ -7,7 +8,16 @@ use Rattle.vac_judge.specs.declared.fault.JudgeFault.TheVariants as judge
 use Rattle.vac_judge.specs.Reading.{HasStopped}
 use Rattle.vac_cli.specs.Ending.{as_stream_fault, fault_line}
 use Rattle.vac_judge.specs.HeldReading.{HasHeldStopped}
-use Rattle.vac_cli.specs.Judging.{JudgeStopped, WorkStopped}
+use Rattle.vac_streams.specs.declared.fault.StreamFault.{StreamFault}
+use Rattle.vac_streams.specs.declared.fault.StreamFault.TheVariants as stream
+use Rattle.vac_order.specs.declared.ordering.Outcome.{Outcome}
+use Rattle.vac_order.specs.declared.ordering.Outcome.TheVariants as outcome
+use Rattle.vac_order.specs.Ordering.{HasText, HasOrdered}
+use Rattle.vac_order.specs.Ordering as order
+use Rattle.vac_opaque.specs.Reading as opaque
+use Rattle.vac_cli.specs.Judging.{Judges, JudgeStopped, WorkStopped}
+use Rattle.vac_cli.specs.Ordering.{OrderStopped, JudgesAnyOrder, status_of}
+use Rattle.vac_cli.specs.Asking.{AttemptsStopped}
 use Rattle.vac_cli.proofs.Ending.{nothing_then}
 
 -- where nothing was written behind it
@@ -52,3 +62,53 @@ work_stopped tasks rest blocks judge.Write unread left held middle holds part li
 )
 work_stopped tasks rest blocks judge.Memory unread left held middle holds none line = inr (judge.Memory, memory_is, nothing_then held middle holds _ none line)
 work_stopped tasks rest blocks judge.Bound unread left held middle holds none line = inr (judge.Bound, bound_is, nothing_then held middle holds _ none line)
+
+named_stream : (fault : StreamFault) → (fault ≡ stream.Write → ⊥) → (held middle holds : Option (List ℕ)) → Appends held middle [] → AppendsPrefix middle holds (fault_line fault)
+    → (f : StreamFault) × (f ≢ stream.Write) × AppendsPrefix held holds (fault_line f)
+named_stream fault other held middle holds none line = (fault, other, nothing_then held middle holds _ none line)
+
+-- the same of a search for an order
+pub order_stopped : (blocks steps : ℕ) (fault : StreamFault) (unread left held middle holds : Option (List ℕ)) → order.HasStopped blocks steps fault unread left held middle
+    → AppendsPrefix middle holds (fault_line fault) → OrderStopped blocks steps unread left held holds
+order_stopped blocks steps stream.Read unread left held middle holds none line = inr (named_stream stream.Read (λ e. absurd cc) held middle holds none line)
+order_stopped blocks steps stream.Write unread left held middle holds part line =
+    inl (record { result = part.result; text = part.text; is = part.is; written = then_nothing held middle holds _ part.written line })
+order_stopped blocks steps stream.Memory unread left held middle holds none line = inr (named_stream stream.Memory (λ e. absurd cc) held middle holds none line)
+order_stopped blocks steps stream.Bound unread left held middle holds none line = inr (named_stream stream.Bound (λ e. absurd cc) held middle holds none line)
+
+-- the same of attempts
+pub attempts_stopped : (words : ℕ) (fault : StreamFault) (unread left held middle holds : Option (List ℕ)) → opaque.HasStopped words fault unread left held middle
+    → AppendsPrefix middle holds (fault_line fault) → AttemptsStopped words unread left held holds
+attempts_stopped words stream.Read unread left held middle holds none line = inr (named_stream stream.Read (λ e. absurd cc) held middle holds none line)
+attempts_stopped words stream.Write unread left held middle holds part line =
+    inl (record { finding = part.finding; is = part.is; written = then_nothing held middle holds _ part.written line })
+attempts_stopped words stream.Memory unread left held middle holds none line = inr (named_stream stream.Memory (λ e. absurd cc) held middle holds none line)
+attempts_stopped words stream.Bound unread left held middle holds none line = inr (named_stream stream.Bound (λ e. absurd cc) held middle holds none line)
+
+-- what was found was kept, and then written
+pub found_written : (blocks steps : ℕ) (found : Outcome) (status : ℕ) (unread left held holds : Option (List ℕ)) (text : List ℕ) → (found ≡ outcome.Ordered → ⊥)
+    → HasOrdered blocks steps found unread left (Some []) (Some text)
+    → (Appends held holds text × (status ≡ status_of found)) ⊎ (AppendsPrefix held holds text × (status ≡ 1)) → JudgesAnyOrder blocks steps status unread left held holds
+found_written blocks steps found status unread left held holds text other has (inl whole) =
+    inr (inl (found, other, whole.1, record { text = text; is = subst (HasText blocks steps unread left found) (sym has.written) has.is; written = whole.0 }))
+found_written blocks steps found status unread left held holds text other has (inr part) =
+    inr (inr (part.1, inl (record { result = found; text = text; is = subst (HasText blocks steps unread left found) (sym has.written) has.is; written = part.0 })))
+
+pub illegal_written : (blocks steps status : ℕ) (unread left held holds : Option (List ℕ)) (text : List ℕ) → HasOrdered blocks steps outcome.Illegal unread left (Some []) (Some text)
+    → (Appends held holds text × (status ≡ status_of outcome.Illegal)) ⊎ (AppendsPrefix held holds text × (status ≡ 1)) → JudgesAnyOrder blocks steps status unread left held holds
+illegal_written blocks steps status unread left held holds text has done = found_written blocks steps outcome.Illegal status unread left held holds text (λ e. absurd cc) has done
+
+pub undecided_written : (blocks steps status : ℕ) (unread left held holds : Option (List ℕ)) (text : List ℕ) → HasOrdered blocks steps outcome.Undecided unread left (Some []) (Some text)
+    → (Appends held holds text × (status ≡ status_of outcome.Undecided)) ⊎ (AppendsPrefix held holds text × (status ≡ 1)) → JudgesAnyOrder blocks steps status unread left held holds
+undecided_written blocks steps status unread left held holds text has done = found_written blocks steps outcome.Undecided status unread left held holds text (λ e. absurd cc) has done
+
+-- a fault came before anything was found
+pub unordered : (blocks steps status : ℕ) (unread left held holds : Option (List ℕ)) (fault : StreamFault) → status ≡ 1 → (fault ≢ stream.Write) → AppendsPrefix held holds (fault_line fault)
+    → JudgesAnyOrder blocks steps status unread left held holds
+unordered blocks steps status unread left held holds fault one other line = inr (inr (one, inr (fault, other, line)))
+
+-- an order was kept, and then judged
+pub found_judged : (blocks steps status : ℕ) (unread left rest held holds : Option (List ℕ)) (text : List ℕ) → HasOrdered blocks steps outcome.Ordered unread left (Some []) (Some text)
+    → Judges blocks status (Some text) rest held holds → JudgesAnyOrder blocks steps status unread left held holds
+found_judged blocks steps status unread left rest held holds text has judged =
+    inl (record { text = text; order = subst (HasText blocks steps unread left outcome.Ordered) (sym has.written) has.is; rest = rest; judged = judged })

@@ -1,6 +1,5 @@
 -- What the program does with a history: its status, and what it reads and writes.
-use Rattle.std.specs.Prelude.{◌≡◌, ◌≢◌, ◌⊎◌, ℕ, Bool, true, false, Option, Some, None, List}
-use Rattle.std.specs.Borrow.{Bor}
+use Rattle.std.specs.Prelude.{◌≡◌, ◌≢◌, ◌⊎◌, ℕ, Bool, true, false, Option, List}
 use Rattle.vac_lines.specs.Writing.{AppendsPrefix}
 use Rattle.vac_streams.specs.declared.fault.StreamFault.TheVariants.{Memory}
 use Rattle.vac_judge.specs.Reading.{HasJudged, HasJudgedInPart}
@@ -64,12 +63,3 @@ JudgesWork tasks blocks status unread left held holds =
     (HasHeldFile tasks blocks false unread left held holds
     ⊎ WorkStopped tasks blocks unread left held holds)
     ⊎ ((left ≡ unread) × NotOpened status held holds)
-
--- a history is judged; where a file is named, it is held against the work in that, of which the
--- bytes are known that this file has
-abbrev pub JudgesBy : (List ℕ → Option (List ℕ)) → Option (Bor (List ℕ)) → ℕ → ℕ
-    → Option (List ℕ) → Option (List ℕ) → Option (List ℕ) → Option (List ℕ) → Type 0
-JudgesBy files None blocks status unread left held holds =
-    Judges blocks status unread left held holds
-JudgesBy files (Some name) blocks status unread left held holds =
-    JudgesWork (files name.now) blocks status unread left held holds

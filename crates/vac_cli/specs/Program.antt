@@ -9,7 +9,8 @@ use Rattle.vac_draws.specs.declared.settings.Settings.{Settings}
 use Rattle.vac_draws.specs.Setting.{is_settings}
 use Rattle.vac_load.specs.declared.load.LoadFault.TheVariants.{Arguments}
 use Rattle.vac_options.specs.declared.asked.Asked.{Asked}
-use Rattle.vac_options.specs.declared.asked.Asked.TheVariants.{Run, Dump, Check, Judge, Load, Tasks}
+use Rattle.vac_options.specs.declared.asked.Asked.TheVariants.{Run, Dump, Check, Judge, Order}
+use Rattle.vac_options.specs.declared.asked.Asked.TheVariants.{Opaque, Load, Tasks}
 use Rattle.vac_lines.specs.Script.{as_line}
 use Rattle.vac_streams.specs.declared.fault.StreamFault.TheVariants.{Memory}
 use Rattle.vac_lines.specs.Writing.{AppendsPrefix}
@@ -19,7 +20,8 @@ use Rattle.vac_script.specs.Check.{Checked, CheckStopped}
 use Rattle.vac_worklist.specs.Worklist.{WroteTasks, WroteTasksPrefix}
 use Rattle.vac_cli.specs.Load.{LoadWrote, LoadEnded}
 use Rattle.vac_cli.specs.Ending.{Ends, NamedAfter, NamedAfterWriting, fault_line, load_fault_line}
-use Rattle.vac_cli.specs.Judging.{JudgesBy}
+use Rattle.vac_cli.specs.Ordering.{Orders}
+use Rattle.vac_cli.specs.Asking.{JudgesAs, JudgesAttempts}
 use Rattle.vac_options.specs.CommandLine.{vacation, AsksFor}
 
 -- a load is run where its settings fit each other, and writes its history or its two lines; where
@@ -70,8 +72,12 @@ abbrev pub Does : (Text → Option (List ℕ)) → Asked → ℕ → Option (Lis
 Does files (Run blocks) status unread left held holds = Runs blocks status unread left held holds
 Does files (Dump blocks) status unread left held holds = Dumps blocks status unread left held holds
 Does files Check status unread left held holds = Checks status unread left held holds
-Does files (Judge blocks tasks) status unread left held holds =
-    JudgesBy files tasks blocks status unread left held holds
+Does files (Judge blocks how) status unread left held holds =
+    JudgesAs files how.any_order how.tasks blocks how.search.steps status unread left held holds
+Does files (Order blocks search) status unread left held holds =
+    Orders blocks search.steps status unread left held holds
+Does files (Opaque n) status unread left held holds =
+    JudgesAttempts n status unread left held holds
 Does files (Load settings how) status unread left held holds =
     (left ≡ unread) × Loads how.history status settings held holds
 Does files (Tasks settings) status unread left held holds =

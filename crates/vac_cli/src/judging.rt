@@ -3,14 +3,20 @@
 ghost use Rattle.std.specs.Prelude.{◌≡◌, true};
 ghost use Rattle.vac_model.specs.Ranges.{is_block_count};
 ghost use Rattle.vac_cli.specs.Ending.{as_stream_fault};
-ghost use Rattle.vac_cli.specs.Judging.{Judges, JudgesWork, JudgesBy, NotOpened};
+ghost use Rattle.vac_cli.specs.Judging.{Judges, JudgesWork, NotOpened};
+ghost use Rattle.vac_cli.specs.Asking.{JudgesAs, JudgesAttempts};
 
 use crate::files::Open;
-use crate::status::{DONE, FAULT, end_by, end_unopened};
+use crate::searching::judge_any_order;
+use crate::status::{DONE, FAULT, REFUSED, end_by, end_unopened};
 use std::alloc::Global;
 use std::io;
 use std::io::{ErrorKind, Read, Write};
+use std::time::Clock;
 use vac_judge::{JudgeFault, judge_history, judge_work};
+use vac_lines::write_and_flush;
+use vac_opaque::judge_attempts;
+use vac_options::Judging;
 use vac_streams::StreamFault;
 
 /// The fault of the same name.
@@ -26,7 +32,12 @@ fn as_stream_fault(fault: JudgeFault) -> StreamFault
 }
 
 /// Judges a history, and answers the status: 0 where it is legal.
-fn judge_alone<R: Read, W: Write>(alloc: Global, blocks: u32, input: &mut R, output: &mut W) -> u8
+pub(crate) fn judge_alone<R: Read, W: Write>(
+    alloc: Global,
+    blocks: u32,
+    input: &mut R,
+    output: &mut W,
+) -> u8
     requires { is_block_count blocks ≡ true }
     ensures { Judges blocks result (R.remaining input.old) (R.remaining input.new)
         (W.contents output.old) (W.contents output.new) }
@@ -75,23 +86,56 @@ fn judge_by_file<F: Open, R: Read, W: Write>(
     }
 }
 
-/// Judges a history, holds it against the tasks in a file where one is named, and answers the
-/// status.
-pub(crate) fn judge<F: Open, R: Read, W: Write>(
-    alloc: Global,
+/// Says that an order cannot be looked for where a file of tasks is named, and answers the status
+/// of a refused command line.
+fn refuse_both<E: Write>(errors: &mut E) -> u8
+    ensures { result ≡ 2 }
+{
+    let _ = write_and_flush(
+        errors,
+        b"error: --any-order and --tasks do not go together\n",
+    );
+    REFUSED
+}
+
+/// Judges a history as is asked for, and answers the status.
+pub(crate) fn judge<T: Clock + AllocGlobal, F: Open, R: Read, W: Write, E: Write>(
+    rt: &T,
     files: &F,
     blocks: u32,
-    tasks: Option<&str>,
+    how: Judging<'_>,
     input: &mut R,
     output: &mut W,
+    errors: &mut E,
 ) -> u8
     requires { is_block_count blocks ≡ true }
-    ensures { JudgesBy (F.holds files.now) tasks.entry blocks result
+    ensures { JudgesAs (F.holds files.now) how.entry.any_order how.entry.tasks blocks
+        how.entry.search.steps result
         (R.remaining input.old) (R.remaining input.new)
         (W.contents output.old) (W.contents output.new) }
 {
-    match tasks {
-        None => judge_alone(alloc, blocks, input, output),
-        Some(name) => judge_by_file(alloc, files, name, blocks, input, output),
+    let alloc = rt.alloc();
+    match (how.any_order, how.tasks) {
+        (false, None) => judge_alone(alloc, blocks, input, output),
+        (false, Some(name)) => judge_by_file(alloc, files, name, blocks, input, output),
+        (true, None) => judge_any_order(rt, blocks, how.search, input, output, errors),
+        (true, Some(_)) => refuse_both(errors),
+    }
+}
+
+/// Judges attempts at so many words, and answers the status: 0 where they are opaque.
+pub(crate) fn judge_opaque<R: Read, W: Write>(
+    alloc: Global,
+    words: u32,
+    input: &mut R,
+    output: &mut W,
+) -> u8
+    ensures { JudgesAttempts words result (R.remaining input.old) (R.remaining input.new)
+        (W.contents output.old) (W.contents output.new) }
+{
+    match judge_attempts(alloc, words, input, output) {
+        Ok(true) => DONE,
+        Ok(false) => FAULT,
+        Err(fault) => end_by(fault, output),
     }
 }

@@ -8,6 +8,7 @@ mod judging;
 mod load;
 mod noting;
 mod program;
+mod searching;
 mod stats;
 mod status;
 mod telling;

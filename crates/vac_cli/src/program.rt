@@ -8,8 +8,9 @@ ghost use Rattle.vac_model.specs.Ranges.{is_block_count};
 ghost use Rattle.vac_cli.specs.Program.{Runs, Dumps, Checks, Lists, Shows, Serves};
 
 use crate::files::Open;
-use crate::judging::judge;
+use crate::judging::{judge, judge_opaque};
 use crate::load::load;
+use crate::searching::order;
 use crate::status::{DONE, FAULT, REFUSED, end_by, end_by_settings};
 use clap::Error;
 use clap::error::ErrorKind;
@@ -27,8 +28,8 @@ use vac_worklist::{TasksFault, write_tasks};
 
 /// Runs the program on a command line, of which the first word is the program's name, and answers
 /// its status: 0 where it did its work or showed its help or its version, 1 after a fault, where
-/// `check` found no balanced state and where `judge` found no legal history, 2 where the command
-/// line was refused.
+/// `check` found no balanced state, `judge` no legal history, `order` no order and `opaque` attempts
+/// that are not, 2 where the command line was refused, 3 where `order` did not decide.
 ///
 /// Help and the version go to `output`, the text of a refused command line to `errors`. A fault is
 /// the last line of `output`, unless `output` is what failed. What a load tells on `errors` (how
@@ -52,7 +53,9 @@ pub fn run_words<
         Ok(Asked::Run(blocks)) => run(alloc, blocks, input, output),
         Ok(Asked::Dump(blocks)) => dump(alloc, blocks, input, output),
         Ok(Asked::Check) => check(alloc, input, output),
-        Ok(Asked::Judge(blocks, tasks)) => judge(alloc, files, blocks, tasks, input, output),
+        Ok(Asked::Judge(blocks, how)) => judge(rt, files, blocks, how, input, output, errors),
+        Ok(Asked::Order(blocks, search)) => order(rt, blocks, search, input, output, errors),
+        Ok(Asked::Opaque(words)) => judge_opaque(alloc, words, input, output),
         Ok(Asked::Load(settings, how)) => load(rt, &settings, how, output, errors),
         Ok(Asked::Tasks(settings)) => list_tasks(alloc, &settings, output, errors),
         Err(error) => show(alloc, &error, output, errors),

@@ -16,6 +16,9 @@ pub(crate) const DONE: u8 = 0;
 /// The status of a program that met a fault.
 pub(crate) const FAULT: u8 = 1;
 
+/// The status of a program that did not decide within its steps.
+pub(crate) const UNDECIDED: u8 = 3;
+
 /// The status of a program whose command line was refused.
 pub(crate) const REFUSED: u8 = 2;
 

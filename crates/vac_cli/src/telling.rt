@@ -96,7 +96,7 @@ fn pause() -> Duration {
 }
 
 /// Whether the pause has passed since the last line. Not where the time cannot be read.
-fn has_passed<T: Clock>(rt: &T, last: Option<Instant>) -> bool {
+pub(crate) fn has_passed<T: Clock>(rt: &T, last: Option<Instant>) -> bool {
     let Some(last) = last else {
         return false;
     };

@@ -79,6 +79,16 @@ command_and (Ok before) (Ok after) a name options option c h is = record {
   own = h.globals ∙ or_false _ a.global is.own ∙ c.own;
 }
 
+-- a command that got options, as what it is then
+pub command_gets : (given result : Result Command AllocError) (first s : Shape) (more : List Rule) → with_rules (record { top = first; subs = [] }) more ≡ record { top = s; subs = [] }
+    → IfOk given (λ c. IsCommand c first) → Gets given more result → IfOk result (λ c. IsCommand c s)
+command_gets given (Err e) first s more same is gets = tt
+command_gets (Err e) (Ok after) first s more same is gets = absurd gets
+command_gets (Ok before) (Ok after) first s more same is gets = record {
+  app = gets.app ∙ ap (λ (w : App). with_rules w more) is.app ∙ same;
+  own = gets.own ∙ is.own;
+}
+
 -- a command with these options
 pub command_with : (first : Command) (second third result : Result Command AllocError) (name : Text) → IsCommand first (with_options name []) → Gets (Ok first) client_options second
     → Gets second task_options third → Gets third telling_options result → IfOk result (λ c. IsCommand c (with_options name load_options))

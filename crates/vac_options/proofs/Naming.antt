@@ -38,8 +38,8 @@ use Rattle.clap.specs.Facts.{unwrap_or_range}
 use Rattle.clap.specs.Values.{is_request}
 use Rattle.clap.specs.Walk.{action_of, arg_by_id}
 use Rattle.std.proofs.Common.{nat_lt}
-use Rattle.vac_options.specs.declared.asked.TheConstants.{MOST_SEED}
-use Rattle.vac_options.specs.CommandLine.{vacation, blocks_option, clients_option, tasks_option, rounds_option, tries_option, items_option, asks_option, user_option, seed_option, flag, Gives, GivesIn, Says, IsFlag, HasSettings, Names}
+use Rattle.vac_options.specs.declared.asked.TheConstants.{MOST_SEED, MOST_STEPS, MOST_WORDS}
+use Rattle.vac_options.specs.CommandLine.{vacation, blocks_option, clients_option, tasks_option, rounds_option, tries_option, items_option, asks_option, user_option, seed_option, steps_option, words_option, flag, Gives, GivesIn, Says, IsFlag, HasSettings, HasSearch, HasJudging, Names}
 use Rattle.vac_options.proofs.FoundRows.{Each, IsFit, found_each, found_passes, is_counted, no_fault, no_some, same_some}
 use Rattle.vac_options.proofs.Walks.{AllFit}
 use Rattle.vac_options.proofs.Given.{IsGiven, IsEntered, level_gives, subcommand_entered, top_passes}
@@ -139,15 +139,29 @@ with_blocks : Text → Shape
 with_blocks name = record (shape_at 0) { name = name }
 
 with_settings : Text → Shape
-with_settings name = record (shape_at 4) { name = name }
+with_settings name = record (shape_at 6) { name = name }
 
--- the subcommand that judges
+-- the subcommands that judge, that find an order, and that judge attempts
 judging : Shape
 judging = shape_at 3
 
+ordering : Shape
+ordering = shape_at 4
+
+opaque : Shape
+opaque = shape_at 5
+
 judging_fit : AllFit judging.rules
 unfolding shape_at judging
-judging_fit = (fit refl refl refl, (fit refl refl refl, (fit refl refl refl, tt)))
+judging_fit = (fit refl refl refl, (fit refl refl refl, (fit refl refl refl, (fit refl refl refl, (fit refl refl refl, (fit refl refl refl, tt))))))
+
+ordering_fit : AllFit ordering.rules
+unfolding shape_at ordering
+ordering_fit = (fit refl refl refl, (fit refl refl refl, (fit refl refl refl, (fit refl refl refl, tt))))
+
+opaque_fit : AllFit opaque.rules
+unfolding shape_at opaque
+opaque_fit = (fit refl refl refl, (fit refl refl refl, tt))
 
 blocks_fit : (name : Text) → AllFit (with_blocks name).rules
 unfolding shape_at with_blocks
@@ -212,10 +226,38 @@ unfolding shape_at with_blocks
 blocks_given of rows e = number_given rows (filled blocks_option) 1 MOST_BLOCKS refl
     (subst (IsGiven (filled blocks_option)) e.rows_are (level_gives (with_blocks of) e.words (filled blocks_option) (blocks_fit of) e.passes refl (omega arith)))
 
+-- what an option with a default has, of a subcommand that was entered
+option_given : (s : Shape) (rows : List Row) → AllFit s.rules → IsEntered s rows → (a : Rule) → arg_by_id s.rules a.id ≡ Some a → 0 < length a.defaults → IsGiven a rows
+option_given s rows all e a own some = subst (IsGiven a) e.rows_are (level_gives s e.words a all e.passes own some)
+
 judging_blocks : (rows : List Row) → IsEntered judging rows → GivesIn rows (codes "blocks") 1 MOST_BLOCKS
 unfolding shape_at judging
-judging_blocks rows e = number_given rows (filled blocks_option) 1 MOST_BLOCKS refl
-    (subst (IsGiven (filled blocks_option)) e.rows_are (level_gives judging e.words (filled blocks_option) judging_fit e.passes refl (omega arith)))
+judging_blocks rows e = number_given rows (filled blocks_option) 1 MOST_BLOCKS refl (option_given judging rows judging_fit e (filled blocks_option) refl (omega arith))
+
+judging_given : (rows : List Row) → IsEntered judging rows → HasJudging rows
+unfolding shape_at judging
+judging_given rows e = record {
+  any_order = flag_given rows (codes "any-order") (option_given judging rows judging_fit e (filled (flag (codes "any-order"))) refl (omega arith));
+  search = record {
+    steps = seed_given rows (filled steps_option) MOST_STEPS refl (option_given judging rows judging_fit e (filled steps_option) refl (omega arith));
+    progress = flag_given rows (codes "progress") (option_given judging rows judging_fit e (filled (flag (codes "progress"))) refl (omega arith));
+  };
+}
+
+ordering_blocks : (rows : List Row) → IsEntered ordering rows → GivesIn rows (codes "blocks") 1 MOST_BLOCKS
+unfolding shape_at ordering
+ordering_blocks rows e = number_given rows (filled blocks_option) 1 MOST_BLOCKS refl (option_given ordering rows ordering_fit e (filled blocks_option) refl (omega arith))
+
+ordering_given : (rows : List Row) → IsEntered ordering rows → HasSearch rows
+unfolding shape_at ordering
+ordering_given rows e = record {
+  steps = seed_given rows (filled steps_option) MOST_STEPS refl (option_given ordering rows ordering_fit e (filled steps_option) refl (omega arith));
+  progress = flag_given rows (codes "progress") (option_given ordering rows ordering_fit e (filled (flag (codes "progress"))) refl (omega arith));
+}
+
+opaque_given : (rows : List Row) → IsEntered opaque rows → GivesIn rows (codes "words") 1 MOST_WORDS
+unfolding shape_at opaque
+opaque_given rows e = number_given rows (filled words_option) 1 MOST_WORDS refl (option_given opaque rows opaque_fit e (filled words_option) refl (omega arith))
 
 -- ---- the subcommand that the words name
 
@@ -234,23 +276,31 @@ enters name target words rows alone fault names =
 
 run_alone : IsAlone (codes "run") (with_blocks (codes "run"))
 unfolding shape_at with_blocks
-run_alone = (λ e. refl, (λ e. absurd (differ _ _ refl e), (λ e. absurd (differ _ _ refl e), (λ e. absurd (differ _ _ refl e), (λ e. absurd (differ _ _ refl e), (λ e. absurd (differ _ _ refl e), (λ e. absurd (differ _ _ refl e), tt)))))))
+run_alone = (λ e. refl, (λ e. absurd (differ _ _ refl e), (λ e. absurd (differ _ _ refl e), (λ e. absurd (differ _ _ refl e), (λ e. absurd (differ _ _ refl e), (λ e. absurd (differ _ _ refl e), (λ e. absurd (differ _ _ refl e), (λ e. absurd (differ _ _ refl e), (λ e. absurd (differ _ _ refl e), tt)))))))))
 
 dump_alone : IsAlone (codes "dump") (with_blocks (codes "dump"))
 unfolding shape_at with_blocks
-dump_alone = (λ e. absurd (differ _ _ refl e), (λ e. refl, (λ e. absurd (differ _ _ refl e), (λ e. absurd (differ _ _ refl e), (λ e. absurd (differ _ _ refl e), (λ e. absurd (differ _ _ refl e), (λ e. absurd (differ _ _ refl e), tt)))))))
+dump_alone = (λ e. absurd (differ _ _ refl e), (λ e. refl, (λ e. absurd (differ _ _ refl e), (λ e. absurd (differ _ _ refl e), (λ e. absurd (differ _ _ refl e), (λ e. absurd (differ _ _ refl e), (λ e. absurd (differ _ _ refl e), (λ e. absurd (differ _ _ refl e), (λ e. absurd (differ _ _ refl e), tt)))))))))
 
 judge_alone : IsAlone (codes "judge") judging
 unfolding shape_at judging
-judge_alone = (λ e. absurd (differ _ _ refl e), (λ e. absurd (differ _ _ refl e), (λ e. absurd (differ _ _ refl e), (λ e. refl, (λ e. absurd (differ _ _ refl e), (λ e. absurd (differ _ _ refl e), (λ e. absurd (differ _ _ refl e), tt)))))))
+judge_alone = (λ e. absurd (differ _ _ refl e), (λ e. absurd (differ _ _ refl e), (λ e. absurd (differ _ _ refl e), (λ e. refl, (λ e. absurd (differ _ _ refl e), (λ e. absurd (differ _ _ refl e), (λ e. absurd (differ _ _ refl e), (λ e. absurd (differ _ _ refl e), (λ e. absurd (differ _ _ refl e), tt)))))))))
+
+order_alone : IsAlone (codes "order") ordering
+unfolding shape_at ordering
+order_alone = (λ e. absurd (differ _ _ refl e), (λ e. absurd (differ _ _ refl e), (λ e. absurd (differ _ _ refl e), (λ e. absurd (differ _ _ refl e), (λ e. refl, (λ e. absurd (differ _ _ refl e), (λ e. absurd (differ _ _ refl e), (λ e. absurd (differ _ _ refl e), (λ e. absurd (differ _ _ refl e), tt)))))))))
+
+opaque_alone : IsAlone (codes "opaque") opaque
+unfolding shape_at opaque
+opaque_alone = (λ e. absurd (differ _ _ refl e), (λ e. absurd (differ _ _ refl e), (λ e. absurd (differ _ _ refl e), (λ e. absurd (differ _ _ refl e), (λ e. absurd (differ _ _ refl e), (λ e. refl, (λ e. absurd (differ _ _ refl e), (λ e. absurd (differ _ _ refl e), (λ e. absurd (differ _ _ refl e), tt)))))))))
 
 load_alone : IsAlone (codes "load") (with_settings (codes "load"))
 unfolding shape_at with_settings
-load_alone = (λ e. absurd (differ _ _ refl e), (λ e. absurd (differ _ _ refl e), (λ e. absurd (differ _ _ refl e), (λ e. absurd (differ _ _ refl e), (λ e. refl, (λ e. absurd (differ _ _ refl e), (λ e. absurd (differ _ _ refl e), tt)))))))
+load_alone = (λ e. absurd (differ _ _ refl e), (λ e. absurd (differ _ _ refl e), (λ e. absurd (differ _ _ refl e), (λ e. absurd (differ _ _ refl e), (λ e. absurd (differ _ _ refl e), (λ e. absurd (differ _ _ refl e), (λ e. refl, (λ e. absurd (differ _ _ refl e), (λ e. absurd (differ _ _ refl e), tt)))))))))
 
 tasks_alone : IsAlone (codes "tasks") (with_settings (codes "tasks"))
 unfolding shape_at with_settings
-tasks_alone = (λ e. absurd (differ _ _ refl e), (λ e. absurd (differ _ _ refl e), (λ e. absurd (differ _ _ refl e), (λ e. absurd (differ _ _ refl e), (λ e. absurd (differ _ _ refl e), (λ e. refl, (λ e. absurd (differ _ _ refl e), tt)))))))
+tasks_alone = (λ e. absurd (differ _ _ refl e), (λ e. absurd (differ _ _ refl e), (λ e. absurd (differ _ _ refl e), (λ e. absurd (differ _ _ refl e), (λ e. absurd (differ _ _ refl e), (λ e. absurd (differ _ _ refl e), (λ e. absurd (differ _ _ refl e), (λ e. refl, (λ e. absurd (differ _ _ refl e), tt)))))))))
 
 -- what a subcommand's options give
 pub run_blocks : (words : List Text) (rows : List Row) → fault_of vacation words ≡ [] → Names words (codes "run") rows → GivesIn rows (codes "blocks") 1 MOST_BLOCKS
@@ -261,6 +311,18 @@ dump_blocks words rows fault names = blocks_given _ rows (enters _ _ words rows 
 
 pub judge_blocks : (words : List Text) (rows : List Row) → fault_of vacation words ≡ [] → Names words (codes "judge") rows → GivesIn rows (codes "blocks") 1 MOST_BLOCKS
 judge_blocks words rows fault names = judging_blocks rows (enters _ _ words rows judge_alone fault names)
+
+pub judge_options : (words : List Text) (rows : List Row) → fault_of vacation words ≡ [] → Names words (codes "judge") rows → HasJudging rows
+judge_options words rows fault names = judging_given rows (enters _ _ words rows judge_alone fault names)
+
+pub order_blocks : (words : List Text) (rows : List Row) → fault_of vacation words ≡ [] → Names words (codes "order") rows → GivesIn rows (codes "blocks") 1 MOST_BLOCKS
+order_blocks words rows fault names = ordering_blocks rows (enters _ _ words rows order_alone fault names)
+
+pub order_search : (words : List Text) (rows : List Row) → fault_of vacation words ≡ [] → Names words (codes "order") rows → HasSearch rows
+order_search words rows fault names = ordering_given rows (enters _ _ words rows order_alone fault names)
+
+pub opaque_words : (words : List Text) (rows : List Row) → fault_of vacation words ≡ [] → Names words (codes "opaque") rows → GivesIn rows (codes "words") 1 MOST_WORDS
+opaque_words words rows fault names = opaque_given rows (enters _ _ words rows opaque_alone fault names)
 
 pub load_settings : (words : List Text) (rows : List Row) → fault_of vacation words ≡ [] → Names words (codes "load") rows → HasSettings rows
 load_settings words rows fault names = settings_given _ rows (enters _ _ words rows load_alone fault names)
@@ -278,23 +340,11 @@ some_entered (Some p) e = (p, refl)
 
 IsOneOf : Shape → Type 0
 IsOneOf s =
-    (s ≡ shape_at 0) ⊎ ((s ≡ shape_at 1) ⊎ ((s ≡ shape_at 2) ⊎ ((s ≡ shape_at 3) ⊎ ((s ≡ shape_at 4) ⊎ ((s ≡ shape_at 5) ⊎ (s ≡ shape_at 6))))))
+    (s ≡ shape_at 0) ⊎ ((s ≡ shape_at 1) ⊎ ((s ≡ shape_at 2) ⊎ ((s ≡ shape_at 3) ⊎ ((s ≡ shape_at 4) ⊎ ((s ≡ shape_at 5) ⊎ ((s ≡ shape_at 6) ⊎ ((s ≡ shape_at 7) ⊎ (s ≡ shape_at 8))))))))
 
 each_one : Each IsOneOf (built vacation).subs
 unfolding shape_at IsOneOf
-each_one = (
-  inl refl,
-  (
-    inr (inl refl),
-    (
-      inr (inr (inl refl)),
-      (
-        inr (inr (inr (inl refl))),
-        (inr (inr (inr (inr (inl refl)))), (inr (inr (inr (inr (inr (inl refl))))), (inr (inr (inr (inr (inr (inr refl))))), tt))),
-      ),
-    ),
-  ),
-)
+each_one = (inl refl, (inr (inl refl), (inr (inr (inl refl)), (inr (inr (inr (inl refl))), (inr (inr (inr (inr (inl refl)))), (inr (inr (inr (inr (inr (inl refl))))), (inr (inr (inr (inr (inr (inr (inl refl)))))), (inr (inr (inr (inr (inr (inr (inr (inl refl))))))), (inr (inr (inr (inr (inr (inr (inr (inr refl))))))), tt)))))))))
 
 named_so : (word : Text) (s : Shape) → s.aliases ≡ [] → answers_to word (label_of s) ≡ true → s.name ≡ word
 named_so word s none answers =
@@ -317,10 +367,10 @@ stopped_at a (Some p) name rows each other found = go (find (λ s. answers_to p.
         let word_is : s.name ≡ p.0 = named_so p.0 s (found_each (λ t. t.aliases ≡ []) _ a.subs s each is) (found_passes (λ t. answers_to p.0 (label_of t)) a.subs s is) in
         subst (λ (t : Text). bytes_eq t (codes "help") ≡ false) (sym word_is ∙ name_is) other
 
--- the words that clap takes name one of the six subcommands
+-- the words that clap takes name one of the subcommands
 abbrev pub IsNamed : List Text → List Row → Type 0
 IsNamed words rows =
-    Names words (codes "run") rows ⊎ (Names words (codes "dump") rows ⊎ (Names words (codes "check") rows ⊎ (Names words (codes "judge") rows ⊎ (Names words (codes "load") rows ⊎ Names words (codes "tasks") rows))))
+    Names words (codes "run") rows ⊎ (Names words (codes "dump") rows ⊎ (Names words (codes "check") rows ⊎ (Names words (codes "judge") rows ⊎ (Names words (codes "order") rows ⊎ (Names words (codes "opaque") rows ⊎ (Names words (codes "load") rows ⊎ Names words (codes "tasks") rows))))))
 
 pub one_is_named : (words : List Text) → fault_of vacation words ≡ [] → (rows : List Row) × IsNamed words rows
 unfolding shape_at IsOneOf
@@ -329,7 +379,7 @@ one_is_named words fault =
     let rows = finished (built vacation).top.rules (walk (built vacation).top.rules (names_of (built vacation)) nothing_held (argument_words vacation words)).held in
     let p = some_entered (subcommand_of vacation words) (has_subcommand rows _ top.checked) in
     let stopped = walk_on (built vacation).top (names_of (built vacation)) (walk_from nothing_held) (argument_words vacation words) refl top.walked tt in
-    let other = stopped_at (built vacation) _ p.0.0 p.0.1 (refl, (refl, (refl, (refl, (refl, (refl, (refl, tt))))))) stopped p.1 in
+    let other = stopped_at (built vacation) _ p.0.0 p.0.1 (refl, (refl, (refl, (refl, (refl, (refl, (refl, (refl, (refl, tt))))))))) stopped p.1 in
     let found = subcommand_entered IsOneOf vacation words p.0.0 p.0.1 each_one fault p.1 in
     (p.0.1, which found.0 found.1 (λ name is. p.1 ∙ ap (λ (n : Text). Some (n, p.0.1)) (sym found.2 ∙ is)) (subst (λ (n : Text). bytes_eq n (codes "help") ≡ false) (sym found.2) other))
   where
@@ -338,9 +388,11 @@ one_is_named words fault =
     which s (inr (inl is)) at other = inr (inl (at (codes "dump") (ap (λ (t : Shape). t.name) is)))
     which s (inr (inr (inl is))) at other = inr (inr (inl (at (codes "check") (ap (λ (t : Shape). t.name) is))))
     which s (inr (inr (inr (inl is)))) at other = inr (inr (inr (inl (at (codes "judge") (ap (λ (t : Shape). t.name) is)))))
-    which s (inr (inr (inr (inr (inl is))))) at other = inr (inr (inr (inr (inl (at (codes "load") (ap (λ (t : Shape). t.name) is))))))
-    which s (inr (inr (inr (inr (inr (inl is)))))) at other = inr (inr (inr (inr (inr ((at (codes "tasks") (ap (λ (t : Shape). t.name) is)))))))
-    which s (inr (inr (inr (inr (inr (inr is)))))) at other =
+    which s (inr (inr (inr (inr (inl is))))) at other = inr (inr (inr (inr (inl (at (codes "order") (ap (λ (t : Shape). t.name) is))))))
+    which s (inr (inr (inr (inr (inr (inl is)))))) at other = inr (inr (inr (inr (inr (inl (at (codes "opaque") (ap (λ (t : Shape). t.name) is)))))))
+    which s (inr (inr (inr (inr (inr (inr (inl is))))))) at other = inr (inr (inr (inr (inr (inr (inl (at (codes "load") (ap (λ (t : Shape). t.name) is))))))))
+    which s (inr (inr (inr (inr (inr (inr (inr (inl is)))))))) at other = inr (inr (inr (inr (inr (inr (inr ((at (codes "tasks") (ap (λ (t : Shape). t.name) is)))))))))
+    which s (inr (inr (inr (inr (inr (inr (inr (inr is)))))))) at other =
         absurd (let bad : true ≡ false = subst (λ (t : Shape). bytes_eq t.name (codes "help") ≡ false) is other in cc)
 
 -- ---- what the getters of clap read
@@ -384,14 +436,21 @@ is_none None e = refl
 is_none (Some x) e = absurd (let bad : false ≡ true = e in cc)
 
 -- where a look for each of the subcommands found none
-pub none_is_named : {X : Type 0} (words : List Text) (rows : List Row) (found : Option (Text × List Row)) (run dump check judge tasks load : Option X) → found ≡ subcommand_of vacation words
-    → ((r : List Row) → found ≡ Some (codes "run", r) → IsSome run) → ((r : List Row) → found ≡ Some (codes "dump", r) → IsSome dump)
-    → ((r : List Row) → found ≡ Some (codes "check", r) → IsSome check) → ((r : List Row) → found ≡ Some (codes "judge", r) → IsSome judge)
-    → ((r : List Row) → found ≡ Some (codes "tasks", r) → IsSome tasks) → ((r : List Row) → found ≡ Some (codes "load", r) → IsSome load)
-    → run ≡ None → dump ≡ None → false ≡ is_some check → judge ≡ None → tasks ≡ None → load ≡ None → IsNamed words rows → ⊥
-none_is_named words rows found run dump check judge tasks load is r d c j t l no_run no_dump no_check no_judge no_tasks no_load (inl n) = not_some run no_run (r rows (is ∙ n))
-none_is_named words rows found run dump check judge tasks load is r d c j t l no_run no_dump no_check no_judge no_tasks no_load (inr (inl n)) = not_some dump no_dump (d rows (is ∙ n))
-none_is_named words rows found run dump check judge tasks load is r d c j t l no_run no_dump no_check no_judge no_tasks no_load (inr (inr (inl n))) = not_some check (is_none check no_check) (c rows (is ∙ n))
-none_is_named words rows found run dump check judge tasks load is r d c j t l no_run no_dump no_check no_judge no_tasks no_load (inr (inr (inr (inl n)))) = not_some judge no_judge (j rows (is ∙ n))
-none_is_named words rows found run dump check judge tasks load is r d c j t l no_run no_dump no_check no_judge no_tasks no_load (inr (inr (inr (inr (inl n))))) = not_some load no_load (l rows (is ∙ n))
-none_is_named words rows found run dump check judge tasks load is r d c j t l no_run no_dump no_check no_judge no_tasks no_load (inr (inr (inr (inr (inr n))))) = not_some tasks no_tasks (t rows (is ∙ n))
+pub none_is_named : {X : Type 0} (words : List Text) (rows : List Row) (found : Option (Text × List Row)) (run dump check judge order opaque tasks load : Option X) → found ≡ subcommand_of vacation words
+    → ((r : List Row) → found ≡ Some (codes "run", r) → IsSome run)
+    → ((r : List Row) → found ≡ Some (codes "dump", r) → IsSome dump)
+    → ((r : List Row) → found ≡ Some (codes "check", r) → IsSome check)
+    → ((r : List Row) → found ≡ Some (codes "judge", r) → IsSome judge)
+    → ((r : List Row) → found ≡ Some (codes "order", r) → IsSome order)
+    → ((r : List Row) → found ≡ Some (codes "opaque", r) → IsSome opaque)
+    → ((r : List Row) → found ≡ Some (codes "tasks", r) → IsSome tasks)
+    → ((r : List Row) → found ≡ Some (codes "load", r) → IsSome load)
+    → run ≡ None → dump ≡ None → false ≡ is_some check → judge ≡ None → order ≡ None → opaque ≡ None → tasks ≡ None → load ≡ None → IsNamed words rows → ⊥
+none_is_named words rows found run dump check judge order opaque tasks load is find_run find_dump find_check find_judge find_order find_opaque find_tasks find_load no_run no_dump no_check no_judge no_order no_opaque no_tasks no_load (inl n) = not_some run no_run (find_run rows (is ∙ n))
+none_is_named words rows found run dump check judge order opaque tasks load is find_run find_dump find_check find_judge find_order find_opaque find_tasks find_load no_run no_dump no_check no_judge no_order no_opaque no_tasks no_load (inr (inl n)) = not_some dump no_dump (find_dump rows (is ∙ n))
+none_is_named words rows found run dump check judge order opaque tasks load is find_run find_dump find_check find_judge find_order find_opaque find_tasks find_load no_run no_dump no_check no_judge no_order no_opaque no_tasks no_load (inr (inr (inl n))) = not_some check (is_none check no_check) (find_check rows (is ∙ n))
+none_is_named words rows found run dump check judge order opaque tasks load is find_run find_dump find_check find_judge find_order find_opaque find_tasks find_load no_run no_dump no_check no_judge no_order no_opaque no_tasks no_load (inr (inr (inr (inl n)))) = not_some judge no_judge (find_judge rows (is ∙ n))
+none_is_named words rows found run dump check judge order opaque tasks load is find_run find_dump find_check find_judge find_order find_opaque find_tasks find_load no_run no_dump no_check no_judge no_order no_opaque no_tasks no_load (inr (inr (inr (inr (inl n))))) = not_some order no_order (find_order rows (is ∙ n))
+none_is_named words rows found run dump check judge order opaque tasks load is find_run find_dump find_check find_judge find_order find_opaque find_tasks find_load no_run no_dump no_check no_judge no_order no_opaque no_tasks no_load (inr (inr (inr (inr (inr (inl n)))))) = not_some opaque no_opaque (find_opaque rows (is ∙ n))
+none_is_named words rows found run dump check judge order opaque tasks load is find_run find_dump find_check find_judge find_order find_opaque find_tasks find_load no_run no_dump no_check no_judge no_order no_opaque no_tasks no_load (inr (inr (inr (inr (inr (inr (inl n))))))) = not_some load no_load (find_load rows (is ∙ n))
+none_is_named words rows found run dump check judge order opaque tasks load is find_run find_dump find_check find_judge find_order find_opaque find_tasks find_load no_run no_dump no_check no_judge no_order no_opaque no_tasks no_load (inr (inr (inr (inr (inr (inr (inr n))))))) = not_some tasks no_tasks (find_tasks rows (is ∙ n))

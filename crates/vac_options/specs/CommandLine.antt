@@ -21,10 +21,13 @@ use Rattle.vac_draws.specs.declared.settings.TheConstants.{MOST_ROUNDS, PERCENT}
 use Rattle.vac_draws.specs.declared.settings.Settings.{Settings}
 use Rattle.vac_model.specs.declared.limits.TheConstants.{MOST_TRIES}
 use Rattle.stm_words.specs.declared.version.TheConstants.{VERSION_LIMIT}
-use Rattle.vac_options.specs.declared.asked.TheConstants.{MOST_SEED}
+use Rattle.vac_options.specs.declared.asked.TheConstants.{MOST_SEED, MOST_STEPS, MOST_WORDS}
 use Rattle.vac_options.specs.declared.asked.How.{How}
 use Rattle.vac_options.specs.declared.asked.Asked.{Asked}
-use Rattle.vac_options.specs.declared.asked.Asked.TheVariants.{Run, Dump, Check, Judge, Load, Tasks}
+use Rattle.vac_options.specs.declared.asked.Asked.TheVariants.{Run, Dump, Check, Judge, Order}
+use Rattle.vac_options.specs.declared.asked.Asked.TheVariants.{Opaque, Load, Tasks}
+use Rattle.vac_options.specs.declared.asked.Search.{Search}
+use Rattle.vac_options.specs.declared.asked.Judging.{Judging}
 
 -- ---- what the program takes
 
@@ -98,13 +101,28 @@ task_options = items_option ∷ asks_option ∷ user_option ∷ seed_option ∷ 
 abbrev pub file_option : Rule
 file_option = valued_option (codes "tasks")
 
--- the options of a judge
-abbrev pub judging_options : List Rule
-judging_options = blocks_option ∷ file_option ∷ []
-
 -- a flag `--name`
 abbrev pub flag : Text → Rule
 flag name = record (new_rule name) { long = Some name; action = Some SetTrue }
+
+-- `--steps`: how many steps a search makes at most, any number of 64 bits
+abbrev pub steps_option : Rule
+steps_option = record (valued_option (codes "steps")) {
+  parser = Some (parser.Unsigned 0 MOST_STEPS);
+  defaults = codes "10000000" ∷ [];
+}
+
+-- the options of a search for an order
+abbrev pub searching_options : List Rule
+searching_options = steps_option ∷ flag (codes "progress") ∷ []
+
+-- the options of a judge
+abbrev pub judging_options : List Rule
+judging_options = blocks_option ∷ file_option ∷ flag (codes "any-order") ∷ searching_options
+
+-- `--words`: how many words a memory has
+abbrev pub words_option : Rule
+words_option = number_option (codes "words") 1 MOST_WORDS (codes "65536")
 
 -- those that say what a load tells of itself, and whether it writes its history
 abbrev pub telling_options : List Rule
@@ -137,7 +155,9 @@ script_commands = with_options (codes "run") (blocks_option ∷ [])
 -- those that judge what others did
 abbrev pub judging_commands : List Shape
 judging_commands = with_options (codes "check") []
-    ∷ with_options (codes "judge") judging_options ∷ []
+    ∷ with_options (codes "judge") judging_options
+    ∷ with_options (codes "order") (blocks_option ∷ searching_options)
+    ∷ with_options (codes "opaque") (words_option ∷ []) ∷ []
 
 -- those that run loads and write their tasks
 abbrev pub load_commands : List Shape
@@ -208,6 +228,27 @@ IsFlag rows name = Says rows name true ⊎ Says rows name false
 abbrev pub NamesFile : List Row → Text → Option (Bor Text) → Type 0
 NamesFile rows option file = first_of option rows ≡ option_map (λ name. name.now) file
 
+-- a search gets a number of steps, and is to tell how far it is or not
+pub record HasSearch (rows : List Row) : Type 0 where
+  pub steps : GivesIn rows (codes "steps") 0 MOST_STEPS
+  pub progress : IsFlag rows (codes "progress")
+
+-- a search is what its options say
+pub record IsSearch (rows : List Row) (search : Search) : Type 0 where
+  pub steps : Gives rows (codes "steps") search.steps
+  pub progress : Says rows (codes "progress") search.progress
+
+-- what a judge's options say beside its blocks
+pub record HasJudging (rows : List Row) : Type 0 where
+  pub any_order : IsFlag rows (codes "any-order")
+  pub search : HasSearch rows
+
+-- a judge is to do what its options say
+pub record IsJudging (rows : List Row) (how : Judging) : Type 0 where
+  pub tasks : NamesFile rows (codes "tasks") how.tasks
+  pub any_order : Says rows (codes "any-order") how.any_order
+  pub search : IsSearch rows how.search
+
 -- what it says of each flag of a load
 pub record HasFlags (rows : List Row) : Type 0 where
   pub progress : IsFlag rows (codes "progress")
@@ -257,9 +298,12 @@ AsksFor words (Run blocks) = (rows : List Row) × Names words (codes "run") rows
 AsksFor words (Dump blocks) = (rows : List Row) × Names words (codes "dump") rows
     × Gives rows (codes "blocks") blocks × (is_block_count blocks ≡ true)
 AsksFor words Check = (rows : List Row) × Names words (codes "check") rows
-AsksFor words (Judge blocks tasks) = (rows : List Row) × Names words (codes "judge") rows
-    × Gives rows (codes "blocks") blocks × (is_block_count blocks ≡ true)
-    × NamesFile rows (codes "tasks") tasks
+AsksFor words (Judge blocks how) = (rows : List Row) × Names words (codes "judge") rows
+    × Gives rows (codes "blocks") blocks × (is_block_count blocks ≡ true) × IsJudging rows how
+AsksFor words (Order blocks search) = (rows : List Row) × Names words (codes "order") rows
+    × Gives rows (codes "blocks") blocks × (is_block_count blocks ≡ true) × IsSearch rows search
+AsksFor words (Opaque n) = (rows : List Row) × Names words (codes "opaque") rows
+    × Gives rows (codes "words") n × (1 ≤ n) × (n ≤ MOST_WORDS)
 AsksFor words (Load settings how) = (rows : List Row) × Names words (codes "load") rows
     × AreGiven rows settings × IsTold rows how
 AsksFor words (Tasks settings) = (rows : List Row) × Names words (codes "tasks") rows

@@ -1,6 +1,6 @@
 //! What a command line asks for.
 
-ghost use Rattle.std.specs.Prelude.{◌≡◌, ◌<◌, ◌^◌, ℕ, true, Some, List, map};
+ghost use Rattle.std.specs.Prelude.{◌≡◌, ◌<◌, ◌≤◌, ◌^◌, ℕ, true, Some, List, map};
 ghost use Rattle.std.specs.Prelude.{string_bytes, codes, IfOk, IfSome, IsSome};
 ghost use Rattle.clap.specs.Words.{FailsBy, Row, fault_of, found_of, rows_of};
 ghost use Rattle.clap.specs.Words.{subcommand_of, subcommand_rows_of};
@@ -8,6 +8,7 @@ ghost use Rattle.vac_model.specs.declared.limits.TheConstants.{MOST_BLOCKS};
 ghost use Rattle.vac_model.specs.Ranges.{is_block_count};
 ghost use Rattle.vac_options.specs.CommandLine.{vacation, Gives, GivesIn, HasSettings, AreGiven};
 ghost use Rattle.vac_options.specs.CommandLine.{Says, IsFlag, HasFlags, IsTold, NamesFile, AsksFor};
+ghost use Rattle.vac_options.specs.CommandLine.{HasSearch, IsSearch, HasJudging, IsJudging};
 
 use crate::options::command_line;
 use clap::{ArgMatches, Error};
@@ -29,6 +30,32 @@ pub struct How {
     pub history: bool,
 }
 
+/// The most steps of a search.
+pub const MOST_STEPS: u64 = u64::MAX;
+
+/// The most words of a memory of which attempts are judged.
+pub const MOST_WORDS: u32 = 4_194_304;
+
+/// How an order of calls is searched for.
+#[derive(Clone, Copy)]
+pub struct Search {
+    /// The most steps.
+    pub steps: u64,
+    /// Whether to tell how far it is.
+    pub progress: bool,
+}
+
+/// How a history is judged.
+#[derive(Clone, Copy)]
+pub struct Judging<'a> {
+    /// The file of the tasks that it is held against.
+    pub tasks: Option<&'a str>,
+    /// Whether to look for an order, and to judge in that.
+    pub any_order: bool,
+    /// How one is searched for.
+    pub search: Search,
+}
+
 /// What a command line asks for.
 pub enum Asked<'a> {
     /// To run a script for a system of so many blocks.
@@ -37,9 +64,12 @@ pub enum Asked<'a> {
     Dump(u32),
     /// To audit the words of a memory.
     Check,
-    /// To judge a history over a system of so many blocks, and to hold it against the tasks in a file
-    /// where one is named.
-    Judge(u32, Option<&'a str>),
+    /// To judge a history over a system of so many blocks.
+    Judge(u32, Judging<'a>),
+    /// To find an order of a history's calls over a system of so many blocks.
+    Order(u32, Search),
+    /// To judge attempts over so many words.
+    Opaque(u32),
     /// To run a load, and what it is to tell of itself.
     Load(Settings, How),
     /// To write the tasks of a load.
@@ -124,6 +154,50 @@ fn file_of<'a>(matches: &ArgMatches<'a>) -> Option<&'a str>
     matches.get_str("tasks")
 }
 
+/// The number of steps that a search gives, or the default.
+fn steps_of(matches: &ArgMatches) -> u64
+    requires { GivesIn (rows_of (found_of matches.now)) (codes "steps") 0 MOST_STEPS }
+    ensures { Gives (rows_of (found_of matches.now)) (codes "steps") result }
+{
+    match matches.get_one::<u64>("steps") {
+        Some(steps) => steps,
+        None => unreachable!(),
+    }
+}
+
+/// How an order is searched for.
+fn search_of(matches: &ArgMatches) -> Search
+    requires { HasSearch (rows_of (found_of matches.now)) }
+    ensures { IsSearch (rows_of (found_of matches.now)) result }
+{
+    Search {
+        steps: steps_of(matches),
+        progress: flag_of(matches, "progress"),
+    }
+}
+
+/// How a history is judged.
+fn judging_of<'a>(matches: &ArgMatches<'a>) -> Judging<'a>
+    requires { HasJudging (rows_of (found_of matches.now)) }
+    ensures { IsJudging (rows_of (found_of matches.now)) result }
+{
+    Judging {
+        tasks: file_of(matches),
+        any_order: flag_of(matches, "any-order"),
+        search: search_of(matches),
+    }
+}
+
+/// The number of words that a judge of attempts gives, or the default.
+fn words_of(matches: &ArgMatches) -> u32
+    requires { GivesIn (rows_of (found_of matches.now)) (codes "words") 1 MOST_WORDS }
+    ensures given { Gives (rows_of (found_of matches.now)) (codes "words") result }
+    ensures least { 1 ≤ result }
+    ensures most { result ≤ MOST_WORDS }
+{
+    number_of(matches, "words")
+}
+
 /// The settings of a load that its options give, or the defaults.
 fn settings_of(matches: &ArgMatches) -> Settings
     requires { HasSettings (rows_of (found_of matches.now)) }
@@ -161,7 +235,13 @@ pub fn read_asked<'a>(alloc: Global, words: &'a [String]) -> Result<Asked<'a>, E
         return Ok(Asked::Check);
     }
     if let Some(judge) = named(&matches, "judge") {
-        return Ok(Asked::Judge(blocks_of(judge), file_of(judge)));
+        return Ok(Asked::Judge(blocks_of(judge), judging_of(judge)));
+    }
+    if let Some(order) = named(&matches, "order") {
+        return Ok(Asked::Order(blocks_of(order), search_of(order)));
+    }
+    if let Some(opaque) = named(&matches, "opaque") {
+        return Ok(Asked::Opaque(words_of(opaque)));
     }
     if let Some(tasks) = named(&matches, "tasks") {
         return Ok(Asked::Tasks(settings_of(tasks)));

@@ -7,11 +7,13 @@ ghost use Rattle.vac_options.specs.CommandLine.{blocks_option, clients_option, t
 ghost use Rattle.vac_options.specs.CommandLine.{rounds_option, tries_option, flag, telling_options};
 ghost use Rattle.vac_options.specs.CommandLine.{items_option, asks_option, user_option, seed_option};
 ghost use Rattle.vac_options.specs.CommandLine.{short_option, file_option, judging_options};
+ghost use Rattle.vac_options.specs.CommandLine.{searching_options, steps_option, words_option};
 ghost use Rattle.vac_options.specs.CommandLine.{client_options, task_options, load_options};
 ghost use Rattle.vac_options.specs.CommandLine.{with_options, top_command, script_commands};
 ghost use Rattle.vac_options.specs.CommandLine.{judging_commands, load_commands, vacation};
 ghost use Rattle.vac_options.specs.CommandLine.{IsOption, IsCommand, AddsOptions, AddsCommands};
 
+use crate::asked::MOST_WORDS;
 use clap::builder::ValueParser;
 use clap::{Arg, ArgAction, Command, value_parser};
 use std::alloc::{AllocError, Global};
@@ -302,6 +304,77 @@ fn script_command<'a>(
     plain_command(alloc, name, about, example).arg(blocks_option(alloc))
 }
 
+/// The option that says how many steps a search makes.
+fn steps_option<'a>(alloc: Global) -> Arg<'a>
+    ensures { IsOption result steps_option }
+{
+    valued_option(
+        alloc,
+        "steps",
+        "How many steps the search for an order makes at most",
+    )
+    .value_parser(value_parser!(u64))
+    .default_value("10000000")
+}
+
+/// The option that says how many words a memory has.
+fn words_option<'a>(alloc: Global) -> Arg<'a>
+    ensures { IsOption result words_option }
+{
+    number_option(
+        alloc,
+        "words",
+        1,
+        MOST_WORDS,
+        "65536",
+        "How many words the memory has, all 0 at the beginning",
+    )
+}
+
+/// Adds the options of a search for an order, unless memory was refused before.
+fn add_searching_options<'a>(
+    alloc: Global,
+    command: Result<Command<'a>, AllocError>,
+) -> Result<Command<'a>, AllocError>
+    ensures { IfOk result (λ after. IsOkAnd command.entry
+        (λ before. AddsOptions before searching_options after)) }
+{
+    let progress = flag(
+        alloc,
+        "progress",
+        true,
+        "Tells on standard error how far the search is, at most twice a second",
+    );
+    add_option(add_option(command, steps_option(alloc)), progress)
+}
+
+/// The subcommand that finds an order.
+fn order_command<'a>(alloc: Global) -> Result<Command<'a>, AllocError>
+    ensures { IfOk result (λ c.
+        IsCommand c (with_options (codes "order") (blocks_option ∷ searching_options))) }
+{
+    let command = script_command(
+        alloc,
+        "order",
+        "Finds an order in which the calls of the history on standard input are right",
+        "Example:\n  echo '1 0 5 newcust 3 -> true' | vacation order",
+    );
+    add_searching_options(alloc, command)
+}
+
+/// The subcommand that judges attempts.
+fn opaque_command<'a>(alloc: Global) -> Result<Command<'a>, AllocError>
+    ensures { IfOk result (λ c. IsCommand c (with_options (codes "opaque") (words_option ∷ []))) }
+{
+    let command = plain_command(
+        alloc,
+        "opaque",
+        "Judges the attempts on standard input: whether each reads what those before it left",
+        "Example:\n  echo '1 0 5 commit r 7 0 w 7 1' | vacation opaque",
+    );
+    command.arg(words_option(alloc))
+}
+
 /// The subcommand that judges a history.
 fn judge_command<'a>(alloc: Global) -> Result<Command<'a>, AllocError>
     ensures { IfOk result (λ c. IsCommand c (with_options (codes "judge") judging_options)) }
@@ -312,7 +385,14 @@ fn judge_command<'a>(alloc: Global) -> Result<Command<'a>, AllocError>
         "Judges the history on standard input: whether its calls, in their order, are right",
         "Example:\n  echo '1 0 5 newcust 3 -> true' | vacation judge",
     );
-    add_option(command, file_option(alloc))
+    let any_order = flag(
+        alloc,
+        "any-order",
+        true,
+        "Takes the calls in whatever order they are right, if there is one",
+    );
+    let command = add_option(add_option(command, file_option(alloc)), any_order);
+    add_searching_options(alloc, command)
 }
 
 /// A subcommand with the options of a load, which it runs or does not.
@@ -404,7 +484,11 @@ fn add_judging_commands<'a>(
         "Audits the words of a memory on standard input, as dump writes them",
         "Example:\n  echo 'add car 7 100 50' | vacation dump | vacation check",
     );
-    add_command(add_command(top, Ok(check)), judge_command(alloc))
+    let top = add_command(add_command(top, Ok(check)), judge_command(alloc));
+    add_command(
+        add_command(top, order_command(alloc)),
+        opaque_command(alloc),
+    )
 }
 
 /// The program without its subcommands.

@@ -1,0 +1,140 @@
+//! Looking for an order of a history's calls, and telling how far the search is.
+
+ghost use Rattle.std.specs.Prelude.{◌≡◌, ◌≢◌, ◌⊎◌, true};
+ghost use Rattle.std.specs.Io.KnownBytes.{Appends};
+ghost use Rattle.vac_model.specs.Ranges.{is_block_count};
+ghost use Rattle.vac_lines.specs.Writing.{AppendsPrefix};
+ghost use Rattle.vac_cli.specs.Ordering.{Orders, JudgesAnyOrder, status_of};
+
+use crate::judging::judge_alone;
+use crate::status::{DONE, FAULT, UNDECIDED, end_by};
+use crate::telling::has_passed;
+use std::io::{Read, Write};
+use std::time::{Clock, Instant};
+use vac_lines::write_and_flush;
+use vac_options::Search;
+use vac_order::{Outcome, Watcher, order_history};
+use vac_streams::StreamFault;
+
+/// After how many steps the clock is looked at.
+const STRIDE: u64 = 4_096;
+
+/// Tells how far a search is, at most twice a second, where that is asked for.
+#[derive(Drop)]
+struct Teller<'a, 'b, T, E> {
+    rt: &'a T,
+    errors: &'b mut E,
+    is_told: bool,
+    last: Option<Instant>,
+}
+
+impl<'a, 'b, T: Clock, E: Write> Teller<'a, 'b, T, E> {
+    /// A teller of a search that begins.
+    fn new(rt: &'a T, is_told: bool, errors: &'b mut E) -> Teller<'a, 'b, T, E> {
+        Teller {
+            rt,
+            errors,
+            is_told,
+            last: Instant::now(rt).ok(),
+        }
+    }
+}
+
+impl<T: Clock + AllocGlobal, E: Write> Watcher for Teller<'_, '_, T, E> {
+    fn tell(&mut self, placed: u64, steps: u64) {
+        if !self.is_told || steps % STRIDE != 0 || !has_passed(self.rt, self.last) {
+            return;
+        }
+        let alloc = self.rt.alloc();
+        if let Ok(line) = format!(in alloc; "placed {placed} steps {steps}\n") {
+            let _ = write_and_flush(self.errors, line.as_bytes());
+        }
+        self.last = Instant::now(self.rt).ok();
+    }
+}
+
+/// The status of what was found.
+fn status_of(outcome: Outcome) -> u8
+    ensures { result ≡ status_of outcome }
+{
+    match outcome {
+        Outcome::Ordered => DONE,
+        Outcome::Illegal => FAULT,
+        Outcome::Undecided => UNDECIDED,
+    }
+}
+
+/// Writes the calls of a history in an order in which they are right, or that there is none, and
+/// answers the status.
+pub(crate) fn order<T: Clock + AllocGlobal, R: Read, W: Write, E: Write>(
+    rt: &T,
+    blocks: u32,
+    search: Search,
+    input: &mut R,
+    output: &mut W,
+    errors: &mut E,
+) -> u8
+    requires { is_block_count blocks ≡ true }
+    ensures { Orders blocks search.steps result (R.remaining input.old) (R.remaining input.new)
+        (W.contents output.old) (W.contents output.new) }
+{
+    let mut teller = Teller::new(rt, search.progress, errors);
+    match order_history(rt.alloc(), blocks, search.steps, input, output, &mut teller) {
+        Ok(outcome) => status_of(outcome),
+        Err(fault) => end_by(fault, output),
+    }
+}
+
+/// Writes what was found in the place of an order, and answers the status.
+fn write_found<W: Write>(outcome: Outcome, text: &[u8], output: &mut W) -> u8
+    ensures { (Appends (W.contents output.old) (W.contents output.new) text.now
+        × (result ≡ status_of outcome))
+        ⊎ (AppendsPrefix (W.contents output.old) (W.contents output.new) text.now
+        × (result ≡ 1)) }
+{
+    match write_and_flush(output, text) {
+        Ok(()) => status_of(outcome),
+        Err(_) => FAULT,
+    }
+}
+
+/// The fault of a search that writes into memory: such an output fails for want of memory alone.
+fn without_output(fault: StreamFault) -> StreamFault
+    ensures { result ≢ StreamFault.Write }
+{
+    match fault {
+        StreamFault::Write => StreamFault::Memory,
+        StreamFault::Read => StreamFault::Read,
+        StreamFault::Memory => StreamFault::Memory,
+        StreamFault::Bound => StreamFault::Bound,
+    }
+}
+
+/// Judges a history in an order that is found, or says that there is none, and answers the status.
+#[tactic(auto, using(crate::proofs::Judgement::illegal_written, crate::proofs::Judgement::undecided_written, crate::proofs::Judgement::unordered))]
+pub(crate) fn judge_any_order<T: Clock + AllocGlobal, R: Read, W: Write, E: Write>(
+    rt: &T,
+    blocks: u32,
+    search: Search,
+    input: &mut R,
+    output: &mut W,
+    errors: &mut E,
+) -> u8
+    requires { is_block_count blocks ≡ true }
+    ensures { JudgesAnyOrder blocks search.steps result
+        (R.remaining input.old) (R.remaining input.new)
+        (W.contents output.old) (W.contents output.new) }
+{
+    let alloc = rt.alloc();
+    let mut text = Vec::new(alloc);
+    let mut teller = Teller::new(rt, search.progress, errors);
+    match order_history(alloc, blocks, search.steps, input, &mut text, &mut teller) {
+        Ok(Outcome::Ordered) => {
+            let mut order = text.as_slice();
+            judge_alone(alloc, blocks, &mut order, output)
+        }
+        Ok(Outcome::Illegal) => write_found(Outcome::Illegal, text.as_slice(), output),
+        Ok(Outcome::Undecided) => write_found(Outcome::Undecided, text.as_slice(), output),
+        Err(fault) => end_by(without_output(fault), output),
+    }
+}
