@@ -17,7 +17,7 @@ pub(crate) fn words_of(alloc: Global, words: &[&str]) -> Result<Vec<String>, All
 }
 
 /// What `--version` writes.
-const VERSION: &[u8] = b"vacation 0.1.0\nrattle-kit-13b logic dac8208d650f15bf\n";
+const VERSION: &[u8] = b"vacation 0.1.0\nrattle-kit-13f logic dac8208d650f15bf\n";
 
 #[test]
 fn command_lines(rt: HostRuntime) -> Result<(), Fail> {

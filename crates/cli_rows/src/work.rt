@@ -82,7 +82,7 @@ fn histories_against_work(rt: HostRuntime) -> Result<(), Fail> {
     Ok(())
 }
 
-/// The file is opened before the history is read. A file that cannot be opened has a fault of its own.
+/// The file is opened before the history is read. One that cannot be opened has its own fault.
 #[test]
 fn files_that_fail(rt: HostRuntime) -> Result<(), Fail> {
     let rows: [(&str, usize, ErrorKind, &[u8], usize); 4] = [

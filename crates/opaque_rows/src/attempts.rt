@@ -33,7 +33,8 @@ fn opaque_attempts(rt: HostRuntime) -> Result<(), Fail> {
             "opaque attempts=1 committed=0 clients=1\n",
         ),
         (
-            "0 0 1 commit w 0 18446744073709551615 w 7 1\n1 2 3 commit r 0 18446744073709551615 r 7 1",
+            "0 0 1 commit w 0 18446744073709551615 w 7 1\n\
+             1 2 3 commit r 0 18446744073709551615 r 7 1",
             "opaque attempts=2 committed=2 clients=2\n",
         ),
         (

@@ -56,7 +56,8 @@ const WRITE_SKEW: &str = "0 0 1 add car 1 1 5 -> true\n0 1 2 add flight 1 1 8 ->
 /// A state that never was: the audit saw the car of the update, and not its flight.
 const HALF_AN_UPDATE: &str = "0 0 1 add car 1 2 5 -> true\n\
     1 2 9 update add car 1 1 6 ; add flight 1 1 6 -> update true true\n\
-    2 3 4 audit -> cars=1 flights=0 rooms=0 customers=0 bookings=0 used=0 free=3 total=3 billed=0\n";
+    2 3 4 audit -> cars=1 flights=0 rooms=0 customers=0 bookings=0 used=0 free=3 total=3 \
+    billed=0\n";
 
 #[test]
 fn histories_that_have_no_order(rt: HostRuntime) -> Result<(), Fail> {

@@ -16,8 +16,8 @@ abbrev pub RefusesBoth : ℕ → Option (List ℕ) → Option (List ℕ) → Opt
 RefusesBoth status unread left held holds =
     (status ≡ 2) × (left ≡ unread) × (holds ≡ held)
 
--- a history is judged in any order or in its own; where a file is named, it is held against the work
--- in that, of which the bytes are known that this file has
+-- a history is judged in any order or in its own; where a file is named, it is held against the
+-- work in that, of which the bytes are known that this file has
 abbrev pub JudgesAs : (List ℕ → Option (List ℕ)) → Bool → Option (Bor (List ℕ)) → ℕ → ℕ → ℕ
     → Option (List ℕ) → Option (List ℕ) → Option (List ℕ) → Option (List ℕ) → Type 0
 JudgesAs files false None blocks steps status unread left held holds =
@@ -29,8 +29,8 @@ JudgesAs files true None blocks steps status unread left held holds =
 JudgesAs files true (Some name) blocks steps status unread left held holds =
     RefusesBoth status unread left held holds
 
--- a fault ended a judgement of attempts: one of the output, and a prefix of the verdict was written;
--- or another, and nothing was written but a prefix of the line that names it
+-- a fault ended a judgement of attempts: one of the output, and a prefix of the verdict was
+-- written; or another, and nothing was written but a prefix of the line that names it
 -- Not said: which fault stands for which cause.
 abbrev pub AttemptsStopped : ℕ → Option (List ℕ) → Option (List ℕ) → Option (List ℕ)
     → Option (List ℕ) → Type 0

@@ -87,7 +87,7 @@ Does files (Tasks settings) status unread left held holds =
 -- Not said: that the toolchain of the second line is the one that built the program.
 abbrev pub version_text : List ℕ
 version_text = as_line (codes "vacation 0.1.0")
-    ++ as_line (codes "rattle-kit-13b logic dac8208d650f15bf")
+    ++ as_line (codes "rattle-kit-13f logic dac8208d650f15bf")
 
 -- what it shows of an error of this kind: the fault where memory was refused, help and the version
 -- on the output, and nothing on the output where the words are refused

@@ -28,7 +28,7 @@ use vac_worklist::{TasksFault, write_tasks};
 
 /// Runs the program on a command line, of which the first word is the program's name, and answers
 /// its status: 0 where it did its work or showed its help or its version, 1 after a fault, where
-/// `check` found no balanced state, `judge` no legal history, `order` no order and `opaque` attempts
+/// `check` found no balanced state, `judge` no legal history, `order` no order or `opaque` attempts
 /// that are not, 2 where the command line was refused, 3 where `order` did not decide.
 ///
 /// Help and the version go to `output`, the text of a refused command line to `errors`. A fault is

@@ -123,8 +123,8 @@ fn each(count: u128, whole: u128) -> u128 {
 }
 
 /// The line that tells the numbers of a load: the seconds of its clients, how many tasks they had
-/// answered in a second, how many attempts they made, how many of these ended by which conflict, over
-/// the lock of which word, and how many there were for each task that was answered.
+/// answered in a second, how many attempts they made, how many of these ended by which conflict,
+/// over the lock of which word, and how many there were for each task that was answered.
 fn stats_line(
     alloc: Global,
     nanos: u64,

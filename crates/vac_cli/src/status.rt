@@ -95,7 +95,7 @@ pub(crate) fn end_load_by<W: Write>(fault: LoadFault, output: &mut W) -> u8
     status
 }
 
-/// How many blocks a load needs for each item: one for an item of each kind, and one for a customer.
+/// How many blocks a load needs for each item: one for an item of each kind, one for a customer.
 const BLOCKS_OF_ITEM: u64 = 4;
 
 /// Says on `errors` which numbers of a load do not fit each other: the one thing that is left to be

@@ -73,8 +73,8 @@ impl<W: Watch> Keep for Journal<W> {
 
     ghost ready = { λ journal. vec_len journal.notes < vec_capacity journal.notes };
 
-    /// Reads the watch once. Where room is refused it is not read, and the journal is not whole from
-    /// then on.
+    /// Reads the watch once. Where room is refused it is not read, and the journal is not whole
+    /// from then on.
     ///
     /// Not said: that the call begins right after it.
     fn begin(&mut self) -> Result<(), AllocError>
@@ -95,8 +95,8 @@ impl<W: Watch> Keep for Journal<W> {
         Ok(())
     }
 
-    /// Not said: that `begin` was called since the last call was kept, and that the call ended right
-    /// before it; that a call without room is not made. Its caller sees to that.
+    /// Not said: that `begin` was called since the last call was kept, and that the call ended
+    /// right before it; that a call without room is not made. Its caller sees to that.
     fn keep(&mut self, task: Task, placed: Placed)
         requires { vec_len self.old.notes < vec_capacity self.old.notes }
         ensures kept { HasKept task placed

@@ -22,7 +22,7 @@ use vac_model::limits::{MOST_BLOCKS, MOST_PARTS, MOST_TRIES};
 
 /// What `--version` writes: the program and its version, and the toolchain that proved and built
 /// it, as `rt version` names it.
-pub const VERSION: &str = "vacation 0.1.0\nrattle-kit-13b logic dac8208d650f15bf\n";
+pub const VERSION: &str = "vacation 0.1.0\nrattle-kit-13f logic dac8208d650f15bf\n";
 
 /// How many blocks a system has where the command line does not say.
 const DEFAULT_BLOCKS: &str = "1024";

@@ -3,7 +3,7 @@ use Rattle.std.proofs.Common.{◌≡◌, ◌≢◌, ℕ, ◌+◌, ◌<◌, ◌�
 use Rattle.std.specs.List.{Contains, list_any}
 use Rattle.std.proofs.lemmas.Bool.Decides.{nat_tests}
 use Rattle.vac_judge.specs.Call.{Call}
-use Rattle.vac_judge.proofs.Order.{both_false}
+use Rattle.vac_spans.proofs.Tests.{both_false}
 use Rattle.vac_order.specs.Orders.{of_client}
 use Rattle.vac_order.specs.Configurations.{IsFirst, MayBegin, without_next}
 use Rattle.vac_order.specs.Walk.{AreChoices}

@@ -1,4 +1,4 @@
--- What is found is right, in the words of the field (Herlihy and Wing, TOPLAS 1990): some order of the
+-- What is found is right, in the field's words (Herlihy and Wing, TOPLAS 1990): some order of the
 -- calls of a history, each client's as they came, is a linearization, or none is.
 use Rattle.std.specs.Prelude.{◌≡◌, ◌↔◌, ℕ, Some, List}
 use Rattle.vac_model.specs.declared.replies.Reply.{Reply}

@@ -50,7 +50,7 @@ pub record HasOrderedInPart (n steps : ℕ) (unread left held holds : Option (Li
   pub written : AppendsPrefix held holds text
 
 -- a fault ended it: one of the output while the text was written, any other before
--- Not said: which of Read, Memory and Bound ends it; that the output failed where Write is answered.
+-- Not said: which of Read, Memory and Bound ends it; that the output failed where Write is given.
 abbrev pub HasStopped : ℕ → ℕ → StreamFault → Option (List ℕ) → Option (List ℕ)
     → Option (List ℕ) → Option (List ℕ) → Type 0
 HasStopped n steps fault.Write unread left held holds =
