@@ -100,7 +100,7 @@ def function_at(text, old):
 
 def read_list(path):
     """The plants of one file, and what in it can't be read."""
-    plants, faults, file, side = [], [], "", None
+    plants, faults, file = [], [], ""
     for number, line in enumerate(path.read_text().splitlines(), 1):
         word, _, text = line.partition(": ") if ": " in line else (line.rstrip(":"), "", "")
         if not line or line.startswith("#"):
@@ -115,6 +115,8 @@ def read_list(path):
             file = text
         elif word == "old":
             plants[-1].edits.append([file, text, ""])
+        elif not plants[-1].edits:
+            faults.append(f"{path.name}:{number}: no 'old:' line stands above this line")
         elif word == "new":
             plants[-1].edits[-1][2] = text
         elif word in ("old+", "new+"):
