@@ -1,5 +1,5 @@
 -- How a judgement ends by a fault.
-use Rattle.std.proofs.Common.{◌≡◌, ◌≢◌, ◌⊎◌, ◌++◌, ◌∙◌, ap, sym, subst, inl, inr, ℕ, List, [], append-nil, Option, Some, None}
+use Rattle.std.proofs.Common.{◌≡◌, ◌≢◌, ◌⊎◌, ◌++◌, ◌∙◌, ap, sym, subst, inl, inr, ℕ, Bool, true, false, List, [], append-nil, Option, Some, None}
 use Rattle.std.specs.Io.KnownBytes.{Appends}
 use Rattle.std.proofs.Math.Seq.{take-nil}
 use Rattle.vac_lines.specs.Writing.{AppendsPrefix}
@@ -85,22 +85,21 @@ attempts_stopped words stream.Write unread left held middle holds part line =
 attempts_stopped words stream.Memory unread left held middle holds none line = inr (named_stream stream.Memory (λ e. absurd cc) held middle holds none line)
 attempts_stopped words stream.Bound unread left held middle holds none line = inr (named_stream stream.Bound (λ e. absurd cc) held middle holds none line)
 
+-- whether an order was found
+abbrev pub is_order : Outcome → Bool
+is_order outcome.Ordered = true
+is_order outcome.Illegal = false
+is_order outcome.Undecided = false
+
 -- what was found was kept, and then written
-pub found_written : (blocks steps : ℕ) (found : Outcome) (status : ℕ) (unread left held holds : Option (List ℕ)) (text : List ℕ) → (found ≡ outcome.Ordered → ⊥)
+pub kept : (blocks steps : ℕ) (found : Outcome) (status : ℕ) (unread left held holds : Option (List ℕ)) (text : List ℕ) → is_order found ≡ false
     → HasOrdered blocks steps found unread left (Some []) (Some text)
     → (Appends held holds text × (status ≡ status_of found)) ⊎ (AppendsPrefix held holds text × (status ≡ 1)) → JudgesAnyOrder blocks steps status unread left held holds
-found_written blocks steps found status unread left held holds text other has (inl whole) =
+kept blocks steps found status unread left held holds text none has (inl whole) =
+    let other : found ≢ outcome.Ordered = λ e. (let bad : true ≡ false = subst (λ (f : Outcome). is_order f ≡ false) e none in cc) in
     inr (inl (found, other, whole.1, record { text = text; is = subst (HasText blocks steps unread left found) (sym has.written) has.is; written = whole.0 }))
-found_written blocks steps found status unread left held holds text other has (inr part) =
+kept blocks steps found status unread left held holds text none has (inr part) =
     inr (inr (part.1, inl (record { result = found; text = text; is = subst (HasText blocks steps unread left found) (sym has.written) has.is; written = part.0 })))
-
-pub illegal_written : (blocks steps status : ℕ) (unread left held holds : Option (List ℕ)) (text : List ℕ) → HasOrdered blocks steps outcome.Illegal unread left (Some []) (Some text)
-    → (Appends held holds text × (status ≡ status_of outcome.Illegal)) ⊎ (AppendsPrefix held holds text × (status ≡ 1)) → JudgesAnyOrder blocks steps status unread left held holds
-illegal_written blocks steps status unread left held holds text has done = found_written blocks steps outcome.Illegal status unread left held holds text (λ e. absurd cc) has done
-
-pub undecided_written : (blocks steps status : ℕ) (unread left held holds : Option (List ℕ)) (text : List ℕ) → HasOrdered blocks steps outcome.Undecided unread left (Some []) (Some text)
-    → (Appends held holds text × (status ≡ status_of outcome.Undecided)) ⊎ (AppendsPrefix held holds text × (status ≡ 1)) → JudgesAnyOrder blocks steps status unread left held holds
-undecided_written blocks steps status unread left held holds text has done = found_written blocks steps outcome.Undecided status unread left held holds text (λ e. absurd cc) has done
 
 -- a fault came before anything was found
 pub unordered : (blocks steps status : ℕ) (unread left held holds : Option (List ℕ)) (fault : StreamFault) → status ≡ 1 → (fault ≢ stream.Write) → AppendsPrefix held holds (fault_line fault)

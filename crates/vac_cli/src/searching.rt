@@ -111,7 +111,7 @@ fn without_output(fault: StreamFault) -> StreamFault
 }
 
 /// Judges a history in an order that is found, or says that there is none, and answers the status.
-#[tactic(auto, using(crate::proofs::Judgement::illegal_written, crate::proofs::Judgement::undecided_written, crate::proofs::Judgement::unordered))]
+#[tactic(auto, using(crate::proofs::Judgement::kept, crate::proofs::Judgement::unordered))]
 pub(crate) fn judge_any_order<T: Clock + AllocGlobal, R: Read, W: Write, E: Write>(
     rt: &T,
     blocks: u32,

@@ -1,6 +1,5 @@
-use Rattle.std.proofs.Common.{leb-true, inl, inr}
+use Rattle.std.proofs.Common.{leb-true}
 use Rattle.std.proofs.lemmas.Bool.{and_parts}
-use Rattle.vac_cli.proofs.Judgement.{found_judged, found_written}
 use Rattle.vac_cli.proofs.searching.judge_any_order.Goals as goal
 
 pub order_history-requires-clause-some : goal.order_history-requires-clause-some
