@@ -8,9 +8,9 @@ use Rattle.std.specs.Ordering.{nat_cmp, eq_by_cmp, is_eq}
 use Rattle.std.specs.declared.cmp.Ordering.{Ordering}
 use Rattle.std.specs.Cmp.{IsTotalOrder, nat_cmp_total, tied_itself}
 use Rattle.std.specs.FinMap.{IsAntisymmetric, nat_cmp-IsAntisymmetric, from_sorted, entries-from_sorted, get-from_sorted, entries, get, len, len-entries, values, find, is_sorted}
-use Rattle.stm_words.specs.Seen.{same_or}
-use Rattle.stm_words.specs.Plain.{flat_view}
-use Rattle.stm_words.specs.PlainSeen.{get_at}
+use Rattle.tx_memory.specs.Seen.{same_or}
+use Rattle.tx_memory.specs.Plain.{flat_view}
+use Rattle.tx_memory.specs.PlainSeen.{get_at}
 use Rattle.vac_model.specs.Amounts.{is_id}
 use Rattle.vac_model.specs.declared.items.Kind.{Kind}
 use Rattle.vac_model.specs.declared.items.Kind.TheVariants.{Car, Flight, Room}

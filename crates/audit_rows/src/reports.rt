@@ -4,8 +4,8 @@ ghost use Rattle.audit_rows.specs.Stock.{stock_words};
 
 use std::alloc::{AllocError, Global};
 use std::test::Fail;
-use stm_words::Flat;
 use tx_alloc::fresh_words;
+use tx_memory::Flat;
 use vac_audit::{Report, report};
 
 #[test]

@@ -2,8 +2,8 @@
 use Rattle.std.proofs.Common.{◌≡◌, ℕ, ◌+◌, ◌-◌, ◌<◌, ◌≤◌, List, Result, Ok, Err, IfOk, length, slice_index, slice_set, take, sum, refl, sym, ap, ◌∙◌, arith, length-set}
 use Rattle.std.proofs.lemmas.List.{take_all}
 use Rattle.std.proofs.lemmas.List.Sums.{get_or-le-sum_by, sum_by_more, sum_by-take-le}
-use Rattle.stm_words.specs.View.{View, Sees, RestsOn, Kept, Loaded, Stored, mem}
-use Rattle.stm_words.specs.Seen.{some_le}
+use Rattle.tx_memory.specs.View.{View, Sees, RestsOn, Kept, Loaded, Stored, mem}
+use Rattle.tx_memory.specs.Seen.{some_le}
 use Rattle.stm_core.specs.Client.{Client}
 use Rattle.stm_core.specs.History.{all_records}
 use Rattle.stm_region.specs.Shown.{RegionShown}

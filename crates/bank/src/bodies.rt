@@ -6,7 +6,7 @@ ghost use Rattle.bank.specs.declared.law.TheConstants.{ACCOUNTS};
 use crate::entry::Entry;
 use crate::law::{ACCOUNTS, BankObject};
 use stm_object::{Body, Query};
-use stm_words::{Addr, TxMem, TxRead, load, store};
+use tx_memory::{Addr, TxMem, TxRead, load, store};
 
 /// Moves an amount from one account to another where there is enough, and answers whether it did.
 #[derive(Drop)]

@@ -2,7 +2,7 @@
 use Rattle.std.proofs.Common.{◌≡◌, ◌∙◌, ℕ, zero, suc, ◌+◌, ◌-◌, ◌<◌, inl, inr, min, Bool, true, false, cond, List, [], ◌∷◌, ◌++◌, Some, length, length-append, append-nil, refl, sym, ap, subst, arith}
 use Rattle.std.specs.List.{AllZip}
 use Rattle.std.proofs.lemmas.List.Elements.{All-nil, All-push, All-pop, AllZip-push}
-use Rattle.stm_words.specs.Image.{In}
+use Rattle.tx_memory.specs.Image.{In}
 use Rattle.stm_core.specs.Client.{Record, before, rank, inserted, merged}
 use Rattle.stm_core.specs.History.{Sub, done}
 use Rattle.stm_core.proofs.Merging.{sub_trans, sub_left, in_sub}

@@ -1,7 +1,7 @@
 -- What a round of all desks does.
 use Rattle.std.specs.Prelude.{◌≡◌, ℕ, ◌+◌, ◌*◌, ◌<◌, ◌≤◌, List, [], ◌∷◌, ◌++◌, length, All}
 use Rattle.std.specs.List.{AllZip}
-use Rattle.stm_words.specs.Image.{In}
+use Rattle.tx_memory.specs.Image.{In}
 use Rattle.stm_core.specs.Client.{Record}
 use Rattle.stm_core.specs.History.{Sub}
 use Rattle.stm_core.specs.declared.limits.TheConstants.{MOST_GRANTS}

@@ -2,9 +2,8 @@
 ghost use Rattle.std.specs.Prelude.{◌≡◌, ℕ, ◌<◌, IfOk};
 
 use std::test::Fail;
-use stm_words::{
-    Addr, Flat, FreeLaw, LockWord, TxMem, TxRead, Version, law_keeps_fitting, load, store,
-};
+use stm_words::{FreeLaw, LockWord, Version, law_keeps_fitting};
+use tx_memory::{Addr, Flat, TxMem, TxRead, load, store};
 
 #[test]
 fn versions_end_below_two_to_the_62(rt: HostRuntime) {

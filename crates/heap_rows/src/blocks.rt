@@ -4,10 +4,10 @@ ghost use Rattle.tx_alloc.specs.Pool.{HasPool};
 
 use std::alloc::{AllocError, Global};
 use std::test::Fail;
-use stm_words::{Addr, Flat, TxMem};
 use tx_alloc::{
     Block, FreeList, fresh_words, give, rows_are_a_map, spread_words, take, take_refilling,
 };
+use tx_memory::{Addr, Flat, TxMem};
 
 /// The words that are not 0, with their places.
 fn filled(alloc: Global, words: &[u64]) -> Result<Vec<(usize, u64)>, AllocError> {

@@ -7,10 +7,10 @@ use rand_pcg::Pcg32;
 use std::alloc::{AllocError, Global};
 use std::collections::BTreeMap;
 use std::test::Fail;
-use stm_words::{Flat, TxRead};
 use stock_rows::{HEAD, IDS, block_of, look, stock_words, turn};
 use tx_alloc::Block;
 use tx_list::{Key, first, next};
+use tx_memory::{Flat, TxRead};
 
 /// Whether a walk along the list comes by these blocks and no others.
 fn has_blocks<M: TxRead>(memory: &mut M, blocks: &[Block]) -> Result<bool, M::Stop>

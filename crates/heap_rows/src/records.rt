@@ -3,8 +3,8 @@ ghost use Rattle.std.specs.Prelude.{◌≡◌, IfOk};
 ghost use Rattle.vac_records.specs.Items.{IsNode};
 
 use std::test::Fail;
-use stm_words::{Addr, Flat, TxMem};
 use tx_alloc::Block;
+use tx_memory::{Addr, Flat, TxMem};
 use vac_model::Booking;
 use vac_records::{
     Item, add_total, booking_at, free_at, init_customer, init_item, item_at, place, price_at,

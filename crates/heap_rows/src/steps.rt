@@ -1,15 +1,15 @@
 //! Steps on a table in plain memory beside an ordered map.
 ghost use Rattle.std.specs.Prelude.{◌≡◌, length, IfOk, IfSome};
-ghost use Rattle.stm_words.specs.Plain.{flat_view};
+ghost use Rattle.tx_memory.specs.Plain.{flat_view};
 ghost use Rattle.tx_tree.specs.Counted.{HasEntries};
 
 use crate::shapes::{is_red_black, rest_is_kept};
 use std::alloc::{AllocError, Global};
 use std::collections::BTreeMap;
 use std::test::Fail;
-use stm_words::{Addr, Flat, load};
 use tx_alloc::Block;
 use tx_alloc::place::MOST_BLOCKS;
+use tx_memory::{Addr, Flat, load};
 use tx_tree::{find, insert, least_above, remove};
 
 const ROOT: Addr = Addr(3);

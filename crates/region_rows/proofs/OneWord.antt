@@ -3,7 +3,7 @@ use Rattle.std.proofs.Common.{◌≡◌, ℕ, zero, suc, ◌+◌, ◌/◌, ◌<�
 use Rattle.std.proofs.lemmas.Bool.Decides.{nat_tests}
 use mathlib.Core.Option.{some, some-injective, some-ne-none}
 use lib.ListN.{get_elem?}
-use Rattle.stm_words.specs.Image.{In}
+use Rattle.tx_memory.specs.Image.{In}
 use Rattle.stm_core.specs.Client.{Client, running, committed, locked, ticked, word_before, without, writes_to}
 use Rattle.stm_core.specs.Core.{IsFreeHanded}
 use Rattle.stm_core.specs.Event.{begin, probe, lock, tick, put as put_word, release, give_back, after, stepping, holding, committed_by, versioned, with_ticks}

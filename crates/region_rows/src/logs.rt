@@ -8,7 +8,7 @@ use std::alloc::{AllocError, Allocator};
 use std::process::Abort;
 use std::test::Fail;
 use stm_logs::{ReadLog, WriteLog};
-use stm_words::Addr;
+use tx_memory::Addr;
 
 fn new_log<A: Allocator + Copy>(alloc: A) -> WriteLog<A>
     ensures { (stripes : ℕ) → IsStriped result stripes }

@@ -8,7 +8,8 @@ use std::alloc::{AllocError, Global};
 use std::test::Fail;
 use stm_logs::WriteLog;
 use stm_region::{Client, Region};
-use stm_words::{Addr, FreeLaw};
+use stm_words::FreeLaw;
+use tx_memory::Addr;
 
 /// The two words that a read finds at its lock, where another client writes the word between the
 /// load of the value and the check; `None` where the first one says no.

@@ -11,7 +11,8 @@ use stm_region::{
     Client, Region, RegionFault, gathering_keeps_all_grants, reads_are_of_one_version,
     records_are_serial, running_threads_are_a_list,
 };
-use stm_words::{Addr, FreeLaw};
+use stm_words::FreeLaw;
+use tx_memory::Addr;
 
 /// What a read finds at an address, where no lock stops it.
 pub(crate) fn read_at(

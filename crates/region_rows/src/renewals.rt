@@ -8,7 +8,8 @@ use linked_list_allocator::LocalHeap;
 use std::alloc::{Allocator, Global};
 use std::test::Fail;
 use stm_region::{Client, Region, RegionFault, RenewFault};
-use stm_words::{Addr, FreeLaw};
+use stm_words::FreeLaw;
+use tx_memory::Addr;
 
 type Renewed = (Region<FreeLaw>, Client<FreeLaw>);
 

@@ -1,7 +1,7 @@
 -- Steps of the bodies: what loads and stores are to the ring's words.
 use Rattle.std.proofs.Common.{◌≡◌, ℕ, ◌+◌, ◌-◌, ◌%◌, ◌^◌, ◌<◌, ◌≤◌, true, List, length, slice_set, sym, ap, ◌∙◌, subst, arith, length-set}
-use Rattle.stm_words.specs.View.{View, Sees, RestsOn, Loaded, Stored, mem}
-use Rattle.stm_words.specs.Seen.{some_le}
+use Rattle.tx_memory.specs.View.{View, Sees, RestsOn, Loaded, Stored, mem}
+use Rattle.tx_memory.specs.Seen.{some_le}
 use Rattle.ring.specs.declared.entry.Entry.TheVariants.{Push}
 use Rattle.ring.specs.declared.law.TheConstants.{SLOTS, HEAD, TAIL, WORDS}
 use Rattle.ring.specs.Queue.{IsRing, head, tail}

@@ -5,7 +5,7 @@ ghost use Rattle.std.specs.Prelude.{◌≡◌, ◌%◌};
 use crate::entry::Entry;
 use crate::law::{HEAD, RingObject, SLOTS, TAIL};
 use stm_object::{Body, Query};
-use stm_words::{Addr, TxMem, TxRead, load, store};
+use tx_memory::{Addr, TxMem, TxRead, load, store};
 
 /// The slot of the value of this number.
 fn slot(number: u64) -> Addr

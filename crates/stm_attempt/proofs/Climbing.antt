@@ -2,9 +2,9 @@
 use Rattle.std.proofs.Common.{◌≡◌, refl, ap, subst, ◌∙◌, ℕ, zero, ◌+◌, ◌<◌, Bool, cond, false, eqb, eq-eqb, List, [], ◌∷◌, ◌++◌, arith}
 use Rattle.std.proofs.lemmas.Bool.{ne_eqb}
 use Rattle.std.proofs.lemmas.List.{map-append}
-use Rattle.stm_words.specs.Image.{In}
+use Rattle.tx_memory.specs.Image.{In}
 use Rattle.stm_words.specs.LockWord.{free_word}
-use Rattle.stm_words.specs.Paired.{in_later}
+use Rattle.tx_memory.specs.Paired.{in_later}
 use Rattle.stm_core.specs.Client.{Client, probed, locked, writes_to, word_before, version_of, IsFree, Stamp, RecordLaw}
 use Rattle.stm_core.specs.Event.{probe, lock, after, stepping, holding, failing, Bounds}
 use Rattle.stm_attempt.specs.Conflicts.{IsHeld}

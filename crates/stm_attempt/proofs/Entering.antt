@@ -3,11 +3,11 @@ use Rattle.std.proofs.Common.{◌≡◌, Bool, true, false, Option, inl, inr, re
 use Rattle.std.specs.FinMap.{get, insert, empty, get-empty, len, empty_of_len}
 use Rattle.std.specs.Ordering.{nat_cmp}
 use Rattle.std.specs.Option.{is_some}
-use Rattle.stm_words.specs.Image.{In, Agrees}
-use Rattle.stm_words.specs.View.{HasRead, SameFrame, Words}
-use Rattle.stm_words.specs.Pairs.{map_of}
-use Rattle.stm_words.specs.Seen.{same_or, get_here, get_other}
-use Rattle.stm_words.specs.Paired.{with_pairs-append, get-with_pairs, in_later}
+use Rattle.tx_memory.specs.Image.{In, Agrees}
+use Rattle.tx_memory.specs.View.{HasRead, SameFrame, Words}
+use Rattle.tx_memory.specs.Pairs.{map_of}
+use Rattle.tx_memory.specs.Seen.{same_or, get_here, get_other}
+use Rattle.tx_memory.specs.Paired.{with_pairs-append, get-with_pairs, in_later}
 use Rattle.stm_core.specs.Client.{Client}
 use Rattle.stm_logs.specs.Log.{LogValue, empty_log}
 use Rattle.stm_region.specs.Shown.{RegionShown}

@@ -1,6 +1,6 @@
 -- A record keeps fitting images, where its transaction leaves the words of one where it found some.
 use Rattle.std.proofs.Common.{◌≡◌, ℕ, suc, ◌<◌, List, [], ◌∷◌, length, slice_index, refl, sym, subst, ◌∙◌, arith}
-use Rattle.stm_words.specs.Image.{laid}
+use Rattle.tx_memory.specs.Image.{laid}
 use Rattle.stm_attempt.specs.Leading.{IsLocal, Leads, IsFitting, KeepsFitting}
 
 module _ (fits : List ℕ → Type 0) where

@@ -2,8 +2,8 @@
 use Rattle.std.proofs.Common.{◌≡◌, ◌≢◌, inl, inr, refl, sym, ap, subst, ◌∙◌, ℕ, zero, suc, ◌-◌, ◌<◌, true, false, eqb, List, [], ◌∷◌, ◌++◌, length, length-append, Some, arith, take, eq-eqb}
 use Rattle.std.proofs.lemmas.Bool.{ne_eqb}
 use Rattle.std.specs.FinMap.{get}
-use Rattle.stm_words.specs.Image.{In}
-use Rattle.stm_words.specs.Paired.{in_later}
+use Rattle.tx_memory.specs.Image.{In}
+use Rattle.tx_memory.specs.Paired.{in_later}
 use Rattle.stm_logs.specs.Log.{LogValue, log_locks}
 use Rattle.stm_logs.proofs.RisingLemmas.{Rising, In as Among}
 use Rattle.stm_logs.proofs.LockLemmas.{locks_rise, locks_in}

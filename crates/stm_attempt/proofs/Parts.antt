@@ -6,7 +6,7 @@ use Rattle.core.specs.Result.{IsErrAnd}
 use Rattle.std.specs.Result.{is_ok, is_err}
 use mathlib.Core.Option.{some-injective}
 use lib.ListN.{get_elem?}
-use Rattle.stm_words.specs.Image.{In}
+use Rattle.tx_memory.specs.Image.{In}
 use Rattle.stm_core.specs.declared.limits.TheConstants.{MOST_TICKS}
 use Rattle.stm_core.specs.Client.{Client, Record, RecordLaw, inserted, committed, running, is_committed, decided}
 use Rattle.stm_core.specs.Event.{Action, is_empty, after, finish, decision, writer_record, reader_record}

@@ -2,7 +2,7 @@
 use Rattle.std.proofs.Common.{◌≡◌, false, sym, ap, subst, ◌∙◌, ℕ, suc, ◌+◌, ◌-◌, List, [], ◌∷◌, ◌++◌, append_assoc, length, take, arith, Some}
 use Rattle.std.proofs.Math.Seq.{take-length}
 use Rattle.std.specs.FinMap.{get}
-use Rattle.stm_words.specs.Image.{In}
+use Rattle.tx_memory.specs.Image.{In}
 use Rattle.stm_core.specs.Client.{Client, Stamp, without, writes_to, committed, RecordLaw}
 use Rattle.stm_core.specs.Event.{release, after, Bounds}
 use Rattle.stm_logs.specs.Log.{LogValue, log_locks}

@@ -5,8 +5,8 @@ use Rattle.std.proofs.lemmas.List.{append-nil, map-append}
 use Rattle.std.specs.FinMap.{get}
 use Rattle.std.specs.List.{flat_map}
 use mathlib.Core.Option.{some}
-use Rattle.stm_words.specs.Image.{In}
-use Rattle.stm_words.specs.Paired.{in_later}
+use Rattle.tx_memory.specs.Image.{In}
+use Rattle.tx_memory.specs.Paired.{in_later}
 use Rattle.stm_core.specs.Client.{Client, Stamp, committed, writes_to, old_version, RecordLaw}
 use Rattle.stm_core.specs.Event.{put, after}
 use Rattle.stm_core.proofs.Held.{old_in}

@@ -1,7 +1,7 @@
 -- What an attempt that has begun is, in terms of its client's value.
 use Rattle.std.specs.Prelude.{◌≡◌, ◌==◌, ℕ, ◌+◌, ◌*◌, ◌<◌, ◌≤◌, Bool, List, [], ◌∷◌, ◌++◌, length, map, true, false, Option, None, Some}
 use Rattle.std.specs.FinMap.{get}
-use Rattle.stm_words.specs.Image.{In}
+use Rattle.tx_memory.specs.Image.{In}
 use Rattle.stm_core.specs.Client.{Client, Phase, idle, running, ending, committed, finished, Step, nothing, began, probed, fetched, checked, locked, ticked, validated, ended}
 use Rattle.stm_core.specs.Event.{forgetting}
 use Rattle.stm_logs.specs.Log.{LogValue}

@@ -1,7 +1,7 @@
 -- What the parts of a commit ask for, and what they make of a client's value.
 use Rattle.std.specs.Prelude.{◌≡◌, ◌≢◌, ◌⊎◌, ℕ, ◌+◌, ◌*◌, ◌<◌, ◌≤◌, Bool, true, false, ◌||◌, cond, eqb, List, [], ◌∷◌, ◌++◌, length, take}
 use Rattle.std.specs.FinMap.{len}
-use Rattle.stm_words.specs.Image.{In}
+use Rattle.tx_memory.specs.Image.{In}
 use Rattle.stm_core.specs.declared.limits.TheConstants.{MOST_TICKS}
 use Rattle.stm_core.specs.Client.{Client, running, ending, committed, inserted, writes_to}
 use Rattle.stm_core.specs.Event.{is_empty}

@@ -3,9 +3,9 @@
 use Rattle.std.proofs.Common.{◌≡◌, ℕ, ◌<◌, Bool, true, false, List, [], ◌∷◌, Option, unwrap_or, slice_index, length, refl, sym, ap, subst, ◌∙◌, arith}
 use Rattle.std.specs.FinMap.{empty, get-empty, len-empty, len-entries}
 use Rattle.std.specs.Ordering.{nat_cmp}
-use Rattle.stm_words.specs.Image.{Agrees, laid}
-use Rattle.stm_words.specs.View.{View, Sees, memory}
-use Rattle.stm_words.specs.Paired.{agrees-map_of, laid-entries, length-laid}
+use Rattle.tx_memory.specs.Image.{Agrees, laid}
+use Rattle.tx_memory.specs.View.{View, Sees, memory}
+use Rattle.tx_memory.specs.Paired.{agrees-map_of, laid-entries, length-laid}
 use Rattle.stm_core.specs.Client.{Client}
 use Rattle.stm_logs.specs.Log.{LogValue, empty_log, log_pairs}
 use Rattle.stm_region.specs.Shown.{RegionShown, ClientShown}

@@ -2,9 +2,9 @@
 use Rattle.std.specs.Prelude.{◌≡◌, ℕ, Bool, true, false, List, [], Some}
 use Rattle.std.specs.FinMap.{get, empty, get-empty}
 use Rattle.std.specs.Ordering.{nat_cmp}
-use Rattle.stm_words.specs.Image.{Has, Agrees}
-use Rattle.stm_words.specs.View.{View, RestsOn}
-use Rattle.stm_words.specs.Pairs.{map_of}
+use Rattle.tx_memory.specs.Image.{Has, Agrees}
+use Rattle.tx_memory.specs.View.{View, RestsOn}
+use Rattle.tx_memory.specs.Pairs.{map_of}
 use Rattle.stm_core.specs.Client.{Client}
 use Rattle.stm_logs.specs.Log.{LogValue}
 use Rattle.stm_region.specs.Shown.{RegionShown, ClientShown}
@@ -12,7 +12,7 @@ use Rattle.stm_region.specs.Findings.{StandsOn}
 use Rattle.stm_attempt.specs.Begun.{still}
 use Rattle.std.proofs.Common.{refl, subst, ◌∙◌}
 use Rattle.std.proofs.Math.Logic.{∥∥₁_map}
-use Rattle.stm_words.specs.Paired.{agrees-map_of}
+use Rattle.tx_memory.specs.Paired.{agrees-map_of}
 
 -- the memory of a client in a region, with what it has read, and what it is to write; none once
 -- its attempt is over

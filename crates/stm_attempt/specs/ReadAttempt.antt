@@ -1,6 +1,6 @@
 -- What an attempt that only reads means to its contracts.
 use Rattle.std.specs.Prelude.{◌≡◌, ℕ, ◌+◌, Bool, length, Result}
-use Rattle.stm_words.specs.View.{View}
+use Rattle.tx_memory.specs.View.{View}
 use Rattle.stm_words.specs.declared.law.Law as Law
 use Rattle.stm_core.specs.Client.{Client}
 use Rattle.stm_logs.specs.Log.{empty_log}

@@ -16,7 +16,8 @@ use crate::reading::read_word;
 use crate::standing::Standing;
 use std::alloc::{Allocator, Global};
 use stm_region::{Client, Region};
-use stm_words::{Addr, Law, LockWord, TxMem, TxRead, Version};
+use stm_words::{Law, LockWord, Version};
+use tx_memory::{Addr, TxMem, TxRead};
 
 /// A running transaction of a client, with its read log and its write log.
 ///
@@ -131,7 +132,7 @@ impl<'a, L: Law, R: Allocator, A: Allocator + Copy> Attempt<'a, L, R, A> {
 
 impl<'a, L: Law, R: Allocator, A: Allocator + Copy> TxRead for Attempt<'a, L, R, A> {
     ghost use Rattle.std.specs.Prelude.{◌≡◌, ◌≢◌, ℕ, ◌+◌, ◌<◌, Some, None, Ok, Err, MatchResult, IfErr, true};
-    ghost use Rattle.stm_words.specs.View.{SameFrame, HasRead};
+    ghost use Rattle.tx_memory.specs.View.{SameFrame, HasRead};
     ghost use Rattle.stm_attempt.specs.Meaning.{Origin, attempt_seen};
     ghost use Rattle.stm_attempt.specs.Attempt.{view, origin, client_of, log_of, written_at, IsAsBefore, Reads};
     ghost use Rattle.stm_attempt.specs.declared.conflict.Conflict.{Conflict};
@@ -200,7 +201,7 @@ impl<'a, L: Law, R: Allocator, A: Allocator + Copy> TxRead for Attempt<'a, L, R,
 impl<'a, L: Law, R: Allocator, A: Allocator + Copy> TxMem for Attempt<'a, L, R, A> {
     ghost use Rattle.std.specs.Prelude.{◌≡◌, ◌≢◌, Some, None, Ok, Err, IsOk, MatchResult, IfErr, true};
     ghost use Rattle.std.specs.FinMap.{insert};
-    ghost use Rattle.stm_words.specs.View.{SameFrame};
+    ghost use Rattle.tx_memory.specs.View.{SameFrame};
     ghost use Rattle.stm_attempt.specs.Attempt.{view, origin, client_of, log_of, written_at, IsAsBefore, Writes};
     ghost use Rattle.stm_attempt.specs.declared.conflict.Conflict.{Conflict};
     ghost use Rattle.stm_attempt.specs.declared.conflict.Refusal.TheVariants.{Memory, Stopped};

@@ -1,7 +1,7 @@
 //! A running transaction over a region, as Transactional Locking II has it (Dice, Shalev, Shavit,
 //! DISC 2006).
 //!
-//! An `Attempt` is a memory of `stm_words`: it reads words of the region that are all of one
+//! An `Attempt` is a memory of `tx_memory`: it reads words of the region that are all of one
 //! version, and keeps its writes to itself. A `ReadAttempt` only reads, and keeps no log.
 #![tactic(auto)]
 

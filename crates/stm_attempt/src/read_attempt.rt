@@ -16,7 +16,8 @@ use crate::reading::read_word;
 use crate::standing::Standing;
 use std::alloc::{Allocator, Global};
 use stm_region::{Client, Region};
-use stm_words::{Addr, Law, LockWord, Tag, TxRead, Version};
+use stm_words::{Law, LockWord, Tag, Version};
+use tx_memory::{Addr, TxRead};
 
 /// A running transaction that only reads. It keeps no log and takes no memory.
 ///
@@ -130,7 +131,7 @@ impl<'a, L: Law, R: Allocator> ReadAttempt<'a, L, R> {
 
 impl<'a, L: Law, R: Allocator> TxRead for ReadAttempt<'a, L, R> {
     ghost use Rattle.std.specs.Prelude.{◌≡◌, ◌≢◌, ◌<◌, ℕ, Some, None, MatchResult, IsOk, IsErr, IfErr, true};
-    ghost use Rattle.stm_words.specs.View.{SameFrame, HasRead};
+    ghost use Rattle.tx_memory.specs.View.{SameFrame, HasRead};
     ghost use Rattle.stm_logs.specs.Log.{empty_log};
     ghost use Rattle.stm_attempt.specs.Meaning.{Origin, attempt_seen};
     ghost use Rattle.stm_attempt.specs.ReadAttempt.{runs, view, origin, client_of, IsAsBefore, Reads};

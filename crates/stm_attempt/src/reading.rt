@@ -11,7 +11,8 @@ ghost use Rattle.stm_attempt.specs.declared.conflict.Conflict.TheVariants.{Newer
 use crate::conflict::Conflict;
 use std::alloc::Allocator;
 use stm_region::{Client, Region};
-use stm_words::{Addr, Law, LockWord, Version};
+use stm_words::{Law, LockWord, Version};
+use tx_memory::Addr;
 
 /// The version of a free lock's word, or `None` for a held lock.
 #[inline]

@@ -16,7 +16,8 @@ use crate::logs::Logs;
 use std::alloc::Allocator;
 use stm_logs::WriteLog;
 use stm_region::{Client, Region};
-use stm_words::{Addr, Law, LockWord, Version};
+use stm_words::{Law, LockWord, Version};
+use tx_memory::Addr;
 
 /// Validates the lock of a word that was read: it must be free or the client's own, with a version
 /// of at most the read version.

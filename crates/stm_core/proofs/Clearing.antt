@@ -2,7 +2,7 @@
 use Rattle.std.proofs.Common.{◌≡◌, ℕ, ◌≤◌, ◌<◌, inr, false, List, [], set, ap, ◌∙◌, subst, arith}
 use mathlib.Core.Logic.{dite}
 use native.Mathlib.Decide.{ℕ_discrete}
-use Rattle.stm_words.specs.Image.{In}
+use Rattle.tx_memory.specs.Image.{In}
 use Rattle.stm_core.specs.Client.{Client, Record, decided, version_of}
 use Rattle.stm_core.specs.Version.{World, At, Claims, Saw, IsSound}
 use Rattle.stm_core.proofs.Lists.{same_at, clash, nothing_in}

@@ -4,7 +4,7 @@ use mathlib.Core.Option.{some}
 use mathlib.Core.Logic.{dite}
 use native.Mathlib.Decide.{ℕ_discrete, dec_le}
 use lib.ListN.{get_elem?}
-use Rattle.stm_words.specs.Image.{In}
+use Rattle.tx_memory.specs.Image.{In}
 use Rattle.stm_core.specs.Client.{Client, Record, Step, probed, fetched, decided, version_of, IsFree, writes_to, base, inserted}
 use Rattle.stm_core.specs.Version.{World, At, IsOpen, Claims, runs, passes, noted, Saw, IsSound, IsKept, IsBooked}
 use Rattle.stm_core.proofs.Lists.{same_at, clash, by_bool, nothing_in}

@@ -3,7 +3,7 @@ use Rattle.std.proofs.Common.{◌≡◌, ◌≢◌, ℕ, suc, ◌+◌, ◌*◌, 
 use mathlib.Core.Logic.{dite}
 use native.Mathlib.Decide.{ℕ_discrete}
 use Rattle.std.proofs.lemmas.List.{ext_get_or}
-use Rattle.stm_words.specs.Image.{In, Agrees, laid}
+use Rattle.tx_memory.specs.Image.{In, Agrees, laid}
 use Rattle.stm_core.specs.Client.{Client, Record, base, version_of, IsFree, RecordLaw}
 use Rattle.stm_core.specs.Core.{Core, IsFreeHanded}
 use Rattle.stm_core.specs.Version.{At, runs, noted}

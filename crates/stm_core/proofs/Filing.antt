@@ -4,7 +4,7 @@ use mathlib.Core.Option.{some}
 use mathlib.Core.Logic.{dite}
 use native.Mathlib.Decide.{ℕ_discrete}
 use lib.ListN.{get_elem?}
-use Rattle.stm_words.specs.Image.{In}
+use Rattle.tx_memory.specs.Image.{In}
 use Rattle.stm_core.specs.Client.{Client, Record, decided, RecordLaw}
 use Rattle.stm_core.specs.Version.{At, IsOpen}
 use Rattle.stm_core.specs.Records.{IsTold, IsFiled, Filed, HasWriter}

@@ -3,7 +3,7 @@ use Rattle.std.proofs.Common.{◌≡◌, ◌≢◌, ℕ, suc, ◌+◌, ◌-◌, 
 use mathlib.Core.Option.{some}
 use lib.ListN.{get_elem?}
 use Rattle.std.proofs.lemmas.Bool.Decides.{nat_tests}
-use Rattle.stm_words.specs.Image.{In, Agrees, laid}
+use Rattle.tx_memory.specs.Image.{In, Agrees, laid}
 use Rattle.stm_core.specs.Client.{Record, rank, base, RecordLaw}
 use Rattle.stm_core.specs.Records.{over, value_of, wrote_in}
 use Rattle.stm_core.specs.History.{Serial, image_after, image_at}

@@ -5,7 +5,7 @@ use mathlib.Core.Logic.{dite}
 use native.Mathlib.Decide.{ℕ_discrete}
 use lib.ListN.{get_elem?}
 use Rattle.std.proofs.lemmas.List.Sums.{sum_by-cons}
-use Rattle.stm_words.specs.Image.{In}
+use Rattle.tx_memory.specs.Image.{In}
 use Rattle.stm_core.specs.Client.{Client, Record, decided, writes_to, merged, nothing, RecordLaw}
 use Rattle.stm_core.specs.Event.{giving, fresh, taking, gone, opener}
 use Rattle.stm_core.specs.Core.{Core, IsFreeHanded, divided, gathered, opened}

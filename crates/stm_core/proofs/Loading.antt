@@ -4,7 +4,7 @@ use mathlib.Core.Option.{some, some-injective}
 use mathlib.Core.Logic.{dite}
 use native.Mathlib.Decide.{ℕ_discrete}
 use lib.ListN.{get_elem?}
-use Rattle.stm_words.specs.Image.{In}
+use Rattle.tx_memory.specs.Image.{In}
 use Rattle.stm_core.specs.Client.{Client, Record, fetched, decided, version_of, IsFree, writes_to, base, inserted}
 use Rattle.stm_core.specs.Version.{World, At, IsOpen, Claims, runs, passes, noted, Saw, IsSound, IsBooked}
 use Rattle.stm_core.proofs.Lists.{in_snoc, same_at, by_bool, not_true}

@@ -5,7 +5,7 @@ use mathlib.Core.Logic.{dite}
 use native.Mathlib.Decide.{ℕ_discrete}
 use lib.ListN.{get_elem?}
 use Rattle.std.proofs.lemmas.Bool.Decides.{nat_tests}
-use Rattle.stm_words.specs.Image.{In}
+use Rattle.tx_memory.specs.Image.{In}
 use Rattle.stm_core.specs.Client.{Client, running, ending, checked, locked, ticked, validated, Stamp, decided, is_committed, version_of, IsFree, word_before, value_fetched, shed, RecordLaw}
 use Rattle.stm_core.specs.Event.{Action, begin, probe, fetch, check, lock, tick, validate, put, release, give_back, finish, committed_by, stepping, failing, read_too, holding, versioned, is_empty, decides_at_once, won, passes, passing, after, giving, fresh, taking, gone, with_ticks, counting}
 use Rattle.stm_core.specs.Core.{Core, bounds_of, stepped, divided, gathered}

@@ -1,7 +1,7 @@
 -- Lists of records in order: what stands in them, and that they stay in order.
 use Rattle.std.proofs.Common.{◌≡◌, ◌≢◌, ℕ, suc, ◌<◌, ◌≤◌, ◌⊎◌, inl, inr, ⊎_elim, Bool, true, false, cond, eqb, ltb, ◌||◌, ◌&&◌, List, [], ◌∷◌, refl, sym, subst, arith}
 use Rattle.std.proofs.lemmas.Bool.Decides.{nat_tests}
-use Rattle.stm_words.specs.Image.{In}
+use Rattle.tx_memory.specs.Image.{In}
 use Rattle.stm_core.specs.Client.{Record, before, rank, inserted, merged}
 use Rattle.stm_core.specs.Records.{Follows, Ordered}
 pub use Rattle.stm_core.specs.Merging.{in_cons, in_inserted, in_merged, inserted_in, inserted_old, merged_left, merged_right}

@@ -5,7 +5,7 @@ use mathlib.Core.Logic.{dite}
 use native.Mathlib.Decide.{ℕ_discrete}
 use lib.ListN.{get_elem?}
 use Rattle.std.proofs.lemmas.Bool.Decides.{nat_tests}
-use Rattle.stm_words.specs.Image.{In}
+use Rattle.tx_memory.specs.Image.{In}
 use Rattle.stm_core.specs.History.{Serial, image_after, Ascending, ByPoint}
 use Rattle.stm_core.specs.Client.{shed, rank, Client, Record, idle, running, ending, checked, locked, ticked, validated, Stamp, version_of, word_before, value_fetched, writes_to, RecordLaw}
 use Rattle.stm_core.specs.Event.{decision, Action, begin, probe, fetch, check, lock, tick, validate, put, release, give_back, finish, committed_by, stepping, failing, read_too, holding, versioned, decides_at_once, won, passes, passing, after, giving, fresh, renewing, gone, opener, writer_record, reader_record, with_ticks, marking, counting}

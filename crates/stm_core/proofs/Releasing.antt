@@ -2,7 +2,7 @@
 use Rattle.std.proofs.Common.{◌≡◌, ◌≢◌, ℕ, suc, ◌+◌, ◌*◌, ◌/◌, ◌≤◌, ◌<◌, ◌⊎◌, inl, inr, ⊎_elim, true, false, List, set, sym, ap, ◌∙◌, subst, arith, le_refl}
 use mathlib.Core.Logic.{dite}
 use native.Mathlib.Decide.{ℕ_discrete}
-use Rattle.stm_words.specs.Image.{In}
+use Rattle.tx_memory.specs.Image.{In}
 use Rattle.stm_core.specs.Client.{Client, decided, version_of, IsFree, writes_to}
 use Rattle.stm_core.specs.Version.{World, At, Claims, runs, passes, noted, Saw, IsSound, IsKept, IsBooked}
 use Rattle.stm_core.proofs.Lists.{same_at, clash, by_bool}

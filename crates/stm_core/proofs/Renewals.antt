@@ -2,7 +2,7 @@
 use Rattle.std.proofs.Common.{◌≡◌, ◌≢◌, ℕ, suc, ◌+◌, ◌<◌, ⊎_elim, Bool, true, false, cond, eqb, List, [], ◌∷◌, ◌++◌, length, length-set, map, set, refl, sym, ap, ◌∙◌, subst, arith}
 use Rattle.std.proofs.lemmas.Bool.Decides.{nat_tests}
 use Rattle.std.proofs.lemmas.List.{map-set}
-use Rattle.stm_words.specs.Image.{In}
+use Rattle.tx_memory.specs.Image.{In}
 use Rattle.stm_core.specs.Client.{Client, Record, Stamp, of_renewal, shed, validated, ticked, checked, locked, word_before, value_fetched, version_of, RecordLaw}
 use Rattle.stm_core.specs.Event.{Action, begin, check, lock, tick, validate, committed_by, stepping, failing, read_too, holding, versioned, decides_at_once, won, passes, passing, after, counting}
 use Rattle.stm_core.specs.Core.{Core, bounds_of, found, stepped}

@@ -5,7 +5,7 @@ use lib.ListN.{get_elem?}
 use Rattle.std.proofs.lemmas.Bool.Decides.{nat_tests}
 use Rattle.std.proofs.lemmas.List.{map-set}
 use Rattle.std.proofs.lemmas.List.Sums.{sum_by-cons}
-use Rattle.stm_words.specs.Image.{In, laid}
+use Rattle.tx_memory.specs.Image.{In, laid}
 use Rattle.stm_core.specs.Client.{Client, Record, nothing, decided, before, merged, of_renewal, shed, RecordLaw}
 use Rattle.stm_core.specs.Event.{giving, fresh, taking, renewing, gone, opener}
 use Rattle.stm_core.specs.Core.{Core, divided, gathered, renewed, IsFreeHanded, opened, begun_on}

@@ -1,7 +1,7 @@
 -- Each step of a client keeps the version invariant.
 use Rattle.std.proofs.Common.{◌≡◌, ◌≢◌, ℕ, suc, ◌+◌, ◌-◌, ◌*◌, ◌/◌, ◌≤◌, ◌<◌, ◌⊎◌, inl, inr, ⊎_elim, Bool, true, false, cond, eqb, leb, ltb, ◌&&◌, ◌||◌, List, [], ◌∷◌, ◌++◌, length, length-set, length-append, set, get_or, slice_index, slice_set, get_or-set_same, get_or-set_other, set-set, sum_by, refl, sym, ap, ◌∙◌, subst, arith, le_refl, zero-le}
 use Rattle.std.proofs.lemmas.Bool.Decides.{nat_tests}
-use Rattle.stm_words.specs.Image.{In}
+use Rattle.tx_memory.specs.Image.{In}
 use Rattle.stm_core.specs.Client.{Client, Record, running, ending, committed, probed, fetched, checked, locked, ticked, validated, Stamp, is_committed, decided, version_of, IsFree, is_free, writes_to, old_version, word_before, value_fetched, RecordLaw}
 use Rattle.stm_core.specs.Event.{Action, begin, probe, fetch, check, lock, tick, validate, put, release, give_back, finish, committed_by, begun, stepping, failing, read_too, holding, versioned, is_empty, decides_at_once, won, passes, passing, after, writer_record, reader_record, with_ticks, marking, counting}
 use Rattle.stm_core.specs.Core.{Core, bounds_of, stepped}

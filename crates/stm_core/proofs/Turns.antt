@@ -2,7 +2,7 @@
 use Rattle.std.proofs.Common.{◌≡◌, ◌≢◌, ℕ, ◌+◌, ◌*◌, ◌≤◌, ◌<◌, ◌⊎◌, inl, inr, ⊎_elim, true, false, List, set, refl, sym, ◌∙◌, subst}
 use mathlib.Core.Logic.{dite}
 use native.Mathlib.Decide.{ℕ_discrete}
-use Rattle.stm_words.specs.Image.{In}
+use Rattle.tx_memory.specs.Image.{In}
 use Rattle.stm_core.specs.Client.{Client, Record, decided, version_of, IsFree, writes_to}
 use Rattle.stm_core.specs.Version.{World, At, IsOpen, Claims, Saw, IsSound, IsKept, Version, IsBooked, Books}
 use Rattle.stm_core.proofs.Lists.{set_here, set_else, same_at, who_set}

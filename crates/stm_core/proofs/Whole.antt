@@ -3,7 +3,7 @@ use Rattle.std.proofs.Common.{◌+◌, append_assoc, append-nil, ◌≡◌, ℕ,
 use mathlib.Core.Logic.{dite}
 use native.Mathlib.Decide.{ℕ_discrete}
 use Rattle.std.proofs.lemmas.Bool.Decides.{nat_tests}
-use Rattle.stm_words.specs.Image.{In, Agrees, laid}
+use Rattle.tx_memory.specs.Image.{In, Agrees, laid}
 use Rattle.stm_core.specs.Client.{Client, Record, before, inserted, merged, of_renewal, shed, RecordLaw, Stamp, version_of, word_before, value_fetched, checked, locked, ticked, validated}
 use Rattle.stm_core.specs.Event.{Action, check, lock, tick, validate, finish, committed_by, stepping, failing, read_too, holding, versioned, decides_at_once, won, passes, passing, after, taking, counting}
 use Rattle.stm_core.specs.Core.{Core, IsFreeHanded}

@@ -1,6 +1,6 @@
 -- Histories: when a list of records is serial, and the image of a version.
 use Rattle.std.specs.Prelude.{◌≡◌, ℕ, ◌<◌, ◌≤◌, leb, cond, true, List, [], ◌∷◌, length}
-use Rattle.stm_words.specs.Image.{In, Agrees, laid}
+use Rattle.tx_memory.specs.Image.{In, Agrees, laid}
 use Rattle.stm_core.specs.Client.{Client, Record, merged, RecordLaw}
 
 -- each record's reads agree with the image just before it

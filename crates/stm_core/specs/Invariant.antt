@@ -1,7 +1,7 @@
 -- The version invariant of a whole core.
 use Rattle.std.specs.Prelude.{◌≡◌, ℕ, ◌+◌, ◌≤◌, ◌<◌, ◌⊎◌, cond, eqb, true, false, List, [], ◌∷◌, ◌++◌, length, map, slice_index, sum_by}
 use Rattle.stm_core.specs.Client.{Client, Record, Stamp, Step, probed, fetched, decided, running, version_of, IsFree, word_before, before, shed, of_renewal, RecordLaw}
-use Rattle.stm_words.specs.Image.{In}
+use Rattle.tx_memory.specs.Image.{In}
 use Rattle.stm_core.specs.Event.{check, lock, tick, after, gone}
 use Rattle.stm_core.specs.Guards.{MayAct, Holds}
 use Rattle.stm_core.specs.Core.{Core, bounds_of}

@@ -1,7 +1,7 @@
 -- The records of all clients beside the story, which is the list of the writes of the decided
 -- writer of each version from 1 on, none where there is none yet.
 use Rattle.std.specs.Prelude.{◌≡◌, ◌≢◌, ℕ, zero, suc, ◌-◌, ◌<◌, Bool, true, false, cond, eqb, List, [], ◌∷◌, length, slice_index}
-use Rattle.stm_words.specs.Image.{In}
+use Rattle.tx_memory.specs.Image.{In}
 use mathlib.Core.Option.{some}
 use lib.ListN.{get_elem?}
 use Rattle.stm_core.specs.Client.{Client, Record, decided, writes_to, before, RecordLaw}

@@ -1,6 +1,6 @@
 -- What holds of every core that a list of allowed events leads to.
 use Rattle.std.specs.Prelude.{◌≡◌, ◌≢◌, ℕ, suc, ◌<◌, Bool, true, false, List, [], ◌++◌}
-use Rattle.stm_words.specs.Image.{In, Agrees}
+use Rattle.tx_memory.specs.Image.{In, Agrees}
 use Rattle.stm_core.specs.Client.{Client, Record, decided, Phase, running, ending, RecordLaw}
 use Rattle.stm_core.specs.Core.{Core, Event, Leads, opened}
 use Rattle.stm_core.specs.Version.{At}

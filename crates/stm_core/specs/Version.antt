@@ -1,6 +1,6 @@
 -- The version invariant: what holds of the words and of all clients' values after every event.
 use Rattle.std.specs.Prelude.{◌≡◌, ◌≢◌, ℕ, suc, ◌-◌, ◌≤◌, ◌<◌, ◌⊎◌, true, false, Bool, List}
-use Rattle.stm_words.specs.Image.{In}
+use Rattle.tx_memory.specs.Image.{In}
 use Rattle.stm_words.specs.LockWord.{held_word}
 use mathlib.Core.Option.{some}
 use lib.ListN.{get_elem?}

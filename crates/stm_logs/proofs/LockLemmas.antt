@@ -4,7 +4,7 @@ use Rattle.std.specs.FinMap.{get, insert, entries, keys, from_entries, get-from_
 use Rattle.std.specs.Ordering.{nat_cmp}
 use Rattle.std.proofs.lemmas.Cmp.{nat_cmp_total}
 use Rattle.std.proofs.lemmas.List.{length-map}
-use Rattle.stm_words.specs.View.{Words}
+use Rattle.tx_memory.specs.View.{Words}
 use Rattle.stm_logs.specs.Log.{LogValue, lock_map, log_locks, SameAddresses}
 use Rattle.stm_logs.proofs.TableLemmas.{some_none, both_bool}
 use Rattle.stm_logs.proofs.RisingLemmas.{In, Rising, rising_entries, get_in, in_get, in_map, map_in, rising_map, rising_same, found_some, find_in}

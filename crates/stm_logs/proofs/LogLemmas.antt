@@ -4,7 +4,7 @@ use Rattle.std.specs.FinMap.{get, get-empty, insert, len, same_map, nat_cmp-IsAn
 use Rattle.std.specs.Ordering.{nat_cmp}
 use Rattle.std.proofs.lemmas.Cmp.{nat_cmp_total}
 use Rattle.std.proofs.lemmas.Bool.Decides.{nat_tests}
-use Rattle.stm_words.specs.View.{Words}
+use Rattle.tx_memory.specs.View.{Words}
 use Rattle.stm_logs.specs.declared.nodes.TheConstants.{TOP}
 use Rattle.stm_logs.specs.Nodes.{Node, Block, at, bare, blank, entry_of, with_entry, with_next}
 use Rattle.stm_logs.specs.Log.{LogValue, empty_log}

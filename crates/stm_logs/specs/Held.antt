@@ -1,7 +1,7 @@
 -- A write log: its nodes, and how they change.
 use Rattle.std.specs.Prelude.{◌≡◌, ℕ, ◌+◌, ◌%◌, ◌<◌, ◌≤◌, Bool, false, Option, Some, None, List, length, slice_index_or}
 use Rattle.std.specs.FinMap.{get, insert}
-use Rattle.stm_words.specs.View.{Words}
+use Rattle.tx_memory.specs.View.{Words}
 use Rattle.stm_logs.specs.declared.write.TheConstants.{MARKS}
 use Rattle.stm_logs.specs.Nodes.{Node, Block, at}
 use Rattle.stm_logs.specs.Log.{LogValue, empty_log}

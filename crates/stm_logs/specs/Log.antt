@@ -6,7 +6,7 @@ use Rattle.std.specs.FinMap.{FinMap, empty, get, entries, keys, from_entries}
 use Rattle.std.specs.Coded.{Coded, code_by, coded×, coded_ℕ}
 use Rattle.std.specs.FinMap as finite
 use Rattle.std.proofs.Common.{refl}
-use Rattle.stm_words.specs.View.{Words}
+use Rattle.tx_memory.specs.View.{Words}
 
 -- a write log: the value of each address that was written, and the number of its lock
 pub record LogValue : Type 0 where

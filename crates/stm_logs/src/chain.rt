@@ -7,7 +7,7 @@ ghost use Rattle.stm_logs.specs.Chain.{Ends, goes_on, words_from, locks_from, gr
 use crate::nodes::Nodes;
 use std::alloc::{Allocator, Global};
 use std::marker::Model;
-use stm_words::Addr;
+use tx_memory::Addr;
 
 /// The words of one lock with their values, by ascending address.
 #[derive(Drop)]

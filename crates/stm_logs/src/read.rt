@@ -8,7 +8,7 @@ use crate::row::{Right, Row, fill, release};
 use std::alloc::{AllocError, Allocator, Global};
 use std::marker::Model;
 use std::mem::swap;
-use stm_words::Addr;
+use tx_memory::Addr;
 
 /// The places of a chunk.
 const PLACES: usize = 1024;

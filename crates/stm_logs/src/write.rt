@@ -9,7 +9,7 @@ use crate::chain::{ByLock, Locks, Pairs, Words};
 use crate::table::Table;
 use std::alloc::{AllocError, Allocator, Global};
 use std::marker::Model;
-use stm_words::Addr;
+use tx_memory::Addr;
 
 /// The marks of a write log, one for each remainder of the addresses.
 const MARKS: usize = 128;

@@ -1,7 +1,7 @@
 -- Serial lawful records are a history, and a decided attempt stands in it.
 use Rattle.std.proofs.Common.{◌≡◌, ℕ, zero, List, [], ◌∷◌, refl, sym, ap, ◌∙◌, subst}
-use Rattle.stm_words.specs.Image.{In, laid}
-use Rattle.stm_words.specs.Paired.{in_later}
+use Rattle.tx_memory.specs.Image.{In, laid}
+use Rattle.tx_memory.specs.Paired.{in_later}
 use Rattle.stm_core.specs.Client.{Client, Record, inserted}
 use Rattle.stm_core.specs.Event.{finish}
 use Rattle.stm_core.specs.History.{Serial, Sub, image_after, all_records}

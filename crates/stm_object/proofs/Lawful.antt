@@ -2,8 +2,8 @@
 use Rattle.std.proofs.Common.{◌≡◌, ℕ, suc, ◌<◌, Bool, true, false, List, [], ◌∷◌, Option, length, slice_index, unwrap_or, refl, sym, ap, ◌∙◌, arith}
 use Rattle.std.specs.FinMap.{entries, get-empty}
 use Rattle.std.specs.Ordering.{nat_cmp}
-use Rattle.stm_words.specs.Image.{laid}
-use Rattle.stm_words.specs.View.{Words}
+use Rattle.tx_memory.specs.Image.{laid}
+use Rattle.tx_memory.specs.View.{Words}
 use Rattle.stm_core.specs.Client.{Client}
 use Rattle.stm_logs.specs.Log.{LogValue, empty_log, log_pairs}
 use Rattle.stm_region.specs.Shown.{RegionShown, ClientShown}

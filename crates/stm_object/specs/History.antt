@@ -1,6 +1,6 @@
 -- What is known of the records of all clients, told by an object's entries, and of a call's tries.
 use Rattle.std.specs.Prelude.{◌≡◌, ◌≢◌, ◌⊎◌, ℕ, zero, suc, ◌+◌, Bool, true, false, List, [], ◌∷◌, Result, Ok, Err, IfOk, IfErr, IsOk}
-use Rattle.stm_words.specs.Image.{In}
+use Rattle.tx_memory.specs.Image.{In}
 use Rattle.stm_core.specs.Client.{Client, Record, inserted}
 use Rattle.stm_core.specs.History.{Sub, all_records}
 use Rattle.stm_core.specs.Guards.{stripe_of}

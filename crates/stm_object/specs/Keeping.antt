@@ -1,7 +1,7 @@
 -- What every entry keeps, a history keeps: for what an object promises of all of its histories.
 use Rattle.std.proofs.Common.{◌≡◌, ℕ, zero, suc, List, [], ◌∷◌, sym, ap, ◌∙◌, subst}
 use mathlib.Core.Option.{some-injective, some-ne-none}
-use Rattle.stm_words.specs.Image.{In}
+use Rattle.tx_memory.specs.Image.{In}
 use Rattle.stm_core.specs.Client.{Record}
 use Rattle.stm_object.specs.History.{IsHistory}
 

@@ -1,7 +1,7 @@
 -- What loads and stores are to the words of a fitting image.
 use Rattle.std.proofs.Common.{◌≡◌, ℕ, ◌<◌, inl, inr, List, length, slice_index, slice_set, sym, ◌∙◌, arith, length-set, get_or-set_same, get_or-set_other}
-use Rattle.stm_words.specs.View.{View, Sees, IsWrite, Loaded, mem}
-use Rattle.stm_words.specs.Seen.{same_or}
+use Rattle.tx_memory.specs.View.{View, Sees, IsWrite, Loaded, mem}
+use Rattle.tx_memory.specs.Seen.{same_or}
 use Rattle.stm_object.specs.Bodies.{Are}
 
 -- a write of a word

@@ -10,7 +10,7 @@ use crate::object::{Object, ObjectLaw};
 use crossbeam_utils::Backoff;
 use stm_attempt::{Attempt, Conflict, Logs, NoGate, ReadAttempt, Stop};
 use stm_region::{Client, Region};
-use stm_words::{TxMem, TxRead};
+use tx_memory::{TxMem, TxRead};
 
 /// What a transaction does, over any memory, and what it tells of its answer. `entry_of` is the
 /// entry of an answer, and `changes` says of which answers the body may have written.

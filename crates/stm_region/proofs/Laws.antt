@@ -3,7 +3,7 @@ use Rattle.std.proofs.Common.{◌≡◌, ◌≢◌, ℕ, false, List, length, ma
 use mathlib.Core.Option.{some}
 use lib.ListN.{get_elem?}
 use Rattle.atomic_table.specs.Table.{State}
-use Rattle.stm_words.specs.Image.{In, Agrees}
+use Rattle.tx_memory.specs.Image.{In, Agrees}
 use Rattle.stm_core.specs.Client.{Client, Record, shed, RecordLaw}
 use Rattle.stm_core.specs.Event.{taking}
 use Rattle.stm_core.specs.Core.{Core}

@@ -3,7 +3,7 @@ use Rattle.std.specs.Prelude.{◌≡◌, ℕ, suc, ◌*◌, ◌/◌, ◌<◌, �
 use Rattle.atomic_table.specs.Table.{Me, Step}
 use mathlib.Core.Option.{some}
 use lib.ListN.{get_elem?}
-use Rattle.stm_words.specs.Image.{In, Agrees}
+use Rattle.tx_memory.specs.Image.{In, Agrees}
 use Rattle.stm_core.specs.Client.{Client, Record, running, decided, inserted, version_of, IsFree, word_before, RecordLaw}
 use Rattle.stm_core.specs.Core.{Core, found, stepped, acts}
 use Rattle.stm_core.specs.Invariant.{Rule, now}

@@ -2,7 +2,7 @@
 ghost use Rattle.std.specs.Prelude.{◌≡◌, ◌+◌, ◌<◌, ◌≤◌, length, IfOk, IfErr};
 ghost use Rattle.stm_region.specs.declared.fault.RegionFault.TheVariants.{Clients};
 ghost use Rattle.std.specs.Prelude.{◌⊎◌};
-ghost use Rattle.stm_words.specs.Image.{In};
+ghost use Rattle.tx_memory.specs.Image.{In};
 ghost use Rattle.stm_core.specs.Client.{Record};
 ghost use Rattle.stm_core.specs.History.{Sub};
 ghost use Rattle.stm_core.specs.Core.{IsFreeHanded};
@@ -24,7 +24,8 @@ use atomic_table::Table;
 use std::alloc::{Allocator, Global};
 use std::marker::Model;
 use std::snapshot::Snapshot;
-use stm_words::{Addr, Law, Version};
+use stm_words::{Law, Version};
+use tx_memory::Addr;
 
 /// The shared words of a transactional memory. Contracts see which table it is, its size, and the
 /// image, the last version and the number of lock words that it was opened with.

@@ -18,7 +18,8 @@ use crate::version::as_version;
 use std::alloc::Allocator;
 use std::marker::Brand;
 use stm_logs::WriteLog;
-use stm_words::{Addr, Law, LockWord, Tag, Version};
+use stm_words::{Law, LockWord, Tag, Version};
+use tx_memory::Addr;
 
 impl<L: Law, A: Allocator> Region<L, A> {
     /// Begins an attempt: one load of the clock, which is the read version. A client with all

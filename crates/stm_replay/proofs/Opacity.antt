@@ -1,7 +1,7 @@
 -- What an attempt has read is what the committed attempts before its begin leave, then and after all later events.
 use Rattle.std.proofs.Common.{◌≡◌, ℕ, zero, suc, ◌+◌, ◌-◌, ◌≤◌, ◌<◌, ◌⊎◌, inl, inr, ⊎_elim, Bool, true, false, cond, eqb, leb, ltb, ◌||◌, List, [], ◌∷◌, ◌++◌, append_assoc, append-nil, length, slice_index, refl, sym, ap, ◌∙◌, subst, arith}
 use Rattle.std.proofs.lemmas.Bool.Decides.{nat_tests}
-use Rattle.stm_words.specs.Image.{In, laid}
+use Rattle.tx_memory.specs.Image.{In, laid}
 use Rattle.stm_core.specs.Client.{Client, Record, RecordLaw, shed, running, writes_to, is_committed}
 use Rattle.stm_core.specs.Event.{Action, begin}
 use Rattle.stm_core.specs.Core.{Core, Event, acts, splits, gathers, renews, client_of, played, Leads, opened}

@@ -2,7 +2,7 @@
 use Rattle.std.proofs.Common.{◌≡◌, ℕ, suc, ◌+◌, ⊎_elim, cond, eqb, ltb, List, [], ◌∷◌, length, map, refl, sym, ap, ◌∙◌, subst, arith, add-one, zero, ◌-◌, ◌<◌, ◌≤◌, true, false, get_or}
 use Rattle.std.proofs.lemmas.Bool.Decides.{nat_tests}
 use Rattle.std.specs.List.{insert, list_all}
-use Rattle.stm_words.specs.Image.{In}
+use Rattle.tx_memory.specs.Image.{In}
 use Rattle.stm_core.specs.Client.{Client, Record, Stamp}
 use Rattle.stm_core.specs.Event.{decision, Action, tick, validate, versioned, decides_at_once, passes, writer_record}
 use Rattle.stm_core.specs.Core.{Core}

@@ -2,7 +2,7 @@
 use Rattle.std.proofs.Common.{◌≡◌, ◌≢◌, ℕ, zero, suc, ◌+◌, ◌<◌, ◌≤◌, ⊎_elim, Bool, true, false, cond, eqb, List, [], ◌∷◌, ◌++◌, length, map, refl, sym, ap, ◌∙◌, subst, arith, nat_eq}
 use Rattle.std.specs.Cmp.Lexicographic.{pointwise, same_text, other_text}
 use mathlib.Core.Option.{some, some-injective}
-use Rattle.stm_words.specs.Image.{In, laid}
+use Rattle.tx_memory.specs.Image.{In, laid}
 use Rattle.stm_core.specs.Client.{Client, Record, shed, RecordLaw}
 use Rattle.stm_core.specs.Event.{tick, finish}
 use Rattle.stm_core.specs.Core.{Core, Event, acts, Allowed, played, Leads, opened}

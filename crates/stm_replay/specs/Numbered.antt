@@ -1,7 +1,7 @@
 -- Lists of events, and the cores that they lead to, with a number in the place of each tag. No
 -- condition but the law looks at a tag.
 use Rattle.std.specs.Prelude.{◌≡◌, ℕ, ◌<◌, ◌≤◌, cond, eqb, true, List, [], ◌∷◌, length, map}
-use Rattle.stm_words.specs.Image.{In}
+use Rattle.tx_memory.specs.Image.{In}
 use Rattle.stm_core.specs.Client.{Client, Record, RecordLaw}
 use Rattle.stm_core.specs.Event.{Action, tick, finish}
 use Rattle.stm_core.specs.Core.{Core, Event, acts}

@@ -1,6 +1,6 @@
 -- Opacity, in the model of atomic steps: committed, live and aborted attempts in one order.
 use Rattle.std.specs.Prelude.{◌≡◌, ℕ, suc, ◌<◌, ltb, cond, List, [], ◌∷◌}
-use Rattle.stm_words.specs.Image.{In, Agrees}
+use Rattle.tx_memory.specs.Image.{In, Agrees}
 use Rattle.stm_core.specs.Client.{Client, Record, RecordLaw, running}
 use Rattle.stm_core.specs.Event.{Action, begin}
 use Rattle.stm_core.specs.Core.{Core, Event, opened}

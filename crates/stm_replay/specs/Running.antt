@@ -1,6 +1,6 @@
 -- The running core: its state as far as it is kept, and its decided records.
 use Rattle.std.specs.Prelude.{◌≡◌, ℕ, ◌+◌, ◌-◌, ◌<◌, Bool, true, ◌&&◌, nat_lt, cond, List, [], ◌∷◌, ◌++◌, length, map, slice_set, replicate, ◌≢◌, ◌≤◌, Option, None}
-use Rattle.stm_words.specs.Image.{In}
+use Rattle.tx_memory.specs.Image.{In}
 use Rattle.stm_core.specs.Client.{Record, found_by, old_version, writes_to, is_committed}
 use Rattle.stm_core.specs.Event.{Action, decision, giving, fresh, taking, renewing, gone, opener}
 use Rattle.stm_core.specs.Core.{Core, found, left, written, client_of, stamp_of, is_out, Event, acts, splits, gathers, renews, may_play}

@@ -2,7 +2,7 @@
 use Rattle.std.proofs.Common.{◌≡◌, ℕ, Bool, true, false, List, Option, unwrap_or, slice_index, ap, ◌∙◌}
 use Rattle.std.specs.FinMap.{empty, get-empty}
 use Rattle.std.specs.Ordering.{nat_cmp}
-use Rattle.stm_words.specs.View.{memory}
+use Rattle.tx_memory.specs.View.{memory}
 use Rattle.stm_core.specs.Client.{Client}
 use Rattle.stm_logs.specs.Log.{LogValue, empty_log}
 use Rattle.stm_region.specs.Shown.{RegionShown}

@@ -2,8 +2,8 @@
 use Rattle.std.proofs.Common.{◌≡◌, ◌≢◌, inl, inr, ℕ, ◌+◌, ◌*◌, ◌<◌, ◌≤◌, ◌^◌, List, [], ◌∷◌, Option, Some, None, MatchOption, length, replicate, slice_index, nat_eq, false, refl, sym, ap, ◌∙◌, subst, arith}
 use Rattle.std.proofs.lemmas.Bool.Decides.{nat_tests}
 use Rattle.std.proofs.lemmas.List.{get_or-replicate}
-use Rattle.stm_words.specs.Seen.{same_or}
-use Rattle.stm_words.specs.View.{View, RestsOn, Kept, Loaded}
+use Rattle.tx_memory.specs.Seen.{same_or}
+use Rattle.tx_memory.specs.View.{View, RestsOn, Kept, Loaded}
 use Rattle.tx_alloc.specs.Steps.{mem, stood}
 use Rattle.tx_alloc.specs.Pool.{IsPool, HasPool, NoneFree, Taken}
 use Rattle.tx_alloc.specs.Rows.{Rows, times, put_row}

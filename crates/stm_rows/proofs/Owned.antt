@@ -1,9 +1,9 @@
 -- What the calls on a customer make of its bookings.
 use Rattle.std.proofs.Common.{◌≡◌, ◌≢◌, inl, inr, ℕ, ◌+◌, ◌*◌, ◌<◌, ◌≤◌, ◌^◌, List, [], ◌∷◌, length, nat_eq, false, refl, sym, ap, ◌∙◌, subst, arith}
 use Rattle.std.proofs.lemmas.Bool.Decides.{nat_tests}
-use Rattle.stm_words.specs.View.{View, Sees, Kept}
-use Rattle.stm_words.specs.Plain.{flat_view}
-use Rattle.stm_words.specs.Seen.{same_or}
+use Rattle.tx_memory.specs.View.{View, Sees, Kept}
+use Rattle.tx_memory.specs.Plain.{flat_view}
+use Rattle.tx_memory.specs.Seen.{same_or}
 use Rattle.tx_alloc.specs.Steps.{mem}
 use Rattle.tx_alloc.specs.Rows.{Rows, times}
 use Rattle.tx_list.specs.Bookings.{IsList}

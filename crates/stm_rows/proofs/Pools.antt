@@ -1,6 +1,6 @@
 -- Heaps of ten blocks.
 use Rattle.std.proofs.Common.{◌≡◌, ℕ, Bool, true, List, Option, Some, None, MatchOption, length, slice_index, arith}
-use Rattle.stm_words.specs.View.{View}
+use Rattle.tx_memory.specs.View.{View}
 use Rattle.stm_logs.specs.Log.{LogValue, empty_log, log_pairs}
 use Rattle.stm_region.specs.Shown.{RegionShown, ClientShown}
 use Rattle.stm_attempt.specs.Meaning.{memory_of, origin_of}

@@ -1,7 +1,7 @@
 -- What the calls on an item make of it.
 use Rattle.std.proofs.Common.{◌≡◌, ℕ, ◌+◌, ◌<◌, ◌≤◌, ◌^◌, List, ap, ◌∙◌, arith}
 use Rattle.std.specs.Prelude.{None}
-use Rattle.stm_words.specs.View.{View, Sees, Kept, Stored}
+use Rattle.tx_memory.specs.View.{View, Sees, Kept, Stored}
 use Rattle.tx_alloc.specs.Steps.{mem}
 use Rattle.vac_model.specs.declared.items.Item.{Item}
 use Rattle.vac_model.specs.Step.{added}

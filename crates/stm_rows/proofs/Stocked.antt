@@ -1,6 +1,6 @@
 -- The memory of the tests of lists, at the opening of a region and in an attempt that begins.
 use Rattle.std.proofs.Common.{◌≡◌, ℕ, List, length, slice_index}
-use Rattle.stm_words.specs.View.{View}
+use Rattle.tx_memory.specs.View.{View}
 use Rattle.stock_rows.specs.Stock.{IsStock, IsStocked, HasStock}
 use Rattle.stock_rows.proofs.Stocked.{stock_start}
 use Rattle.stm_rows.specs.Laws.{Fits, HoldsUnder}

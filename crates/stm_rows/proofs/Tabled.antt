@@ -1,7 +1,7 @@
 -- Tables in heaps of ten blocks.
 use Rattle.std.proofs.Common.{◌≡◌, ℕ, ◌+◌, ◌-◌, ◌*◌, ◌<◌, List, [], Option, Some, None, MatchOption, length, slice_index, refl, sym, subst, ◌∙◌, arith}
-use Rattle.stm_words.specs.View.{View, Loaded}
-use Rattle.stm_words.specs.Plain.{flat_view}
+use Rattle.tx_memory.specs.View.{View, Loaded}
+use Rattle.tx_memory.specs.Plain.{flat_view}
 use Rattle.tx_tree.specs.Table.{IsTable, HasTable, Found, FoundAt, NextFound, IsFresh, Inserted, Removed}
 use Rattle.tx_tree.proofs.Counting.{has_table, after_reads, after_put, after_cut, fresh_read, none_yet}
 use Rattle.tx_tree.proofs.TableFrame.{table_empty}

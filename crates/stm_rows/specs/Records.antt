@@ -1,6 +1,6 @@
 -- Memories of 96 words with an item or a customer in a block.
 use Rattle.std.specs.Prelude.{◌≡◌, ℕ, List, [], ◌∷◌, length}
-use Rattle.stm_words.specs.View.{View, Sees}
+use Rattle.tx_memory.specs.View.{View, Sees}
 use Rattle.vac_model.specs.declared.items.Kind.TheVariants.{Flight}
 use Rattle.tx_list.specs.Lists.{IsListAt}
 use Rattle.vac_records.specs.Items.{mem, item_in, IsNode}

@@ -4,7 +4,8 @@ ghost use Rattle.stm_core.specs.Core.{IsFreeHanded};
 
 use stm_attempt::{Attempt, Logs, NoGate, Refusal, Stop};
 use stm_region::{Client, Region};
-use stm_words::{Addr, FreeLaw, TxMem, TxRead, Version};
+use stm_words::{FreeLaw, Version};
+use tx_memory::{Addr, TxMem, TxRead};
 
 /// One attempt that writes a word. Its client then knows the version that it answers, and no later
 /// one.

@@ -8,7 +8,8 @@ use std::process::Abort;
 use std::test::Fail;
 use stm_attempt::{Attempt, Conflict, Logs, NoGate, ReadAttempt, Refusal, Stop};
 use stm_region::{Client, Region};
-use stm_words::{Addr, FreeLaw, TxMem, TxRead, Version};
+use stm_words::{FreeLaw, Version};
+use tx_memory::{Addr, TxMem, TxRead};
 
 /// The sum of two words.
 fn sum_of<M: TxRead>(memory: &mut M, first: Addr, second: Addr) -> Result<u64, M::Stop>

@@ -7,7 +7,8 @@ use crate::same::{same, split, version};
 use std::test::Fail;
 use stm_attempt::{Attempt, Conflict, Logs, NoGate, Stop};
 use stm_region::{Client, Region};
-use stm_words::{Addr, FreeLaw, TxMem, TxRead, Version};
+use stm_words::{FreeLaw, Version};
+use tx_memory::{Addr, TxMem, TxRead};
 
 /// Reads word 9 and writes a word, while the other client writes 1 to word 9.
 fn write_beside_a_commit(

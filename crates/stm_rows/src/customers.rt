@@ -10,8 +10,8 @@ use crate::words::has_words;
 use std::test::Fail;
 use stm_attempt::{Attempt, Logs};
 use stm_region::{Client, Region};
-use stm_words::{Addr, Flat, TxMem};
 use tx_alloc::Block;
+use tx_memory::{Addr, Flat, TxMem};
 use vac_model::Booking;
 use vac_records::{
     Kind, bill, book, book_more, booking_at, booking_of, init_customer, sum_at, unbook, units_at,

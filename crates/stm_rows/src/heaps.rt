@@ -11,8 +11,9 @@ use std::alloc::Global;
 use std::test::Fail;
 use stm_attempt::{Attempt, Logs, NoGate};
 use stm_region::{Client, Region};
-use stm_words::{Addr, Flat, Law, TxMem, Version};
+use stm_words::{Law, Version};
 use tx_alloc::{Block, FreeList, fresh_words, give, take};
+use tx_memory::{Addr, Flat, TxMem};
 
 /// An image fits where it is a heap of ten blocks, and a record is lawful where it keeps fitting
 /// images that agree with its reads.

@@ -9,9 +9,10 @@ use std::alloc::{AllocError, Global};
 use std::test::Fail;
 use stm_attempt::{Attempt, Logs};
 use stm_region::{Client, Region};
-use stm_words::{Addr, Law, TxMem, load};
+use stm_words::Law;
 use tx_alloc::{Block, FreeList, take};
 use tx_list::Key;
+use tx_memory::{Addr, TxMem, load};
 
 /// An image fits, however long it is, where the words that lead to a table, to a list and to free
 /// blocks are 0, and a record is lawful where it keeps fitting images that agree with its reads.

@@ -9,9 +9,10 @@ use std::alloc::Global;
 use std::test::Fail;
 use stm_attempt::{Attempt, Logs};
 use stm_region::{Client, Region};
-use stm_words::{Addr, Flat, Law, TxMem, TxRead};
+use stm_words::Law;
 use stock_rows::{HEAD, look, stock_words, turn};
 use tx_list::{Key, first, next};
+use tx_memory::{Addr, Flat, TxMem, TxRead};
 
 /// An image fits where its head leads to a list and each block has its key, and a record is lawful
 /// where it keeps fitting images that agree with its reads.

@@ -11,7 +11,8 @@ use std::test::Fail;
 use stm_attempt::{Attempt, Logs, NoGate, Refusal, Stop};
 use stm_logs::{ReadLog, WriteLog};
 use stm_region::{Client, Region};
-use stm_words::{Addr, FreeLaw, TxMem, TxRead, Version};
+use stm_words::{FreeLaw, Version};
+use tx_memory::{Addr, TxMem, TxRead};
 
 /// Pushes addresses until memory is refused. Gives the length of the log.
 fn fill<A: Allocator + Copy>(log: &mut ReadLog<A>) -> usize {

@@ -6,7 +6,8 @@ use crate::same::{same, split, version};
 use std::test::Fail;
 use stm_attempt::{Attempt, Conflict, Logs, Point, Stop};
 use stm_region::Region;
-use stm_words::{Addr, FreeLaw, TxMem, TxRead};
+use stm_words::FreeLaw;
+use tx_memory::{Addr, TxMem, TxRead};
 
 /// Its tick comes between the locks and the tick of the other one, and is the first after its read
 /// version: it decides, though the word that it has read is locked.

@@ -6,7 +6,8 @@ use std::alloc::{Allocator, Global};
 use std::test::Fail;
 use stm_attempt::{Attempt, Logs, NoGate, Refusal, Stop};
 use stm_region::{Region, RegionFault};
-use stm_words::{Addr, FreeLaw, TxMem, TxRead, Version};
+use stm_words::{FreeLaw, Version};
+use tx_memory::{Addr, TxMem, TxRead};
 
 /// How many words were read or written, what came then, and what the commit answered.
 type Ended = (u32, Option<Refusal>, Result<Version, Stop>);

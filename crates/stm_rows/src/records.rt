@@ -9,8 +9,9 @@ use crate::words::has_words;
 use std::test::Fail;
 use stm_attempt::{Attempt, Logs};
 use stm_region::{Client, Region};
-use stm_words::{Addr, Flat, Law, TxMem, TxRead};
+use stm_words::Law;
 use tx_alloc::Block;
+use tx_memory::{Addr, Flat, TxMem, TxRead};
 use vac_records::{
     Item, add_total, cancel, free_at, init_item, item_at, make, price_at, set_price, sub_total,
     total_at, used_at,

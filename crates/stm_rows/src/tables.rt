@@ -9,9 +9,10 @@ use std::alloc::Global;
 use std::test::Fail;
 use stm_attempt::{Attempt, Logs};
 use stm_region::{Client, Region};
-use stm_words::{Addr, Flat, Law, TxMem, TxRead, load};
+use stm_words::Law;
 use tx_alloc::Block;
 use tx_alloc::place::MOST_BLOCKS;
+use tx_memory::{Addr, Flat, TxMem, TxRead, load};
 use tx_tree::{find, insert, least_above, remove};
 
 const ROOT: Addr = Addr(3);

@@ -11,7 +11,8 @@ use std::thread;
 use std::thread::Threads;
 use stm_attempt::{Attempt, Logs, NoGate};
 use stm_region::{Client, Region};
-use stm_words::{Addr, FreeLaw, TxMem};
+use stm_words::FreeLaw;
+use tx_memory::{Addr, TxMem};
 
 const COMMITS: usize = 2_000;
 

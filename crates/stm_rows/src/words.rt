@@ -1,8 +1,8 @@
 //! Words as a transaction reads them.
 ghost use Rattle.std.specs.Prelude.{◌≡◌, ◌≤◌};
 
-use stm_words::{Addr, TxRead};
 use tx_alloc::Block;
+use tx_memory::{Addr, TxRead};
 
 /// Whether the first words are these.
 pub(crate) fn has_words<M: TxRead>(

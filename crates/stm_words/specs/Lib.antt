@@ -1,8 +1,1 @@
-pub mod Image
 pub mod LockWord
-pub mod View
-pub mod Seen
-pub mod Plain
-pub mod PlainSeen
-pub mod Pairs
-pub mod Paired

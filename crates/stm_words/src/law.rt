@@ -1,7 +1,7 @@
 //! Tags of records, and laws of which records are lawful.
 
 ghost use Rattle.std.specs.Prelude.{ℕ, List, [], ◌∷◌};
-ghost use Rattle.stm_words.specs.Image.{Agrees, laid};
+ghost use Rattle.tx_memory.specs.Image.{Agrees, laid};
 
 /// What stands in a record beside its reads and writes, seen as a list of whole numbers.
 pub trait Tag {

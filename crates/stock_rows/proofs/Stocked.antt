@@ -2,9 +2,9 @@
 use Rattle.std.proofs.Common.{◌≡◌, inl, inr, ℕ, ◌+◌, ◌-◌, ◌*◌, ◌/◌, ◌%◌, ◌<◌, List, [], length, slice_index, Option, None, unwrap_or, nat_eq, nat_lt, get_or, set, get_or-set_same, get_or-set_other, true, false, refl, sym, ap, ◌∙◌, subst, arith}
 use Rattle.std.proofs.lemmas.Bool.Decides.{nat_tests}
 use Rattle.std.proofs.lemmas.Bool.{cases_lt}
-use Rattle.stm_words.specs.Plain.{flat_view, numbered}
-use Rattle.stm_words.specs.PlainSeen.{get_at}
-use Rattle.stm_words.specs.View.{View, Kept, memory}
+use Rattle.tx_memory.specs.Plain.{flat_view, numbered}
+use Rattle.tx_memory.specs.PlainSeen.{get_at}
+use Rattle.tx_memory.specs.View.{View, Kept, memory}
 use Rattle.tx_alloc.specs.Pointer.{pointer}
 use Rattle.tx_alloc.specs.Pool.{IsBlock}
 use Rattle.tx_alloc.specs.Rows.{Rows, times, put_row, block_at, Relinks}

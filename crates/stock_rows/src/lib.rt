@@ -6,9 +6,9 @@ ghost use Rattle.std.specs.Prelude.{◌≡◌, ◌+◌, ◌*◌, ◌<◌, IfOk};
 ghost use Rattle.stock_rows.specs.Stock.{IsStock, IsStockKey, HasStock, stock_block, stock_word};
 
 use std::alloc::{AllocError, Global};
-use stm_words::{Addr, TxMem, TxRead};
 use tx_alloc::Block;
 use tx_list::{Key, find, insert, remove};
+use tx_memory::{Addr, TxMem, TxRead};
 
 /// The word that leads to the list.
 pub const HEAD: Addr = Addr(5);

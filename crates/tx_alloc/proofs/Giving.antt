@@ -1,7 +1,7 @@
 -- A block is given back, over every memory that there may be.
 use Rattle.std.proofs.Common.{◌≡◌, ℕ, ◌+◌, ◌<◌, ◌≤◌, List, length, ◌∙◌, arith}
-use Rattle.stm_words.specs.Seen.{some_le}
-use Rattle.stm_words.specs.View.{View, RestsOn, Kept, Loaded, Stored, IsWrite}
+use Rattle.tx_memory.specs.Seen.{some_le}
+use Rattle.tx_memory.specs.View.{View, RestsOn, Kept, Loaded, Stored, IsWrite}
 use Rattle.tx_alloc.specs.Steps.{mem, kept_both, stood, write_at_start}
 use Rattle.tx_alloc.specs.Pool.{HasUsed, Given}
 use Rattle.tx_alloc.proofs.Moves.{give_pool}

@@ -2,7 +2,7 @@
 use Rattle.std.proofs.Common.{◌≡◌, ◌≢◌, inl, inr, ℕ, ◌+◌, ◌<◌, ◌≤◌, true, false, nat_eq, nat_lt, [], ◌∷◌, cond, ◌++◌, refl, ap, arith}
 use Rattle.std.proofs.lemmas.Bool.{cases_lt}
 use Rattle.std.proofs.lemmas.Bool.Decides.{nat_tests}
-use Rattle.stm_words.specs.Seen.{same_or}
+use Rattle.tx_memory.specs.Seen.{same_or}
 use Rattle.tx_alloc.specs.Rows.{Rows, times, put_row, cut_row, block_at, AllBelow, IsFrom}
 
 pub from_lower : (lo lo' : ℕ) (rs : Rows) → lo' ≤ lo → IsFrom lo rs → IsFrom lo' rs

@@ -1,8 +1,8 @@
 -- A list that has no block gets a run of another one's, over every memory that there may be.
 use Rattle.std.proofs.Common.{◌≡◌, ◌≢◌, inl, inr, ℕ, ◌+◌, ◌%◌, ◌<◌, ◌≤◌, List, [], ◌∷◌, ◌++◌, append_assoc, append-nil, length, length-append, cond, nat_eq, refl, sym, ap, ◌∙◌, subst, arith}
 use Rattle.std.proofs.lemmas.Bool.Decides.{nat_tests}
-use Rattle.stm_words.specs.Seen.{same_or, some_le}
-use Rattle.stm_words.specs.View.{View, Words, memory, Sees, RestsOn, Kept, Loaded, Stored, IsWrite}
+use Rattle.tx_memory.specs.Seen.{same_or, some_le}
+use Rattle.tx_memory.specs.View.{View, Words, memory, Sees, RestsOn, Kept, Loaded, Stored, IsWrite}
 use Rattle.tx_alloc.specs.Steps.{mem, kept_both, stood, at_start, write_at_start}
 use Rattle.tx_alloc.specs.Pool.{IsBlock, Free, IsPool, HasPool, Taken, held, with_at, with_block}
 use Rattle.tx_alloc.specs.Drawing.{Drawn, IsDry, IsRefilling, IsRun, Refilled, Walked}

@@ -2,7 +2,7 @@
 use Rattle.std.proofs.Common.{◌≡◌, ◌≢◌, inl, inr, ℕ, ◌+◌, ◌*◌, ◌<◌, ◌≤◌, List, nat_eq, nat_lt, true, false, length, slice_index, refl, arith, zero, suc}
 use Rattle.std.proofs.lemmas.Bool.Decides.{nat_tests}
 use Rattle.std.proofs.lemmas.Bool.{cases_lt, lt-ltb, le-ltb}
-use Rattle.stm_words.specs.Seen.{same_or}
+use Rattle.tx_memory.specs.Seen.{same_or}
 use Rattle.tx_alloc.specs.Pool.{Free, held, sum_below, IsPool, place_of}
 use Rattle.tx_alloc.specs.Spread.{IsSpreadHeap, share, spread_start, blocks_from, spread_lists}
 use Rattle.tx_alloc.proofs.Sums.{sum_one}

@@ -2,7 +2,7 @@
 use Rattle.std.proofs.Common.{◌≡◌, ◌≢◌, inl, inr, ℕ, ◌+◌, ◌<◌, ◌≤◌, [], ◌∷◌, cond, nat_eq, length, true, false, refl, sym, ap, ◌∙◌, arith}
 use Rattle.std.proofs.lemmas.Bool.Decides.{nat_tests}
 use Rattle.std.proofs.lemmas.Bool.{cases_lt}
-use Rattle.stm_words.specs.Seen.{same_or}
+use Rattle.tx_memory.specs.Seen.{same_or}
 use Rattle.tx_alloc.specs.Rows.{Rows, times, put_row, cut_row, block_at}
 
 pub times_first : (k a : ℕ) (rs : Rows) → 0 < times a ((k, a) ∷ rs)

@@ -1,6 +1,6 @@
 -- A block is taken, and a list that has none gets a run of another one's blocks.
 use Rattle.std.specs.Prelude.{◌≡◌, ◌≢◌, ℕ, ◌+◌, ◌%◌, ◌<◌, ◌≤◌, List, [], ◌∷◌, ◌++◌, length}
-use Rattle.stm_words.specs.View.{View, Sees, Kept}
+use Rattle.tx_memory.specs.View.{View, Sees, Kept}
 use Rattle.tx_alloc.specs.Steps.{mem}
 use Rattle.tx_alloc.specs.Pool.{Free, IsBlock, IsPool, held, with_at, with_block}
 use Rattle.tx_alloc.specs.declared.place.TheConstants.{LISTS, FIRST_HEAD, BLOCK_WORDS, RUN_BLOCKS}

@@ -1,6 +1,6 @@
 -- Pointers: the place of a block's first word, or 0 for none.
 use Rattle.std.specs.Prelude.{◌≢◌, ℕ, ◌+◌, ◌<◌, ◌≤◌, ◌^◌, List, length, Option, Some, None}
-use Rattle.stm_words.specs.View.{View, RestsOn}
+use Rattle.tx_memory.specs.View.{View, RestsOn}
 use Rattle.tx_alloc.specs.Pool.{IsBlock}
 use Rattle.tx_alloc.specs.Steps.{mem}
 use Rattle.tx_alloc.specs.declared.place.TheConstants.{FIRST_BLOCK, BLOCK_WORDS}

@@ -1,6 +1,6 @@
 -- The blocks of a memory: free ones in eight lists, and taken ones.
 use Rattle.std.specs.Prelude.{◌≡◌, ◌≢◌, ℕ, ◌+◌, ◌*◌, ◌%◌, ◌<◌, ◌≤◌, ◌^◌, List, [], ◌∷◌, cond, nat_eq, nat_lt, length, slice_index, zero, suc}
-use Rattle.stm_words.specs.View.{View, Sees, RestsOn, Kept, IsWrite}
+use Rattle.tx_memory.specs.View.{View, Sees, RestsOn, Kept, IsWrite}
 use Rattle.tx_alloc.specs.Steps.{mem}
 use Rattle.tx_alloc.specs.declared.place.TheConstants.{LISTS, FIRST_HEAD, FIRST_BLOCK, BLOCK_WORDS}
 

@@ -1,7 +1,7 @@
 -- Steps of a memory, one after the other.
 use Rattle.std.proofs.Common.{◌≡◌, ℕ, List, refl, ◌∙◌}
-use Rattle.stm_words.specs.View.{View, Sees, RestsOn, Kept, Loaded, Stored, IsWrite}
-pub use Rattle.stm_words.specs.View.{mem}
+use Rattle.tx_memory.specs.View.{View, Sees, RestsOn, Kept, Loaded, Stored, IsWrite}
+pub use Rattle.tx_memory.specs.View.{mem}
 
 pub kept_none : (s : View) → Kept s s
 kept_none s = record { size = refl; seen = λ image i. i }

@@ -3,7 +3,7 @@
 ghost use Rattle.std.specs.Prelude.{◌≡◌, ◌+◌, ◌<◌, ◌^◌};
 
 use std::marker::Model;
-use stm_words::Addr;
+use tx_memory::Addr;
 
 /// A block, by its first word: in contracts the address of that word.
 #[derive(Clone, Copy, Debug, PartialEq, Eq)]

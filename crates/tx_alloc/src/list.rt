@@ -4,7 +4,7 @@ ghost use Rattle.std.specs.Prelude.{◌≡◌, ◌+◌, ◌%◌, ◌<◌};
 
 use crate::place::{FIRST_HEAD, LISTS};
 use std::marker::Model;
-use stm_words::Addr;
+use tx_memory::Addr;
 
 /// One of the eight lists of free blocks: in contracts its number, which is below 8.
 #[derive(Clone, Copy, Debug, PartialEq, Eq)]

@@ -6,7 +6,7 @@ ghost use Rattle.tx_alloc.specs.Pool.{HasPool, HasUsed, NoneFree, Taken, Given};
 use crate::block::Block;
 use crate::list::FreeList;
 use crate::place::{FIRST_HEAD, LISTS};
-use stm_words::{Addr, TxMem, load, store};
+use tx_memory::{Addr, TxMem, load, store};
 
 /// Takes the first block of the first list that has one. The lists are looked at from `start` on,
 /// and list 0 follows list 7. `None` says that all eight are empty.

@@ -7,7 +7,7 @@ ghost use Rattle.tx_alloc.specs.Drawing.{Begins, Drawn, IsDry, Refilled, Walked}
 use crate::block::Block;
 use crate::list::FreeList;
 use crate::place::{LISTS, RUN_BLOCKS};
-use stm_words::{Addr, TxMem, TxRead, load, store};
+use tx_memory::{Addr, TxMem, TxRead, load, store};
 
 /// The end of a run of free blocks.
 #[derive(Clone, Copy)]

@@ -2,8 +2,8 @@
 use Rattle.std.proofs.Common.{◌≡◌, ◌≢◌, ◌⊎◌, inl, inr, ℕ, ◌+◌, ◌<◌, ◌≤◌, [], ◌∷◌, List, length, Option, Some, None, refl, sym, ap, ◌∙◌, subst, arith}
 use Rattle.std.proofs.lemmas.Bool.Decides.{nat_tests}
 use Rattle.std.proofs.lemmas.Bool.{cases_lt}
-use Rattle.stm_words.specs.Seen.{some_le, same_or}
-use Rattle.stm_words.specs.View.{View, RestsOn, Loaded, Stored, IsWrite}
+use Rattle.tx_memory.specs.Seen.{some_le, same_or}
+use Rattle.tx_memory.specs.View.{View, RestsOn, Loaded, Stored, IsWrite}
 use Rattle.tx_alloc.specs.Pointer.{pointer, IsWithin}
 use Rattle.tx_alloc.specs.Rows.{Rows, times, put_row, cut_row, block_at, Relinks}
 use Rattle.tx_alloc.specs.Steps.{mem, kept_none, kept_both, write_at_start}

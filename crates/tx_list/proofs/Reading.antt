@@ -1,8 +1,8 @@
 -- Pointers of a list, read over every memory that there may be.
 use Rattle.std.proofs.Common.{◌≡◌, ◌≢◌, inl, inr, ℕ, ◌+◌, ◌<◌, ◌≤◌, ◌^◌, List, [], ◌∷◌, length, Some, sym, ap, ◌∙◌, subst, arith}
 use Rattle.std.proofs.lemmas.Bool.Decides.{nat_tests}
-use Rattle.stm_words.specs.Seen.{some_le, same_or}
-use Rattle.stm_words.specs.View.{View, RestsOn, Loaded}
+use Rattle.tx_memory.specs.Seen.{some_le, same_or}
+use Rattle.tx_memory.specs.View.{View, RestsOn, Loaded}
 use Rattle.tx_alloc.specs.Pool.{IsBlock}
 use Rattle.tx_alloc.specs.Rows.{Rows, times}
 use Rattle.tx_alloc.specs.Steps.{mem, stood}

@@ -2,8 +2,8 @@
 use Rattle.std.proofs.Common.{◌≡◌, ◌≢◌, ℕ, ◌+◌, ◌<◌, ◌≤◌, ◌^◌, List, length, Option, Some, None, refl, sym, ◌∙◌, arith}
 use Rattle.std.specs.declared.cmp.Ordering.{Ordering}
 use Rattle.std.specs.declared.cmp.Ordering.TheVariants.{Less, Equal, Greater}
-use Rattle.stm_words.specs.Seen.{some_le}
-use Rattle.stm_words.specs.View.{View, Sees, RestsOn, Kept, Loaded}
+use Rattle.tx_memory.specs.Seen.{some_le}
+use Rattle.tx_memory.specs.View.{View, Sees, RestsOn, Kept, Loaded}
 use Rattle.tx_alloc.specs.Pool.{IsBlock}
 use Rattle.tx_alloc.specs.Rows.{Rows}
 use Rattle.tx_alloc.specs.Steps.{mem, kept_none, kept_both, stood, at_start}

@@ -1,6 +1,6 @@
 -- A spot that was sought, and how long it stays one.
 use Rattle.std.proofs.Common.{◌≡◌, inl, inr, ℕ, ◌<◌, ◌≢◌, List, length, Some, sym, ap, ◌∙◌, arith}
-use Rattle.stm_words.specs.View.{View, Sees}
+use Rattle.tx_memory.specs.View.{View, Sees}
 use Rattle.tx_alloc.specs.Rows.{Rows, times, SameLinks}
 use Rattle.tx_alloc.specs.Steps.{mem}
 use Rattle.tx_list.specs.Bookings.{place_code}

@@ -1,6 +1,6 @@
 -- What the calls on a list of bookings need, and what they do.
 use Rattle.std.specs.Prelude.{◌≡◌, ◌⊎◌, ℕ, ◌+◌, ◌<◌, ◌≤◌, ◌^◌, List, length, Option, None}
-use Rattle.stm_words.specs.View.{View, Sees, RestsOn, Kept}
+use Rattle.tx_memory.specs.View.{View, Sees, RestsOn, Kept}
 use Rattle.tx_alloc.specs.declared.place.TheConstants.{BLOCK_WORDS}
 use Rattle.tx_alloc.specs.Pointer.{pointer, IsWithin}
 use Rattle.tx_alloc.specs.Pool.{IsBlock}

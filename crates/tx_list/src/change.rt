@@ -9,9 +9,9 @@ ghost use Rattle.tx_list.specs.Search.{Hung, Unhung};
 use crate::key::Key;
 use crate::place::NEXT;
 use crate::search::{Spot, seek};
-use stm_words::{Addr, TxMem, load, store};
 use tx_alloc::Block;
 use tx_alloc::place::BLOCK_WORDS;
+use tx_memory::{Addr, TxMem, load, store};
 
 /// Hangs a block into the list at `head`. Its words have the key already, and no booking of the
 /// list has it.

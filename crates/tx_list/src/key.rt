@@ -5,9 +5,9 @@ ghost use Rattle.tx_list.specs.Search.{Compared};
 
 use crate::place::{ID, KIND};
 use std::cmp::Ordering;
-use stm_words::{TxRead, load};
 use tx_alloc::Block;
 use tx_alloc::place::BLOCK_WORDS;
+use tx_memory::{TxRead, load};
 
 /// The kind and the id of what is booked, as a booking's words have them.
 ///

@@ -9,8 +9,8 @@ ghost use Rattle.tx_list.specs.Search.{Followed, Sought};
 use crate::key::{Key, compare_key};
 use crate::place::NEXT;
 use std::cmp::Ordering;
-use stm_words::{Addr, TxRead, load};
 use tx_alloc::Block;
+use tx_memory::{Addr, TxRead, load};
 
 /// Where a key stands in a list, or would stand. It stays good until a word of the list that leads
 /// on is written.

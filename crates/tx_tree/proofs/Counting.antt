@@ -1,9 +1,9 @@
 -- A table with the number of its entries over the calls of this crate, by their contracts alone.
 use Rattle.std.proofs.Common.{◌≡◌, ℕ, zero, suc, ◌+◌, ◌-◌, ◌*◌, ◌<◌, ◌≤◌, List, [], ◌∷◌, length, slice_index, unwrap_or, Option, Some, refl, sym, ap, ◌∙◌, subst, arith, get_or}
 use Rattle.std.specs.FinMap.{get}
-use Rattle.stm_words.specs.View.{View, Kept, Loaded}
-use Rattle.stm_words.specs.Plain.{flat_view, numbered}
-use Rattle.stm_words.specs.PlainSeen.{get_at}
+use Rattle.tx_memory.specs.View.{View, Kept, Loaded}
+use Rattle.tx_memory.specs.Plain.{flat_view, numbered}
+use Rattle.tx_memory.specs.PlainSeen.{get_at}
 use Rattle.tx_alloc.specs.Steps.{mem, stood}
 use Rattle.tx_alloc.specs.Rows.{put_row, cut_row}
 use Rattle.tx_alloc.proofs.Times.{length_put, length_cut}

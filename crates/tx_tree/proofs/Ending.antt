@@ -1,6 +1,6 @@
 -- From a place in a tree to the whole, and steps at a place given by sides.
 use Rattle.std.proofs.Common.{◌≡◌, ℕ, ◌+◌, Bool, true, false, not, cond, ◌∙◌, subst}
-use Rattle.stm_words.specs.View.{IsWrite}
+use Rattle.tx_memory.specs.View.{IsWrite}
 use Rattle.tx_alloc.specs.Rows.{Rows}
 use Rattle.tx_tree.specs.Tree.{Tree, join, rows}
 use Rattle.tx_tree.specs.Way.{Way, top, step, plug}

@@ -1,7 +1,7 @@
 -- An insertion: the block is hung where the search ended, and the tree is settled.
 use Rattle.std.proofs.Common.{◌≡◌, ◌≢◌, inl, inr, ℕ, ◌+◌, ◌<◌, ◌≤◌, true, List, ◌∷◌, ◌++◌, length, slice_index, refl, sym, ap, ◌∙◌, subst, arith, append_assoc}
-use Rattle.stm_words.specs.Seen.{same_or, some_le}
-use Rattle.stm_words.specs.View.{View, Sees, RestsOn, Kept, Stored, IsWrite}
+use Rattle.tx_memory.specs.Seen.{same_or, some_le}
+use Rattle.tx_memory.specs.View.{View, Sees, RestsOn, Kept, Stored, IsWrite}
 use Rattle.tx_alloc.specs.Pool.{with_block}
 use Rattle.tx_alloc.specs.Steps.{mem, kept_both, stood, write_at_start}
 use Rattle.tx_alloc.specs.Rows.{Rows, times, put_row, block_at, Relinks, AllBelow, IsFrom}

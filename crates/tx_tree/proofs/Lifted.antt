@@ -1,6 +1,6 @@
 -- A tree that lacks a black node: the steps, in one memory.
 use Rattle.std.proofs.Common.{◌≡◌, ◌≢◌, ℕ, ◌+◌, ◌-◌, Bool, true, false, not, cond, refl, sym, ap, ◌∙◌, subst, arith, append_assoc}
-use Rattle.stm_words.specs.View.{IsWrite}
+use Rattle.tx_memory.specs.View.{IsWrite}
 use Rattle.tx_alloc.specs.Pool.{IsBlock}
 use Rattle.tx_tree.specs.Tree.{Tree, leaf, node, join, rows, is_red}
 use Rattle.tx_tree.specs.Way.{Way, step, plug}

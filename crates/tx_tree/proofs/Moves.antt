@@ -1,8 +1,8 @@
 -- What inserting, unlinking and replacing a block make of a way and the tree at its end.
 use Rattle.std.proofs.Common.{◌≡◌, ◌≢◌, inl, inr, ℕ, ◌+◌, ◌-◌, ◌<◌, ◌≤◌, Bool, true, not, [], ◌∷◌, refl, sym, ap, ◌∙◌, subst, arith}
 use Rattle.std.proofs.lemmas.Bool.Decides.{nat_tests}
-use Rattle.stm_words.specs.View.{IsWrite}
-use Rattle.stm_words.specs.Seen.{same_or}
+use Rattle.tx_memory.specs.View.{IsWrite}
+use Rattle.tx_memory.specs.Seen.{same_or}
 use Rattle.tx_alloc.specs.Pool.{IsBlock, with_block}
 use Rattle.tx_alloc.specs.Rows.{times}
 use Rattle.tx_tree.specs.Tree.{Tree, leaf, node, join}

@@ -1,7 +1,7 @@
 -- The least node of the right side takes the place of a node that goes, in one memory.
 use Rattle.std.proofs.Common.{◌≡◌, inl, inr, ℕ, ◌+◌, ◌-◌, Bool, true, false, cond, nat_eq, [], ◌∷◌, ◌++◌, refl, sym, ap, ◌∙◌, subst, arith}
-use Rattle.stm_words.specs.Seen.{same_or}
-use Rattle.stm_words.specs.View.{IsWrite}
+use Rattle.tx_memory.specs.Seen.{same_or}
+use Rattle.tx_memory.specs.View.{IsWrite}
 use Rattle.tx_alloc.specs.Pool.{with_block}
 use Rattle.tx_alloc.specs.Rows.{Rows}
 use Rattle.tx_tree.specs.Tree.{Tree, leaf, node, rows, blacks, is_red, IsEven, IsApart}

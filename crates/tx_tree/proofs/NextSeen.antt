@@ -1,6 +1,6 @@
 -- The least node of the right side takes the place of a node that goes, over every memory that there may be.
 use Rattle.std.proofs.Common.{◌≡◌, ◌≢◌, ℕ, ◌+◌, ◌<◌, Bool, true, false, cond, [], ◌++◌, List, length, slice_index, slice_set, refl, sym, ap, ◌∙◌, subst, arith, get_or-set_same, get_or-set_other}
-use Rattle.stm_words.specs.View.{View, Loaded, Stored, IsWrite}
+use Rattle.tx_memory.specs.View.{View, Loaded, Stored, IsWrite}
 use Rattle.tx_alloc.specs.Steps.{mem, kept_both, write_at_start}
 use Rattle.tx_alloc.specs.Rows.{Rows}
 use Rattle.tx_tree.specs.Tree.{Tree, leaf, node, rows}

@@ -1,6 +1,6 @@
 -- A red node below a red one: the steps that end this, in one memory.
 use Rattle.std.proofs.Common.{◌≡◌, ◌≢◌, ℕ, ◌+◌, ◌-◌, ◌%◌, ◌≤◌, Bool, true, false, not, List, slice_index, refl, sym, ap, ◌∙◌, subst, arith, append_assoc}
-use Rattle.stm_words.specs.View.{IsWrite}
+use Rattle.tx_memory.specs.View.{IsWrite}
 use Rattle.tx_alloc.specs.Rows.{Rows}
 use Rattle.tx_tree.specs.Tree.{Tree, leaf, node, join, rows, is_red}
 use Rattle.tx_tree.specs.Way.{Way, top, step, plug, depth}

@@ -1,6 +1,6 @@
 -- A removal, over every memory that there may be.
 use Rattle.std.proofs.Common.{◌≡◌, ◌≢◌, ℕ, ◌+◌, ◌<◌, true, false, List, ◌++◌, length, sym, ap, ◌∙◌, subst, arith, append-nil}
-use Rattle.stm_words.specs.View.{View, Sees, Kept}
+use Rattle.tx_memory.specs.View.{View, Sees, Kept}
 use Rattle.tx_alloc.specs.Steps.{mem, kept_both, stood, at_start}
 use Rattle.tx_alloc.specs.Rows.{Rows, times, block_at}
 use Rattle.tx_tree.specs.Tree.{Tree, leaf, node, rows, blacks}

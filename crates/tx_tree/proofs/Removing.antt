@@ -1,7 +1,7 @@
 -- A removal: a node with one side at most goes, and the tree is mended.
 use Rattle.std.proofs.Common.{◌≡◌, ◌≢◌, inl, inr, ℕ, ◌+◌, ◌≤◌, Bool, true, false, List, length, slice_index, refl, sym, ap, ◌∙◌, arith, rules}
-use Rattle.stm_words.specs.Seen.{some_le}
-use Rattle.stm_words.specs.View.{View, RestsOn, Stored, IsWrite}
+use Rattle.tx_memory.specs.Seen.{some_le}
+use Rattle.tx_memory.specs.View.{View, RestsOn, Stored, IsWrite}
 use Rattle.tx_alloc.specs.Pool.{IsBlock}
 use Rattle.tx_alloc.specs.Steps.{mem, kept_both, stood, write_at_start}
 use Rattle.tx_tree.specs.Tree.{Tree, leaf, node, join, rows, blacks, is_red, EvenAt}

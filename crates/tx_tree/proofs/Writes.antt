@@ -1,6 +1,6 @@
 -- What single writes make of a way and the tree at its end.
 use Rattle.std.proofs.Common.{◌≡◌, ◌≢◌, inl, inr, ℕ, ◌+◌, ◌-◌, ◌<◌, ◌≤◌, Bool, true, false, not, cond, [], ◌∷◌, refl, sym, ap, ◌∙◌, subst, arith, add-zero}
-use Rattle.stm_words.specs.View.{IsWrite}
+use Rattle.tx_memory.specs.View.{IsWrite}
 use Rattle.tx_alloc.specs.Pool.{IsBlock}
 use Rattle.tx_alloc.specs.Rows.{times}
 use Rattle.tx_tree.specs.Tree.{Tree, node, join}

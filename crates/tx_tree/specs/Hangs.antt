@@ -1,6 +1,6 @@
 -- A tree in a flat memory. A block has key, left, right and colour in its first four words.
 use Rattle.std.specs.Prelude.{◌≡◌, ◌≢◌, ◌⊎◌, ℕ, ◌+◌, ◌-◌, ◌<◌, ◌≤◌, Bool, true, false, not, cond, nat_eq, [], ◌∷◌}
-use Rattle.stm_words.specs.View.{IsWrite}
+use Rattle.tx_memory.specs.View.{IsWrite}
 use Rattle.tx_alloc.specs.Pool.{IsBlock}
 use Rattle.tx_alloc.specs.Rows.{times}
 use Rattle.tx_alloc.specs.declared.place.TheConstants.{FIRST_BLOCK}

@@ -1,6 +1,6 @@
 -- What the steps that mend a tree say.
 use Rattle.std.specs.Prelude.{◌≡◌, ◌≢◌, ℕ, ◌+◌, ◌-◌, ◌%◌, ◌<◌, ◌≤◌, ◌^◌, List, length, slice_index, true, false}
-use Rattle.stm_words.specs.View.{View, Sees, RestsOn, Kept, IsWrite}
+use Rattle.tx_memory.specs.View.{View, Sees, RestsOn, Kept, IsWrite}
 use Rattle.tx_alloc.specs.Steps.{mem}
 use Rattle.tx_alloc.specs.Rows.{Rows}
 use Rattle.tx_alloc.specs.declared.place.TheConstants.{FIRST_BLOCK, BLOCK_WORDS}

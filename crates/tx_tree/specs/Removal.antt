@@ -1,6 +1,6 @@
 -- What the steps of a removal say.
 use Rattle.std.specs.Prelude.{◌≡◌, ℕ, ◌+◌, ◌<◌, ◌≤◌, ◌^◌, List, length, slice_index, Bool, false, not}
-use Rattle.stm_words.specs.View.{View, Sees, RestsOn, Kept}
+use Rattle.tx_memory.specs.View.{View, Sees, RestsOn, Kept}
 use Rattle.tx_alloc.specs.Steps.{mem}
 use Rattle.tx_alloc.specs.declared.place.TheConstants.{FIRST_BLOCK}
 use Rattle.tx_tree.specs.declared.path.TheConstants.{LEVELS}

@@ -1,6 +1,6 @@
 -- What the steps of a call say.
 use Rattle.std.specs.Prelude.{◌≡◌, ◌≢◌, ℕ, ◌+◌, ◌<◌, ◌≤◌, List, length, slice_index, Bool, true, false}
-use Rattle.stm_words.specs.View.{View, Sees, Kept, Loaded}
+use Rattle.tx_memory.specs.View.{View, Sees, Kept, Loaded}
 use Rattle.tx_alloc.specs.Steps.{mem}
 use Rattle.tx_alloc.specs.Rows.{Rows, times, AllBelow, IsFrom}
 use Rattle.tx_alloc.specs.declared.place.TheConstants.{FIRST_BLOCK, BLOCK_WORDS}

@@ -1,6 +1,6 @@
 -- A table by key. What stands above uses the lemmas on IsTable alone, and not its fields.
 use Rattle.std.specs.Prelude.{◌≡◌, ◌≢◌, ℕ, ◌+◌, ◌<◌, ◌≤◌, ◌^◌, List, [], ◌∷◌, length, false, cond, nat_lt, zero, suc, MatchOption, Option, Some, None}
-use Rattle.stm_words.specs.View.{View, Sees, RestsOn, Kept}
+use Rattle.tx_memory.specs.View.{View, Sees, RestsOn, Kept}
 use Rattle.tx_alloc.specs.Pool.{IsBlock}
 use Rattle.tx_alloc.specs.declared.place.TheConstants.{FIRST_BLOCK, BLOCK_WORDS, MOST_BLOCKS}
 use Rattle.tx_alloc.specs.Steps.{mem}

@@ -10,8 +10,8 @@ use crate::nodes::{is_red, load_node, transplant};
 use crate::path::Path;
 use crate::place::{BLACK, COLOUR, LEFT, RIGHT};
 use crate::search::{seek, seek_successor};
-use stm_words::{Addr, TxMem, store};
 use tx_alloc::Block;
+use tx_memory::{Addr, TxMem, store};
 
 /// The only child of a node, or none, takes its place, and the tree is mended.
 pub fn unlink<M: TxMem>(

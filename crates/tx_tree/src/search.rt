@@ -8,8 +8,8 @@ ghost use Rattle.tx_tree.specs.Lowest.{HasSpan, Lowest};
 use crate::nodes::load_node;
 use crate::path::{LEVELS, Path};
 use crate::place::{LEFT, RIGHT};
-use stm_words::{Addr, TxRead, load};
 use tx_alloc::Block;
+use tx_memory::{Addr, TxRead, load};
 
 /// An entry of a table: its key and its block.
 #[derive(Clone, Copy, Debug, PartialEq, Eq)]

@@ -9,7 +9,7 @@ use Rattle.std.specs.declared.cmp.Ordering.TheVariants.{Less, Equal, Greater}
 use Rattle.std.proofs.lemmas.Bool.{cases_lt}
 use Rattle.std.proofs.lemmas.Bool.Decides.{nat_tests}
 use Rattle.std.proofs.lemmas.Cmp.{ranked}
-use Rattle.stm_words.specs.Seen.{same_or}
+use Rattle.tx_memory.specs.Seen.{same_or}
 use Rattle.tx_list.specs.Bookings.{IsKey, code_of, key_code}
 use Rattle.tx_list.specs.Search.{key_cmp}
 use Rattle.tx_list.specs.declared.key.Key.{Key}

@@ -4,7 +4,7 @@ use Rattle.std.specs.Result.{IsErrAnd}
 use Rattle.std.specs.Prelude.{Result, Ok, Err, Some, None, IfErr, IfOk, OnOk, slice_index, not}
 use Rattle.std.proofs.lemmas.List.{append_assoc}
 use Rattle.std.proofs.lemmas.Bool.Decides.{nat_tests}
-use Rattle.stm_words.specs.Seen.{same_or}
+use Rattle.tx_memory.specs.Seen.{same_or}
 use Rattle.tx_alloc.specs.Pool.{IsBlock, held}
 use Rattle.tx_alloc.specs.Rows.{Rows, times}
 use Rattle.vac_audit.specs.Tree.{Tree, leaf, node, rows, is_red}

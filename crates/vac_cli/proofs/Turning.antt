@@ -1,7 +1,7 @@
 -- The calls of a load's journals stand in order.
 use Rattle.std.proofs.Common.{◌≡◌, ◌≤◌, ◌<◌, ◌&&◌, ◌||◌, eqb, ltb, Bool, false, refl, sym, subst, arith, ℕ, zero, suc, List, [], ◌∷◌, ◌++◌, get_or, length, map}
 use Rattle.std.proofs.lemmas.Bool.Decides.{nat_tests}
-use Rattle.stm_words.specs.Image.{In}
+use Rattle.tx_memory.specs.Image.{In}
 use Rattle.stm_core.specs.Client.{Record, before, rank}
 use Rattle.stm_core.specs.History.{Sub, done, keep, skip}
 use Rattle.stm_core.specs.Invariant.{Sorted}

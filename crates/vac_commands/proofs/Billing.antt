@@ -1,7 +1,7 @@
 -- The customer of a block: the bookings, their list and their bill.
 use Rattle.std.proofs.Common.{◌≡◌, ℕ, ◌≢◌, ◌≤◌, [], length, Some, None, refl, sym, ap, ◌∙◌, arith}
 use Rattle.std.specs.FinMap.{entries, len, len-entries}
-use Rattle.stm_words.specs.View.{View}
+use Rattle.tx_memory.specs.View.{View}
 use Rattle.vac_model.specs.declared.commands.Command.TheVariants as command
 use Rattle.vac_model.specs.declared.replies.Reply.TheVariants as reply
 use Rattle.vac_model.specs.State.{State, Bookings, bookings_of, bill_of}

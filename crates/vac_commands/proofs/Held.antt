@@ -1,7 +1,7 @@
 -- Memories that hold a state: what reads leave, what the calls on blocks, tables and lists ask for,
 -- and how a command's outcome is shown.
 use Rattle.std.proofs.Common.{◌≡◌, ℕ, ◌+◌, ◌<◌, List, [], length, Some, None, true, refl, sym, ap, ◌∙◌, subst, arith}
-use Rattle.stm_words.specs.View.{View, Words, Sees, RestsOn, Kept, memory}
+use Rattle.tx_memory.specs.View.{View, Words, Sees, RestsOn, Kept, memory}
 use Rattle.vac_model.specs.declared.items.Kind.{Kind}
 use Rattle.vac_model.specs.declared.commands.Command.{Command}
 use Rattle.vac_model.specs.declared.replies.Reply.{Reply}

@@ -1,6 +1,6 @@
 -- An item is taken out of its table, and its block is given back.
 use Rattle.std.proofs.Common.{◌≡◌, ◌≢◌, ℕ, ◌+◌, ◌<◌, List, [], ◌∷◌, length, sym, ◌∙◌, subst, arith}
-use Rattle.stm_words.specs.View.{View, Sees}
+use Rattle.tx_memory.specs.View.{View, Sees}
 use Rattle.vac_model.specs.declared.items.Kind.{Kind}
 use Rattle.vac_model.specs.State.{State, kind_number, without_item}
 use Rattle.tx_alloc.specs.Pool.{IsBlock, HasUsed, Given}

@@ -1,8 +1,8 @@
 -- Units are taken away from an item, and one with no unit left is removed.
 use Rattle.std.proofs.Common.{◌≡◌, ◌≢◌, ℕ, ◌+◌, ◌-◌, ◌<◌, ◌≤◌, List, [], length, Some, true, false, nat_eq, nat_lt, refl, sym, ap, ◌∙◌, arith}
 use Rattle.std.proofs.lemmas.Bool.Decides.{nat_tests}
-use Rattle.stm_words.specs.View.{View, Sees, RestsOn, Loaded}
-use Rattle.stm_words.specs.Seen.{some_le}
+use Rattle.tx_memory.specs.View.{View, Sees, RestsOn, Loaded}
+use Rattle.tx_memory.specs.Seen.{some_le}
 use Rattle.vac_model.specs.declared.items.Kind.{Kind}
 use Rattle.vac_model.specs.declared.items.Kind.TheVariants.{Flight}
 use Rattle.vac_model.specs.declared.items.Item.{Item}

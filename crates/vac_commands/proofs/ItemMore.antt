@@ -1,8 +1,8 @@
 -- Units are added to an item that is there, and its price is replaced where one is given.
 use Rattle.std.proofs.Common.{◌≡◌, ◌≢◌, ◌⊎◌, inl, inr, ℕ, ◌+◌, ◌<◌, ◌≤◌, ◌^◌, List, [], length, Option, Some, None, true, false, nat_lt, unwrap_or, refl, sym, ap, ◌∙◌, arith}
 use Rattle.std.proofs.lemmas.Bool.Decides.{nat_tests}
-use Rattle.stm_words.specs.Seen.{some_le}
-use Rattle.stm_words.specs.View.{View, Sees, RestsOn, Loaded, Stored}
+use Rattle.tx_memory.specs.Seen.{some_le}
+use Rattle.tx_memory.specs.View.{View, Sees, RestsOn, Loaded, Stored}
 use Rattle.vac_model.specs.declared.items.Kind.{Kind}
 use Rattle.vac_model.specs.declared.items.Item.{Item}
 use Rattle.vac_model.specs.declared.commands.Command.TheVariants as command

@@ -2,8 +2,8 @@
 use Rattle.std.proofs.Common.{◌≡◌, inl, inr, ℕ, ◌<◌, ◌≤◌, List, [], ◌∷◌, length, Some, None, true, false, cond, nat_eq, refl, ap, ◌∙◌, arith}
 use Rattle.std.proofs.lemmas.Bool.Decides.{nat_tests}
 use Rattle.std.specs.FinMap.{empty}
-use Rattle.stm_words.specs.View.{View, Sees, RestsOn}
-use Rattle.stm_words.specs.Seen.{some_le}
+use Rattle.tx_memory.specs.View.{View, Sees, RestsOn}
+use Rattle.tx_memory.specs.Seen.{some_le}
 use Rattle.vac_model.specs.declared.commands.Command.TheVariants as command
 use Rattle.vac_model.specs.declared.commands.Why.TheVariants.{Full, Exists}
 use Rattle.vac_model.specs.declared.replies.Reply.TheVariants as reply

@@ -3,8 +3,8 @@ use Rattle.std.proofs.Common.{◌≡◌, ◌≢◌, ℕ, ◌+◌, ◌-◌, ◌<�
 use Rattle.std.specs.Prelude.{IsSome}
 use Rattle.std.proofs.lemmas.Grind.{not_there}
 use Rattle.std.specs.FinMap.{entries, remove, len, len-entries}
-use Rattle.stm_words.specs.View.{View, Words, Sees, RestsOn, Loaded, memory}
-use Rattle.stm_words.specs.Seen.{some_le}
+use Rattle.tx_memory.specs.View.{View, Words, Sees, RestsOn, Loaded, memory}
+use Rattle.tx_memory.specs.Seen.{some_le}
 use Rattle.vac_model.specs.declared.items.Booking.{Booking}
 use Rattle.vac_model.specs.declared.commands.Command.TheVariants as command
 use Rattle.vac_model.specs.declared.replies.Reply.{Reply}

@@ -1,7 +1,7 @@
 -- The customer and the item of a command on bookings.
 use Rattle.std.proofs.Common.{◌≡◌, ◌≢◌, ℕ, ◌<◌, ◌^◌, List, [], length, Option, Some, None, sym, ap, ◌∙◌, subst, arith}
 use Rattle.std.specs.FinMap.{get}
-use Rattle.stm_words.specs.View.{View, Words, Sees, RestsOn, memory}
+use Rattle.tx_memory.specs.View.{View, Words, Sees, RestsOn, memory}
 use Rattle.vac_model.specs.declared.items.Kind.{Kind}
 use Rattle.vac_model.specs.State.{State, Place, item_of}
 use Rattle.tx_alloc.specs.Pointer.{pointer, IsWithin}

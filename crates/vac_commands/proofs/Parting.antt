@@ -2,7 +2,7 @@
 use Rattle.std.proofs.Common.{◌≡◌, ℕ, ◌<◌, List, [], ◌∷◌, length, Some, None, true, refl, sym, ap, ◌∙◌, arith}
 use Rattle.std.specs.Prelude.{Option}
 use Rattle.std.specs.FinMap.{empty, empty_of_len}
-use Rattle.stm_words.specs.View.{View, Sees}
+use Rattle.tx_memory.specs.View.{View, Sees}
 use Rattle.vac_model.specs.declared.commands.Command.TheVariants as command
 use Rattle.vac_model.specs.declared.commands.Why.TheVariants.{NoCustomer}
 use Rattle.vac_model.specs.declared.replies.Reply.TheVariants as reply

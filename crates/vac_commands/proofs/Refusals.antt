@@ -1,6 +1,6 @@
 -- Reserve and Cancel are refused where the customer or the item is missing.
 use Rattle.std.proofs.Common.{◌≡◌, ℕ, Some, None, refl}
-use Rattle.stm_words.specs.View.{View}
+use Rattle.tx_memory.specs.View.{View}
 use Rattle.vac_model.specs.declared.items.Kind.{Kind}
 use Rattle.vac_model.specs.declared.commands.Command.{Command}
 use Rattle.vac_model.specs.declared.commands.Command.TheVariants as command

@@ -1,6 +1,6 @@
 -- From what a command does to the memory under one image to what it does under all of them.
 use Rattle.std.proofs.Common.{◌≡◌, ℕ, ◌<◌, List, [], length, refl, sym, ap, ◌∙◌, subst, arith, true}
-use Rattle.stm_words.specs.View.{View, Sees, Words, memory}
+use Rattle.tx_memory.specs.View.{View, Sees, Words, memory}
 use Rattle.vac_model.specs.declared.items.Kind.{Kind}
 use Rattle.vac_model.specs.declared.commands.Command.{Command}
 use Rattle.vac_model.specs.declared.replies.Reply.{Reply}

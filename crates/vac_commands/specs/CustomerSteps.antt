@@ -1,7 +1,7 @@
 -- What the steps of commands on customers need and do.
 use Rattle.std.specs.Prelude.{◌≡◌, ◌≢◌, ℕ, ◌-◌, ◌≤◌, List, ◌∷◌, length, Some}
 use Rattle.std.specs.FinMap.{empty, entries, len}
-use Rattle.stm_words.specs.View.{View, Sees, RestsOn, Kept}
+use Rattle.tx_memory.specs.View.{View, Sees, RestsOn, Kept}
 use Rattle.vac_model.specs.declared.commands.Command.{Command}
 use Rattle.vac_model.specs.declared.items.Booking.{Booking}
 use Rattle.vac_model.specs.declared.items.Kind.{Kind}

@@ -1,6 +1,6 @@
 -- A step of a command on an item.
 use Rattle.std.specs.Prelude.{◌≡◌, ◌≢◌, ℕ, ◌+◌, List, Option, unwrap_or}
-use Rattle.stm_words.specs.View.{View, Sees, Kept}
+use Rattle.tx_memory.specs.View.{View, Sees, Kept}
 use Rattle.vac_records.specs.Items.{mem}
 
 -- under each image the item has this price where one is given, and all other words are as before

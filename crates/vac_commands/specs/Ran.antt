@@ -2,7 +2,7 @@
 use Rattle.std.specs.Prelude.{◌≡◌, ℕ, List, [], length, Option, Some, None}
 use Rattle.std.specs.FinMap.{empty}
 use Rattle.vac_model.specs.declared.items.Kind.{Kind}
-use Rattle.stm_words.specs.View.{View, Sees, Kept}
+use Rattle.tx_memory.specs.View.{View, Sees, Kept}
 use Rattle.vac_model.specs.declared.commands.Command.{Command}
 use Rattle.vac_model.specs.declared.commands.Command.TheVariants as command
 use Rattle.vac_model.specs.declared.commands.Why.TheVariants.{Full}

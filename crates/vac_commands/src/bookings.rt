@@ -8,9 +8,9 @@ ghost use Rattle.vac_commands.specs.Ran.{Ran};
 ghost use Rattle.vac_commands.specs.BookingSteps.{AtBlocks, AtBooking, AtSpot, HasBookingAt, HasSpot, IsOffered, Serves};
 
 use crate::find::{find_customer, find_item};
-use stm_words::TxMem;
 use tx_alloc::{Block, FreeList, give, take_refilling};
 use tx_list::Spot;
+use tx_memory::TxMem;
 use vac_model::limits::MOST_UNITS;
 use vac_model::{Command, Kind, Reply, Why};
 use vac_records::{

@@ -11,10 +11,10 @@ ghost use Rattle.vac_commands.specs.Ran.{Ran, Asked, CustomerGone, joining};
 
 use crate::bookings::cancel_at;
 use crate::find::{find_customer, find_item};
-use stm_words::{TxMem, TxRead, load};
 use tx_alloc::place::MOST_BLOCKS;
 use tx_alloc::{Block, FreeList, give, take_refilling};
 use tx_list::Spot;
+use tx_memory::{TxMem, TxRead, load};
 use vac_model::{Command, Kind, Reply, Why};
 use vac_records::{CUSTOMERS, init_customer, place};
 

@@ -4,8 +4,8 @@ ghost use Rattle.std.specs.Prelude.{◌≡◌, IfOk, IfErr, MatchOption};
 ghost use Rattle.vac_records.specs.InMemory.{HoldsState, OnlyRead};
 ghost use Rattle.vac_commands.specs.Entries.{LacksItem, HasItemAt, LacksCustomer, HasCustomerAt};
 
-use stm_words::TxRead;
 use tx_alloc::Block;
+use tx_memory::TxRead;
 use vac_model::Kind;
 use vac_records::{CUSTOMERS, root_of};
 

@@ -10,8 +10,8 @@ ghost use Rattle.vac_commands.specs.ItemSteps.{PriceGiven};
 ghost use Rattle.vac_commands.specs.Ran.{Ran, Asked, ItemGone};
 
 use crate::find::find_item;
-use stm_words::{TxMem, TxRead};
 use tx_alloc::{Block, FreeList, give, take_refilling};
+use tx_memory::{TxMem, TxRead};
 use vac_model::limits::MOST_TOTAL;
 use vac_model::{Command, Kind, Reply, Why};
 use vac_records::{

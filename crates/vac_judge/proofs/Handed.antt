@@ -6,7 +6,7 @@ use Rattle.std.specs.FinMap.{FinMap, get, insert, remove, empty, get-empty, get-
 use Rattle.std.specs.Global.{Vec}
 use Rattle.std.proofs.lemmas.Cmp.{nat_cmp_total}
 use Rattle.std.proofs.lemmas.Bool.Decides.{nat_tests}
-use Rattle.stm_words.specs.Seen.{same_or}
+use Rattle.tx_memory.specs.Seen.{same_or}
 use Rattle.vac_model.specs.declared.tasks.Task.{Task}
 use Rattle.vac_lines.specs.Lines.{lines_of, HasNo}
 use Rattle.vac_judge.specs.declared.fault.CallFault.{CallFault}

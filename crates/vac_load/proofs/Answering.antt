@@ -1,7 +1,7 @@
 -- Tasks that were answered, and how they are counted.
 use Rattle.std.proofs.Common.{◌≡◌, refl, sym, ap, subst, IfOk, ◌∙◌, inl, inr, ◌⊎◌, arith, ℕ, zero, suc, ◌+◌, ◌*◌, ◌≤◌, List, [], ◌∷◌, ◌++◌, length, Result, Ok, Err, append_assoc, append-nil, length-append}
 use mathlib.Core.Option.{some-injective, some-ne-none}
-use Rattle.stm_words.specs.Image.{In}
+use Rattle.tx_memory.specs.Image.{In}
 use Rattle.stm_core.specs.Client.{Client, Record, before}
 use Rattle.stm_core.specs.History.{Sub, done, keep, skip}
 use Rattle.stm_core.proofs.Renewing.{sorted_append}

@@ -1,6 +1,6 @@
 -- Records of several renewals: one writer a version, and readers that wrote nothing.
 use Rattle.std.proofs.Common.{◌≡◌, ◌∙◌, ℕ, suc, ◌+◌, ◌<◌, List, [], ◌∷◌, ◌++◌, inl, inr, append_assoc, append-nil, refl, sym, ap, subst, arith}
-use Rattle.stm_words.specs.Image.{In}
+use Rattle.tx_memory.specs.Image.{In}
 use Rattle.stm_core.specs.Client.{Client, Record, of_renewal}
 use Rattle.stm_core.proofs.Lists.{nothing_in}
 use Rattle.stm_core.proofs.Eras.{in_append, of_padded}

@@ -1,7 +1,7 @@
 -- Rounds, one after the other.
 use Rattle.std.proofs.Common.{Bool, true, false, ◌&&◌, ◌≡◌, ◌∙◌, ℕ, suc, ◌+◌, ◌*◌, ◌≤◌, List, [], ◌∷◌, ◌++◌, length, length-append, append_assoc, refl, sym, ap, subst, arith}
 use Rattle.std.proofs.Math.Nat.{mul-le-mul}
-use Rattle.stm_words.specs.Image.{In}
+use Rattle.tx_memory.specs.Image.{In}
 use Rattle.stm_core.specs.Client.{Record}
 use Rattle.stm_region.specs.Shown.{RegionShown}
 use Rattle.vac_manager.specs.Called.{CallerShown}

@@ -1,6 +1,6 @@
 -- Lists made one, each of which keeps its order.
 use Rattle.std.proofs.Common.{◌≡◌, ◌++◌, Bool, true, false, cond, List, [], ◌∷◌, append_assoc, append-nil, ⊎_elim, refl, subst, suc}
-use Rattle.stm_words.specs.Image.{In}
+use Rattle.tx_memory.specs.Image.{In}
 use Rattle.stm_core.specs.Client.{Record, before, inserted, merged}
 use Rattle.stm_core.specs.Invariant.{Sorted}
 use Rattle.stm_core.specs.History.{Sub, done, keep, skip}

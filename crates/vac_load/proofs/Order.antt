@@ -1,6 +1,6 @@
 -- Which records stand before which, and records put behind others.
 use Rattle.std.proofs.Common.{◌≡◌, ◌∙◌, ℕ, zero, suc, ◌*◌, ◌<◌, ◌≤◌, false, List, [], ◌∷◌, ◌++◌, refl, ap, arith}
-use Rattle.stm_words.specs.Image.{In}
+use Rattle.tx_memory.specs.Image.{In}
 use Rattle.stm_core.specs.Client.{Record, before, rank, inserted, merged}
 use Rattle.vac_manager.proofs.Adding.{not_earlier, rank_small}
 use Rattle.vac_load.specs.Looping.{IsAdded}

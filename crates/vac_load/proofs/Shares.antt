@@ -1,6 +1,6 @@
 -- What each client did, from its client before and after.
 use Rattle.std.proofs.Common.{◌≡◌, ◌∙◌, ℕ, suc, ◌+◌, ◌*◌, ◌-◌, ◌≤◌, List, [], ◌∷◌, ◌++◌, length, All, inl, inr, refl, sym, ap, subst, arith}
-use Rattle.stm_words.specs.Image.{In}
+use Rattle.tx_memory.specs.Image.{In}
 use Rattle.stm_core.specs.Client.{Client, Record, merged}
 use Rattle.stm_core.specs.declared.limits.TheConstants.{MOST_GRANTS}
 use Rattle.stm_core.specs.Invariant.{Sorted}

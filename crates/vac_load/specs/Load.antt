@@ -1,6 +1,6 @@
 -- What a load promises.
 use Rattle.std.specs.Prelude.{◌≡◌, ◌≤◌, ◌<◌, ◌+◌, ◌*◌, ◌⊎◌, ◌++◌, ◌&&◌, nat_eq, Bool, ℕ, List, [], ◌∷◌, length}
-use Rattle.stm_words.specs.Image.{In}
+use Rattle.tx_memory.specs.Image.{In}
 use Rattle.vac_model.specs.declared.tasks.Task.{Task}
 use Rattle.stm_core.specs.Client.{Client, Record, merged}
 use Rattle.stm_core.specs.History.{Sub}

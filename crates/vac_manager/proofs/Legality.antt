@@ -1,7 +1,7 @@
 -- A serial list of lawful records is legal.
 use Rattle.std.proofs.Common.{◌≡◌, ℕ, List, [], ◌∷◌, ◌++◌, false, length, refl, sym, ap, subst, zero}
-use Rattle.stm_words.specs.Image.{In, laid}
-use Rattle.stm_words.specs.Paired.{in_later}
+use Rattle.tx_memory.specs.Image.{In, laid}
+use Rattle.tx_memory.specs.Paired.{in_later}
 use Rattle.stm_core.specs.Client.{Client, Record}
 use Rattle.stm_core.specs.History.{Serial, Sub, image_after, all_records}
 use Rattle.stm_region.specs.Shown.{RegionShown}

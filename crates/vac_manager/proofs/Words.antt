@@ -4,9 +4,9 @@ use Rattle.std.specs.FinMap.{get-empty}
 use Rattle.std.specs.Ordering.{nat_cmp}
 use Rattle.std.proofs.lemmas.List.{get_or_past}
 use Rattle.std.proofs.lemmas.Bool.{cases_lt}
-use Rattle.stm_words.specs.View.{memory, Sees}
-use Rattle.stm_words.specs.Plain.{numbered, flat_view}
-use Rattle.stm_words.specs.PlainSeen.{get_at, get_behind}
+use Rattle.tx_memory.specs.View.{memory, Sees}
+use Rattle.tx_memory.specs.Plain.{numbered, flat_view}
+use Rattle.tx_memory.specs.PlainSeen.{get_at, get_behind}
 use Rattle.vac_model.specs.declared.replies.Report.{Report}
 use Rattle.vac_model.specs.State.{State, report}
 use Rattle.vac_records.specs.Items.{mem}

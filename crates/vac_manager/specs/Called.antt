@@ -3,7 +3,7 @@ use Rattle.std.specs.Prelude.{◌≡◌, ℕ, ◌+◌, ◌*◌, ◌%◌, ◌<◌
 use Rattle.std.specs.Prelude.{List, [], ◌∷◌, ◌++◌, Result, Ok, Err, ◌≢◌, ◌↔◌, IfOk, IfErr, IsErrOf}
 use Rattle.std.specs.Prelude.{true, is_some, is_none, ◌||◌, ◌==◌}
 use Rattle.atomic_table.specs.Seated.{TableId}
-use Rattle.stm_words.specs.Image.{In}
+use Rattle.tx_memory.specs.Image.{In}
 use Rattle.stm_core.specs.declared.limits.TheConstants.{MOST_WORDS, MOST_GRANTS}
 use Rattle.stm_core.specs.Client.{Client, Record, rank}
 use Rattle.stm_core.specs.Core.{IsFreeHanded}

@@ -1,7 +1,7 @@
 -- The law of the manager's records: which images it may stand on, and which records may be made on
 -- them.
 use Rattle.std.specs.Prelude.{◌≡◌, ℕ, List, length, slice_index, true}
-use Rattle.stm_words.specs.Image.{Agrees, laid}
+use Rattle.tx_memory.specs.Image.{Agrees, laid}
 use Rattle.vac_model.specs.declared.tasks.Task.{Task}
 use Rattle.vac_model.specs.declared.replies.Reply.{Reply}
 use Rattle.vac_model.specs.State.{State}

@@ -1,6 +1,6 @@
 -- Histories of tasks: when a list of records is what running tasks one after the other gives.
 use Rattle.std.specs.Prelude.{◌≡◌, ℕ, ◌-◌, ◌/◌, List, [], ◌∷◌, ◌++◌, true, false}
-use Rattle.stm_words.specs.Image.{In}
+use Rattle.tx_memory.specs.Image.{In}
 use Rattle.stm_core.specs.Client.{Client, Record}
 use Rattle.stm_core.specs.History.{Sub, Serial, image_after, all_records}
 use Rattle.stm_region.specs.Shown.{RegionShown}

@@ -4,7 +4,7 @@ ghost use Rattle.std.specs.Prelude.{◌≡◌};
 ghost use Rattle.vac_model.specs.State.{State, report};
 ghost use Rattle.vac_manager.specs.Law.{Shows, IsFitting};
 
-use stm_words::Flat;
+use tx_memory::Flat;
 use vac_model::Report;
 
 /// The report of the state that the words of a closed manager represent.

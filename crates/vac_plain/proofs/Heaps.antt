@@ -3,9 +3,9 @@ use Rattle.std.proofs.Common.{List, [], ◌+◌, ◌*◌, Option, Some, ap, arit
 use Rattle.std.proofs.lemmas.List.{get_or_past, ext_get_or}
 use Rattle.std.proofs.lemmas.Bool.{cases_lt}
 use Rattle.std.specs.FinMap.{get}
-use Rattle.stm_words.specs.View.{View, Words, memory}
-use Rattle.stm_words.specs.Plain.{flat_view, numbered}
-use Rattle.stm_words.specs.PlainSeen.{flat_seen, get_at, get_behind}
+use Rattle.tx_memory.specs.View.{View, Words, memory}
+use Rattle.tx_memory.specs.Plain.{flat_view, numbered}
+use Rattle.tx_memory.specs.PlainSeen.{flat_seen, get_at, get_behind}
 use Rattle.vac_model.specs.declared.replies.Reply.{Reply}
 use Rattle.vac_model.specs.declared.replies.Report.{Report}
 use Rattle.vac_model.specs.declared.tasks.Task.{Task}

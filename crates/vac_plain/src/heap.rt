@@ -1,7 +1,7 @@
 //! Plain memory that holds a state of the reservation system.
 
 ghost use Rattle.std.specs.Prelude.{◌≡◌, ◌≤◌, IfOk, true};
-ghost use Rattle.stm_words.specs.Plain.{flat_view};
+ghost use Rattle.tx_memory.specs.Plain.{flat_view};
 ghost use Rattle.vac_model.specs.State.{State, empty_state, report as report_of};
 ghost use Rattle.vac_model.specs.Ranges.{is_task};
 ghost use Rattle.vac_model.specs.Run.{run as runs};
@@ -11,8 +11,8 @@ ghost use Rattle.vac_plain.specs.PlainState.{IsStateOf};
 
 use std::alloc::{AllocError, Global};
 use std::marker::Model;
-use stm_words::Flat;
 use tx_alloc::{FreeList, spread_words};
+use tx_memory::Flat;
 use vac_model::limits::MOST_BLOCKS;
 use vac_model::{Reply, Report, Task};
 use vac_report::report;
@@ -26,7 +26,7 @@ pub struct Heap {
 
 impl Model for Heap {
     ghost use Rattle.std.specs.Prelude.{ℕ, List};
-    ghost use Rattle.stm_words.specs.Plain.{flat_view};
+    ghost use Rattle.tx_memory.specs.Plain.{flat_view};
     ghost use Rattle.vac_records.specs.InMemory.{HoldsState};
 
     ghost Value = { List ℕ };

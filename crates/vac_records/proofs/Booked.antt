@@ -7,7 +7,7 @@ use Rattle.std.specs.Ordering.{nat_cmp, eq_by_cmp, ordering_then}
 use Rattle.std.specs.Cmp.{nat_cmp_total, nat_cmp_is}
 use Rattle.std.specs.FinMap.{entries, insert, remove, find, put, get, get-entries, entries-insert}
 use Rattle.std.specs.FinMap.Entries.{where_key}
-use Rattle.stm_words.specs.Seen.{same_or}
+use Rattle.tx_memory.specs.Seen.{same_or}
 use Rattle.vac_model.specs.State.{State, Bookings, Place, place_cmp, kind_number}
 use Rattle.vac_model.proofs.Places.{place_cmp_total, place_cmp-IsAntisymmetric}
 use Rattle.tx_alloc.specs.Pool.{IsBlock, with_at}

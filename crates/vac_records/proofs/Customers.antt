@@ -6,7 +6,7 @@ use Rattle.std.specs.Cmp.{nat_cmp_total}
 use Rattle.std.specs.FinMap.{entries, empty, insert, remove, find, put, get-entries, entries-insert, nat_cmp-IsAntisymmetric}
 use Rattle.std.specs.FinMap.Entries.{where_key}
 use Rattle.std.proofs.lemmas.Bool.Decides.{nat_tests}
-use Rattle.stm_words.specs.Seen.{same_or}
+use Rattle.tx_memory.specs.Seen.{same_or}
 use Rattle.vac_model.specs.State.{State, Bookings, place_cmp, bookings_of}
 use Rattle.vac_model.proofs.Views.{entries-empty}
 use Rattle.tx_alloc.specs.Pool.{with_at}

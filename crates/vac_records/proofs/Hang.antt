@@ -1,7 +1,7 @@
 -- A block that is out is hung into a customer's list of bookings.
 use Rattle.std.proofs.Common.{◌≡◌, ◌≢◌, inl, inr, ℕ, ◌+◌, ◌<◌, List, ◌∷◌, nat_eq, length, refl, sym, ap, ◌∙◌, subst, arith, add-zero, false}
 use Rattle.std.proofs.lemmas.Bool.Decides.{nat_tests}
-use Rattle.stm_words.specs.Seen.{same_or}
+use Rattle.tx_memory.specs.Seen.{same_or}
 use Rattle.tx_alloc.specs.Pool.{IsBlock, held, sum_below, with_at}
 use Rattle.tx_alloc.proofs.Sums.{with_here, with_else, sum_has}
 use Rattle.tx_alloc.proofs.Chains.{held_first, free_block}

@@ -1,7 +1,7 @@
 -- A booking is hung into a customer's list, and taken out of it.
 use Rattle.std.proofs.Common.{◌≡◌, ◌≢◌, inl, inr, ℕ, ◌+◌, ◌<◌, ◌≤◌, ◌^◌, length, Option, Some, None, refl, sym, ap, ◌∙◌, subst, arith, add-zero}
 use Rattle.std.proofs.lemmas.Bool.{cases_lt}
-use Rattle.stm_words.specs.View.{View, Loaded}
+use Rattle.tx_memory.specs.View.{View, Loaded}
 use Rattle.vac_model.specs.declared.items.Kind.{Kind}
 use Rattle.vac_model.specs.State.{Place, kind_number}
 use Rattle.tx_alloc.specs.Rows.{Rows, times, block_at, Relinks}

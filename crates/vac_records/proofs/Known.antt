@@ -1,6 +1,6 @@
 -- Units of an item are used, of which the free ones were counted before.
 use Rattle.std.proofs.Common.{◌≡◌, ℕ, ◌+◌, List}
-use Rattle.stm_words.specs.View.{View, RestsOn, Loaded}
+use Rattle.tx_memory.specs.View.{View, RestsOn, Loaded}
 use Rattle.vac_model.specs.declared.items.Item.{Item}
 use Rattle.vac_records.specs.Items.{mem, CanMake, CanMakeOf, ItemChanged, ItemChangedOf}
 use Rattle.vac_records.specs.Steps.{kept_both, stood}

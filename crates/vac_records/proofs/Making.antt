@@ -1,6 +1,6 @@
 -- Five stores make an item.
 use Rattle.std.proofs.Common.{◌≡◌, ◌≢◌, inl, inr, ℕ, ◌+◌, ◌<◌, ◌≤◌, sym, ap, ◌∙◌, arith}
-use Rattle.stm_words.specs.View.{View, Stored, IsWrite}
+use Rattle.tx_memory.specs.View.{View, Stored, IsWrite}
 use Rattle.vac_records.specs.Items.{mem, IsNewItem, ItemMade}
 use Rattle.vac_records.specs.Steps.{kept_both}
 

@@ -1,6 +1,6 @@
 -- A block is taken out of a table.
 use Rattle.std.proofs.Common.{◌≡◌, ◌≢◌, ◌⊎◌, inl, inr, ℕ, ◌+◌, ◌<◌, [], ◌∷◌, length, refl, sym, ap, ◌∙◌, arith, add-zero}
-use Rattle.stm_words.specs.Seen.{same_or}
+use Rattle.tx_memory.specs.Seen.{same_or}
 use Rattle.tx_alloc.specs.Pool.{IsBlock, held, sum_below, with_at}
 use Rattle.tx_alloc.proofs.Sums.{with_here, with_else, sum_has, sum_two, sum_with}
 use Rattle.tx_alloc.proofs.Chains.{free_block}

@@ -1,7 +1,7 @@
 -- Stores that make a customer and a booking, and what is added to a booking.
 use Rattle.std.proofs.Common.{◌≡◌, ◌≢◌, inl, inr, ℕ, ◌+◌, ◌*◌, ◌<◌, ◌≤◌, sym, ap, ◌∙◌, arith}
-use Rattle.stm_words.specs.Seen.{same_or}
-use Rattle.stm_words.specs.View.{View, Loaded, Stored, IsWrite, memory}
+use Rattle.tx_memory.specs.Seen.{same_or}
+use Rattle.tx_memory.specs.View.{View, Loaded, Stored, IsWrite, memory}
 use Rattle.vac_model.specs.State.{Place, kind_number}
 use Rattle.vac_records.specs.Items.{mem}
 use Rattle.vac_records.specs.Customers.{IsNewCustomer, CustomerMade, IsNewBooking, BookingMade}

@@ -1,6 +1,6 @@
 -- Memories that hold a state, whatever image they stand on.
 use Rattle.std.specs.Prelude.{◌≡◌, ℕ, ◌≤◌, ◌^◌, List, length}
-use Rattle.stm_words.specs.View.{View, RestsOn, Kept}
+use Rattle.tx_memory.specs.View.{View, RestsOn, Kept}
 use Rattle.vac_model.specs.State.{State}
 use Rattle.vac_records.specs.Items.{mem}
 use Rattle.vac_records.specs.Represents.{IsState}

@@ -1,7 +1,7 @@
 -- Items in blocks of a transactional memory. The words of a block are key, left, right, colour,
 -- used, free, total, price.
 use Rattle.std.specs.Prelude.{◌≡◌, ◌≢◌, ◌⊎◌, ℕ, ◌+◌, ◌<◌, ◌≤◌, ◌^◌, List}
-use Rattle.stm_words.specs.View.{View, Sees, RestsOn, Kept, IsWrite}
+use Rattle.tx_memory.specs.View.{View, Sees, RestsOn, Kept, IsWrite}
 use Rattle.tx_alloc.specs.declared.place.TheConstants.{BLOCK_WORDS}
 use Rattle.vac_model.specs.declared.items.Item.{Item}
 use Rattle.vac_records.specs.declared.place.TheConstants.{USED, FREE, TOTAL, PRICE}

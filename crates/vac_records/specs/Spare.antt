@@ -1,6 +1,6 @@
 -- The spare words of a block, which are 0 from when it was made an entry.
 use Rattle.std.specs.Prelude.{◌≡◌, ◌⊎◌, ℕ, ◌+◌, ◌<◌, ◌≤◌, List}
-use Rattle.stm_words.specs.View.{View, Sees, Kept, IsWrite}
+use Rattle.tx_memory.specs.View.{View, Sees, Kept, IsWrite}
 use Rattle.vac_records.specs.Items.{mem}
 
 -- under each image the word is 0 now, whatever it was, and all others are as before

@@ -1,16 +1,16 @@
 //! Reading and writing bookings.
 
 ghost use Rattle.std.specs.Prelude.{◌≡◌, ◌+◌, ◌*◌, ◌<◌, ◌^◌, IfOk, IfErr};
-ghost use Rattle.stm_words.specs.View.{Loaded};
+ghost use Rattle.tx_memory.specs.View.{Loaded};
 ghost use Rattle.vac_model.specs.State.{kind_number};
 ghost use Rattle.vac_model.specs.Step.{extended};
 ghost use Rattle.vac_records.specs.Items.{IsNode};
 ghost use Rattle.vac_records.specs.Customers.{BookingMade, BookingRead, BookingChanged, CanExtend};
 
 use crate::word::{clear_spare, raise};
-use stm_words::{TxMem, TxRead, load, store};
 use tx_alloc::Block;
 use tx_list::{Key, place};
+use tx_memory::{TxMem, TxRead, load, store};
 use vac_model::{Booking, Kind};
 
 /// The key of the bookings of an item, in a customer's list.

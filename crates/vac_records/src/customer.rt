@@ -11,10 +11,10 @@ ghost use Rattle.vac_records.specs.Customers.{head_of, CustomerMade, CanBook, Bo
 use crate::booking::{init_booking, key_of, sum_at, units_at};
 use crate::place;
 use crate::word::clear_spare;
-use stm_words::{TxMem, TxRead, store};
 use tx_alloc::Block;
 use tx_alloc::place::MOST_BLOCKS;
 use tx_list::{Spot, insert_at, remove_at, seek};
+use tx_memory::{TxMem, TxRead, store};
 use vac_model::Kind;
 
 /// Makes the block a customer with this key and without bookings. The words that link the block

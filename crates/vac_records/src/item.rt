@@ -1,14 +1,14 @@
 //! Reading and writing the items of the tables.
 
 ghost use Rattle.std.specs.Prelude.{◌≡◌, ◌+◌, IfOk, IfErr};
-ghost use Rattle.stm_words.specs.View.{Loaded, Stored};
+ghost use Rattle.tx_memory.specs.View.{Loaded, Stored};
 ghost use Rattle.vac_model.specs.Step.{deleted, taken, given_back};
 ghost use Rattle.vac_records.specs.Items.{IsNode, HasRoom, HasFree, CanMake, CanMakeOf, CanCancel, ItemMade, ItemRead, ItemChanged, ItemChangedOf, UnitsAdded};
 
 use crate::place;
 use crate::word::{lower, raise};
-use stm_words::{TxMem, TxRead, load, store};
 use tx_alloc::Block;
+use tx_memory::{TxMem, TxRead, load, store};
 use vac_model::Item;
 
 /// Makes the block an item with this key, of which `num` units are free at this price and none is

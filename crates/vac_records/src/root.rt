@@ -3,7 +3,7 @@
 ghost use Rattle.std.specs.Prelude.{◌≡◌, ◌+◌};
 ghost use Rattle.vac_model.specs.State.{kind_number};
 
-use stm_words::Addr;
+use tx_memory::Addr;
 use vac_model::Kind;
 
 /// The word that leads to the table of customers.

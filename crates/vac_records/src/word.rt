@@ -4,8 +4,8 @@ ghost use Rattle.std.specs.Prelude.{◌≡◌, ◌+◌, ◌-◌, ◌<◌, IfOk};
 ghost use Rattle.vac_records.specs.Items.{IsNode, RoomAt, EnoughAt, Shifted};
 ghost use Rattle.vac_records.specs.Spare.{WordCleared, SpareCleared};
 
-use stm_words::{Addr, TxMem, load, store};
 use tx_alloc::Block;
+use tx_memory::{Addr, TxMem, load, store};
 
 /// The first of the three spare words of a booking's block and of a customer's.
 const FIRST_SPARE: u32 = 5;

@@ -1,7 +1,7 @@
 -- A walk over a customer's bookings adds up their units and their sums.
 use Rattle.std.proofs.Common.{◌≡◌, ◌≢◌, ℕ, ◌+◌, ◌<◌, ◌≤◌, ◌^◌, List, [], ◌∷◌, length, Option, Some, None, nat_eq, true, refl, sym, ap, ◌∙◌, subst, arith}
 use Rattle.std.proofs.lemmas.Bool.Decides.{nat_tests}
-use Rattle.stm_words.specs.View.{View, Sees, RestsOn, Loaded}
+use Rattle.tx_memory.specs.View.{View, Sees, RestsOn, Loaded}
 use Rattle.tx_alloc.specs.Pointer.{pointer, IsWithin}
 use Rattle.tx_alloc.specs.Rows.{Rows, times}
 use Rattle.tx_list.specs.Bookings.{IsList, first_block, block_behind}

@@ -1,7 +1,7 @@
 -- A walk over the customers adds up their bookings.
 use Rattle.std.proofs.Common.{◌≡◌, ◌≢◌, ℕ, ◌+◌, ◌<◌, ◌≤◌, ◌^◌, List, [], length, Some, None, refl, ap, ◌∙◌, subst, arith}
 use Rattle.std.specs.FinMap.{entries, len-entries}
-use Rattle.stm_words.specs.View.{View, Sees, RestsOn}
+use Rattle.tx_memory.specs.View.{View, Sees, RestsOn}
 use Rattle.vac_model.proofs.Ids.{id_low}
 use Rattle.vac_model.specs.State.{State, units_booked, bill_of}
 use Rattle.vac_model.proofs.Bounds.{small_sums}

@@ -1,6 +1,6 @@
 -- What a memory that holds a state has, before and after reads.
 use Rattle.std.proofs.Common.{◌≡◌, ℕ, ◌+◌, ◌<◌, ◌≤◌, List, [], ◌∷◌, length, Option, refl, sym, subst, arith}
-use Rattle.stm_words.specs.View.{View, Sees}
+use Rattle.tx_memory.specs.View.{View, Sees}
 use Rattle.vac_model.specs.State.{State}
 use Rattle.vac_model.specs.declared.items.Kind.{Kind}
 use Rattle.vac_model.specs.State.{kind_number}

@@ -1,6 +1,6 @@
 -- A walk over a table of items adds up their numbers.
 use Rattle.std.proofs.Common.{◌≡◌, ℕ, ◌+◌, ◌≤◌, ◌^◌, List, [], length, Some, None, refl, ap, ◌∙◌, subst, arith}
-use Rattle.stm_words.specs.View.{View, Sees, RestsOn}
+use Rattle.tx_memory.specs.View.{View, Sees, RestsOn}
 use Rattle.vac_model.specs.declared.items.Kind.{Kind}
 use Rattle.vac_model.specs.State.{State, kind_number, table_of}
 use Rattle.vac_model.proofs.Bounds.{small_sums}

@@ -1,6 +1,6 @@
 -- The report of the state that a memory holds.
 use Rattle.std.specs.Prelude.{◌≡◌, ℕ, List, length}
-use Rattle.stm_words.specs.View.{View, Sees}
+use Rattle.tx_memory.specs.View.{View, Sees}
 use Rattle.vac_model.specs.declared.replies.Report.{Report}
 use Rattle.vac_model.specs.State.{State, report}
 use Rattle.vac_records.specs.Items.{mem}

@@ -1,7 +1,7 @@
 -- The sums that a report is made of.
 use Rattle.std.specs.Prelude.{◌≡◌, ℕ, ◌+◌, ◌<◌, ◌≤◌, ◌^◌, List, [], ◌∷◌, length, sum_by}
 use Rattle.std.specs.FinMap.{len, values}
-use Rattle.stm_words.specs.View.{View, Sees, RestsOn}
+use Rattle.tx_memory.specs.View.{View, Sees, RestsOn}
 use Rattle.tx_alloc.specs.declared.place.TheConstants.{MOST_BLOCKS}
 use Rattle.tx_alloc.specs.Rows.{Rows}
 use Rattle.tx_list.specs.Lists.{IsListAt}

@@ -4,9 +4,9 @@ ghost use Rattle.std.specs.Prelude.{◌≡◌, IfOk, IfErr};
 ghost use Rattle.vac_records.specs.InMemory.{HoldsState};
 ghost use Rattle.vac_report.specs.Sums.{CustomersFit, customers_together, CanCount, CustomerCounted, CustomersSummed};
 
-use stm_words::TxRead;
 use tx_alloc::Block;
 use tx_alloc::place::MOST_BLOCKS;
+use tx_memory::TxRead;
 use vac_records::place::BOOKINGS;
 use vac_records::{CUSTOMERS, sum_at, units_at};
 

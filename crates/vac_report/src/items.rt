@@ -5,9 +5,9 @@ ghost use Rattle.vac_records.specs.Items.{IsNode};
 ghost use Rattle.vac_records.specs.InMemory.{HoldsState};
 ghost use Rattle.vac_report.specs.Sums.{ItemsFit, items_together, ItemCounted, ItemsSummed};
 
-use stm_words::TxRead;
 use tx_alloc::Block;
 use tx_alloc::place::MOST_BLOCKS;
+use tx_memory::TxRead;
 use vac_model::Kind;
 use vac_records::{free_at, root_of, total_at, used_at};
 

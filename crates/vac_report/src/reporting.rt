@@ -6,7 +6,7 @@ ghost use Rattle.vac_report.specs.Reported.{Reported};
 
 use crate::customers::sum_customers;
 use crate::items::sum_items;
-use stm_words::TxRead;
+use tx_memory::TxRead;
 use vac_model::{Kind, Report};
 
 /// The report of the state that the memory holds: the entries of each table, the units booked, the

@@ -10,8 +10,8 @@ use tx_alloc::FreeList;
 use tx_alloc::place::LISTS;
 use vac_audit::audit_words;
 use vac_model::{Reply, Task};
-use vac_sequential::Sequential;
 use vac_plain::Heap;
+use vac_sequential::Sequential;
 use vac_tasks::only_reads;
 
 /// By so many seeds random tasks are drawn.

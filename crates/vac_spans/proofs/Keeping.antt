@@ -6,7 +6,7 @@ use Rattle.std.specs.FinMap.{FinMap, get, insert, len, empty, get-empty, len-emp
 use Rattle.std.proofs.lemmas.Cmp.{nat_cmp_total}
 use Rattle.std.proofs.lemmas.Bool.{cases_lt}
 use Rattle.std.proofs.lemmas.Bool.Decides.{nat_tests}
-use Rattle.stm_words.specs.Seen.{get_here, get_other}
+use Rattle.tx_memory.specs.Seen.{get_here, get_other}
 use Rattle.vac_spans.specs.declared.span.Span.{Span}
 use Rattle.vac_spans.specs.declared.span.Misplaced.{Misplaced}
 use Rattle.vac_spans.specs.declared.span.Misplaced.TheVariants.{Client, Time}

@@ -2,7 +2,7 @@
 use Rattle.std.proofs.Common.{◌≡◌, ℕ, ◌+◌, List, [], ◌∷◌, ◌++◌, Option, Some, None, Bool, true, false, refl, sym, ap, ◌∙◌}
 use Rattle.std.specs.Prelude.{◌≡◌, IfSome, fold, nat_lt, ◌==◌, if◌then◌else◌, true}
 use Rattle.std.specs.Option.{option_map}
-use Rattle.stm_words.specs.View.{View, Loaded}
+use Rattle.tx_memory.specs.View.{View, Loaded}
 use Rattle.vac_model.specs.declared.items.Kind.{Kind}
 use Rattle.vac_model.specs.declared.items.Kind.TheVariants.{Car, Flight, Room}
 use Rattle.vac_model.specs.declared.items.Item.{Item}

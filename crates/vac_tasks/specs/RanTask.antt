@@ -1,6 +1,6 @@
 -- What a task does to a memory that holds a state, under every image.
 use Rattle.std.specs.Prelude.{ℕ, List, length}
-use Rattle.stm_words.specs.View.{View, Sees, Kept}
+use Rattle.tx_memory.specs.View.{View, Sees, Kept}
 use Rattle.vac_model.specs.declared.tasks.Task.{Task}
 use Rattle.vac_model.specs.declared.replies.Reply.{Reply}
 use Rattle.vac_model.specs.State.{State}

@@ -1,6 +1,6 @@
 -- What a part of a task does to a memory that holds a state, under every image.
 use Rattle.std.specs.Prelude.{◌≡◌, ◌-◌, ℕ, List, ◌++◌, Option, None, length, replicate}
-use Rattle.stm_words.specs.View.{View, Sees, Kept}
+use Rattle.tx_memory.specs.View.{View, Sees, Kept}
 use Rattle.vac_model.specs.declared.limits.TheConstants.{MOST_PARTS}
 use Rattle.vac_model.specs.declared.commands.Command.{Command}
 use Rattle.vac_model.specs.declared.commands.Why.{Why}

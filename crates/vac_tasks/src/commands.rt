@@ -7,8 +7,8 @@ ghost use Rattle.vac_records.specs.InMemory.{HoldsState};
 ghost use Rattle.vac_commands.specs.Ran.{Ran, Asked};
 ghost use Rattle.vac_tasks.specs.Reading.{is_question};
 
-use stm_words::{TxMem, TxRead};
 use tx_alloc::FreeList;
+use tx_memory::{TxMem, TxRead};
 use vac_commands::{
     add, bill, cancel, delete, drop_customer, drop_flight, free, new_customer, price, reserve,
 };

@@ -5,8 +5,8 @@ ghost use Rattle.vac_model.specs.Ranges.{is_task};
 ghost use Rattle.vac_records.specs.InMemory.{HoldsState};
 ghost use Rattle.vac_tasks.specs.RanTask.{RanTask};
 
-use stm_words::TxMem;
 use tx_alloc::FreeList;
+use tx_memory::TxMem;
 use vac_commands::{bill_at, drop_customer_at, find_customer};
 use vac_model::{Reply, Task};
 

@@ -10,8 +10,8 @@ use crate::commands::{asks_only, read_command, run_command};
 use crate::leave::leave;
 use crate::trip::trip;
 use crate::update::update;
-use stm_words::{TxMem, TxRead};
 use tx_alloc::FreeList;
+use tx_memory::{TxMem, TxRead};
 use vac_model::{Reply, Task};
 
 /// Whether the task is one that only reads.

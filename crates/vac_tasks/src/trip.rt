@@ -12,8 +12,8 @@ ghost use Rattle.vac_tasks.specs.Trips.{priced, any_chosen, dearer_of, with_foun
 ghost use Rattle.vac_tasks.specs.Trips.{ChoiceIsAt, ChoicesAreAt, AtPick, AtChoices, LookedUp, Chosen, IsOwner, HasJoined};
 
 use crate::commands::refusal;
-use stm_words::{TxMem, TxRead};
 use tx_alloc::{Block, FreeList};
+use tx_memory::{TxMem, TxRead};
 use vac_commands::{add_customer, find_customer, find_item, reserve_at};
 use vac_model::{Joined, Kind, Pick, Reply, Task, TripReply, Why};
 use vac_records::price_at;

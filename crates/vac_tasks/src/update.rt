@@ -6,8 +6,8 @@ ghost use Rattle.vac_records.specs.InMemory.{HoldsState};
 ghost use Rattle.vac_tasks.specs.RanTask.{RanTask};
 
 use crate::commands::{refusal, run_command};
-use stm_words::TxMem;
 use tx_alloc::FreeList;
+use tx_memory::TxMem;
 use vac_model::limits::MOST_PARTS;
 use vac_model::{Command, Reply, Task, UpdateReply};
 

@@ -1,4 +1,4 @@
-use Rattle.stm_words.specs.Plain.{flat_view}
+use Rattle.tx_memory.specs.Plain.{flat_view}
 use Rattle.stock_rows.specs.Stock.{HasStock}
 use Rattle.heap_rows.proofs.bookings.random_changes_beside_an_ordered_map.Given as goal
 

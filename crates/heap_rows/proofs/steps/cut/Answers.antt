@@ -1,4 +1,4 @@
-use Rattle.stm_words.specs.Plain.{flat_view}
+use Rattle.tx_memory.specs.Plain.{flat_view}
 use Rattle.tx_tree.specs.Table.{Removed}
 use Rattle.tx_tree.proofs.Counting.{after_cut}
 use Rattle.heap_rows.proofs.steps.cut.Goals as goal

@@ -1,5 +1,5 @@
 use Rattle.std.proofs.Common.{length}
-use Rattle.stm_words.specs.Plain.{flat_view}
+use Rattle.tx_memory.specs.Plain.{flat_view}
 use Rattle.tx_tree.specs.Counted.{HasEntries}
 use Rattle.heap_rows.proofs.steps.play.Given as goal
 

@@ -1,5 +1,5 @@
 use Rattle.std.proofs.Common.{arith, refl}
-use Rattle.stm_words.specs.Plain.{flat_view}
+use Rattle.tx_memory.specs.Plain.{flat_view}
 use Rattle.tx_tree.specs.Table.{Found}
 use Rattle.tx_tree.proofs.Counting.{after_reads, after_put, fresh_read}
 use Rattle.heap_rows.proofs.steps.put.Goals as goal

@@ -1,4 +1,4 @@
-use Rattle.stm_words.specs.Plain.{flat_view}
+use Rattle.tx_memory.specs.Plain.{flat_view}
 use Rattle.tx_tree.specs.Counted.{HasEntries}
 use Rattle.heap_rows.proofs.steps.same_entries.Given as goal
 

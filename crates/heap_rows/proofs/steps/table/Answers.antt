@@ -1,5 +1,5 @@
 use Rattle.std.proofs.Common.{arith, sym, subst, ◌∙◌, List, ℕ}
-use Rattle.stm_words.specs.Plain.{flat_view}
+use Rattle.tx_memory.specs.Plain.{flat_view}
 use Rattle.tx_tree.specs.Counted.{HasEntries}
 use Rattle.tx_tree.proofs.Counting.{none_yet, in_range}
 use Rattle.heap_rows.proofs.steps.table.Goals as goal

@@ -1,5 +1,5 @@
 use Rattle.std.proofs.Common.{List, sym, ap, subst}
-use Rattle.stm_words.specs.Image.{In}
+use Rattle.tx_memory.specs.Image.{In}
 use Rattle.stm_core.specs.Client.{Record}
 use Rattle.stm_region.specs.Findings.{IsEarlier}
 use Rattle.stm_region.proofs.region.Region.begin.Goals as goal

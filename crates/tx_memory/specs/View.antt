@@ -2,7 +2,7 @@
 use Rattle.std.specs.Prelude.{◌≡◌, ◌≢◌, ℕ, List, Some, None, slice_index, length, unwrap_or}
 use Rattle.std.specs.Ordering.{nat_cmp}
 use Rattle.std.specs.FinMap.{FinMap, get, insert}
-use Rattle.stm_words.specs.Image.{Has}
+use Rattle.tx_memory.specs.Image.{Has}
 
 -- a finite map from addresses to words
 abbrev pub Words : Type 0

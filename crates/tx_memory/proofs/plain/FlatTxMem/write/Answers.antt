@@ -1,7 +1,7 @@
 use Rattle.std.proofs.Common.{ℕ, List, set, ap, ◌∙◌}
-use Rattle.stm_words.specs.Plain.{numbered}
-use Rattle.stm_words.specs.PlainSeen.{flat_write}
-use Rattle.stm_words.proofs.plain.FlatTxMem.write.Goals as goal
+use Rattle.tx_memory.specs.Plain.{numbered}
+use Rattle.tx_memory.specs.PlainSeen.{flat_write}
+use Rattle.tx_memory.proofs.plain.FlatTxMem.write.Goals as goal
 
 pub returns-clause-answer : goal.returns-clause-answer
 returns-clause-answer c =

@@ -4,9 +4,9 @@ use Rattle.std.specs.FinMap.{get, insert, empty, get-empty, same_map, nat_cmp-Is
 use Rattle.std.specs.Ordering.{nat_cmp}
 use Rattle.std.proofs.lemmas.Cmp.{nat_cmp_total}
 use Rattle.std.proofs.lemmas.Bool.{cases_lt}
-use Rattle.stm_words.specs.View.{RestsOn, HasRead}
-use Rattle.stm_words.specs.Plain.{numbered, flat_view}
-use Rattle.stm_words.specs.Seen.{same_or, get_here, get_other}
+use Rattle.tx_memory.specs.View.{RestsOn, HasRead}
+use Rattle.tx_memory.specs.Plain.{numbered, flat_view}
+use Rattle.tx_memory.specs.Seen.{same_or, get_here, get_other}
 
 none_at : (q : ℕ) → get {R = nat_cmp} (empty {X = ℕ}) q ≡ None
 none_at q = get-empty nat_cmp q

@@ -5,10 +5,10 @@ use Rattle.std.specs.FinMap.Entries.{below_all}
 use Rattle.std.specs.Ordering.{nat_cmp, eq_by_cmp, is_lt}
 use Rattle.std.proofs.lemmas.Bool.Decides.{nat_tests}
 use mathlib.Core.Option.{some}
-use Rattle.stm_words.specs.Image.{In, Has, Agrees, laid}
-use Rattle.stm_words.specs.View.{Words, memory}
-use Rattle.stm_words.specs.Pairs.{with_pairs, map_of}
-use Rattle.stm_words.specs.Seen.{same_or, get_here, get_other}
+use Rattle.tx_memory.specs.Image.{In, Has, Agrees, laid}
+use Rattle.tx_memory.specs.View.{Words, memory}
+use Rattle.tx_memory.specs.Pairs.{with_pairs, map_of}
+use Rattle.tx_memory.specs.Seen.{same_or, get_here, get_other}
 
 -- one pair more at the end is an insertion
 pub with_pairs-append : (m : Words) (ps : List (ℕ × ℕ)) (a v : ℕ) →

@@ -1,9 +1,9 @@
 use Rattle.std.proofs.Common.{ℕ, List, ◌≡◌, get_or, sym, subst, ◌∙◌, ap}
 use Rattle.std.proofs.lemmas.List.{get_or_read}
-use Rattle.stm_words.specs.View.{HasRead}
-use Rattle.stm_words.specs.Plain.{flat_view}
-use Rattle.stm_words.specs.PlainSeen.{flat_read}
-use Rattle.stm_words.proofs.plain.FlatTxRead.read.Goals as goal
+use Rattle.tx_memory.specs.View.{HasRead}
+use Rattle.tx_memory.specs.Plain.{flat_view}
+use Rattle.tx_memory.specs.PlainSeen.{flat_read}
+use Rattle.tx_memory.proofs.plain.FlatTxRead.read.Goals as goal
 
 pub returns-clause-answer : goal.returns-clause-answer
 returns-clause-answer c =

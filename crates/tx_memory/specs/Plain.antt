@@ -1,7 +1,7 @@
 -- Plain memory: every image of its size fits, nothing is read of it, and its words are all written.
 use Rattle.std.specs.Prelude.{◌≡◌, ℕ, ◌+◌, List, [], ◌∷◌, length}
 use Rattle.std.specs.FinMap.{insert, empty}
-use Rattle.stm_words.specs.View.{View, Words}
+use Rattle.tx_memory.specs.View.{View, Words}
 
 -- the words of a list from the address i on
 abbrev pub numbered : ℕ → List ℕ → Words

@@ -1,7 +1,7 @@
 -- Lists of pairs as finite maps.
 use Rattle.std.proofs.Common.{ℕ, List, [], ◌∷◌}
 use Rattle.std.specs.FinMap.{insert, empty}
-use Rattle.stm_words.specs.View.{Words}
+use Rattle.tx_memory.specs.View.{Words}
 
 -- the map with the pairs put into it, the later over the earlier
 abbrev pub with_pairs : Words → List (ℕ × ℕ) → Words

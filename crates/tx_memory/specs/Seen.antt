@@ -7,8 +7,8 @@ use Rattle.std.proofs.lemmas.Bool.{cases_lt}
 use Rattle.std.proofs.lemmas.Bool.Decides.{nat_tests}
 use Rattle.std.proofs.lemmas.Grind.{not_there}
 use Rattle.std.proofs.Math.Logic.{∥∥₁_map}
-use Rattle.stm_words.specs.Image.{Has}
-use Rattle.stm_words.specs.View.{View, Words, Sees, RestsOn, Kept, SameFrame, HasRead, IsWrite, memory, Loaded, Stored}
+use Rattle.tx_memory.specs.Image.{Has}
+use Rattle.tx_memory.specs.View.{View, Words, Sees, RestsOn, Kept, SameFrame, HasRead, IsWrite, memory, Loaded, Stored}
 
 pub same_or : (j i : ℕ) → (j ≡ i) ⊎ (j ≢ i)
 same_or j i = elim (cases_lt j i) [

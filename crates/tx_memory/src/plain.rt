@@ -38,9 +38,9 @@ impl Flat {
 }
 
 impl TxRead for Flat {
-    ghost use Rattle.stm_words.specs.Plain.{flat_view};
+    ghost use Rattle.tx_memory.specs.Plain.{flat_view};
     ghost use Rattle.std.proofs.lemmas.Grind.{merely};
-    ghost use Rattle.stm_words.specs.PlainSeen.{flat_seen};
+    ghost use Rattle.tx_memory.specs.PlainSeen.{flat_seen};
 
     type Stop = Infallible;
 

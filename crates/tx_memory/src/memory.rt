@@ -2,7 +2,7 @@
 
 ghost use Rattle.std.specs.Prelude.{◌≡◌, ℕ, ◌<◌, List, IfOk, IfErr, MatchResult};
 ghost use Rattle.std.specs.FinMap.{insert};
-ghost use Rattle.stm_words.specs.View.{View, RestsOn, SameFrame, HasRead, Loaded, Stored};
+ghost use Rattle.tx_memory.specs.View.{View, RestsOn, SameFrame, HasRead, Loaded, Stored};
 
 /// The number of a data word.
 #[derive(Clone, Copy, Debug, PartialEq, Eq, PartialOrd, Ord)]
