@@ -11,13 +11,13 @@ use Rattle.vac_judge.specs.Call.{Call}
 use Rattle.vac_judge.specs.declared.call.CallLine.{CallLine}
 use Rattle.vac_judge.specs.declared.call.Answer.{Answer}
 use Rattle.vac_judge.specs.Parts.{shown_call, shown_end, shown_reply}
-use Rattle.vac_judge.specs.Order.{overlaps, breaks_client}
+use Rattle.vac_judge.specs.Order.{breaks_client}
 use Rattle.vac_judge.specs.Follows.{IsBehind, EachCall}
 use Rattle.vac_order.specs.declared.line.Line.{Line}
 use Rattle.vac_order.specs.declared.history.History.{History}
 use Rattle.vac_order.specs.Walk.{InTurn, IsTimed}
 use Rattle.vac_order.specs.Calls.{call_of, calls_of}
-use Rattle.vac_order.specs.Reading.{AreNumbered, began_before, KeepsEnds, IsHeld, IsLineOf, Took, texts_of}
+use Rattle.vac_order.specs.Reading.{overlaps, AreNumbered, began_before, KeepsEnds, IsHeld, IsLineOf, Took, texts_of}
 use Rattle.std.specs.Prelude.{◌-◌, ◌^◌}
 use Rattle.std.proofs.lemmas.List.{map-append}
 use Rattle.vac_order.proofs.Each.{test}

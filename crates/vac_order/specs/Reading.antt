@@ -1,5 +1,5 @@
 -- How a history is read of which only each client's own order is known.
-use Rattle.std.specs.Prelude.{◌≡◌, ◌≢◌, ◌⊎◌, ◌+◌, ◌-◌, ◌^◌, ◌≤◌, ⊤, ℕ, Bool, true, false, Option, Some, None, Result, Ok, Err, List, [], ◌∷◌, ◌++◌, map, length, get_or, All, IsPermutation, nat_lt, if◌then◌else◌}
+use Rattle.std.specs.Prelude.{◌≡◌, ◌≢◌, ◌⊎◌, ◌==◌, ◌&&◌, ◌+◌, ◌-◌, ◌^◌, ◌≤◌, ⊤, ℕ, Bool, true, false, Option, Some, None, Result, Ok, Err, List, [], ◌∷◌, ◌++◌, map, length, get_or, All, IsPermutation, nat_lt, if◌then◌else◌}
 use Rattle.std.specs.List.{list_any}
 use Rattle.std.specs.Ordering.{nat_cmp}
 use Rattle.std.specs.FinMap.{FinMap, get}
@@ -17,7 +17,7 @@ use Rattle.vac_judge.specs.declared.verdict.Verdict.{Verdict}
 use Rattle.vac_judge.specs.declared.verdict.Verdict.TheVariants.{Fault, Illegal}
 use Rattle.vac_judge.specs.declared.verdict.Wrong.TheVariants.{Client}
 use Rattle.vac_judge.specs.Call.{Call, line_call}
-use Rattle.vac_judge.specs.Order.{overlaps, breaks_client}
+use Rattle.vac_judge.specs.Order.{breaks_client}
 use Rattle.vac_judge.specs.Follows.{EachCall}
 use Rattle.vac_judge.specs.Laws.{Lists}
 use Rattle.vac_order.specs.declared.line.Line.{Line}
@@ -62,6 +62,10 @@ AreNumbered number (line ∷ lines) = (line.number ≡ number) × AreNumbered (n
 abbrev pub began_before : Option ℕ → ℕ → Bool
 began_before None begin = false
 began_before (Some end) begin = nat_lt begin end
+
+-- both calls are of one client, and the later one began before the earlier one had ended
+abbrev pub overlaps : Call → Call → Bool
+overlaps call earlier = earlier.client == call.client && nat_lt call.begin earlier.end
 
 -- by the last end of each client it is seen whether a call overlaps an earlier one
 abbrev pub KeepsEnds : FinMap nat_cmp ℕ → List Call → Type 0
