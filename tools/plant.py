@@ -263,7 +263,9 @@ def judged(status, said):
     by_hand = [f"{found[1]}:{found[2]}: {found[3][:120]}" for found in map(BY_HAND.match, lines) if found]
     if any(is_searched for is_searched, _ in goals):
         return CLAUSE, [told for is_searched, told in goals if is_searched]
-    return (HAND, by_hand) if by_hand else (CLAUSE, [told for _, told in goals] or lines[-3:])
+    if by_hand or any("expected a measure" in told or "expected an invariant" in told for _, told in goals):
+        return HAND, by_hand or [told for _, told in goals]
+    return CLAUSE, [told for _, told in goals] or lines[-3:]
 
 
 def asked_for(plants, words):
