@@ -15,10 +15,6 @@ use Rattle.vac_judge.specs.Call.{Call}
 abbrev pub span_of : Call → Span
 span_of call = record { client = call.client; begin = call.begin; end = call.end }
 
--- the call began before an earlier one of its client had ended
-abbrev pub overlaps : Call → Call → Bool
-overlaps call earlier = spans.overlaps span_of call earlier
-
 -- the call ends before it begins, or overlaps an earlier one of its client
 abbrev pub breaks_client : List Call → Call → Bool
 breaks_client earlier call = spans.breaks_client span_of earlier call
