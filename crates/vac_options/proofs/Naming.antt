@@ -39,7 +39,7 @@ use Rattle.clap.specs.Values.{is_request}
 use Rattle.clap.specs.Walk.{action_of, arg_by_id}
 use Rattle.std.proofs.Common.{nat_lt}
 use Rattle.vac_options.specs.declared.asked.TheConstants.{MOST_SEED, MOST_STEPS, MOST_WORDS}
-use Rattle.vac_options.specs.CommandLine.{vacation, blocks_option, clients_option, tasks_option, rounds_option, tries_option, items_option, asks_option, user_option, seed_option, steps_option, words_option, flag, Gives, GivesIn, Says, IsFlag, HasSettings, HasSearch, HasJudging, Names}
+use Rattle.vac_options.specs.CommandLine.{vacation, blocks_option, clients_option, tasks_option, rounds_option, tries_option, items_option, asks_option, reads_option, user_option, seed_option, steps_option, words_option, flag, Gives, GivesIn, Says, IsFlag, HasSettings, HasSearch, HasJudging, Names}
 use Rattle.vac_options.proofs.FoundRows.{Each, IsFit, found_each, found_passes, is_counted, no_fault, no_some, same_some}
 use Rattle.vac_options.proofs.Walks.{AllFit}
 use Rattle.vac_options.proofs.Given.{IsGiven, IsEntered, level_gives, subcommand_entered, top_passes}
@@ -169,22 +169,7 @@ blocks_fit name = (fit refl refl refl, (fit refl refl refl, tt))
 
 settings_fit : (name : Text) → AllFit (with_settings name).rules
 unfolding shape_at with_settings
-settings_fit name = (
-  fit refl refl refl,
-  (
-    fit refl refl refl,
-    (
-      fit refl refl refl,
-      (
-        fit refl refl refl,
-        (
-          fit refl refl refl,
-          (fit refl refl refl, (fit refl refl refl, (fit refl refl refl, (fit refl refl refl, (fit refl refl refl, (fit refl refl refl, (fit refl refl refl, (fit refl refl refl, tt)))))))),
-        ),
-      ),
-    ),
-  ),
-)
+settings_fit name = (fit refl refl refl, (fit refl refl refl, (fit refl refl refl, (fit refl refl refl, (fit refl refl refl, (fit refl refl refl, (fit refl refl refl, (fit refl refl refl, (fit refl refl refl, (fit refl refl refl, (fit refl refl refl, (fit refl refl refl, (fit refl refl refl, (fit refl refl refl, tt))))))))))))))
 
 -- ---- what the words give
 
@@ -209,6 +194,7 @@ settings_given of rows e = record {
   tasks = settings_number of rows e (filled tasks_option) 1 MOST_TASKS refl refl (omega arith);
   items = settings_number of rows e (filled items_option) 1 MOST_ITEMS refl refl (omega arith);
   asks = settings_number of rows e (filled asks_option) 1 MOST_PARTS refl refl (omega arith);
+  reads = settings_number of rows e (filled reads_option) 0 PERCENT refl refl (omega arith);
   user = settings_number of rows e (filled user_option) 0 PERCENT refl refl (omega arith);
   seed = settings_seed of rows e;
   blocks = settings_number of rows e (filled blocks_option) 1 MOST_BLOCKS refl refl (omega arith);

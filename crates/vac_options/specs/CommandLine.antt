@@ -86,6 +86,10 @@ asks_option = short_option 110 (number_option (codes "asks") 1 MOST_PARTS (codes
 abbrev pub user_option : Rule
 user_option = short_option 117 (number_option (codes "user") 0 PERCENT (codes "80"))
 
+-- `--reads`: how many of a hundred tasks are questions
+abbrev pub reads_option : Rule
+reads_option = number_option (codes "reads") 0 PERCENT (codes "0")
+
 -- `-s`, `--seed`: what the tasks are drawn from, any number of 64 bits
 abbrev pub seed_option : Rule
 seed_option = short_option 115 (record (valued_option (codes "seed")) {
@@ -95,7 +99,8 @@ seed_option = short_option 115 (record (valued_option (codes "seed")) {
 
 -- those that say what the tasks are
 abbrev pub task_options : List Rule
-task_options = items_option ∷ asks_option ∷ user_option ∷ seed_option ∷ blocks_option ∷ []
+task_options =
+    items_option ∷ asks_option ∷ reads_option ∷ user_option ∷ seed_option ∷ blocks_option ∷ []
 
 -- `--tasks FILE`: the tasks that a history is held against
 abbrev pub file_option : Rule
@@ -261,6 +266,7 @@ pub record HasSettings (rows : List Row) : Type 0 where
   pub tasks : GivesIn rows (codes "tasks") 1 MOST_TASKS
   pub items : GivesIn rows (codes "items") 1 MOST_ITEMS
   pub asks : GivesIn rows (codes "asks") 1 MOST_PARTS
+  pub reads : GivesIn rows (codes "reads") 0 PERCENT
   pub user : GivesIn rows (codes "user") 0 PERCENT
   pub seed : GivesIn rows (codes "seed") 0 MOST_SEED
   pub blocks : GivesIn rows (codes "blocks") 1 MOST_BLOCKS
@@ -274,6 +280,7 @@ pub record AreGiven (rows : List Row) (s : Settings) : Type 0 where
   pub tasks : Gives rows (codes "tasks") s.tasks
   pub items : Gives rows (codes "items") s.items
   pub asks : Gives rows (codes "asks") s.asks
+  pub reads : Gives rows (codes "reads") s.reads
   pub user : Gives rows (codes "user") s.user
   pub seed : Gives rows (codes "seed") s.seed
   pub blocks : Gives rows (codes "blocks") s.blocks

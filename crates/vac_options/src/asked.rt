@@ -208,6 +208,7 @@ fn settings_of(matches: &ArgMatches) -> Settings
         tasks: number_of(matches, "tasks"),
         items: number_of(matches, "items"),
         asks: number_of(matches, "asks"),
+        reads: number_of(matches, "reads"),
         user: number_of(matches, "user"),
         seed: seed_of(matches),
         blocks: number_of(matches, "blocks"),

@@ -7,7 +7,7 @@ ghost use Rattle.vac_options.specs.CommandLine.{blocks_option, clients_option, t
 ghost use Rattle.vac_options.specs.CommandLine.{rounds_option, tries_option, flag, telling_options};
 ghost use Rattle.vac_options.specs.CommandLine.{items_option, asks_option, user_option, seed_option};
 ghost use Rattle.vac_options.specs.CommandLine.{short_option, file_option, judging_options};
-ghost use Rattle.vac_options.specs.CommandLine.{searching_options, steps_option, words_option};
+ghost use Rattle.vac_options.specs.CommandLine.{searching_options, steps_option, words_option, reads_option};
 ghost use Rattle.vac_options.specs.CommandLine.{client_options, task_options, load_options};
 ghost use Rattle.vac_options.specs.CommandLine.{with_options, top_command, script_commands};
 ghost use Rattle.vac_options.specs.CommandLine.{judging_commands, load_commands, vacation};
@@ -167,6 +167,20 @@ fn asks_option<'a>(alloc: Global) -> Arg<'a>
     short_option('n', option)
 }
 
+/// The option that says how many tasks are questions.
+fn reads_option<'a>(alloc: Global) -> Arg<'a>
+    ensures { IsOption result reads_option }
+{
+    number_option(
+        alloc,
+        "reads",
+        0,
+        PERCENT,
+        "0",
+        "How many of a hundred tasks are questions, which change nothing",
+    )
+}
+
 /// The option that says how many tasks are trips.
 fn user_option<'a>(alloc: Global) -> Arg<'a>
     ensures { IsOption result user_option }
@@ -228,6 +242,7 @@ fn add_task_options<'a>(
 {
     let command = add_option(command, items_option(alloc));
     let command = add_option(command, asks_option(alloc));
+    let command = add_option(command, reads_option(alloc));
     let command = add_option(command, user_option(alloc));
     let command = add_option(command, seed_option(alloc));
     add_option(command, blocks_option(alloc))

@@ -14,13 +14,16 @@ pub number_of-requires-4 : goal.number_of-requires-4
 number_of-requires-4 c = (_, _, omega arith, c.requires.asks)
 
 pub number_of-requires-5 : goal.number_of-requires-5
-number_of-requires-5 c = (_, _, omega arith, c.requires.user)
+number_of-requires-5 c = (_, _, omega arith, c.requires.reads)
 
 pub number_of-requires-6 : goal.number_of-requires-6
-number_of-requires-6 c = (_, _, omega arith, c.requires.blocks)
+number_of-requires-6 c = (_, _, omega arith, c.requires.user)
 
 pub number_of-requires-7 : goal.number_of-requires-7
-number_of-requires-7 c = (_, _, omega arith, c.requires.tries)
+number_of-requires-7 c = (_, _, omega arith, c.requires.blocks)
 
 pub number_of-requires-8 : goal.number_of-requires-8
-number_of-requires-8 c = (_, _, omega arith, c.requires.rounds)
+number_of-requires-8 c = (_, _, omega arith, c.requires.tries)
+
+pub number_of-requires-9 : goal.number_of-requires-9
+number_of-requires-9 c = (_, _, omega arith, c.requires.rounds)
