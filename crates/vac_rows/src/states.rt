@@ -7,7 +7,8 @@ use crate::scripts::{
 use std::alloc::Global;
 use std::process::Abort;
 use vac_model::Kind::{Car, Room};
-use vac_model::{Reply, Sequential};
+use vac_model::Reply;
+use vac_sequential::Sequential;
 
 /// A plain manager of so many blocks, after a script.
 fn after(rt: &impl Abort, alloc: Global, blocks: u32, script: &[Line<'_>]) -> Sequential {
