@@ -4,8 +4,7 @@ use Rattle.tx_memory.specs.View.{View}
 use Rattle.stm_logs.specs.Log.{LogValue, empty_log, log_pairs}
 use Rattle.stm_region.specs.Shown.{RegionShown, ClientShown}
 use Rattle.stm_attempt.specs.Meaning.{memory_of, origin_of}
-use Rattle.stm_attempt.specs.Leading.{IsLocal, Carries, KeepsFitting}
-use Rattle.stm_attempt.proofs.Leading.{records_lead}
+use Rattle.stm_attempt.specs.Leading.{IsLocal, Carries, KeepsFitting, records_lead}
 use Rattle.tx_alloc.specs.Pool.{IsPool, IsEmptyHeap, HasPool, NoneFree, Taken, fresh_lists}
 use Rattle.tx_alloc.proofs.Moves.{pool_within}
 use Rattle.stm_rows.specs.Laws.{Fits, HoldsUnder, IsHeapOfTen}
