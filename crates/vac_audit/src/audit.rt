@@ -20,6 +20,7 @@ use crate::tree::{Fault, Table, USED, walk_table};
 use std::alloc::{AllocError, Global};
 use tx_alloc::place::MOST_BLOCKS;
 use vac_model::{Kind, Report};
+use vac_records::{CARS, CUSTOMERS, FLIGHTS, ROOMS};
 
 /// The words of the largest heap.
 pub const MOST_HEAP_WORDS: usize = FIRST_BLOCK + BLOCK_WORDS * MOST_BLOCKS;
@@ -67,9 +68,12 @@ fn walk_items(
     ensures size { length reached.new.items ≡ length reached.old.items }
     ensures ran { ItemsRan words.now reached.old.items reached.new.items notes.new result }
 {
-    let cars = walk_table(alloc, words, reached, notes, Table::Items(Kind::Car), 1)?;
-    let flights = walk_table(alloc, words, reached, notes, Table::Items(Kind::Flight), 2)?;
-    let rooms = walk_table(alloc, words, reached, notes, Table::Items(Kind::Room), 3)?;
+    let cars =
+        walk_table(alloc, words, reached, notes, Table::Items(Kind::Car), CARS.0 as usize)?;
+    let flights =
+        walk_table(alloc, words, reached, notes, Table::Items(Kind::Flight), FLIGHTS.0 as usize)?;
+    let rooms =
+        walk_table(alloc, words, reached, notes, Table::Items(Kind::Room), ROOMS.0 as usize)?;
     Ok(Kinds {
         cars,
         flights,
@@ -92,7 +96,7 @@ fn walk_customers(
     ensures ran { CustomersRan words.now reached.old.items reached.new.items
         notes.old notes.new result }
 {
-    walk_table(alloc, words, reached, notes, Table::Customers, 4)
+    walk_table(alloc, words, reached, notes, Table::Customers, CUSTOMERS.0 as usize)
 }
 
 /// Looks for an item that has another number of units used than are booked.

@@ -6,6 +6,7 @@ ghost use Rattle.vac_cli.specs.Ending.{fault_line, unopened_line, load_fault_lin
 
 use std::alloc::Global;
 use std::io::Write;
+use vac_draws::BLOCKS_OF_ITEM;
 use vac_lines::write_and_flush;
 use vac_load::{LoadFault, Settings};
 use vac_streams::StreamFault;
@@ -95,14 +96,11 @@ pub(crate) fn end_load_by<W: Write>(fault: LoadFault, output: &mut W) -> u8
     status
 }
 
-/// How many blocks a load needs for each item: one for an item of each kind, one for a customer.
-const BLOCKS_OF_ITEM: u64 = 4;
-
 /// Says on `errors` which numbers of a load do not fit each other: the one thing that is left to be
 /// wrong, once each of them is in its range. Whether that could be written changes nothing.
 fn tell_settings<E: Write>(alloc: Global, settings: &Settings, errors: &mut E) {
     let (items, blocks) = (settings.items, settings.blocks);
-    let least = BLOCKS_OF_ITEM.saturating_mul(u64::from(items));
+    let least = u64::from(BLOCKS_OF_ITEM) * u64::from(items);
     let Ok(line) = format!(in alloc;
         "error: --items {items} needs --blocks {least} at least, and --blocks is {blocks}\n"
     ) else {

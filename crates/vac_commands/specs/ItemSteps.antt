@@ -1,12 +1,13 @@
 -- A step of a command on an item.
 use Rattle.std.specs.Prelude.{◌≡◌, ◌≢◌, ℕ, ◌+◌, List, Option, unwrap_or}
 use Rattle.tx_memory.specs.View.{View, Sees, Kept}
+use Rattle.vac_records.specs.declared.place.TheConstants.{PRICE}
 use Rattle.vac_records.specs.Items.{mem}
 
 -- under each image the item has this price where one is given, and all other words are as before
 pub record PriceGiven (s s' : View) (node : ℕ) (price : Option ℕ) : Type 0 where
   pub kept : Kept s s'
   pub is : (image : List ℕ) → Sees s' image →
-      mem s' image (node + 7) ≡ unwrap_or price (mem s image (node + 7))
-  pub others : (image : List ℕ) → Sees s' image → (x : ℕ) → x ≢ node + 7 →
+      mem s' image (node + PRICE) ≡ unwrap_or price (mem s image (node + PRICE))
+  pub others : (image : List ℕ) → Sees s' image → (x : ℕ) → x ≢ node + PRICE →
       mem s' image x ≡ mem s image x

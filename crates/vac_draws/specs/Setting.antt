@@ -5,7 +5,7 @@ use Rattle.vac_model.specs.Amounts.{is_list_length}
 use Rattle.vac_model.specs.declared.limits.TheConstants.{MOST_BLOCKS, MOST_TRIES}
 use Rattle.vac_draws.specs.declared.settings.Settings.{Settings}
 use Rattle.vac_draws.specs.declared.settings.TheConstants.{MOST_CLIENTS, MOST_TASKS, MOST_ITEMS}
-use Rattle.vac_draws.specs.declared.settings.TheConstants.{PERCENT, MOST_ROUNDS}
+use Rattle.vac_draws.specs.declared.settings.TheConstants.{PERCENT, MOST_ROUNDS, BLOCKS_OF_ITEM}
 
 -- the numbers of clients, rounds and tasks are in their ranges
 abbrev pub is_work : Settings → Bool
@@ -26,7 +26,7 @@ is_manager s =
 -- block for each item of the three kinds and each customer that the opening makes
 abbrev pub is_system : Settings → Bool
 is_system s =
-    nat_le 1 s.items && nat_le s.items MOST_ITEMS && nat_le (4 * s.items) s.blocks
+    nat_le 1 s.items && nat_le s.items MOST_ITEMS && nat_le (BLOCKS_OF_ITEM * s.items) s.blocks
     && is_list_length s.asks && nat_le s.reads PERCENT && nat_le s.user PERCENT && is_manager s
 
 -- a load can be run with these settings

@@ -12,5 +12,7 @@ mod tasks;
 
 pub use draws::{Draws, FixedDraws, PcgDraws};
 pub use opening::draw_stock;
-pub use settings::{MOST_CLIENTS, MOST_ITEMS, MOST_ROUNDS, MOST_TASKS, PERCENT, Settings};
+pub use settings::{
+    BLOCKS_OF_ITEM, MOST_CLIENTS, MOST_ITEMS, MOST_ROUNDS, MOST_TASKS, PERCENT, Settings,
+};
 pub use tasks::{Tasks, draw_task, tasks_of, turns_make_tasks};

@@ -15,6 +15,9 @@ pub const MOST_TASKS: u32 = 1_000_000;
 /// The most items of a kind, and the most customers.
 pub const MOST_ITEMS: u32 = 65_536;
 
+/// How many blocks a load needs for each item: one for an item of each kind, one for a customer.
+pub const BLOCKS_OF_ITEM: u32 = 4;
+
 /// The most rounds of a load.
 pub const MOST_ROUNDS: u32 = 100;
 
@@ -80,7 +83,7 @@ impl Settings {
     {
         1 <= self.items
             && self.items <= MOST_ITEMS
-            && 4 * self.items <= self.blocks
+            && BLOCKS_OF_ITEM * self.items <= self.blocks
             && 1 <= self.asks
             && self.asks as usize <= MOST_PARTS
             && self.reads <= PERCENT

@@ -19,6 +19,7 @@ use Rattle.stm_attempt.specs.declared.conflict.Conflict.{Conflict}
 use Rattle.stm_attempt.specs.declared.conflict.Stop.{Stop}
 use Rattle.stm_attempt.specs.declared.conflict.Stop.TheVariants as stop
 use Rattle.tx_alloc.specs.Pool.{heap_words}
+use Rattle.tx_alloc.specs.declared.place.TheConstants.{LISTS}
 use Rattle.vac_model.specs.declared.commands.Command.{Command}
 use Rattle.vac_model.specs.declared.commands.Command.TheVariants as command
 use Rattle.vac_model.specs.declared.tasks.Task.{Task}
@@ -284,11 +285,11 @@ pub record HasCalled (region : RegionShown) (t : Task) (tries : ℕ) (result : R
 -- a client was split off, which cost a grant: its new entries begin with the next free list
 pub record Splits (before after other : CallerShown) : Type 0 where
   pub some : 0 < before.value.grants
-  pub mine : after ≡ record before { value = giving before.value; next = (before.next + 1) % 8 }
+  pub mine : after ≡ record before { value = giving before.value; next = (before.next + 1) % LISTS }
   pub theirs : other ≡ record before {
     value = fresh before.value;
     start = before.next;
-    next = (before.next + 1) % 8;
+    next = (before.next + 1) % LISTS;
   }
 
 -- no client could be split off, for want of a grant

@@ -5,6 +5,7 @@ use Rattle.stm_core.specs.Client.{Client, Record}
 use Rattle.stm_core.specs.History.{Sub, Serial, image_after, all_records}
 use Rattle.stm_region.specs.Shown.{RegionShown}
 use Rattle.stm_attempt.specs.Committing.{WasDecided}
+use Rattle.tx_alloc.specs.declared.place.TheConstants.{FIRST_BLOCK, BLOCK_WORDS}
 use Rattle.vac_model.specs.declared.tasks.Task.{Task}
 use Rattle.vac_model.specs.declared.replies.Reply.{Reply}
 use Rattle.vac_model.specs.State.{State, empty_state}
@@ -52,7 +53,7 @@ pub record AreVersioned (rs : List Record) : Type 0 where
 
 -- how many entries there is room for in a manager's region
 abbrev pub capacity_of : RegionShown → ℕ
-capacity_of region = (region.size - 16) / 8
+capacity_of region = (region.size - FIRST_BLOCK) / BLOCK_WORDS
 
 -- the records are a whole history of a manager's region: legal from the empty state, and leading
 -- to this one

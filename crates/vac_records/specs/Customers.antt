@@ -7,7 +7,9 @@ use Rattle.vac_model.specs.State.{Place, kind_number}
 use Rattle.vac_model.specs.Step.{new_booking}
 use Rattle.tx_alloc.specs.Pointer.{pointer, IsWithin}
 use Rattle.tx_alloc.specs.Pool.{IsBlock}
-use Rattle.tx_alloc.specs.declared.place.TheConstants.{MOST_BLOCKS}
+use Rattle.tx_alloc.specs.declared.place.TheConstants.{BLOCK_WORDS, MOST_BLOCKS}
+use Rattle.tx_list.specs.declared.place.TheConstants.{ID, SUM, UNITS}
+use Rattle.vac_records.specs.declared.place.TheConstants.{BOOKINGS}
 use Rattle.tx_alloc.specs.Rows.{Rows, times, put_row, cut_row, block_at, Relinks}
 use Rattle.tx_list.specs.Lists.{IsListAt, IsOutside}
 use Rattle.tx_list.specs.Search.{SpotAt}
@@ -17,14 +19,15 @@ use Rattle.vac_records.specs.Bookings.{booking_in, place_key}
 
 -- the word that leads to the bookings of the customer in a block
 abbrev pub head_of : ℕ → ℕ
-head_of customer = customer + 4
+head_of customer = customer + BOOKINGS
 
 -- the block became a customer without bookings; its links and all words outside are as before
 pub record IsNewCustomer (m m' : ℕ → ℕ) (node key : ℕ) : Type 0 where
   pub key_is : m' node ≡ key
   pub head_is : m' (head_of node) ≡ 0
-  pub spare : (k : ℕ) → 5 ≤ k → k < 8 → m' (node + k) ≡ 0
-  pub others : (x : ℕ) → x ≢ node → (x < node + 4) ⊎ (node + 8 ≤ x) → m' x ≡ m x
+  pub spare : (k : ℕ) → 5 ≤ k → k < BLOCK_WORDS → m' (node + k) ≡ 0
+  pub others : (x : ℕ) → x ≢ node → (x < head_of node) ⊎ (node + BLOCK_WORDS ≤ x) →
+      m' x ≡ m x
 
 -- under each image the block became a new customer
 pub record CustomerMade (s s' : View) (node key : ℕ) : Type 0 where
@@ -36,10 +39,10 @@ pub record CustomerMade (s s' : View) (node key : ℕ) : Type 0 where
 -- before
 pub record IsNewBooking (m m' : ℕ → ℕ) (node : ℕ) (place : Place) (num price : ℕ) : Type 0 where
   pub kind_is : m' node ≡ kind_number place.0
-  pub id_is : m' (node + 1) ≡ place.1
+  pub id_is : m' (node + ID) ≡ place.1
   pub is : booking_in m' node ≡ new_booking num price
-  pub spare : (k : ℕ) → 5 ≤ k → k < 8 → m' (node + k) ≡ 0
-  pub others : (x : ℕ) → (x < node) ⊎ (node + 8 ≤ x) → m' x ≡ m x
+  pub spare : (k : ℕ) → 5 ≤ k → k < BLOCK_WORDS → m' (node + k) ≡ 0
+  pub others : (x : ℕ) → (x < node) ⊎ (node + BLOCK_WORDS ≤ x) → m' x ≡ m x
 
 -- under each image the block became a new booking
 pub record BookingMade (s s' : View) (node : ℕ) (place : Place) (num price : ℕ) : Type 0 where
@@ -55,13 +58,13 @@ pub record BookingRead (s s' : View) (node : ℕ) (b : Booking) : Type 0 where
 
 -- under each image the booking has room for num more units at this price
 pub record CanExtend (s : View) (node num price : ℕ) : Type 0 where
-  pub sum : RoomAt s (node + 2) (num * price)
-  pub units : RoomAt s (node + 4) num
+  pub sum : RoomAt s (node + SUM) (num * price)
+  pub units : RoomAt s (node + UNITS) num
 
 -- the block's booking is this one now, and all words but its sum and its units are as before
 pub record IsBookingNow (m m' : ℕ → ℕ) (node : ℕ) (b : Booking) : Type 0 where
   pub is : booking_in m' node ≡ b
-  pub others : (x : ℕ) → x ≢ node + 2 → x ≢ node + 4 → m' x ≡ m x
+  pub others : (x : ℕ) → x ≢ node + SUM → x ≢ node + UNITS → m' x ≡ m x
 
 -- under each image the booking became what f makes of it
 pub record BookingChanged (s s' : View) (node : ℕ) (f : Booking → Booking) : Type 0 where

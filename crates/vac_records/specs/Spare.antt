@@ -1,6 +1,7 @@
 -- The spare words of a block, which are 0 from when it was made an entry.
 use Rattle.std.specs.Prelude.{◌≡◌, ◌⊎◌, ℕ, ◌+◌, ◌<◌, ◌≤◌, List}
 use Rattle.tx_memory.specs.View.{View, Sees, Kept, IsWrite}
+use Rattle.tx_alloc.specs.declared.place.TheConstants.{BLOCK_WORDS}
 use Rattle.vac_records.specs.Items.{mem}
 
 -- under each image the word is 0 now, whatever it was, and all others are as before
@@ -10,8 +11,8 @@ pub record WordCleared (s s' : View) (address : ℕ) : Type 0 where
 
 -- the three spare words are 0, and all others as before
 pub record IsCleared (m m' : ℕ → ℕ) (node : ℕ) : Type 0 where
-  pub spare : (k : ℕ) → 5 ≤ k → k < 8 → m' (node + k) ≡ 0
-  pub others : (x : ℕ) → (x < node + 5) ⊎ (node + 8 ≤ x) → m' x ≡ m x
+  pub spare : (k : ℕ) → 5 ≤ k → k < BLOCK_WORDS → m' (node + k) ≡ 0
+  pub others : (x : ℕ) → (x < node + 5) ⊎ (node + BLOCK_WORDS ≤ x) → m' x ≡ m x
 
 -- it is so under each image
 pub record SpareCleared (s s' : View) (node : ℕ) : Type 0 where

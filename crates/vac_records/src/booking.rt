@@ -2,6 +2,7 @@
 
 ghost use Rattle.std.specs.Prelude.{◌≡◌, ◌+◌, ◌*◌, ◌<◌, ◌^◌, IfOk, IfErr};
 ghost use Rattle.tx_memory.specs.View.{Loaded};
+ghost use Rattle.tx_list.specs.declared.place.TheConstants.{SUM, UNITS};
 ghost use Rattle.vac_model.specs.State.{kind_number};
 ghost use Rattle.vac_model.specs.Step.{extended};
 ghost use Rattle.vac_records.specs.Items.{IsNode};
@@ -73,7 +74,7 @@ pub fn units_at<M: TxRead>(memory: &mut M, node: Block) -> Result<u64, M::Stop>
     requires { IsNode (M.view memory.old) node }
     ensures origin { M.origin memory.new ≡ M.origin memory.old }
     ensures answer { IfOk result (λ v.
-        Loaded (M.view memory.old) (M.view memory.new) (node + 4) v) }
+        Loaded (M.view memory.old) (M.view memory.new) (node + UNITS) v) }
     ensures stopped { IfErr result (λ stop. M.stopped_for memory.new stop) }
 {
     load(memory, node.word(place::UNITS))
@@ -85,7 +86,7 @@ pub fn sum_at<M: TxRead>(memory: &mut M, node: Block) -> Result<u64, M::Stop>
     requires { IsNode (M.view memory.old) node }
     ensures origin { M.origin memory.new ≡ M.origin memory.old }
     ensures answer { IfOk result (λ v.
-        Loaded (M.view memory.old) (M.view memory.new) (node + 2) v) }
+        Loaded (M.view memory.old) (M.view memory.new) (node + SUM) v) }
     ensures stopped { IfErr result (λ stop. M.stopped_for memory.new stop) }
 {
     load(memory, node.word(place::SUM))

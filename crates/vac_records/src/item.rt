@@ -3,6 +3,7 @@
 ghost use Rattle.std.specs.Prelude.{◌≡◌, ◌+◌, IfOk, IfErr};
 ghost use Rattle.tx_memory.specs.View.{Loaded, Stored};
 ghost use Rattle.vac_model.specs.Step.{deleted, taken, given_back};
+ghost use Rattle.vac_records.specs.declared.place.TheConstants.{USED, FREE, TOTAL, PRICE};
 ghost use Rattle.vac_records.specs.Items.{IsNode, HasRoom, HasFree, CanMake, CanMakeOf, CanCancel, ItemMade, ItemRead, ItemChanged, ItemChangedOf, UnitsAdded};
 
 use crate::place;
@@ -58,7 +59,7 @@ pub fn used_at<M: TxRead>(memory: &mut M, node: Block) -> Result<u64, M::Stop>
     requires { IsNode (M.view memory.old) node }
     ensures origin { M.origin memory.new ≡ M.origin memory.old }
     ensures answer { IfOk result (λ v.
-        Loaded (M.view memory.old) (M.view memory.new) (node + 4) v) }
+        Loaded (M.view memory.old) (M.view memory.new) (node + USED) v) }
     ensures stopped { IfErr result (λ stop. M.stopped_for memory.new stop) }
 {
     load(memory, node.word(place::USED))
@@ -70,7 +71,7 @@ pub fn free_at<M: TxRead>(memory: &mut M, node: Block) -> Result<u64, M::Stop>
     requires { IsNode (M.view memory.old) node }
     ensures origin { M.origin memory.new ≡ M.origin memory.old }
     ensures answer { IfOk result (λ v.
-        Loaded (M.view memory.old) (M.view memory.new) (node + 5) v) }
+        Loaded (M.view memory.old) (M.view memory.new) (node + FREE) v) }
     ensures stopped { IfErr result (λ stop. M.stopped_for memory.new stop) }
 {
     load(memory, node.word(place::FREE))
@@ -82,7 +83,7 @@ pub fn total_at<M: TxRead>(memory: &mut M, node: Block) -> Result<u64, M::Stop>
     requires { IsNode (M.view memory.old) node }
     ensures origin { M.origin memory.new ≡ M.origin memory.old }
     ensures answer { IfOk result (λ v.
-        Loaded (M.view memory.old) (M.view memory.new) (node + 6) v) }
+        Loaded (M.view memory.old) (M.view memory.new) (node + TOTAL) v) }
     ensures stopped { IfErr result (λ stop. M.stopped_for memory.new stop) }
 {
     load(memory, node.word(place::TOTAL))
@@ -94,7 +95,7 @@ pub fn price_at<M: TxRead>(memory: &mut M, node: Block) -> Result<u64, M::Stop>
     requires { IsNode (M.view memory.old) node }
     ensures origin { M.origin memory.new ≡ M.origin memory.old }
     ensures answer { IfOk result (λ v.
-        Loaded (M.view memory.old) (M.view memory.new) (node + 7) v) }
+        Loaded (M.view memory.old) (M.view memory.new) (node + PRICE) v) }
     ensures stopped { IfErr result (λ stop. M.stopped_for memory.new stop) }
 {
     load(memory, node.word(place::PRICE))
@@ -133,7 +134,7 @@ pub fn set_price<M: TxMem>(memory: &mut M, node: Block, price: u32) -> Result<()
     requires { IsNode (M.view memory.old) node }
     ensures origin { M.origin memory.new ≡ M.origin memory.old }
     ensures answer { IfOk result (λ _.
-        Stored (M.view memory.old) (M.view memory.new) (node + 7) price) }
+        Stored (M.view memory.old) (M.view memory.new) (node + PRICE) price) }
 {
     let word = node.word(place::PRICE);
     store(memory, word, price as u64)

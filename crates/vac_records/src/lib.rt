@@ -26,5 +26,5 @@ pub use laws::{
     customers_follow_their_blocks, empty_heaps_are_empty_states, entries_are_read_off_blocks,
     items_follow_their_blocks, one_state_for_a_memory, states_have_their_structures,
 };
-pub use root::{CUSTOMERS, root_of};
+pub use root::{CARS, CUSTOMERS, FLIGHTS, ROOMS, root_of};
 pub use vac_model::{Item, Kind};

@@ -6,6 +6,15 @@ ghost use Rattle.vac_model.specs.State.{kind_number};
 use tx_memory::Addr;
 use vac_model::Kind;
 
+/// The word that leads to the table of cars.
+pub const CARS: Addr = Addr(1);
+
+/// The word that leads to the table of flights.
+pub const FLIGHTS: Addr = Addr(2);
+
+/// The word that leads to the table of rooms.
+pub const ROOMS: Addr = Addr(3);
+
 /// The word that leads to the table of customers.
 pub const CUSTOMERS: Addr = Addr(4);
 
@@ -15,8 +24,8 @@ pub fn root_of(kind: Kind) -> Addr
     ensures { result.0 ≡ 1 + kind_number kind }
 {
     match kind {
-        Kind::Car => Addr(1),
-        Kind::Flight => Addr(2),
-        Kind::Room => Addr(3),
+        Kind::Car => CARS,
+        Kind::Flight => FLIGHTS,
+        Kind::Room => ROOMS,
     }
 }
