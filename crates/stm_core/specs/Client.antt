@@ -3,8 +3,8 @@
 use Rattle.std.specs.Prelude.{◌≡◌, ℕ, ◌+◌, ◌*◌, ◌-◌, ◌/◌, Bool, true, false, cond, eqb, ltb, ◌||◌, ◌&&◌, List, [], ◌∷◌, Option, Some, None}
 use Rattle.stm_words.specs.LockWord.{free_word}
 
--- one committed call: what it read and wrote, and where it stands. A writer's version is its write
--- version, a reader's its read version
+-- one committed call: what it read and wrote, and its place in the history. A writer's version is
+-- its write version, a reader's its read version
 pub record Record : Type 0 where
   pub tag : List ℕ
   pub reads : List (ℕ × ℕ)
@@ -25,7 +25,7 @@ pub data Phase : Type 0 where
   -- no attempt was begun
   idle : Phase
   running : Phase
-  -- it can only end: a check, a lock or a validation failed, or a lock was given back
+  -- it can only abort: a check, a lock or a validation failed, or a lock was given back
   ending : Phase
   -- a decided writer, which may have values to store and locks to release
   committed : Phase
@@ -56,7 +56,7 @@ pub record Attempt : Type 0 where
   pub rv : ℕ
   -- what was read and checked: a pair of address and value for each check that succeeded
   pub reads : List (ℕ × ℕ)
-  -- the last step, but that a give back leaves the one before it
+  -- the last step; a give back leaves the step before it here
   pub last : Step
   pub gave_back : Bool
   -- whether the lock of the last step, a probe or a validation, was then its own
@@ -114,7 +114,7 @@ is_committed _ = false
 -- the client is a decided writer. A reader that finished is settled (`is_settled`), and not decided
 -- in this sense
 abbrev pub decided : Client → Bool
-decided c = is_committed c.attempt.phase
+decided v = is_committed v.attempt.phase
 
 -- the version in a lock word: of one that is held, the old version
 abbrev pub version_of : ℕ → ℕ
@@ -124,7 +124,7 @@ version_of word = word / 2
 abbrev pub IsFree : ℕ → Type 0
 IsFree word = word ≡ free_word (version_of word)
 
--- the same as a test
+-- whether the lock word says free, as a test
 abbrev pub is_free : ℕ → Bool
 is_free word = eqb word (free_word (version_of word))
 
@@ -143,7 +143,7 @@ abbrev pub old_version : List (ℕ × ℕ) → ℕ → ℕ
 old_version [] k = 0
 old_version (p ∷ ps) k = cond (eqb p.0 k) p.1 (old_version ps k)
 
--- the word of the probe that the last step still stands on
+-- the word that the last probe found, where the last step is that probe or its fetch; else 0
 abbrev pub word_before : Step → ℕ
 word_before (probed k n) = n
 word_before (fetched a n x) = n
@@ -168,14 +168,14 @@ word_found (ended n) = Some n
 
 -- the word that the client's last step found
 abbrev pub found_by : Client → Option ℕ
-found_by c = cond c.attempt.gave_back None (word_found c.attempt.last)
+found_by v = cond v.attempt.gave_back None (word_found v.attempt.last)
 
--- where a record stands among those of its renewal: by version, the writer of a version before its
--- readers
+-- how a record is ordered among those of its renewal: by version, the writer of a version before
+-- its readers
 abbrev pub rank : Record → ℕ
 rank r = 2 * r.version + cond r.writer 0 1
 
--- r stands before x: by renewal, version, the writer of a version before its readers, and then the
+-- r comes before x: by renewal, version, the writer of a version before its readers, and then the
 -- point step
 abbrev pub before : Record → Record → Bool
 before r x =
@@ -183,7 +183,7 @@ before r x =
     || (eqb r.renewal x.renewal
     && (ltb (rank r) (rank x) || (eqb (rank r) (rank x) && ltb r.point x.point)))
 
--- the record put behind its equals
+-- the list with the record put into its order, after its equals
 abbrev pub inserted : Record → List Record → List Record
 inserted r [] = r ∷ []
 inserted r (x ∷ xs) = cond (before r x) (r ∷ x ∷ xs) (x ∷ inserted r xs)

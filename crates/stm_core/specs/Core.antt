@@ -28,7 +28,7 @@ pub record Core : Type 0 where
 abbrev pub bounds_of : Core → Bounds
 bounds_of c = record { last = c.last; stripes = length c.locks; size = length c.cells }
 
--- the word that stands there before the step
+-- the word that is there before the step
 abbrev pub found : (ℕ → ℕ) → Core → Action → ℕ
 found lk c begin = c.clock
 found lk c (probe k) = slice_index c.locks k
@@ -62,10 +62,10 @@ written _ m c = c
 
 -- the core after a step of the client at a place of the list
 abbrev pub stepped : Stamp → (ℕ → ℕ) → Action → ℕ → Client → Core → Core
-stepped t lk e i v c =
-    let n = found lk c e in
-    let d = written e (left e n v) c in
-    record d { clients = slice_set c.clients i (after t lk e n v); events = c.events + 1 }
+stepped s lk action i v c =
+    let n = found lk c action in
+    let d = written action (left action n v) c in
+    record d { clients = slice_set c.clients i (after s lk action n v); events = c.events + 1 }
 
 -- the core after the client at place i, whose value is v, split: the new client comes last
 abbrev pub divided : ℕ → Client → Core → Core
@@ -81,7 +81,8 @@ gathered i v j w c = record c {
   events = c.events + 1;
 }
 
--- the clock anew, on the same data words: all records there are are of earlier renewals now
+-- the core after a renewal: the clock anew, on the same data words, and all records that there are
+-- belong to earlier renewals now
 abbrev pub renewed : ℕ → ℕ → Client → Core → Core
 renewed i last v c = record c {
   past = v.records;
@@ -130,7 +131,8 @@ others_gathered (v ∷ vs) (suc i) = v.is_gathered && others_gathered vs i
 
 -- whether an event may happen, but for what the law asks of records
 abbrev pub may_play : (ℕ → ℕ) → Event → Core → Bool
-may_play lk (acts k e) c = is_out c k && may_act lk (bounds_of c) e (client_of c k).attempt
+may_play lk (acts k action) c =
+    is_out c k && may_act lk (bounds_of c) action (client_of c k).attempt
 may_play lk (splits k) c =
     is_out c k && is_empty (client_of c k).attempt.held && nat_lt 0 (client_of c k).grants
 may_play lk (gathers k j) c =
@@ -143,7 +145,7 @@ may_play lk (renews k last) c =
 module _ (lawful : RecordLaw) where
   -- the record that the event would make is lawful
   abbrev pub MakesLawful : Event → Core → Type 0
-  MakesLawful (acts k e) c = IsLawful lawful e (client_of c k).attempt
+  MakesLawful (acts k action) c = IsLawful lawful action (client_of c k).attempt
   MakesLawful _ c = Unit {0}
 
   -- the event may come next, and the record that it would make, if any, is lawful
@@ -152,9 +154,9 @@ module _ (lawful : RecordLaw) where
 
 -- the core after an event
 abbrev pub played : (ℕ → ℕ) → Event → Core → Core
-played lk (acts k e) c =
-    let t : Stamp = record { client = k; place = c.events; renewal = c.renewal } in
-    stepped t lk e (k - 1) (client_of c k) c
+played lk (acts k action) c =
+    let s : Stamp = record { client = k; place = c.events; renewal = c.renewal } in
+    stepped s lk action (k - 1) (client_of c k) c
 played lk (splits k) c = divided (k - 1) (client_of c k) c
 played lk (gathers k j) c = gathered (k - 1) (client_of c k) (j - 1) (client_of c j) c
 played lk (renews k last) c = renewed (k - 1) last (client_of c k) c

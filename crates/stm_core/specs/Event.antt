@@ -78,7 +78,7 @@ idle_attempt = record {
 
 -- the client with its attempt changed
 abbrev pub on_attempt : (Attempt → Attempt) → Client → Client
-on_attempt f c = record c { attempt = f c.attempt }
+on_attempt f v = record v { attempt = f v.attempt }
 
 -- the attempt, its last step forgotten
 abbrev pub forgetting : Attempt → Attempt
@@ -86,23 +86,23 @@ forgetting t = record t { last = nothing; gave_back = false; mine = false }
 
 -- a decided writer, with its record
 abbrev pub committed_by : Stamp → Client → Client
-committed_by s c = record c {
-  records = inserted (writer_record s c.attempt) c.records;
-  attempt = record c.attempt { phase = committed; stored = [] };
+committed_by s v = record v {
+  records = inserted (writer_record s v.attempt) v.records;
+  attempt = record v.attempt { phase = committed; stored = [] };
 }
 
 -- a new attempt, with the clock's value as its read version
 abbrev pub begun : Stamp → ℕ → Client → Client
-begun s n c = record c {
+begun s n v = record v {
   floor = n;
   attempt = record idle_attempt {
-    number = c.attempt.number + 1;
+    number = v.attempt.number + 1;
     phase = running;
     rv = n;
     last = began n;
-    held = c.attempt.held;
+    held = v.attempt.held;
     next_from = n;
-    lone = eqb c.grants MOST_GRANTS;
+    lone = eqb v.grants MOST_GRANTS;
     steps = 1;
     began_at = s.place;
   };
@@ -116,7 +116,7 @@ stepping l = on_attempt (λ t. record (forgetting t) { last = l; steps = t.steps
 abbrev pub marking : Bool → Client → Client
 marking mine = on_attempt (λ t. record t { mine = mine })
 
--- the attempt can only end
+-- the attempt can only abort
 abbrev pub failing : Client → Client
 failing = on_attempt (λ t. record t { phase = ending })
 
@@ -138,9 +138,9 @@ with_ticks ticks from = on_attempt (λ t. record t { ticks = ticks; next_from = 
 
 -- a won tick, before it is decided
 abbrev pub versioned : Stamp → ℕ → List ℕ → List (ℕ × ℕ) → Client → Client
-versioned s n tag writes c = record c {
+versioned s n tag writes v = record v {
   floor = n;
-  attempt = record c.attempt {
+  attempt = record v.attempt {
     wv = n;
     tag = tag;
     writes = writes;
@@ -158,81 +158,81 @@ is_empty (p ∷ ps) = false
 -- a won tick decides where nothing was read, or where the version is the next after the read
 -- version
 abbrev pub decides_at_once : Client → Bool
-decides_at_once c = is_empty c.attempt.reads || eqb c.attempt.wv (c.attempt.rv + 1)
+decides_at_once v = is_empty v.attempt.reads || eqb v.attempt.wv (v.attempt.rv + 1)
 
 -- the client has won the tick to version n, and is decided where that decides at once
 abbrev pub won : Stamp → ℕ → List ℕ → List (ℕ × ℕ) → Client → Client
-won s n tag writes c =
-    let w = versioned s n tag writes c in cond (decides_at_once w) (committed_by s w) w
+won s n tag writes v =
+    let w = versioned s n tag writes v in cond (decides_at_once w) (committed_by s w) w
 
 -- a validation passes where the lock is free or its own, with a version of at most rv
 abbrev pub passes : ℕ → ℕ → Client → Bool
-passes k n c = (is_free n || writes_to c.attempt.held k) && leb (version_of n) c.attempt.rv
+passes k n v = (is_free n || writes_to v.attempt.held k) && leb (version_of n) v.attempt.rv
 
 -- one validation more has passed, and the client is decided where it was the last one
 abbrev pub passing : Stamp → Client → Client
-passing s c =
-    let w = counting c in
-    cond (eqb w.attempt.passed (length c.attempt.reads)) (committed_by s w) w
+passing s v =
+    let w = counting v in
+    cond (eqb w.attempt.passed (length v.attempt.reads)) (committed_by s w) w
 
 -- the record that a step decides
 abbrev pub decision : Stamp → Action → ℕ → Client → List Record
-decision t (tick from tag writes) n v =
-    let w = versioned t (from + 1) tag writes v in
-    cond (eqb n from) (cond (decides_at_once w) (writer_record t w.attempt ∷ []) []) []
-decision t (validate k) n v =
+decision s (tick from tag writes) n v =
+    let w = versioned s (from + 1) tag writes v in
+    cond (eqb n from) (cond (decides_at_once w) (writer_record s w.attempt ∷ []) []) []
+decision s (validate k) n v =
     let w = counting v in
     cond (passes k n v)
-    (cond (eqb w.attempt.passed (length v.attempt.reads)) (writer_record t v.attempt ∷ []) []) []
-decision t (finish tag) n v = reader_record t tag v.attempt ∷ []
-decision t _ n v = []
+    (cond (eqb w.attempt.passed (length v.attempt.reads)) (writer_record s v.attempt ∷ []) []) []
+decision s (finish tag) n v = reader_record s tag v.attempt ∷ []
+decision s _ n v = []
 
 -- what the client is after a step that found this word
 abbrev pub after : Stamp → (ℕ → ℕ) → Action → ℕ → Client → Client
-after s lk begin n c = begun s n c
-after s lk (probe k) n c = marking (writes_to c.attempt.held k) (stepping (probed k n) c)
-after s lk (fetch a) n c = stepping (fetched a (word_before c.attempt.last) n) c
-after s lk (check a) n c =
-    let m = word_before c.attempt.last in
+after s lk begin n v = begun s n v
+after s lk (probe k) n v = marking (writes_to v.attempt.held k) (stepping (probed k n) v)
+after s lk (fetch a) n v = stepping (fetched a (word_before v.attempt.last) n) v
+after s lk (check a) n v =
+    let m = word_before v.attempt.last in
     stepping (checked a m n)
-    (cond (eqb n m) (read_too a (value_fetched c.attempt.last) c) (failing c))
-after s lk (lock k) n c =
-    let m = word_before c.attempt.last in
-    stepping (locked k m n) (cond (eqb n m) (holding k (version_of n) c) (failing c))
-after s lk (tick from tag writes) n c =
-    let w = cond (eqb n from) (won s (from + 1) tag writes c) c in
-    with_ticks (c.attempt.ticks + 1) n (stepping (ticked from n) w)
-after s lk (validate k) n c =
-    let w = cond (passes k n c) (passing s c) (failing c) in
-    marking (writes_to c.attempt.held k) (stepping (validated k n) w)
-after s lk (put a x) n c =
-    on_attempt (λ t. record t { stored = t.stored ++ a ∷ [] }) (stepping nothing c)
-after s lk (release k) n c =
-    on_attempt (λ t. record t { held = without t.held k }) (stepping nothing c)
-after s lk (give_back k) n c = record c {
-  attempt = record c.attempt {
-    held = without c.attempt.held k;
+    (cond (eqb n m) (read_too a (value_fetched v.attempt.last) v) (failing v))
+after s lk (lock k) n v =
+    let m = word_before v.attempt.last in
+    stepping (locked k m n) (cond (eqb n m) (holding k (version_of n) v) (failing v))
+after s lk (tick from tag writes) n v =
+    let w = cond (eqb n from) (won s (from + 1) tag writes v) v in
+    with_ticks (v.attempt.ticks + 1) n (stepping (ticked from n) w)
+after s lk (validate k) n v =
+    let w = cond (passes k n v) (passing s v) (failing v) in
+    marking (writes_to v.attempt.held k) (stepping (validated k n) w)
+after s lk (put a x) n v =
+    on_attempt (λ t. record t { stored = t.stored ++ a ∷ [] }) (stepping nothing v)
+after s lk (release k) n v =
+    on_attempt (λ t. record t { held = without t.held k }) (stepping nothing v)
+after s lk (give_back k) n v = record v {
+  attempt = record v.attempt {
+    held = without v.attempt.held k;
     wv = 0;
     tag = [];
     writes = [];
     passed = 0;
     phase = ending;
     gave_back = true;
-    steps = c.attempt.steps + 1;
+    steps = v.attempt.steps + 1;
   };
 }
-after s lk (finish tag) n c =
-    let w = stepping (ended n) c in
+after s lk (finish tag) n v =
+    let w = stepping (ended n) v in
     record w {
-      records = inserted (reader_record s tag c.attempt) c.records;
+      records = inserted (reader_record s tag v.attempt) v.records;
       attempt = record w.attempt { phase = finished };
     }
 
 -- a grant goes to a new client
 abbrev pub giving : Client → Client
-giving c = record c {
-  grants = c.grants - 1;
-  attempt = record (forgetting c.attempt) { lone = false };
+giving v = record v {
+  grants = v.grants - 1;
+  attempt = record (forgetting v.attempt) { lone = false };
 }
 
 -- the client of a region just opened
@@ -247,24 +247,24 @@ opener = record {
 
 -- the new client: no records, no grants, and what the giver knows
 abbrev pub fresh : Client → Client
-fresh c = record opener { grants = 0; floor = c.floor }
+fresh v = record opener { grants = 0; floor = v.floor }
 
 -- the other's records and grants, and one grant more
 abbrev pub taking : Client → Client → Client
-taking c d = record c {
-  grants = c.grants + d.grants + 1;
-  floor = max c.floor d.floor;
-  records = merged c.records d.records;
-  attempt = forgetting c.attempt;
+taking v w = record v {
+  grants = v.grants + w.grants + 1;
+  floor = max v.floor w.floor;
+  records = merged v.records w.records;
+  attempt = forgetting v.attempt;
 }
 
 -- a client after a renewal of the clock: it has no attempt, and keeps its grants, its attempt's
 -- number and its records
 abbrev pub renewing : Client → Client
-renewing c = record opener {
-  grants = c.grants;
-  records = c.records;
-  attempt = record idle_attempt { number = c.attempt.number };
+renewing v = record opener {
+  grants = v.grants;
+  records = v.records;
+  attempt = record idle_attempt { number = v.attempt.number };
 }
 
 -- a client that was gathered

@@ -1,5 +1,5 @@
--- When a client may make a step. Each guard is a test; a tick and a finish ask, beside it, that the
--- record which they may make is lawful.
+-- When a client may make a step. Each guard is a test; a tick and a finish ask besides that the
+-- record that they would make is lawful.
 use Rattle.std.specs.Prelude.{◌≡◌, ℕ, zero, suc, Bool, true, false, not, ◌&&◌, ◌||◌, ◌==◌, ◌%◌, nat_lt, nat_le, List, [], ◌∷◌}
 use Rattle.std.specs.List.{list_any, list_all}
 use Rattle.tx_memory.specs.Image.{In}
@@ -7,7 +7,7 @@ use Rattle.stm_core.specs.Client.{Attempt, Client, Phase, running, ending, Step,
 use Rattle.stm_core.specs.Event.{is_empty, Bounds, Action, begin, probe, fetch, check, lock, tick, validate, put, release, give_back, finish}
 use Rattle.stm_core.specs.declared.limits.TheConstants.{MOST_TICKS}
 
--- the lock of an address, among so many
+-- the lock of an address, where there are this many stripes
 abbrev pub stripe_of : ℕ → ℕ → ℕ
 stripe_of stripes address = address % stripes
 
@@ -42,7 +42,7 @@ abbrev pub has_fetched : ℕ → ℕ → Step → Bool
 has_fetched a rv (fetched b n x) = (b == a) && is_free n && nat_le (version_of n) rv
 has_fetched a rv _ = false
 
--- no address stands twice
+-- no address occurs twice
 abbrev pub is_map : List (ℕ × ℕ) → Bool
 is_map [] = true
 is_map (p ∷ ps) = not (writes_to ps p.0) && is_map ps
@@ -52,8 +52,8 @@ abbrev pub Holds : List (ℕ × ℕ) → ℕ → Type 0
 Holds held k = (u : ℕ) × In (k, u) held
 
 module _ (lk : ℕ → ℕ) where
-  -- what a tick asks of its writes: there are some, each address stands once and within the words,
-  -- and the locks of the written words are exactly those held
+  -- what a tick asks of its writes: there are some, each address occurs once and is within the
+  -- words, and the locks of the written words are exactly those held
   abbrev pub may_write : ℕ → List (ℕ × ℕ) → List (ℕ × ℕ) → Bool
   may_write size held writes =
       not (is_empty writes)
@@ -105,8 +105,8 @@ module _ (lawful : RecordLaw) where
 
   -- the attempt may make this step, and the record that it would make, if any, is lawful
   abbrev pub MayAct : (ℕ → ℕ) → Bounds → Action → Attempt → Type 0
-  MayAct lk b e t = (may_act lk b e t ≡ true) × IsLawful e t
+  MayAct lk b action t = (may_act lk b action t ≡ true) × IsLawful action t
 
   -- the client was not gathered, and its attempt may make this step
   abbrev pub May : (ℕ → ℕ) → Bounds → Action → Client → Type 0
-  May lk b e c = (c.is_gathered ≡ false) × MayAct lk b e c.attempt
+  May lk b action v = (v.is_gathered ≡ false) × MayAct lk b action v.attempt

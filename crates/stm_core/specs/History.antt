@@ -16,8 +16,8 @@ image_after image (r ∷ rs) = image_after (laid image r.writes) rs
 -- the image of a version: the opening image with the writes of the records of at most that version
 -- laid over it, in the order of the list
 abbrev pub image_at : List ℕ → ℕ → List Record → List ℕ
-image_at image v [] = image
-image_at image v (r ∷ rs) = image_at (cond (leb r.version v) (laid image r.writes) image) v rs
+image_at image u [] = image
+image_at image u (r ∷ rs) = image_at (cond (leb r.version u) (laid image r.writes) image) u rs
 
 -- the first list is the second without some of its places
 pub data Sub {A : Type 0} : List A → List A → Type 0 where
@@ -30,8 +30,8 @@ abbrev pub all_records : List Client → List Record
 all_records [] = []
 all_records (v ∷ vs) = merged v.records (all_records vs)
 
--- all records are serial from the image and lawful, and a client's own stand among them, each once
--- and in its order
+-- all records are serial from the image and lawful, and a client's own are among them, each once
+-- and in their order
 pub record IsShared (lawful : RecordLaw) (image : List ℕ) (own all : List Record) : Type 0 where
   pub serial : Serial image all
   pub abides : (r : Record) → In r all → lawful r.tag r.reads r.writes

@@ -74,7 +74,7 @@ pub record IsKnown (clock : ℕ) (cs : List Client) : Type 0 where
   pub out : knower.is_gathered ≡ false
   pub floor : knower.floor ≡ clock
 
--- none stands before one that comes earlier
+-- no record is ordered before one that comes earlier in the list
 abbrev pub Sorted : List Record → Type 0
 Sorted [] = Unit {0}
 Sorted (x ∷ xs) = ((r : Record) → In r xs → before r x ≡ false) × Sorted xs
@@ -105,7 +105,7 @@ pub record Rule (lawful : RecordLaw) (lk : ℕ → ℕ) (c : Core) : Type 0 wher
   pub known : IsKnown c.clock c.clients
   pub past : Past lawful c.first c.opening c.past c.renewal c.clients
 
--- what a lone attempt that is not decided finds: nothing that could fail it
+-- what a lone attempt that is not decided finds: nothing that could make it fail
 pub record GoesOn (lawful : RecordLaw) (lk : ℕ → ℕ) (c : Core) (v : Client) : Type 0 where
   -- each lock word is free or held by itself, with a version of at most its read version
   pub probes : (k : ℕ)
@@ -120,4 +120,4 @@ pub record GoesOn (lawful : RecordLaw) (lk : ℕ → ℕ) (c : Core) (v : Client
   pub ticks : (from : ℕ) (tag : List ℕ) (writes : List (ℕ × ℕ))
       → MayAct lawful lk (bounds_of c) (tick from tag writes) v.attempt
       → (c.clock ≡ from)
-      × ((t : Stamp) → decided (after t lk (tick from tag writes) c.clock v) ≡ true)
+      × ((s : Stamp) → decided (after s lk (tick from tag writes) c.clock v) ≡ true)

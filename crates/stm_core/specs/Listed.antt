@@ -1,5 +1,5 @@
 -- What a list of events says of the records: which event decided each, and at which places the
--- events of its attempt stand. A place is a number of events before it.
+-- events of its attempt are. A place is a number of events before it.
 use Rattle.std.specs.Prelude.{◌≡◌, ◌≢◌, ℕ, zero, suc, ◌+◌, ◌<◌, ◌≤◌, ◌↔◌, Bool, true, false, cond, eqb, List, [], ◌∷◌, ◌++◌, length}
 use Rattle.tx_memory.specs.Image.{In}
 use mathlib.Core.Option.{some}
@@ -19,14 +19,15 @@ begins k es zero = 0
 begins k [] (suc n) = 0
 begins k (e ∷ es) (suc n) = cond (is_begin_of k e) 1 0 + begins k es n
 
--- at a place of the list stands this step of the client, a step of its attempt with this number
+-- the event at a place of the list is this step of the client, and a step of its attempt with this
+-- number
 abbrev pub IsStepOf : List Event → (client attempt place : ℕ) → Action → Type 0
-IsStepOf events k attempt n e =
-    (get_elem? events n ≡ some (acts k e)) × (begins k events (suc n) ≡ attempt)
+IsStepOf events k attempt n action =
+    (get_elem? events n ≡ some (acts k action)) × (begins k events (suc n) ≡ attempt)
 
 -- the records that an event decides: one, or none
 abbrev pub made : (ℕ → ℕ) → Event → Core → List Record
-made lk (acts k e) c = decision (stamp_of c k) e (found lk c e) (client_of c k)
+made lk (acts k action) c = decision (stamp_of c k) action (found lk c action) (client_of c k)
 made lk _ c = []
 
 module _ (lk : ℕ → ℕ) where
@@ -45,16 +46,16 @@ module _ (lk : ℕ → ℕ) where
     -- at the place the client's attempt with this number is decided, and this is the record
     abbrev pub IsDecision : (client attempt place : ℕ) → Record → Type 0
     IsDecision k attempt n r =
-        (e : Action) × IsStepOf events k attempt n e
-        × (made lk (acts k e) (core_at start events n) ≡ r ∷ [])
+        (action : Action) × IsStepOf events k attempt n action
+        × (made lk (acts k action) (core_at start events n) ≡ r ∷ [])
 
     -- where a record comes from
     pub record IsMade (r : Record) : Type 0 where
       -- it was decided by a step of its own client, in its own attempt
       pub decided_at : ℕ
       pub decided : IsDecision r.client r.attempt decided_at r
-      -- its point step, which stands there or before, is a step of the same attempt too: of a
-      -- reader the begin, which found its version
+      -- its point step, which is there or before, is a step of the same attempt too: of a reader
+      -- the begin, which found its version
       pub point : r.point ≤ decided_at
       pub reader : r.writer ≡ false
           → IsStepOf events r.client r.attempt r.point begin
@@ -82,7 +83,7 @@ module _ (lk : ℕ → ℕ) where
       -- so an attempt that ended before another began comes before it
       pub in_time : (i j n : ℕ) (x y : Record) → get_elem? records i ≡ some x
           → get_elem? records j ≡ some y → IsStepOf events y.client y.attempt n begin
-          → ((m : ℕ) (e : Action) → IsStepOf events x.client x.attempt m e → m < n)
+          → ((m : ℕ) (action : Action) → IsStepOf events x.client x.attempt m action → m < n)
           → i < j
       -- what is stored is a write of a record of the same attempt, which was decided before
       pub stored : (k attempt n a x : ℕ) → IsStepOf events k attempt n (put a x)

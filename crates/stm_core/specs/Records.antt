@@ -8,18 +8,18 @@ use Rattle.stm_core.specs.Client.{Client, Record, decided, writes_to, before, Re
 use Rattle.stm_core.specs.Guards.{is_map}
 use Rattle.stm_core.specs.Version.{At, IsOpen}
 
--- the value at a, where d stood before the pairs
+-- the value at a after the pairs, where d was the value before them
 abbrev pub over : ℕ → List (ℕ × ℕ) → ℕ → ℕ
 over d [] a = d
 over d (p ∷ ps) a = over (cond (eqb p.0 a) p.1 d) ps a
 
--- the value at a in the image of a version, where d stood at the opening
+-- the value at a in the image of a version, where d was the value at the opening
 abbrev pub value_in : List (List (ℕ × ℕ)) → ℕ → ℕ → ℕ → ℕ
 value_in [] d b a = d
 value_in (w ∷ ws) d zero a = d
 value_in (w ∷ ws) d (suc b) a = value_in ws (over d w a) b a
 
--- the value at a in the image of version b, where this image stood at the opening
+-- the value at a in the image of version b, where this was the opening image
 abbrev pub value_of : List ℕ → List (List (ℕ × ℕ)) → ℕ → ℕ → ℕ
 value_of image story b a = value_in story (slice_index image a) b a
 
@@ -30,11 +30,11 @@ wrote_in [] (suc u) a = false
 wrote_in (w ∷ ws) (suc zero) a = writes_to w a
 wrote_in (w ∷ ws) (suc (suc u)) a = wrote_in ws (suc u) a
 
--- r may stand behind x: not before it by its place, and not a second writer of its version
+-- r may come after x: it is not ordered before x, and is no second writer of its version
 abbrev pub Follows : Record → Record → Type 0
 Follows x r = (before r x ≡ false) × (x.writer ≡ true → r.writer ≡ true → x.version ≢ r.version)
 
--- each record may stand behind all before it
+-- each record may come after all before it
 abbrev pub Ordered : List Record → Type 0
 Ordered [] = Unit {0}
 Ordered (x ∷ xs) = ((r : Record) → In r xs → Follows x r) × Ordered xs
@@ -66,7 +66,7 @@ module _ (lawful : RecordLaw) (size renewal : ℕ) (story : List (List (ℕ × �
 
   -- one client beside the story
   pub record IsFiled (v : Client) : Type 0 where
-    -- its records stand in order, and each is true
+    -- its records are in order, and each is true
     pub ordered : Ordered v.records
     pub told : (r : Record) → In r v.records → IsTold r
     -- what its attempt read is in the region

@@ -3,10 +3,10 @@
 /// How many more clients the client of a region just opened may split off.
 pub const MOST_GRANTS: u32 = 63;
 
-/// A region has at most so many data words.
+/// The most data words of a region.
 pub const MOST_WORDS: usize = 4_194_304;
 
-/// A region has at most so many lock words.
+/// The most lock words of a region.
 pub const MOST_STRIPES: u32 = 1_048_576;
 
 /// How many renewals of its clock a region has at most.
