@@ -3,12 +3,12 @@
 ghost use Rattle.std.specs.Prelude.{ℕ, List, [], ◌∷◌};
 ghost use Rattle.tx_memory.specs.Image.{Agrees, laid};
 
-/// What stands in a record beside its reads and writes, seen as a list of whole numbers.
+/// What a record has besides its reads and writes, seen as a list of whole numbers.
 pub trait Tag {
     ghost numbers: { Self → List ℕ };
 }
 
-/// A number stands for the list of itself.
+/// A number, seen as the list of itself alone.
 impl Tag for u64 {
     ghost numbers = { λ n. n ∷ [] };
 }

@@ -16,12 +16,12 @@ kept_both s s' s'' h k = record {
 pub stood : {s s' : View} → Kept s s' → (image : List ℕ) → RestsOn s' image → RestsOn s image
 stood k image i = record { size = i.size ∙ k.size; sees = k.seen image i.sees }
 
--- the result of a load, spoken of the memory at the start, since when only reads were made
+-- the result of a load, in terms of the memory at the start, since when only reads were made
 pub at_start : (s0 s s' : View) (a v : ℕ) → s.writes ≡ s0.writes → Loaded s s' a v →
     (image : List ℕ) → Sees s' image → mem s0 image a ≡ v
 at_start s0 s s' a v e l image i = rw e at (l.answer image i)
 
--- a store, spoken of the memory at the start, since when only reads were made
+-- a store, in terms of the memory at the start, since when only reads were made
 pub write_at_start : (s0 s s' : View) (a v : ℕ) → s.writes ≡ s0.writes → Stored s s' a v →
     (image : List ℕ) → Sees s' image → IsWrite (mem s0 image) (mem s' image) a v
 write_at_start s0 s s' a v e w image i = rw e at (w.written image)

@@ -43,7 +43,7 @@ pub fn fresh_words(alloc: Global, blocks: usize) -> Result<Vec<u64>, AllocError>
 }
 
 /// The words of a heap of `blocks` blocks, all free: list 0 has the first eighth of them, list 1
-/// the next and so on, each list ascends, and every other word is 0. What one client takes so lies
+/// the next and so on, each list ascends, and every other word is 0. So what one client takes lies
 /// together.
 pub fn spread_words(alloc: Global, blocks: usize) -> Result<Vec<u64>, AllocError>
     requires some { 1 ≤ blocks }

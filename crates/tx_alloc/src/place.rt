@@ -1,4 +1,4 @@
-//! Where the words of a heap stand.
+//! Where the words of a heap are.
 
 /// How many lists of free blocks there are.
 pub const LISTS: u32 = 8;

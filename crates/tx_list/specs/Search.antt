@@ -12,11 +12,11 @@ use Rattle.tx_list.specs.declared.key.Key.{Key}
 use Rattle.tx_list.specs.declared.place.TheConstants.{KIND, ID}
 use Rattle.tx_list.specs.declared.search.Spot.{Spot}
 
--- how one kind and id stand to another: by kind, and then by id
+-- how one kind and id compare to another: by kind, and then by id
 abbrev pub key_cmp : ℕ → ℕ → ℕ → ℕ → Ordering
 key_cmp k i k' i' = ordering_then (nat_cmp k k') (nat_cmp i i')
 
--- only reads were made, and the key in the block b stands so to this one
+-- only reads were made, and order says how the key in the block b compares to this one
 pub record Compared (s s' : View) (b : ℕ) (key : Key) (order : Ordering) : Type 0 where
   pub kept : Kept s s'
   pub writes : s'.writes ≡ s.writes
@@ -42,7 +42,7 @@ pub record Sought (s s' : View) (head key : ℕ) (spot : Spot) : Type 0 where
   pub entry : (image : List ℕ) (rs : Rows) → Sees s' image →
       IsListAt (mem s image) (length image) head rs → pointer spot.entry ≡ block_at rs key
 
--- in the list of these bookings at head, the key stands at this spot, or would stand there
+-- in the list of these bookings at head, the key is at this spot, or would be there
 pub record SpotAt (m : ℕ → ℕ) (head key : ℕ) (spot : Spot) (rs : Rows) : Type 0 where
   pub link : spot.link.0 ≡ link_of head rs key
   pub word : m spot.link.0 ≡ spot.word

@@ -43,8 +43,8 @@ pub fn insert_at<M: TxMem>(memory: &mut M, spot: Spot, block: Block) -> Result<(
     Ok(())
 }
 
-/// Takes the booking of a key out of the list at `head`, and hands its block back. Where the list
-/// has no such booking nothing is written.
+/// Takes the booking of a key out of the list at `head`, and returns its block. Where the list has
+/// no such booking nothing is written.
 pub fn remove<M: TxMem>(memory: &mut M, head: Addr, key: Key) -> Result<Option<Block>, M::Stop>
     requires list { HasList (M.view memory.old) head.0 }
     requires key { IsKey key }
@@ -57,8 +57,8 @@ pub fn remove<M: TxMem>(memory: &mut M, head: Addr, key: Key) -> Result<Option<B
     Ok(removed)
 }
 
-/// Takes the booking at a spot out of the lists in which it stands there, and hands its block back.
-/// Where the spot has no booking nothing is written.
+/// Takes the booking at a spot out of the lists in which it is there, and returns its block. Where
+/// the spot has no booking nothing is written.
 pub fn remove_at<M: TxMem>(memory: &mut M, spot: Spot) -> Result<Option<Block>, M::Stop>
     requires small { (M.view memory.old).size ≤ 2 ^ 32 }
     requires link { spot.link.0 < (M.view memory.old).size }

@@ -18,8 +18,8 @@ pub struct Key {
     pub id: u64,
 }
 
-/// How the key in a booking's block stands to this one. The id is read only where the kinds are the
-/// same.
+/// How the key in a booking's block compares to this one. The id is read only where the kinds are
+/// the same.
 #[inline]
 pub(crate) fn compare_key<M: TxRead>(
     memory: &mut M,

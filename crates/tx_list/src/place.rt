@@ -1,4 +1,4 @@
-//! Where the words of a booking stand in its block. The three after them are spare.
+//! Where the words of a booking are in its block. The three after them are spare.
 
 /// 0 for a car, 1 for a flight and 2 for a room.
 pub const KIND: u32 = 0;

@@ -12,8 +12,8 @@ use std::cmp::Ordering;
 use tx_alloc::Block;
 use tx_memory::{Addr, TxRead, load};
 
-/// Where a key stands in a list, or would stand. It stays good until a word of the list that leads
-/// on is written.
+/// Where a key is in a list, or would be. It stays good until a word of the list that leads on is
+/// written.
 #[derive(Clone, Copy, Debug, PartialEq, Eq)]
 pub struct Spot {
     /// The word that leads there.
@@ -75,7 +75,7 @@ fn follow<M: TxRead>(memory: &mut M, link: Addr) -> Result<Option<Block>, M::Sto
     Ok(Some(Block(Addr(word as u32))))
 }
 
-/// Where a key stands in the list at `head`, or would stand.
+/// Where a key is in the list at `head`, or would be.
 pub fn seek<M: TxRead>(memory: &mut M, head: Addr, key: Key) -> Result<Spot, M::Stop>
     requires list { HasList (M.view memory.old) head.0 }
     requires key { IsKey key }

@@ -3,7 +3,7 @@ use Rattle.std.specs.Prelude.{◌≡◌, ℕ, ◌<◌, List, [], ◌∷◌, slic
 use mathlib.Core.Option.{some}
 use lib.ListN.{get_elem?}
 
--- x stands in the list
+-- x is in the list
 abbrev pub In : {A : Type 0} → A → List A → Type 0
 In x xs = (j : ℕ) × (get_elem? xs j ≡ some x)
 

@@ -16,7 +16,7 @@ pub with_pairs-append : (m : Words) (ps : List (ℕ × ℕ)) (a v : ℕ) →
 with_pairs-append m [] a v = refl
 with_pairs-append m (p ∷ ps) a v = with_pairs-append (insert m p.0 p.1) ps a v
 
--- what stands in a list stands there with one more before it
+-- what is in a list is still in it with one more before it
 pub in_later : {A : Type 0} (x y : A) (xs : List A) → In x xs → In x (y ∷ xs)
 in_later x y xs i = (suc i.0, i.1)
 

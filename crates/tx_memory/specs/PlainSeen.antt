@@ -11,7 +11,7 @@ use Rattle.tx_memory.specs.Seen.{same_or, get_here, get_other}
 none_at : (q : ℕ) → get {R = nat_cmp} (empty {X = ℕ}) q ≡ None
 none_at q = get-empty nat_cmp q
 
--- the word at an address that the list has, and none before the first or behind the last
+-- the word at an address that the list has, and none before the first or after the last
 pub get_in : (xs : List ℕ) (i k : ℕ) → k < length xs →
     get (numbered i xs) (i + k) ≡ Some (get_or xs k 0)
 get_in [] i k l = absurd (omega arith)

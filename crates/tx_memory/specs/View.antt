@@ -43,7 +43,7 @@ pub record SameFrame (s s' : View) : Type 0 where
   pub size : s'.size ≡ s.size
   pub fits : (image : List ℕ) → s'.fits image → s.fits image
 
--- a read at an address answered v: the own write there, with the reads as before; or, where there
+-- a read at an address returned v: its own write there, with the reads as before; or, where there
 -- is none, v entered the reads, which had no other value there
 pub record HasRead (s s' : View) (address v : ℕ) : Type 0 where
   pub own : (w : ℕ) → get s.writes address ≡ Some w → (v ≡ w) × (s'.reads ≡ s.reads)
@@ -55,7 +55,7 @@ pub record IsWrite (m m' : ℕ → ℕ) (address v : ℕ) : Type 0 where
   pub here : m' address ≡ v
   pub others : (a : ℕ) → a ≢ address → m' a ≡ m a
 
--- a load at an address answered v, which is the word there under each image that there may be
+-- a load at an address returned v, which is the word there under each image that there may be
 pub record Loaded (s s' : View) (address v : ℕ) : Type 0 where
   pub kept : Kept s s'
   pub writes : s'.writes ≡ s.writes

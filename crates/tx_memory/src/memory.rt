@@ -47,7 +47,7 @@ pub trait TxRead {
 
 /// A memory whose words are read and written in a transaction.
 pub trait TxMem: TxRead {
-    /// Lets the value enter the writes, at an address below the size. A refusal changes neither
+    /// Puts the value into the writes, at an address below the size. A refusal changes neither
     /// reads nor writes.
     ///
     /// Not said: when a write is refused.
@@ -62,7 +62,7 @@ pub trait TxMem: TxRead {
 }
 
 /// A read, in terms of every image that the memory may stand on: under each that agrees with the
-/// reads afterwards, the word was the answer.
+/// reads afterwards, the word was the one returned.
 ///
 /// Not said: what a refused read leaves; that no other word enters the reads.
 #[inline(always)]

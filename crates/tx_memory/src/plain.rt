@@ -6,7 +6,7 @@ use super::memory::{Addr, TxMem, TxRead};
 use std::convert::Infallible;
 use std::marker::Model;
 
-/// Plain memory, seen as the list of its words. Its calls always answer `Ok`.
+/// Plain memory, seen as the list of its words. Its calls always return `Ok`.
 ///
 /// Every image of its size fits, nothing of it was read, and all its words are writes.
 #[derive(Drop)]

@@ -74,7 +74,7 @@ pub record ShortUp (m m' : ℕ → ℕ) (n root : ℕ) (total : ℕ → ℕ) (xs
   pub is : rows (plug way tree) ≡ rs
   pub touches : Touches m m' root total
 
--- the lack at the end of the path is mended, or stands one step of the path further up
+-- the lack at the end of the path is mended, or is one step of the path further up
 pub record Stepped (s s' : View) (xs : List ℕ) (d : ℕ) (done : Bool) : Type 0 where
   pub kept : Kept s s'
   pub ends : done ≡ true → (image : List ℕ) → Sees s' image →

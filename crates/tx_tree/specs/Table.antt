@@ -1,4 +1,4 @@
--- A table by key. What stands above uses the lemmas on IsTable alone, and not its fields.
+-- A table by key. What is built on it uses the lemmas on IsTable alone, and not its fields.
 use Rattle.std.specs.Prelude.{◌≡◌, ◌≢◌, ℕ, ◌+◌, ◌<◌, ◌≤◌, ◌^◌, List, [], ◌∷◌, length, false, cond, nat_lt, zero, suc, MatchOption, Option, Some, None}
 use Rattle.tx_memory.specs.View.{View, Sees, RestsOn, Kept}
 use Rattle.tx_alloc.specs.Pool.{IsBlock}

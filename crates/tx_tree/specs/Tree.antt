@@ -23,7 +23,7 @@ abbrev pub blacks : Tree → ℕ
 blacks leaf = 0
 blacks (node c l r t) = blacks l + cond c 0 1
 
--- each way down has as many black nodes
+-- all ways down have equally many black nodes
 abbrev pub IsEven : Tree → Type 0
 IsEven leaf = Unit {0}
 IsEven (node c l r t) = (blacks l ≡ blacks t) × IsEven l × IsEven t

@@ -1,4 +1,4 @@
-//! Where the words of an entry stand in its block.
+//! Where the words of an entry are in its block.
 
 /// The key, by which an entry is found.
 pub const KEY: u32 = 0;
