@@ -4,7 +4,7 @@ use Prim.Native.Nat.{zero, suc}
 use Rattle.std.specs.Borrow.{Bor}
 use Rattle.stm_logs.specs.Nodes.{Node, Block, at}
 
--- the chain from p on ends within so many nodes, all of them in the block
+-- the chain from p on ends within `most` nodes, all of them in the block
 abbrev pub Ends : List Node → ℕ → ℕ → Type 0
 Ends ns zero p = p ≡ 0
 Ends ns (suc most) p = 0 < p → (p < length ns) × Ends ns most (at ns p).next
@@ -16,13 +16,13 @@ pair_of node = (node.number, node.value)
 abbrev pub goes_on : List Node → ℕ → ℕ → Bool
 goes_on ns lock p = not (nat_eq p 0) && nat_eq (at ns p).lock lock
 
--- the words of the lock, with their values, that the chain begins with, of at most so many nodes
+-- the words of the lock, with their values, that the chain begins with, of at most `most` nodes
 abbrev pub words_from : List Node → ℕ → ℕ → ℕ → List (ℕ × ℕ)
 words_from ns lock zero p = []
 words_from ns lock (suc most) p =
     cond (goes_on ns lock p) (pair_of (at ns p) ∷ words_from ns lock most (at ns p).next) []
 
--- the locks of a chain, each once where its nodes stand side by side
+-- the locks of a chain, each once where its nodes are side by side
 abbrev pub locks_from : List Node → ℕ → ℕ → List ℕ
 locks_from ns zero p = []
 locks_from ns (suc most) p =
@@ -32,7 +32,7 @@ locks_from ns (suc most) p =
     cond (nat_eq p 0) [] (cond (goes_on ns lock next) rest (lock ∷ rest))
 
 -- the locks of a chain as above, each with its words; those of the first lock begin at start, from
--- where there are at most so many nodes as whole
+-- where there are at most `whole` nodes
 abbrev pub groups_from : List Node → ℕ → ℕ → ℕ → ℕ → List (ℕ × List (ℕ × ℕ))
 groups_from ns whole start zero p = []
 groups_from ns whole start (suc most) p =
@@ -42,13 +42,13 @@ groups_from ns whole start (suc most) p =
     (groups_from ns whole start most next)
     ((lock, words_from ns lock whole start) ∷ groups_from ns most next most next))
 
--- the words of a chain, with their values, of at most so many nodes
+-- the words of a chain, with their values, of at most `most` nodes
 abbrev pub pairs_from : List Node → ℕ → ℕ → List (ℕ × ℕ)
 pairs_from ns zero p = []
 pairs_from ns (suc most) p =
     cond (nat_eq p 0) [] (pair_of (at ns p) ∷ pairs_from ns most (at ns p).next)
 
--- the same in the block that there may be
+-- the words of the lock, as `words_from` has them, in the block, and none where there is no block
 abbrev pub words_in : Option (Bor Block) → ℕ → ℕ → ℕ → List (ℕ × ℕ)
 words_in None lock most p = []
 words_in (Some block) lock most p = words_from block.now.list lock most p

@@ -2,7 +2,7 @@
 use Rattle.std.specs.Prelude.{◌≡◌, ℕ, ◌<◌, ◌≤◌, Option, Some, None, List, [], ◌∷◌, ◌++◌, length, take, slice_index_or}
 use Rattle.stm_logs.specs.declared.read.TheConstants.{PLACES, MAX_CHUNKS}
 
--- the values of the chunks, one chunk behind the other
+-- the values of the chunks, one chunk after the other
 abbrev pub joined : List (List ℕ) → List ℕ
 joined [] = []
 joined (chunk ∷ chunks) = chunk ++ joined chunks
@@ -12,7 +12,7 @@ abbrev pub in_hand : Option (List ℕ) → List ℕ
 in_hand None = []
 in_hand (Some chunk) = chunk
 
--- the values of the first full chunks, and behind them so many of the chunk at hand
+-- the values of the first full chunks, and after them the first `used` of the chunk at hand
 abbrev pub logged : List (List ℕ) → ℕ → Option (List ℕ) → ℕ → List ℕ
 logged rest full hand used = joined (take full rest) ++ take used (in_hand hand)
 
@@ -21,25 +21,25 @@ pub record AreWhole (chunks : List (List ℕ)) : Type 0 where
   pub each : (k : ℕ) → k < length chunks → length (slice_index_or chunks k []) ≡ PLACES
   pub limit : length chunks ≤ MAX_CHUNKS
 
--- each chunk has all places, the one at hand too, and so many of the others may be full
+-- each chunk has all places, the one at hand too, and of the others there are at least `full`
 pub record HasRoom (rest : List (List ℕ)) (full : ℕ) (hand : Option (List ℕ)) : Type 0 where
   pub whole : AreWhole rest
   pub count : full ≤ length rest
   pub here : (chunk : List ℕ) → hand ≡ Some chunk → length chunk ≡ PLACES
 
--- more has one chunk more behind the others
+-- more has one chunk more, after the others
 pub record IsLonger (chunks more : List (List ℕ)) : Type 0 where
   pub chunk : List ℕ
   pub appended : more ≡ chunks ++ chunk ∷ []
   pub whole : AreWhole more
 
--- more has a chunk behind the first full ones, which are as before
+-- more has a chunk after the first full ones, which are as before
 pub record IsRoomier (rest more : List (List ℕ)) (full : ℕ) : Type 0 where
   pub whole : AreWhole more
   pub inside : full < length more
   pub same : take full more ≡ take full rest
 
--- the chunk has become one of the full ones, behind the others, and another is there for it
+-- the chunk has become one of the full ones, after the others, and another is there for it
 pub record IsSetAside (rest : List (List ℕ)) (full : ℕ) (chunk : List ℕ)
     (more : List (List ℕ)) (count : ℕ) (spare : List ℕ) : Type 0 where
   pub whole : AreWhole more
@@ -47,7 +47,8 @@ pub record IsSetAside (rest : List (List ℕ)) (full : ℕ) (chunk : List ℕ)
   pub places : length spare ≡ PLACES
   pub same : joined (take count more) ≡ joined (take full rest) ++ chunk
 
--- a whole chunk is at hand, and the values of the one that was are behind those of the full ones
+-- a whole chunk is at hand, and the values of the one that was there come after those of the full
+-- ones
 pub record IsTurned (rest : List (List ℕ)) (full : ℕ) (hand : Option (List ℕ))
     (more : List (List ℕ)) (count : ℕ) (spare : Option (List ℕ)) : Type 0 where
   pub room : HasRoom more count spare

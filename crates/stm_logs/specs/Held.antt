@@ -47,7 +47,7 @@ pub record IsRoomy (old new : Block) : Type 0 where
   pub room : new.count + 1 < length new.list
   pub same : block_log new ≡ block_log old
 
--- the first e nodes of old stand in new, and are indexed there
+-- the first e nodes of old are in new, and are indexed there
 pub record Copied (old new : List Node) (e : ℕ) : Type 0 where
   pub indexed : IsIndexed new e
   pub same : (i : ℕ) → i ≤ e → SameNode (at old i) (at new i)

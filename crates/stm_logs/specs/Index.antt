@@ -55,7 +55,7 @@ pub record IsIndexed (ns : List Node) (n : ℕ) : Type 0 where
 abbrev pub HasNone : List Node → ℕ → ℕ → Type 0
 HasNone ns n number = (e : ℕ) → 0 < e → e ≤ n → (at ns e).number ≢ number
 
--- a place of the index answers for a number: it leads to the node with the number, or it is the
+-- a place of the index is the one for a number: it leads to the node with the number, or it is the
 -- free one where that node would enter
 pub record Answers (ns : List Node) (n : ℕ) (number q : ℕ) : Type 0 where
   pub inside : q < length ns
@@ -69,7 +69,7 @@ pub record SameNode (old new : Node) : Type 0 where
   pub lock : new.lock ≡ old.lock
   pub next : new.next ≡ old.next
 
--- new has one node more than old, behind the others, and it has the given fields
+-- new has one node more than old, after the others, and it has the given fields
 pub record Entered (old new : List Node) (n : ℕ) (node : Node) : Type 0 where
   pub indexed : IsIndexed new (n + 1)
   pub len : length new ≡ length old

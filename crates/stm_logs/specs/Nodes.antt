@@ -1,5 +1,5 @@
--- The nodes of a write log, as a list: the root stands first, then come the written words in the
--- order in which they entered. Beside each stands a place of the index.
+-- The nodes of a write log, as a list: the root is first, then come the written words in the order
+-- in which they entered. Beside each is a place of the index.
 use Rattle.std.specs.Prelude.{◌≡◌, ℕ, List, [], ◌∷◌, length, slice_index_or, slice_set}
 use Rattle.stm_logs.specs.declared.nodes.Entry.{Entry}
 use Rattle.stm_logs.specs.declared.nodes.Slot.{Slot}

@@ -21,7 +21,7 @@ pub record Least (ns : List Node) (n low p : ℕ) : Type 0 where
   pub least : 0 < p
       → (f : ℕ) → 0 < f → f ≤ n → low ≤ rank_in (at ns f) → rank_in (at ns p) ≤ rank_in (at ns f)
 
--- the least rank that may come behind a node; behind the root it is 0
+-- the least rank that may come after a node; after the root it is 0
 abbrev pub after : List Node → ℕ → ℕ
 after ns e = cond (nat_eq e 0) 0 (rank_in (at ns e) + 1)
 

@@ -182,7 +182,7 @@ impl<'a, A: Allocator> Iterator for Pairs<'a, A> {
     }
 }
 
-/// The first node behind those of a node's lock, and how many nodes are left there at the most.
+/// The first node after those of a node's lock, and how many nodes are left there at most.
 #[inline]
 fn past<A: Allocator>(nodes: &Nodes<A>, start: usize, most: usize) -> (usize, usize)
     requires some { 0 < start }

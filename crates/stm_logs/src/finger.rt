@@ -18,7 +18,7 @@ const SHARED: u32 = 24;
 /// How many bits more the range of the next wider finger has.
 const WIDER: u32 = 4;
 
-/// How many bits wider the addresses of one lock lie than the locks.
+/// How many bits further apart the addresses of one lock lie than the locks.
 const SPREAD: u32 = 6;
 
 /// The fingers of a number or a lock, from near neighbours to a large part of all.
@@ -37,7 +37,7 @@ enum Among {
     WordsOf(u32),
 }
 
-/// A range of so many bits, which has the given lock and address.
+/// A range of 2 to the power of `bits` numbers, which has the given lock and address.
 #[derive(Clone, Copy)]
 struct Range {
     among: Among,
@@ -162,7 +162,7 @@ pub(crate) fn nearer<A: Allocator>(nodes: &Nodes<A>, near: usize, lock: u32, num
     nearer_among(nodes, Among::Locks, near, lock, number)
 }
 
-/// The same by the fingers of ranges of locks, or of a lock's addresses.
+/// A node to walk on from, by the fingers of ranges of locks, or of a lock's addresses.
 fn nearer_among<A: Allocator>(
     nodes: &Nodes<A>,
     among: Among,
@@ -186,7 +186,7 @@ fn nearer_among<A: Allocator>(
     near
 }
 
-/// The same by the finger of a range, or by that of the range before it.
+/// A node to walk on from, by the finger of a range, or by that of the range before it.
 fn nearer_in<A: Allocator>(
     nodes: &Nodes<A>,
     range: Range,
@@ -218,7 +218,7 @@ fn nearer_in<A: Allocator>(
     }
 }
 
-/// Whether a node lies behind another one, and before the rank.
+/// Whether a node comes after another one, and before the rank.
 fn is_between<A: Allocator>(nodes: &Nodes<A>, near: usize, finger: usize, rank: u64) -> bool
     requires room { nodes.now.count < length nodes.now.list }
     requires near { near ≤ nodes.now.count }
@@ -291,7 +291,7 @@ pub(crate) fn point_all<A: Allocator>(nodes: &mut Nodes<A>)
     }
 }
 
-/// The same where it is due.
+/// Points the fingers of all words, where it is due.
 pub(crate) fn point_all_if<A: Allocator>(nodes: &mut Nodes<A>, is_due: bool)
     requires room { nodes.old.count < length nodes.old.list }
     requires limit { length nodes.old.list ≤ MAX_PLACES }

@@ -22,7 +22,7 @@ pub(crate) fn start(number: u32, len: usize) -> usize
     (mixed * len as u64 / NUMBERS) as usize
 }
 
-/// The next place, and behind the last the first.
+/// The next place, and after the last the first.
 #[inline]
 fn behind(place: usize, len: usize) -> usize
     requires { place < len }
@@ -64,8 +64,8 @@ pub(crate) fn find<A: Allocator>(nodes: &Nodes<A>, number: u32) -> usize
     nodes.slot(place)
 }
 
-/// A node enters behind the others and at the free place of the index that its number led to. It
-/// is not counted yet.
+/// A node enters after the others and at the free place of the index that its number led to. It is
+/// not counted yet.
 #[inline]
 pub(crate) fn enter<A: Allocator>(nodes: &mut Nodes<A>, position: usize, place: usize, node: Entry)
     requires indexed { IsIndexed nodes.old.list nodes.old.count }

@@ -7,9 +7,8 @@ use std::marker::Model;
 
 /// A written word.
 ///
-/// Position 0 has the root, behind which the order of the nodes begins and at which it ends; the
-/// words stand behind it as they entered. Only the last node leads to the root, so that 0 stands
-/// for none.
+/// Position 0 has the root, after which the order of the nodes begins and at which it ends; the
+/// words come after it as they entered. Only the last node leads to the root, so that 0 means none.
 #[derive(Clone, Copy)]
 pub(crate) struct Entry {
     /// The value that waits to be stored.
@@ -24,8 +23,8 @@ pub(crate) struct Entry {
     pub(crate) place: u32,
 }
 
-/// A place of the index. The index stands apart from the nodes: a look-up meets a place at random,
-/// and eight places share a cache line.
+/// A place of the index. The index is apart from the nodes: a look-up meets a place at random, and
+/// eight places share a cache line.
 #[derive(Clone, Copy)]
 pub(crate) struct Slot {
     /// The node that the place leads to, or 0.

@@ -24,7 +24,7 @@ pub(crate) fn node_rank(node: &Entry) -> u64
     rank(node.lock, node.number)
 }
 
-/// Lets another node come behind this one.
+/// Makes another node the next one after this one.
 #[inline]
 pub(crate) fn set_next<A: Allocator>(nodes: &mut Nodes<A>, e: usize, next: usize)
     requires inside { e < length nodes.old.list }
@@ -95,7 +95,7 @@ fn walk<A: Allocator>(nodes: &Nodes<A>, start: usize, rank: u64) -> usize
     }
 }
 
-/// Whether no node behind this one has a rank below the given one.
+/// Whether no node after this one has a rank below the given one.
 #[inline]
 fn comes_next<A: Allocator>(nodes: &Nodes<A>, before: usize, rank: u64) -> bool
     requires chained { IsChained nodes.now.list nodes.now.count }

@@ -16,7 +16,7 @@ const PLACES: usize = 1024;
 /// The chunks that a log may have: no address space holds more.
 const MAX_CHUNKS: usize = 1 << 50;
 
-/// A raw block for so many addresses.
+/// A raw block for `PLACES` addresses.
 struct Chunk<A: Allocator> {
     alloc: A,
     row: Row<u32>,
@@ -163,7 +163,7 @@ impl<A: Allocator + Copy> ReadLog<A> {
     }
 }
 
-/// A chunk with no address is at hand, and the one that was stands behind the full ones.
+/// Puts a chunk that has no address at hand, and the one that was there after the full ones.
 #[cold]
 fn turn<A: Allocator + Copy>(
     alloc: A,
@@ -185,7 +185,7 @@ fn turn<A: Allocator + Copy>(
     }
 }
 
-/// Lets a full chunk stand behind the other full ones, with one that is not in use for it.
+/// Puts a full chunk after the other full ones, and one that is not in use in its place.
 fn set_aside<A: Allocator + Copy>(
     alloc: A,
     chunk: &mut Chunk<A>,
@@ -206,7 +206,7 @@ fn set_aside<A: Allocator + Copy>(
     Ok(())
 }
 
-/// A chunk behind the full ones.
+/// Makes a chunk after the full ones, where there is none.
 fn make_room<A: Allocator + Copy>(
     alloc: A,
     rest: &mut Vec<Chunk<A>, A>,

@@ -1,4 +1,4 @@
-//! A row of places in one raw block: all raw pointers of the product stand in this file.
+//! A row of places in one raw block: all raw pointers of the product are in this file.
 ghost use Rattle.std.specs.Prelude.{◌≡◌, ℕ, ◌^◌, ◌<◌, Bool, true, false, List, length, IfOk, slice_index_or, slice_set};
 ghost use Rattle.core.specs.Mem.Slots.Ownership.{Filled, owned, lent, leased};
 ghost use Rattle.core.specs.Allocator.{FitsBlock};

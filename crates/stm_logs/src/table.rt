@@ -148,8 +148,8 @@ impl<A: Allocator + Copy> Table<A> {
         }
     }
 
-    /// Lets the value stand at a word, whose lock has the given number. Where memory is refused,
-    /// the table stays as it was.
+    /// Puts the value at a word, whose lock has the given number. Where memory is refused, the
+    /// table stays as it was.
     #[inline]
     pub(crate) fn put(&mut self, number: u32, lock: u32, value: u64) -> Result<(), AllocError>
         requires { (l : ℕ) → get self.old.locks number ≡ Some l → l ≡ lock }
@@ -282,7 +282,7 @@ fn put_long<A: Allocator>(nodes: &mut Nodes<A>, place: usize, number: u32, lock:
     point(nodes, lock, number, nodes.count());
 }
 
-/// A node enters at its free place of the index, behind the last one of a smaller rank.
+/// A node enters at its free place of the index, after the last one of a smaller rank.
 #[inline(always)]
 fn put_word<A: Allocator>(
     nodes: &mut Nodes<A>,

@@ -71,7 +71,7 @@ impl<A: Allocator + Copy> WriteLog<A> {
         }
     }
 
-    /// Lets the value stand at the address, whose lock has the given number.
+    /// Puts the value at the address, whose lock has the given number.
     ///
     /// An address that is there is put with the lock number that it has; that takes no memory.
     /// Where memory is refused, the log stays as it was.
@@ -101,7 +101,7 @@ impl<A: Allocator + Copy> WriteLog<A> {
         Ok(())
     }
 
-    /// The value that stands at the address. Of an address that is not there the index is seldom
+    /// The value that was put at the address. Of an address that is not there the index is seldom
     /// asked: one mark tells.
     #[inline]
     pub fn get(&self, addr: Addr) -> Option<u64>
@@ -127,8 +127,8 @@ impl<A: Allocator + Copy> WriteLog<A> {
         }
     }
 
-    /// Whether an address with this lock was put. Where the given one was, it tells at once, and no
-    /// walk to the lock is needed.
+    /// Whether an address with this lock was put. Where the given address was, no walk to the lock
+    /// is needed.
     #[inline]
     pub fn holds(&self, addr: Addr, lock: u32) -> bool
         requires { (l : ℕ) → get self.now.locks addr.0 ≡ Some l → l ≡ lock }

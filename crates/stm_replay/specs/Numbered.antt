@@ -14,23 +14,23 @@ use Rattle.stm_replay.specs.declared.event.Event as declared
 use Rattle.stm_replay.specs.declared.limits.TheConstants.{MOST_CLIENTS}
 
 module _ (number : List ℕ → ℕ) where
-  -- the same step but for its tag
+  -- the step with a number for its tag
   abbrev pub numbered_action : Action → Action
   numbered_action (tick from tag writes) = tick from (number tag ∷ []) writes
   numbered_action (finish tag) = finish (number tag ∷ [])
   numbered_action e = e
 
-  -- the same event but for its tag
+  -- the event with a number for its tag
   abbrev pub numbered_event : Event → Event
   numbered_event (acts k e) = acts k (numbered_action e)
   numbered_event e = e
 
-  -- the same record but for its tag
+  -- the record with a number for its tag
   abbrev pub numbered_record : Record → Record
   numbered_record r = record r { tag = number r.tag ∷ [] }
 
-  -- the same client but for the tags of its records, and of its won tick where it has a write
-  -- version
+  -- the client with numbers for the tags of its records, and for that of its won tick where it has
+  -- a write version
   abbrev pub numbered_client : Client → Client
   numbered_client v = record v {
     records = map numbered_record v.records;
@@ -39,7 +39,7 @@ module _ (number : List ℕ → ℕ) where
     };
   }
 
-  -- the same core but for the tags of its clients
+  -- the core with numbers for the tags of its clients
   abbrev pub numbered_core : Core → Core
   numbered_core c = record c {
     past = map numbered_record c.past;

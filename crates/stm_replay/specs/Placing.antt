@@ -8,7 +8,7 @@ pub record Placed : Type 0 where
   pub entries : List Entry
   pub points : List ℕ
 
--- how many of the points stand up to the last one that is not later: none where all are later
+-- how many points there are up to the last one that is not later: none where all are later
 abbrev pub place_in : List ℕ → ℕ → ℕ
 place_in [] p = 0
 place_in (x ∷ xs) p = cond (list_all (ltb p) (x ∷ xs)) 0 (place_in xs p + 1)

@@ -42,7 +42,7 @@ entry_of r = record {
   renewal = r.renewal;
 }
 
--- the records that one event decided, which are one or none, come to their place
+-- the records that one event decided, which are one or none, are put in their places
 abbrev pub entered : List Record → Running → Running
 entered [] s = s
 entered (r ∷ rs) s = record s { order = put_in (entry_of r) r.point s.order }

@@ -1,4 +1,4 @@
-//! The events that the running core plays, and what it answers.
+//! The events that the running core plays, and what it returns.
 
 ghost use Rattle.std.specs.Prelude.{◌≡◌, IfOk};
 

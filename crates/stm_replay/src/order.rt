@@ -58,7 +58,7 @@ impl<A: Allocator + Copy> Order<A> {
         Ok(())
     }
 
-    /// Puts a record at its place, where it is decided.
+    /// Puts a record at its place, if it is decided.
     pub(crate) fn enter_if(
         &mut self,
         decided: bool,
@@ -77,7 +77,7 @@ impl<A: Allocator + Copy> Order<A> {
     }
 }
 
-/// How many of the points stand up to the last one that is not later, looked for from the back.
+/// How many points there are up to the last one that is not later, looked for from the back.
 fn place_in(points: &[usize], point: usize) -> usize
     ensures place { result ≡ place_in points.now point }
     ensures within { result ≤ length points.now }

@@ -11,7 +11,7 @@ ghost use Rattle.stm_words.specs.declared.version.TheConstants.{VERSION_LIMIT};
 use std::alloc::Allocator;
 use stm_words::{LockWord, Version};
 
-/// Whether some pair has this number in front.
+/// Whether some pair has this first number.
 pub(crate) fn names(pairs: &[(u32, u64)], number: u32) -> bool
     ensures { result ≡ writes_to pairs.now number }
 {
@@ -21,21 +21,21 @@ pub(crate) fn names(pairs: &[(u32, u64)], number: u32) -> bool
     }
 }
 
-/// Whether every pair's number in front is below a bound.
+/// Whether every pair's first number is below a bound.
 pub(crate) fn all_below(pairs: &[(u32, u64)], bound: u32) -> bool
     ensures { result ≡ list_all (λ p. nat_lt p.0 bound) pairs.now }
 {
     pairs.iter().all(|pair| pair.0 < bound)
 }
 
-/// Whether a pair stands among others.
+/// Whether a pair is among others.
 pub(crate) fn has_pair(pairs: &[(u32, u64)], number: u32, value: u64) -> bool
     ensures { result ≡ list_any (λ p. (p.0 == number) && (p.1 == value)) pairs.now }
 {
     pairs.iter().any(|pair| pair.0 == number && pair.1 == value)
 }
 
-/// Whether a number stands among others.
+/// Whether a number is among others.
 pub(crate) fn has(numbers: &[u32], number: u32) -> bool
     ensures { result ≡ list_any (λ n. n == number) numbers.now }
 {
@@ -76,7 +76,7 @@ pub(crate) fn all_stored(writes: &[(u32, u64)], stored: &[u32], lock: u32, strip
         .all(|pair| pair.0 % stripes != lock || has(stored, pair.0))
 }
 
-/// Whether no address stands twice.
+/// Whether no address occurs twice.
 pub(crate) fn once(pairs: &[(u32, u64)]) -> bool
     ensures { result ≡ is_map pairs.now }
 {
@@ -136,7 +136,7 @@ pub(crate) fn none(pairs: &[(u32, u64)]) -> bool
     }
 }
 
-/// The number behind the first pair with this number in front, or 0.
+/// The second number of the first pair with this first number, or 0.
 pub(crate) fn behind(pairs: &[(u32, u64)], number: u32) -> u64
     ensures { result ≡ old_version pairs.now number }
 {
@@ -150,7 +150,7 @@ pub(crate) fn behind(pairs: &[(u32, u64)], number: u32) -> u64
     }
 }
 
-/// Takes the pairs with this number in front out.
+/// Takes out the pairs with this first number.
 pub(crate) fn take_out<A: Allocator + Copy>(pairs: &mut Vec<(u32, u64), A>, number: u32)
     ensures { pairs.new.items ≡ without pairs.old.items number }
 {

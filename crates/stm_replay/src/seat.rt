@@ -321,7 +321,7 @@ impl<A: Allocator + Copy> Seat<A> {
         self.is_gathered = true;
     }
 
-    /// The word of the probe that the last step stands on.
+    /// The word that the last probe found, where the last step is that probe or its fetch; else 0.
     pub(crate) fn word_before(&self) -> u64
         ensures { result ≡ word_before self.now.attempt.last }
     {

@@ -48,7 +48,7 @@ impl<A: Allocator + Copy> Model for State<A> {
 }
 
 impl<A: Allocator + Copy> State<A> {
-    /// The place of a client among the seats, where it is out.
+    /// Whether a client has this number, and is out.
     fn is_out(&self, client: u32) -> bool
         ensures { result ≡ is_out self.now.core client }
     {
