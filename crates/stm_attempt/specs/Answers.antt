@@ -1,4 +1,4 @@
--- What a read and a write of a running attempt answer.
+-- What a read and a write of a running attempt return.
 use Rattle.std.specs.Prelude.{◌≡◌, ℕ, ◌+◌, ◌≤◌, Option, Some, None, Result, Ok, Err}
 use Rattle.std.specs.FinMap.{insert}
 use Rattle.stm_core.specs.Client.{Client}
@@ -24,15 +24,15 @@ HasMetOne lk address v v' stopped =
     (conflict : Conflict) × (stopped ≡ Some conflict) × IsReadConflict lk address conflict v' ×
     (v'.attempt.reads ≡ v.attempt.reads) × (v'.attempt.steps ≤ v.attempt.steps + 3)
 
--- a read of the region answered a value that entered the reads; or nothing but the log's growth
--- was refused; or a conflict was shown
+-- a read of the region returned a value that entered the reads; or nothing but the log's growth was
+-- refused; or a conflict was shown
 abbrev pub HasReadRegion : (ℕ → ℕ) → ℕ → Client → Client → Option Conflict →
     Result ℕ Refusal → Type 0
 HasReadRegion lk address v v' stopped (Ok x) = HasReadWord v v' address x × (stopped ≡ None)
 HasReadRegion lk address v v' stopped (Err OutOfMemory) = (v' ≡ v) × (stopped ≡ None)
 HasReadRegion lk address v v' stopped (Err Stopped) = HasMetOne lk address v v' stopped
 
--- a read that keeps no log answered a value that entered the reads, or a conflict was shown
+-- a read that keeps no log returned a value that entered the reads, or a conflict was shown
 abbrev pub HasReadOnly : (ℕ → ℕ) → ℕ → Client → Client → Option Conflict →
     Result ℕ reading.Stopped → Type 0
 HasReadOnly lk address v v' stopped (Ok x) = HasReadWord v v' address x × (stopped ≡ None)

@@ -55,18 +55,19 @@ module _ {L R A : Type 0} {l : Law.Ghosts L} where
   abbrev pub IsAsBefore : Attempt L R A l → Attempt L R A l → Type 0
   IsAsBefore s s' = (s'.client.now ≡ s.client.now) × (s'.stopped ≡ s.stopped)
 
-  -- a read at an address that it has not written answered this
+  -- a read at an address that it has not written returned this
   abbrev pub Reads : Attempt L R A l → Attempt L R A l → ℕ → Result ℕ Refusal → Type 0
   Reads s s' address result =
       HasReadRegion (lock_of s) address (client_of s) (client_of s') s'.stopped result
 
-  -- a write answered this
+  -- a write returned this
   abbrev pub Writes : Attempt L R A l → Attempt L R A l → ℕ → ℕ →
       Result (Unit {0}) Refusal → Type 0
   Writes s s' address x result =
       HasWritten (lock_of s address) address x (log_of s) (log_of s') result
 
-  -- the attempt's commit made a record of this tag and this version, and left its client so
+  -- the attempt's commit made a record of this tag and this version, and left its client with this
+  -- value
   abbrev pub Commits : Attempt L R A l → List ℕ → Client → ℕ → Type 0
   Commits s tag v version =
       HasCommitted s.region.now tag (log_pairs (log_of s)) (client_of s) v version
@@ -76,7 +77,7 @@ module _ {L R A : Type 0} {l : Law.Ghosts L} where
   record_made s tag version =
       commit_record s.region.now tag (client_of s) (log_pairs (log_of s)) version
 
-  -- the attempt's commit stopped, and left its client so
+  -- the attempt's commit stopped, and left its client with this value
   abbrev pub Stops : Attempt L R A l → Client → Stop → Type 0
   Stops s v stop = HasStopped s.region.now (log_of s) stop (client_of s) v
 

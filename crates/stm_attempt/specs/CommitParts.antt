@@ -68,7 +68,7 @@ pub record HasTaken (v v' : Client) (lock : ℕ) : Type 0 where
   pub won : HasWonLock v'
   pub steps : v'.attempt.steps ≡ v.attempt.steps + 2
 
--- all locks of the log are held, so many
+-- all locks of the log are held, and taken is their number
 pub record HasTakenAll (v v' : Client) (log : LogValue) (taken : ℕ) : Type 0 where
   pub same : settling v' ≡ settling v
   pub stored : v'.attempt.stored ≡ v.attempt.stored
@@ -89,7 +89,7 @@ pub record HasFailed (v v' : Client) : Type 0 where
   pub able : CanGiveBack v'
   pub unversioned : v'.attempt.wv ≡ 0
 
--- a lock could not be taken, after so many that are held
+-- a lock could not be taken, after this many that are held
 pub record HasFailedLocking (v v' : Client) (taken : ℕ) : Type 0 where
   pub same : IsSameAttempt v v'
   pub records : v'.records ≡ v.records
@@ -98,7 +98,7 @@ pub record HasFailedLocking (v v' : Client) (taken : ℕ) : Type 0 where
   pub unversioned : v'.attempt.wv ≡ 0
   pub steps : v'.attempt.steps ≤ v.attempt.steps + 2 * taken + 2
 
--- so many locks were taken, in the order of all, and the rest is left
+-- this many locks were taken, in the order of all, and the rest is left
 pub record IsClimbing (v v' : Client) (taken : ℕ) (rest all : List ℕ) : Type 0 where
   pub same : settling v' ≡ settling v
   pub stored : v'.attempt.stored ≡ v.attempt.stored
@@ -122,7 +122,7 @@ returned v = record v {
   };
 }
 
--- so many of the held locks are still to be given back, the first of the rest
+-- the held locks are the first `left` of the rest, and are still to be given back
 pub record IsReturning (v v' : Client) (count left : ℕ) (rest all : List ℕ) : Type 0 where
   pub gone : List ℕ
   pub order : gone ++ rest ≡ all

@@ -76,8 +76,8 @@ GaveBack (Conflicting conflict) v = Unit {0}
 GaveBack (Spent version) v = v.attempt.gave_back ≡ true
 
 -- the commit added exactly one record, and no lock is held
--- Not said: that the values stand in the shared words: a lock is released only once all its words
--- are stored, and `close` of the region says what the words are.
+-- Not said: that the values are in the shared words: a lock is released only once all its words are
+-- stored, and `close` of the region says what the words are.
 pub record HasCommitted (region : RegionShown) (tag : List ℕ) (writes : List (ℕ × ℕ))
     (v v' : Client) (version : ℕ) : Type 0 where
   pub records : v'.records ≡ inserted (commit_record region tag v writes version) v.records
@@ -89,8 +89,8 @@ pub record HasCommitted (region : RegionShown) (tag : List ℕ) (writes : List (
   pub steps : writes ≡ [] → v'.attempt.steps ≡ v.attempt.steps + 1
 
 -- the commit was refused: it added no record, and no lock is held. Something was written. A spent
--- clock is answered after as many steps as each lock costs, two to take it and one to give it
--- back, and the lost ticks
+-- clock is returned after as many steps as each lock costs, two to take it and one to give it back,
+-- and the lost ticks
 -- Not said: in which order the locks were given back.
 pub record HasStopped (region : RegionShown) (log : LogValue) (stop : Stop)
     (v v' : Client) : Type 0 where

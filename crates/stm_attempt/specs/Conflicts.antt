@@ -92,8 +92,8 @@ abbrev pub refused : Option Conflict → ℕ
 refused None = 0
 refused (Some conflict) = 1
 
--- how many steps an attempt takes at most, with so many reads that its write log did not answer,
--- and so many words to write
+-- how many steps an attempt takes at most, by the number of reads that its write log did not serve,
+-- and the number of words to write
 -- Not said: time, and how often an attempt is tried.
 abbrev pub most_steps : ℕ → ℕ → ℕ
 most_steps reads words = 4 * reads + 4 * words + 17

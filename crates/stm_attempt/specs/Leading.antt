@@ -11,7 +11,7 @@ use Rattle.stm_logs.specs.Log.{LogValue, empty_log, log_pairs}
 use Rattle.stm_region.specs.Shown.{RegionShown, ClientShown}
 use Rattle.stm_attempt.specs.Meaning.{memory_of, Origin, origin_of}
 
--- what may hold of the first so many words of a memory
+-- what may hold of the first n words of a memory
 abbrev pub Property : Type 1
 Property = (ℕ → ℕ) → ℕ → Type 0
 
@@ -46,7 +46,7 @@ RecordsLead fits P Q =
     (memory_of in_use' region' fits c'.value w') →
     Leads fits P Q c'.value.attempt.reads (log_pairs w')
 
--- the same of a transaction that only reads
+-- a transaction that only reads, and carries P to Q, makes a record that leads from P to Q
 abbrev pub ReadingsLead : (fits : List ℕ → Type 0) (P Q : Property) → Type 0
 ReadingsLead fits P Q =
     (running running' : Bool) (region region' : RegionShown) (name name' : ℕ)
@@ -107,7 +107,7 @@ module _ (fits : List ℕ → Type 0) (P Q : Property) (local_p : IsLocal P) (lo
   records_lead false in_use' region region' name name' logs logs' c c' w w' runs e origin carries =
       absurd (let n = runs in cc)
 
-  -- the same of a transaction that only reads
+  -- every reader's record leads from P to Q where its transaction carries P to Q
   pub readings_lead : ReadingsLead fits P Q
   readings_lead running running' region region' name name' c c' runs origin carries =
       subst (λ (ps : List (ℕ × ℕ)). Leads fits P Q c'.value.attempt.reads ps) nothing_logged

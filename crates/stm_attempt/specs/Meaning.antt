@@ -23,8 +23,8 @@ memory_of true region fits v writes =
 memory_of false region fits v writes =
     record { size = 0; fits = λ _. Unit {0}; reads = empty; writes = empty }
 
--- what no read and no write changes: the region, whose client and logs stand in the attempt, and
--- the client's value but for its reads
+-- what no read and no write changes: the region, which client and logs the attempt has, and the
+-- client's value but for its reads
 pub record Origin : Type 0 where
   pub region : RegionShown
   pub client_name : ℕ

@@ -37,7 +37,7 @@ module _ {L R : Type 0} {l : Law.Ghosts L} where
   abbrev pub IsAsBefore : ReadAttempt L R l → ReadAttempt L R l → Type 0
   IsAsBefore s s' = (s'.client.now ≡ s.client.now) × (s'.stopped ≡ s.stopped)
 
-  -- a read at an address answered this
+  -- a read at an address returned this
   abbrev pub Reads : ReadAttempt L R l → ReadAttempt L R l → ℕ → Result ℕ Stopped → Type 0
   Reads s s' address result =
       HasReadOnly (lock_of s) address (client_of s) (client_of s') s'.stopped result

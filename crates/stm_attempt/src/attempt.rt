@@ -97,7 +97,7 @@ impl<'a, L: Law, R: Allocator, A: Allocator + Copy> Attempt<'a, L, R, A> {
         *rv
     }
 
-    /// The conflict that a read of this attempt met, after which it can only end.
+    /// The conflict that a read of this attempt met, after which it can only abort.
     pub fn stopped(&self) -> Option<Conflict>
         requires { runs self.now ≡ true }
         ensures value { result ≡ self.now.stopped }
@@ -109,7 +109,7 @@ impl<'a, L: Law, R: Allocator, A: Allocator + Copy> Attempt<'a, L, R, A> {
         *stopped
     }
 
-    /// Ends the attempt with no record.
+    /// Aborts the attempt: it ends with no record.
     ///
     /// Not said: what the logs hold until the next begin.
     pub fn drop_it(self)
@@ -149,8 +149,8 @@ impl<'a, L: Law, R: Allocator, A: Allocator + Copy> TxRead for Attempt<'a, L, R,
     ghost stopped_for = { λ s stop. stop ≡ Stopped → s.stopped ≢ None };
 
     /// The attempt's own write of this address, or a value that a probe and a check of its lock
-    /// enclose, with equal words, and which enters the reads. The probe answers `Held` before
-    /// `Newer`, the check `Moved` where it differs.
+    /// enclose, with equal words, and which enters the reads. The probe shows `Held` before
+    /// `Newer`, the check `Moved` where its word differs.
     ///
     /// Not said: that a read is answered while others write; of which version the image is that
     /// agrees with the reads, which the region's law `reads_are_of_one_version` says.

@@ -1,5 +1,5 @@
-//! The commit of an attempt: its locks in ascending order, one tick of the clock, the validation
-//! of each read word's lock, the stores, and the releases.
+//! The commit of an attempt: its locks in ascending order, one tick of the clock, the validation of
+//! each read word's lock, the write back, and the releases.
 ghost use Rattle.std.specs.Prelude.{◌≡◌, ◌≢◌, ℕ, ◌+◌, ◌*◌, ◌<◌, ◌≤◌, ◌||◌, eqb, true, false, [], length, Ok, Err, Some, None, IfOk, IfErr, MatchResult};
 ghost use Rattle.std.specs.FinMap.{len};
 ghost use Rattle.stm_core.specs.Core.{IsFreeHanded};
@@ -77,7 +77,7 @@ fn decide<L: Law, R: Allocator, A: Allocator + Copy, T: Tag, G: Gate>(
     Ok(version)
 }
 
-/// With the attempt decided: stores its values, and releases its locks.
+/// With the attempt decided: writes its values back, and releases its locks.
 fn settle<L: Law, R: Allocator, A: Allocator + Copy, G: Gate>(
     region: &Region<L, R>,
     client: &mut Client<L>,
@@ -139,7 +139,7 @@ fn commit_writes<L: Law, R: Allocator, A: Allocator + Copy, T: Tag, G: Gate>(
     answer
 }
 
-/// Commits what was read and written, unless a read met a conflict. The logs are out of use.
+/// Commits what was read and written, unless a read met a conflict. The logs are no longer in use.
 fn end<L: Law, R: Allocator, A: Allocator + Copy, T: Tag, G: Gate>(
     region: &Region<L, R>,
     logs: &mut Logs<A>,
@@ -199,9 +199,9 @@ fn end<L: Law, R: Allocator, A: Allocator + Copy, T: Tag, G: Gate>(
 impl<'a, L: Law, R: Allocator, A: Allocator + Copy> Attempt<'a, L, R, A> {
     ghost use Rattle.stm_attempt.specs.Attempt.{runs, client_of, log_of, lock_of, Commits, Stops, record_made, step_bound, client_left, value_left, logs_left};
 
-    /// Commits the attempt. Its record has this tag, and the version answered is its write
-    /// version, or the read version where nothing was written. A refused commit leaves no record,
-    /// no lock held and the logs empty.
+    /// Commits the attempt. Its record has this tag, and the version returned is its write version,
+    /// or the read version where nothing was written. A refused commit leaves no record, no lock
+    /// held and the logs empty.
     ///
     /// Not said: that calls whose answer knows no want of memory take none, which is read in the
     /// code.

@@ -41,7 +41,7 @@ pub enum Conflict {
 pub enum Refusal {
     /// A log could not grow. The attempt is as it was, and may go on.
     Memory,
-    /// The attempt has met a conflict, which `stopped` tells, and can only end.
+    /// The attempt has met a conflict, which `stopped` returns, and can only abort.
     Stopped,
 }
 
@@ -54,17 +54,17 @@ impl From<AllocError> for Refusal {
 }
 
 /// Why a read of an attempt that only reads was refused: it has met a conflict, which `stopped`
-/// tells, and can only end.
+/// returns, and can only abort.
 #[derive(Clone, Copy, Debug, PartialEq, Eq)]
 pub struct Stopped;
 
-/// Why an attempt of a task stopped. A commit takes no memory, so that it never answers `Memory`:
+/// Why an attempt of a task stopped. A commit takes no memory, so that it never returns `Memory`:
 /// that is for whoever runs a task's body in an attempt.
 #[derive(Clone, Copy, Debug, PartialEq, Eq)]
 pub enum Stop {
     /// A log could not grow.
     Memory,
-    /// The attempt met a conflict, and can only end.
+    /// The attempt met a conflict, and can only abort.
     Conflict(Conflict),
     /// The clock is at the last version, so that nothing more can be written.
     Spent { version: Version },

@@ -75,7 +75,7 @@ pub(crate) fn lock_all<L: Law, R: Allocator, A: Allocator + Copy>(
     Ok(())
 }
 
-/// Gives back the first locks of the log, so many.
+/// Gives back the first `count` locks of the log.
 pub(crate) fn give_back_first<L: Law, R: Allocator, A: Allocator + Copy>(
     region: &Region<L, R>,
     client: &mut Client<L>,

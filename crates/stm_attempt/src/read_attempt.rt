@@ -111,7 +111,7 @@ impl<'a, L: Law, R: Allocator> ReadAttempt<'a, L, R> {
         rv
     }
 
-    /// Ends the attempt with no record.
+    /// Aborts the attempt: it ends with no record.
     pub fn drop_it(self)
         requires { runs self ≡ true }
         ensures client { client_left self.exit ≡ self.entry.client.now }
@@ -147,8 +147,8 @@ impl<'a, L: Law, R: Allocator> TxRead for ReadAttempt<'a, L, R> {
 
     ghost stopped_for = { λ s _. s.stopped ≢ None };
 
-    /// A value that a probe and a check of its lock enclose, with equal words, and which enters
-    /// the reads. The probe answers `Held` before `Newer`, the check `Moved` where it differs.
+    /// A value that a probe and a check of its lock enclose, with equal words, and which enters the
+    /// reads. The probe shows `Held` before `Newer`, the check `Moved` where its word differs.
     #[inline]
     fn read(&mut self, addr: Addr) -> Result<u64, Stopped>
         requires { addr.0 < (view self.old).size }

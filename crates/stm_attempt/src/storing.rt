@@ -1,4 +1,4 @@
-//! The end of a decided commit: its values are stored, and its locks released.
+//! The end of a decided commit: its values are written back, and its locks released.
 ghost use Rattle.std.specs.Prelude.{◌≡◌, false};
 ghost use Rattle.stm_core.specs.Client.{committed};
 ghost use Rattle.stm_logs.specs.Log.{log_locks};
@@ -10,7 +10,7 @@ use stm_logs::WriteLog;
 use stm_region::{Client, Region};
 use stm_words::Law;
 
-/// Stores all written values, in one walk over them in the order of their locks.
+/// Writes back all written values, in one walk over them in the order of their locks.
 pub(crate) fn store_all<L: Law, R: Allocator, A: Allocator + Copy>(
     region: &Region<L, R>,
     client: &mut Client<L>,

@@ -34,6 +34,6 @@ pub record Ends (lawful : RecordLaw) (region : RegionShown)
   pub abides : (r : Record) → In r v.records → lawful r.tag r.reads r.writes
   pub serial : Serial region.first v.records
   pub newest : words ≡ image_after region.first v.records
-  -- and they stand in order, each of this renewal or an earlier one
+  -- and they are in order, each of this renewal or an earlier one
   pub sorted : Sorted v.records
   pub eras : (r : Record) → In r v.records → r.renewal < region.renewal + 1

@@ -1,5 +1,5 @@
--- Where a region's words stand in its table: the clock alone on its cache lines, the lock words,
--- and the data words.
+-- Where a region's words are in its table: the clock alone on its cache lines, the lock words, and
+-- the data words.
 use Rattle.std.specs.Prelude.{◌≡◌, ℕ, ◌+◌, ◌-◌, ◌%◌, ◌<◌, ◌≤◌, length, cond, eqb}
 use Rattle.stm_core.specs.Client.{Client}
 use Rattle.stm_core.specs.Core.{left}
@@ -10,7 +10,7 @@ use Rattle.stm_region.specs.declared.layout.TheConstants.{CLOCK, FIRST_LOCK, LIN
 use Rattle.stm_words.specs.declared.version.TheConstants.{VERSION_LIMIT}
 use Rattle.stm_core.specs.declared.limits.TheConstants.{MOST_WORDS, MOST_STRIPES}
 
--- how many words stand between the lock words and the data words: the rest of a line
+-- how many words are between the lock words and the data words: the rest of a line
 abbrev pub padding : ℕ → ℕ
 padding stripes = (LINE_WORDS - 1) - (stripes + (LINE_WORDS - 1)) % LINE_WORDS
 

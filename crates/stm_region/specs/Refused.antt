@@ -6,7 +6,7 @@ use Rattle.stm_words.specs.declared.version.TheConstants.{VERSION_LIMIT}
 use Rattle.stm_core.specs.declared.limits.TheConstants.{MOST_WORDS, MOST_STRIPES, MOST_RENEWALS}
 use Rattle.stm_region.specs.declared.limits.TheConstants.{MOST_GRANTS}
 
--- a region may have so many data words
+-- a region may have this many data words
 abbrev pub IsSize : ℕ → Type 0
 IsSize n = (1 ≤ n) × (n ≤ MOST_WORDS)
 
@@ -14,7 +14,7 @@ IsSize n = (1 ≤ n) × (n ≤ MOST_WORDS)
 abbrev pub IsLast : ℕ → Type 0
 IsLast n = (1 ≤ n) × (n < VERSION_LIMIT)
 
--- it may have so many lock words
+-- it may have this many lock words
 abbrev pub IsStripes : ℕ → Type 0
 IsStripes n = (1 ≤ n) × (n ≤ MOST_STRIPES)
 

@@ -26,7 +26,7 @@ pub record IsListed (lawful : RecordLaw) (o : Opened) (s : State (Unit {0}) Clie
   -- the steps, splits, gathers and renewals of all clients
   pub events : List Event
   pub core : Core
-  -- each is allowed where it stands, and they lead from the first opening to the core
+  -- each is allowed in its place, and they lead from the first opening to the core
   pub leads : Reaches lawful o.first last o.stripes events core
   -- all that the core theorem says, of this list and this core
   pub stands
@@ -40,8 +40,9 @@ pub record IsListed (lawful : RecordLaw) (o : Opened) (s : State (Unit {0}) Clie
   pub before_cells : length pad ≡ padding o.stripes
   -- and the core's clients
   pub clients : Mirrors s.views core.clients
-  -- in both each client's records stand in order, by renewal, then version, the writer of a version
-  -- before its readers: so none but readers of one version stand otherwise in one than in the other
+  -- in both each client's records are in order, by renewal, then version, the writer of a version
+  -- before its readers: so none but readers of one version are in another order in one than in the
+  -- other
   pub sorted : (i : ℕ) (v : Client) → get_elem? s.views i ≡ some v → Sorted v.records
   pub core_sorted : (i : ℕ) (v : Client) → get_elem? core.clients i ≡ some v → Sorted v.records
   -- the core is in the region's renewal, which was opened on the region's image

@@ -58,7 +58,7 @@ nowhere = record {
   start = opener;
 }
 
--- what the rule of the region's table was told
+-- what the rule of the region's table was given at the opening
 abbrev pub opened_with : RegionShown → Opened
 opened_with r = record {
   image = r.opening;

@@ -29,7 +29,7 @@ abbrev pub unplaced_client : List Record → Client → Client
 unplaced_client rs w = record w { records = rs; attempt = unplaced_attempt w.attempt }
 
 -- a client's value in a region is that of the list, but for the places in it, and for the order of
--- its records: since both are sorted (`IsListed`), only readers of one version may stand in another
+-- its records: since both are sorted (`IsListed`), only readers of one version may be in another
 -- Not said: in which order the list has readers of one version, those of one client among them.
 abbrev pub IsShadow : Client → Client → Type 0
 IsShadow v w =
@@ -38,7 +38,7 @@ IsShadow v w =
 -- the clients of a region are those of the list, but for clients that were gathered before a
 -- renewal
 pub record Mirrors (vs ws : List Client) : Type 0 where
-  -- where the client at each place of the region stands in the list's core, no two at one place
+  -- the place in the list's core of the client at each place of the region, no two at one place
   pub number : ℕ → ℕ
   pub each : (i : ℕ) (v : Client) → get_elem? vs i ≡ some v
       → (w : Client) × (get_elem? ws (number i) ≡ some w) × IsShadow v w

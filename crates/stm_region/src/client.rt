@@ -44,7 +44,7 @@ impl<L: Law> Model for Client<L> {
 }
 
 impl<L: Law> Client<L> {
-    /// A client that has made no step, with so many grants.
+    /// A client that has made no step, with this many grants.
     pub(crate) fn of_seat(seat: Seat<(), View>, grants: u64) -> Client<L>
         requires none { (seat.me.1 ≡ []) × (seat.me.0.attempt.wv ≡ 0)
             × (seat.me.0.attempt.last ≡ nothing) }

@@ -1,4 +1,4 @@
-//! Where the words of a region stand in its table: the clock, a gap, the lock words, a padding and
+//! Where the words of a region are in its table: the clock, a gap, the lock words, a padding and
 //! the data words. Lock words and data words begin with a cache line.
 ghost use Rattle.std.specs.Prelude.{◌≡◌, ◌+◌, ◌%◌, ◌++◌, ◌≤◌, length, replicate, IfOk};
 ghost use Rattle.stm_region.specs.Layout.{first_cell, padding};
@@ -9,11 +9,11 @@ use std::alloc::{AllocError, Allocator};
 /// The place of the clock.
 pub(crate) const CLOCK: usize = 0;
 
-/// A cache line has so many words.
+/// How many words a cache line has.
 const LINE_WORDS: usize = 8;
 
-/// A line of the table begins so many places behind a multiple of a line: the usual allocator puts
-/// a table 16 bytes behind the start of a line.
+/// How many places after a multiple of a line a line of the table begins: the usual allocator puts
+/// a table 16 bytes after the start of a line.
 const LINE_START: usize = 6;
 
 /// The place of the first lock word, where a line begins. One line is left empty before it, so that
@@ -50,7 +50,7 @@ pub(crate) fn first_cell(stripes: u32) -> usize
     FIRST_LOCK + stripes as usize + padding(stripes)
 }
 
-/// How many words stand between the lock words and the data words: the rest of a line.
+/// How many words are between the lock words and the data words: the rest of a line.
 fn padding(stripes: u32) -> usize
     requires { stripes ≤ MOST_STRIPES }
     ensures { result ≡ padding stripes }

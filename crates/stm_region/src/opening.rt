@@ -10,7 +10,7 @@ use std::marker::{Model, PhantomData};
 use std::snapshot::Snapshot;
 use stm_words::Law;
 
-/// What the rule of a region's table is told once: the words at the opening, the last version and
+/// What the rule of a region's table is given once: the words at the opening, the last version and
 /// how many lock words there are; and, where it was renewed, the words of the first opening, how
 /// many renewals there were, and the seat that was the last one of the table before.
 #[derive(Drop)]

@@ -88,8 +88,9 @@ impl<L: Law, A: Allocator> Drop for Region<L, A> {
 }
 
 impl<L: Law, A: Allocator + Copy> Region<L, A> {
-    /// Opens a region on an image, and gives its first client. The clock and all lock words are 0.
-    /// The client's floor is 0 and it has all grants, so its first attempt begins at version 0.
+    /// Opens a region on an image, and returns it with its first client. The clock and all lock
+    /// words are 0. The client's floor is 0 and it has all grants, so its first attempt begins at
+    /// version 0.
     pub fn new(
         alloc: A,
         image: &[u64],

@@ -14,13 +14,13 @@ use stm_words::Law;
 /// events, with each renewal as an event, leads from the first opening to a core with the table's
 /// words and clients, so that the core theorem holds of them. The core has what a region does not
 /// keep too: the places of the events, whose a record is, and clients that were gathered before a
-/// renewal; of its records, readers of one version may stand in another order.
+/// renewal; of its records, readers of one version may be in another order.
 pub fn running_threads_are_a_list<L: Law>()
     ensures { Always L.fits L.lawful (λ o s. IsListed L.lawful o s) }
 {}
 
 /// Between any two steps of any threads the records of all clients are lawful and serial from the
-/// first opening image, and each client's own stand among them, each once and in its order.
+/// first opening image, and each client's own are among them, each once and in their order.
 ///
 /// Not said: any order in time between clients that are out.
 pub fn records_are_serial<L: Law>()

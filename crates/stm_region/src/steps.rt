@@ -95,7 +95,7 @@ impl<L: Law, A: Allocator> Region<L, A> {
     }
 
     /// Takes a lock that the last step, a probe, found free: one compare-and-exchange. Where it
-    /// loses, the answer has the word found.
+    /// loses, the word found is returned.
     #[inline]
     pub fn lock(&self, client: &mut Client<L>, lock: u32) -> Result<(), u64>
         requires own { client.old.table ≡ self.now.table }
@@ -128,7 +128,7 @@ impl<L: Law, A: Allocator> Region<L, A> {
     /// Ticks the clock from this version to the next, which becomes the write version: one
     /// compare-and-exchange. Tag and writes are those of the attempt's record. Where nothing was
     /// read, or the write version is the next after the read version, the attempt is decided.
-    /// The answer is the write version, or where the exchange loses the version found.
+    /// Returns the write version, or, where the exchange loses, the version found.
     #[inline]
     pub fn tick<T: Tag, B: Allocator + Copy>(
         &self,
@@ -226,7 +226,7 @@ impl<L: Law, A: Allocator> Region<L, A> {
         self.store_as::<Brand>(&mut client.seat, FIRST_LOCK + lock as usize, word, lock);
     }
 
-    /// Gives a lock back with its old version. The attempt can only end.
+    /// Gives a lock back with its old version. The attempt can only abort.
     #[inline]
     pub fn give_back(&self, client: &mut Client<L>, lock: u32)
         requires own { client.old.table ≡ self.now.table }
