@@ -192,7 +192,7 @@ fn theorems(_rt: HostRuntime) {
     law_theorem::<FreeLaw, Global>();
 }
 
-/// Its clock stands at its last version, 1, and word 9 is 5.
+/// Its clock is at its last version, 1, and word 9 is 5.
 fn spent(rt: &impl Abort, alloc: Global) -> Core {
     let core = Core::start(alloc, &[0; 32], 1, 32).expect(rt, "there is memory");
     let acts = [

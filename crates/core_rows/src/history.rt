@@ -73,7 +73,7 @@ impl History {
         outs
     }
 
-    /// A client that is out: the next after so many others, or the last.
+    /// A client that is out: the next after this many others, or the last.
     pub(crate) fn out_after(&self, others: u32) -> u32 {
         let mut left = others.wrapping_add(1);
         let mut client = 0u32;
@@ -315,7 +315,7 @@ impl History {
         self.is_serial(rt, alloc, core.order())
     }
 
-    /// What an attempt has read stood in the image of its read version.
+    /// What an attempt has read was in the image of its read version.
     fn reads_of_one_version(&self, rt: &impl Abort, player: &Player) {
         if player.out && player.stage != Stage::Resting {
             for (addr, value) in player.reads.iter() {
@@ -324,9 +324,9 @@ impl History {
         }
     }
 
-    /// Played one by one in the order, from the first image on, each decided attempt reads what
-    /// stands there, and the last leaves the newest image. The points rise, so that no attempt is
-    /// there twice, and so do the versions of a renewal.
+    /// Played one by one in the order, from the first image on, each decided attempt reads what is
+    /// there, and the last leaves the newest image. The points rise, so that no attempt is there
+    /// twice, and so do the versions of a renewal.
     fn is_serial(
         &self,
         rt: &impl Abort,

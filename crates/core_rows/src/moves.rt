@@ -29,7 +29,7 @@ impl Shape {
         }
     }
 
-    /// The same with another last version, where a region may have it.
+    /// This shape with another last version, where a region may have it.
     pub(crate) fn renewed(self, last: u64) -> Option<Shape> {
         if 1 <= last && last < VERSION_LIMIT {
             Some(Shape {

@@ -196,7 +196,7 @@ fn words_of_heaps_in_pieces(rt: HostRuntime) -> Result<(), Fail> {
     Ok(())
 }
 
-/// Takes so many blocks for one list, and answers the last one.
+/// Takes `many` blocks for one list, and returns the last one.
 fn take_many<M: TxMem>(memory: &mut M, start: FreeList, many: u32) -> Result<Option<Block>, M::Stop>
     requires pool { HasPool (M.view memory.old) }
     ensures origin { M.origin memory.new ≡ M.origin memory.old }

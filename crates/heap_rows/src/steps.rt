@@ -65,7 +65,7 @@ fn table(words: Vec<u64>, blocks: usize) -> Option<Flat>
     Some(Flat::new(words))
 }
 
-/// Puts a block under its key, unless the table has the key. Answers how many entries there are.
+/// Puts a block under its key, unless the table has the key. Returns how many entries there are.
 fn put(flat: &mut Flat, blocks: usize, count: usize, number: usize) -> usize
     requires { HasEntries (flat_view flat.old) 3 blocks count }
     ensures { HasEntries (flat_view flat.new) 3 blocks result }
@@ -88,7 +88,7 @@ fn put(flat: &mut Flat, blocks: usize, count: usize, number: usize) -> usize
     }
 }
 
-/// Takes the entry of a key out. Answers how many entries are left, and the block.
+/// Takes the entry of a key out. Returns how many entries are left, and the block.
 fn cut(flat: &mut Flat, blocks: usize, count: usize, key: u64) -> (usize, Option<Block>)
     requires { HasEntries (flat_view flat.old) 3 blocks count }
     ensures { HasEntries (flat_view flat.new) 3 blocks result.0 }
@@ -120,7 +120,7 @@ fn same_entries(flat: &mut Flat, blocks: usize, count: usize, map: &BTreeMap<u64
     same && next.is_none()
 }
 
-/// Takes a step beside the library's map. Answers how many entries there are, and whether the
+/// Takes a step beside the library's map. Returns how many entries there are, and whether the
 /// answer was the map's.
 fn take_step(
     flat: &mut Flat,
@@ -161,7 +161,7 @@ fn looked_at(flat: Flat, look: Look) -> (Flat, bool)
 }
 
 /// Takes the steps beside the library's map. All answers, the shape, the entries in order and the
-/// words outside are compared. Answers how many entries are left.
+/// words outside are compared. Returns how many entries are left.
 pub(crate) fn play(alloc: Global, keys: &[u64], steps: &[Step], look: Look) -> Result<usize, Fail> {
     let start = words_of(alloc, keys)?;
     let mut flat = table(words_of(alloc, keys)?, keys.len()).ok_or("no heap")?;

@@ -40,7 +40,7 @@ pub(crate) fn read_at(
     Some(value)
 }
 
-/// Writes a word without reading any, by one try. Answers whether it committed.
+/// Writes a word without reading any, by one try. Returns whether it committed.
 pub(crate) fn write_at(
     alloc: Global,
     region: &Region<FreeLaw>,

@@ -13,7 +13,7 @@ use tx_memory::Addr;
 
 type Renewed = (Region<FreeLaw>, Client<FreeLaw>);
 
-/// Renews so many times, or as often as it can.
+/// Renews `times` times, or as often as it can.
 fn renew_times(
     alloc: Global,
     mut region: Region<FreeLaw>,
@@ -141,7 +141,7 @@ enum Outcome {
     Closed,
 }
 
-/// Opens a region in a heap, renews it in another one, and ends it. Answers how the renewal came
+/// Opens a region in a heap, renews it in another one, and ends it. Returns how the renewal came
 /// out, and whether the words are those of the opening.
 fn renew_in<A: Allocator + Copy>(heap: A, small: A) -> Result<(Outcome, bool), RegionFault> {
     let (region, client) = Region::<FreeLaw, A>::new(heap, &[3; 512], 100, 32)?;
@@ -179,7 +179,7 @@ fn each_growth_of_a_renewal_is_refused(rt: HostRuntime) -> Result<(), Fail> {
     Ok(())
 }
 
-/// Opens a region in one heap and closes it in another one. Answers whether the words are those of
+/// Opens a region in one heap and closes it in another one. Returns whether the words are those of
 /// the opening.
 fn open_in<A: Allocator + Copy>(small: A, heap: A) -> Result<bool, RegionFault> {
     let (region, client) = Region::<FreeLaw, A>::new(small, &[3; 512], 100, 32)?;

@@ -10,7 +10,7 @@ use Rattle.tx_tree.specs.Counted.{HasEntries, SomeEntries}
 abbrev pub Fits : Property → List ℕ → Type 0
 Fits P image = P (words_of image) (length image)
 
--- a memory of so many words of which it holds under each image that there may be
+-- a memory of this size, of whose words it holds under each image that there may be
 pub record HoldsUnder (P : Property) (size : ℕ) (s : View) : Type 0 where
   pub size_is : s.size ≡ size
   pub under : (image : List ℕ) → Sees s image → P (mem s image) (length image)
@@ -25,7 +25,8 @@ pub record IsTableOfTen (count : ℕ) (m : ℕ → ℕ) (n : ℕ) : Type 0 where
   pub size : n ≡ 96
   pub entries : SomeEntries m n 3 count
 
--- under each image that there may be
+-- under each image that there may be, word 3 leads to a table of this many entries in a heap of ten
+-- blocks, and there are 96 words
 pub record HoldsTable (s : View) (count : ℕ) : Type 0 where
   pub entries : HasEntries s 3 10 count
   pub long : (image : List ℕ) → Sees s image → length image ≡ 96

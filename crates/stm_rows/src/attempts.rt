@@ -7,7 +7,7 @@ use stm_region::{Client, Region};
 use stm_words::{FreeLaw, Version};
 use tx_memory::{Addr, TxMem, TxRead};
 
-/// One attempt that writes a word. Its client then knows the version that it answers, and no later
+/// One attempt that writes a word. Its client then knows the version that it returns, and no later
 /// one.
 pub(crate) fn write_one(
     region: &Region<FreeLaw>,

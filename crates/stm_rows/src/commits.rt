@@ -1,4 +1,4 @@
-//! Attempts of one or two clients in turn: what they read, answer and leave.
+//! Attempts of one or two clients in turn: what they read, return and leave.
 ghost use Rattle.std.specs.Prelude.{◌≡◌, ◌<◌};
 ghost use Rattle.stm_core.specs.Core.{IsFreeHanded};
 

@@ -1,4 +1,4 @@
-//! What a commit answers where another client has committed since the attempt began.
+//! What a commit returns where another client has committed since the attempt began.
 ghost use Rattle.std.specs.Prelude.{◌≡◌, ◌<◌};
 ghost use Rattle.stm_core.specs.Core.{IsFreeHanded};
 

@@ -253,7 +253,7 @@ pub(crate) struct Running<'b> {
     ghost range: { 9 < attempt.region.now.size },
 }
 
-/// What a read answers, and the conflict that its attempt has met.
+/// What a read returns, and the conflict that its attempt has met.
 type Met = (Result<u64, Refusal>, Option<Conflict>);
 
 /// Reads word 9 by another client's attempt at one point, and ends that one.
@@ -376,8 +376,8 @@ impl<'a, 'b> Gate for CommitsAt<'a, 'b> {
     }
 }
 
-/// The answers of another client's attempt, which writes word 10 and commits at a point, and of the
-/// commit that comes by that point.
+/// What two commits return: that of another client's attempt, which writes word 10 and commits at a
+/// point, and the one that comes by that point.
 fn commit_at(
     region: &Region<FreeLaw>,
     client: &mut Client<FreeLaw>,

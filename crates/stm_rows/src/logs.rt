@@ -14,7 +14,7 @@ use stm_region::{Client, Region};
 use stm_words::{FreeLaw, Version};
 use tx_memory::{Addr, TxMem, TxRead};
 
-/// Pushes addresses until memory is refused. Gives the length of the log.
+/// Pushes addresses until memory is refused. Returns the length of the log.
 fn fill<A: Allocator + Copy>(log: &mut ReadLog<A>) -> usize {
     for addr in 0..100_000 {
         if log.push(Addr(addr)).is_err() {
@@ -63,7 +63,7 @@ fn put<A: Allocator + Copy>(log: &mut WriteLog<A>, addr: u32) -> bool
     log.put(Addr(addr), addr % 1_000, 7).is_ok()
 }
 
-/// Puts so many addresses into the emptied log. Gives how many it took.
+/// Puts the addresses below `count` into the emptied log. Returns how many it took.
 fn put_again<A: Allocator + Copy>(log: &mut WriteLog<A>, count: u32) -> u32
     ensures { IsStriped log.new 1000 }
 {
@@ -95,7 +95,7 @@ fn a_cleared_write_log_keeps_its_memory(rt: HostRuntime) -> Result<(), Fail> {
     Ok(())
 }
 
-/// One attempt that writes word 9 and reads so many words.
+/// One attempt that writes word 9 and reads the first `count` words.
 fn write_and_read<A: Allocator + Copy>(
     region: &Region<FreeLaw>,
     client: &mut Client<FreeLaw>,

@@ -9,7 +9,7 @@ use stm_region::{Region, RegionFault};
 use stm_words::{FreeLaw, Version};
 use tx_memory::{Addr, TxMem, TxRead};
 
-/// How many words were read or written, what came then, and what the commit answered.
+/// How many words were read or written, what came then, and what the commit returned.
 type Ended = (u32, Option<Refusal>, Result<Version, Stop>);
 
 #[test]
@@ -80,7 +80,7 @@ fn a_refused_read_leaves_the_attempt(rt: HostRuntime) -> Result<(), Fail> {
 }
 
 /// How many of 200 words an attempt writes whose logs take their memory here, whether what came
-/// then was want of memory, and what its commit answers.
+/// then was want of memory, and what its commit returns.
 fn write_in<A: Allocator + Copy>(alloc: Global, logs_in: A) -> Result<Ended, RegionFault> {
     let (region, mut client) = Region::<FreeLaw>::new(alloc, &[0; 200], 100, 64)?;
     let mut logs = Logs::new(logs_in);
@@ -96,7 +96,8 @@ fn write_in<A: Allocator + Copy>(alloc: Global, logs_in: A) -> Result<Ended, Reg
     Ok((ended.0, ended.1, attempt.commit(&1u64, &mut NoGate)))
 }
 
-/// The same of 5,000 reads.
+/// How many of 5,000 reads succeed in an attempt whose logs take their memory here, whether what
+/// came then was want of memory, and what its commit returns.
 fn read_in<A: Allocator + Copy>(alloc: Global, logs_in: A) -> Result<Ended, RegionFault> {
     let (region, mut client) = Region::<FreeLaw>::new(alloc, &[3; 200], 100, 64)?;
     let mut logs = Logs::new(logs_in);
@@ -132,7 +133,7 @@ fn each_growth_is_refused_to_an_attempt_that_writes(rt: HostRuntime) -> Result<(
     Ok(())
 }
 
-/// The same of the read log.
+/// In heaps of these sizes no growth of the read log has room, the first one has, and so on.
 #[test]
 fn each_growth_is_refused_to_an_attempt_that_reads(rt: HostRuntime) -> Result<(), Fail> {
     for (size, most) in [

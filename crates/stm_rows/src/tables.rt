@@ -54,7 +54,7 @@ fn table_words(alloc: Global) -> Result<Vec<u64>, Fail>
     Ok(words)
 }
 
-/// Puts a block under its key. Answers how many entries there are.
+/// Puts a block under its key. Returns how many entries there are.
 fn put<M: TxMem>(memory: &mut M, count: usize, number: u32) -> Result<usize, M::Stop>
     requires table { HoldsTable (M.view memory.old) count }
     ensures origin { M.origin memory.new ≡ M.origin memory.old }
@@ -75,7 +75,7 @@ fn put<M: TxMem>(memory: &mut M, count: usize, number: u32) -> Result<usize, M::
     }
 }
 
-/// Takes the entry of a key out. Answers how many entries are left, and the block.
+/// Takes the entry of a key out. Returns how many entries are left, and the block.
 fn cut<M: TxMem>(memory: &mut M, count: usize, key: u64) -> Result<(usize, Option<Block>), M::Stop>
     requires table { HoldsTable (M.view memory.old) count }
     ensures origin { M.origin memory.new ≡ M.origin memory.old }

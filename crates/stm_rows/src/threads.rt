@@ -29,7 +29,7 @@ struct Move {
 
 type Moved = Result<(Client<FreeLaw>, Vec<Move>), AllocError>;
 
-/// Moves an amount from one word to another. Gives the values written.
+/// Moves an amount from one word to another. Returns the values written.
 fn move_amount<M: TxMem>(
     memory: &mut M,
     from: Addr,
@@ -77,7 +77,7 @@ fn try_move(
     })
 }
 
-/// Tries moves between 64 words until so many are committed.
+/// Tries moves between 64 words until `COMMITS` of them are committed.
 fn move_many(
     alloc: Global,
     region: &Region<FreeLaw>,
