@@ -54,8 +54,8 @@ impl Bank {
         Ok((Bank { shared }, teller))
     }
 
-    /// Moves an amount from one account to another as a transaction, by at most so many attempts,
-    /// and answers whether there was enough. A stopped transfer moves nothing.
+    /// Moves an amount from one account to another as a transaction, by at most `tries` attempts,
+    /// and returns whether there was enough. A stopped transfer moves nothing.
     pub fn transfer(
         &self,
         teller: &mut Teller,
@@ -75,7 +75,7 @@ impl Bank {
         self.shared.run(teller, &Move { from, to, amount }, tries)
     }
 
-    /// Adds up all balances as a transaction, by at most so many attempts. Whatever the other
+    /// Adds up all balances as a transaction, by at most `tries` attempts. Whatever the other
     /// tellers do, the sum is the opening's.
     pub fn audit(&self, teller: &mut Teller, tries: u32) -> Result<u64, Conflict>
         requires own { teller.old.table ≡ self.now.table }

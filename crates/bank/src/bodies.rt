@@ -8,7 +8,7 @@ use crate::law::{ACCOUNTS, BankObject};
 use stm_object::{Body, Query};
 use tx_memory::{Addr, TxMem, TxRead, load, store};
 
-/// Moves an amount from one account to another where there is enough, and answers whether it did.
+/// Moves an amount from one account to another where there is enough, and returns whether it did.
 #[derive(Drop)]
 pub(crate) struct Move {
     pub(crate) from: u32,

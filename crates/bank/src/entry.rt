@@ -2,7 +2,7 @@
 
 use stm_words::Tag;
 
-/// What a transaction of the bank did and what it answered: the tag of its record.
+/// What a transaction of the bank did and what it returned: the tag of its record.
 #[derive(Clone, Copy, Debug, PartialEq, Eq)]
 pub enum Entry {
     /// An amount was to go from one account to another. It did where there was enough.

@@ -18,7 +18,7 @@ const MOVERS: u64 = 3;
 /// How often each teller moves money, or adds up all accounts.
 const TURNS: u32 = 2_000;
 
-/// What is on each account at the begin.
+/// What is on each account at first.
 const EACH: u32 = 1_000;
 
 /// What is on all accounts together, at any moment.
@@ -69,8 +69,8 @@ fn add_many(bank: &Bank, mut teller: Teller) -> (Teller, u32)
     (teller, sums)
 }
 
-/// A day with so many movers: the last of them beside those before it, and the one who adds up
-/// beside them all. Gives back the teller, who has taken in all others.
+/// A day with `movers` movers: the last of them beside those before it, and the one who adds up
+/// beside them all. Returns the teller, who has taken in all others.
 fn spend<R: Threads + Sync>(rt: &R, bank: &Bank, mut teller: Teller, movers: u64) -> (Teller, Day)
     requires { teller.table ≡ bank.now.table }
     ensures { result.0.table ≡ bank.now.table }

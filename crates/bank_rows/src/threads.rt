@@ -10,7 +10,7 @@ const ROUNDS: u32 = 2_000;
 
 const TRIES: u32 = 1 << 20;
 
-/// Transfers from account to account. Gives the teller back, with how many moved.
+/// Transfers from account to account. Returns the teller, with how many moved.
 fn move_many(bank: &Bank, teller: Teller) -> (Teller, u32)
     requires { teller.table ≡ bank.now.table }
     ensures { result.0.table ≡ bank.now.table }
@@ -28,7 +28,7 @@ fn move_many(bank: &Bank, teller: Teller) -> (Teller, u32)
     (teller, moved)
 }
 
-/// Adds up all balances again and again. Gives the teller back, with how many sums were this one.
+/// Adds up all balances again and again. Returns the teller, with how many sums were this one.
 fn add_many(bank: &Bank, teller: Teller, expected: u64) -> (Teller, u32)
     requires { teller.table ≡ bank.now.table }
     ensures { result.0.table ≡ bank.now.table }

@@ -11,7 +11,7 @@ head xs = slice_index xs HEAD
 abbrev pub tail : List ℕ → ℕ
 tail xs = slice_index xs TAIL
 
--- so many values, from this one on
+-- n values, from this one on
 abbrev pub values : List ℕ → ℕ → ℕ → List ℕ
 values xs from zero = []
 values xs from (suc n) = slice_index xs (from % SLOTS) ∷ values xs (from + 1) n

@@ -14,7 +14,7 @@ fn slot(number: u64) -> Addr
     Addr((number % u64::from(SLOTS)) as u32)
 }
 
-/// Puts this value after the others where there is room, and answers whether there was.
+/// Puts this value after the others where there is room, and returns whether there was.
 #[derive(Drop)]
 pub struct Push(pub u64);
 

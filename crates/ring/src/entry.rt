@@ -2,7 +2,7 @@
 
 use stm_words::Tag;
 
-/// What a transaction of the ring did and what it answered: the tag of its record.
+/// What a transaction of the ring did and what it returned: the tag of its record.
 #[derive(Clone, Copy, Debug, PartialEq, Eq)]
 pub enum Entry {
     /// A value was to be put after the others. It was where there was room.

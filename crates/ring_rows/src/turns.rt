@@ -10,7 +10,7 @@ const ROUNDS: u32 = 2_000;
 
 const TRIES: u32 = 1 << 20;
 
-/// Puts numbers in, and takes one out after each. Gives the user back, with how many of both were
+/// Puts numbers in, and takes one out after each. Returns the user, with how many of both were
 /// done.
 fn put_and_take(ring: &Ring, user: RingUser) -> (RingUser, u32, u32)
     requires { user.table ≡ ring.now.table }

@@ -59,7 +59,7 @@ Records code region entry (Err e) v v' = v'.records ≡ v.records
 
 -- the client's last attempt added the record of the entry; and in the core state of the region
 -- right after the step that decided it, the records of all clients were a history from the opening,
--- and the client's own, this very record among them, stood in it, each once and in their order
+-- and the client's own, this very record among them, were in it, each once and in their order
 pub record WasInOrder {E : Type 0} (fits : List ℕ → Type 0) (code : E → List ℕ)
     (finds : E → List ℕ → Type 0) (after : E → List ℕ → List ℕ)
     (region : RegionShown) (entry : E) (v v' : Client) : Type 0 where
@@ -123,12 +123,12 @@ pub record Missed (Shows : ConflictMet → Client → Type 0) (v v' : Client) : 
   pub conflict : ConflictMet
   pub shown : Shows conflict v'
 
--- so many attempts, one after the other, each of which showed a conflict
+-- this many attempts, one after the other, each of which showed a conflict
 abbrev pub Misses : (ConflictMet → Client → Type 0) → ℕ → Client → Client → Type 0
 Misses Shows zero v v' = v' ≡ v
 Misses Shows (suc n) v v' = (w : Client) × (Misses Shows n v w × Missed Shows w v')
 
--- at most so many attempts were made, one after the other, each of which but the last showed a
+-- at most `tries` attempts were made, one after the other, each of which but the last showed a
 -- conflict: `left` were not made
 pub record AreTries (Shows : ConflictMet → Client → Type 0) (tries : ℕ) (v v' : Client)
     : Type 0 where
@@ -176,8 +176,8 @@ abbrev pub IsConflict : RegionShown → ℕ → ConflictMet → Client → Clien
 IsConflict region tries conflict v v' =
     AreAllTries tries v v' × WasRead region conflict v'
 
--- what a call of a transaction does, by at most so many tries: what it records and where, how many
--- attempts it makes, and why it stops
+-- what a call of a transaction does, by at most `tries` attempts: what it records and where, how
+-- many attempts it makes, and why it stops
 -- Not said: that it is answered in the end, however many tries it has; how long a try takes
 pub record HasRun {E A : Type 0} (fits : List ℕ → Type 0) (code : E → List ℕ)
     (finds : E → List ℕ → Type 0) (after : E → List ℕ → List ℕ) (region : RegionShown)
@@ -193,7 +193,8 @@ pub record HasRun {E A : Type 0} (fits : List ℕ → Type 0) (code : E → List
   pub stopped : IfErr result
       (λ stop. IsStop fits code finds after region entry changes tries stop v v')
 
--- the same of a transaction that only reads: a conflict alone stops it
+-- what a call of a transaction that only reads does, by at most `tries` attempts: what it records
+-- and where, how many attempts it makes, and that a conflict alone stops it
 pub record HasAsked {E A : Type 0} (fits : List ℕ → Type 0) (code : E → List ℕ)
     (finds : E → List ℕ → Type 0) (after : E → List ℕ → List ℕ) (region : RegionShown)
     (entry : A → E) (tries : ℕ) (result : Result A ConflictMet) (v v' : Client) : Type 0 where

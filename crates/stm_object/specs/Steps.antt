@@ -20,7 +20,7 @@ pub same_words : (s s' : View) (image : List ℕ) (xs : List ℕ) → s'.writes 
     Are xs (mem s image) (length image) → Are xs (mem s' image) (length image)
 same_words s s' image xs e h = rw e h
 
--- a load answers the word
+-- a load returns the word
 pub word_is : (s s' : View) (a v : ℕ) → Loaded s s' a v → (image : List ℕ) → Sees s' image →
     (xs : List ℕ) → a < length xs → Are xs (mem s image) (length image) → slice_index xs a ≡ v
 word_is s s' a v l image i xs less h = h.each a (omega (arith, h.count, less)) ∙ l.answer image i

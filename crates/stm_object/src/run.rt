@@ -17,7 +17,7 @@ use tx_memory::{TxMem, TxRead};
 ///
 /// Not said: that an answer for which `changes` is true wrote something.
 pub trait Body<S: Object> {
-    /// What it answers.
+    /// What it returns.
     type Answer: Drop;
 
     ghost entry_of: { Self → Self.Answer → S.Entry };
@@ -79,7 +79,7 @@ pub fn attempt_once<S: Object, B: Body<S>>(
     }
 }
 
-/// A transaction, by at most so many attempts.
+/// A transaction, by at most `tries` attempts.
 pub fn transact<S: Object, B: Body<S>>(
     region: &Region<ObjectLaw<S>>,
     client: &mut Client<ObjectLaw<S>>,
@@ -110,7 +110,7 @@ pub fn transact<S: Object, B: Body<S>>(
 
 /// What a transaction that only reads does, over any memory, and what it tells of its answer.
 pub trait Query<S: Object> {
-    /// What it answers.
+    /// What it returns.
     type Answer: Drop;
 
     ghost entry_of: { Self → Self.Answer → S.Entry };
@@ -163,7 +163,7 @@ pub fn ask_once<S: Object, B: Query<S>>(
     Ok(found)
 }
 
-/// A transaction that only reads, by at most so many attempts.
+/// A transaction that only reads, by at most `tries` attempts.
 pub fn ask<S: Object, B: Query<S>>(
     region: &Region<ObjectLaw<S>>,
     client: &mut Client<ObjectLaw<S>>,

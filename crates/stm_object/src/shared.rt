@@ -76,7 +76,7 @@ impl<S: Object> Shared<S> {
         Ok((Shared { alloc, region }, user))
     }
 
-    /// A transaction, by at most so many attempts. A stopped one changes nothing.
+    /// A transaction, by at most `tries` attempts. A stopped one changes nothing.
     pub fn run<B: Body<S>>(
         &self,
         user: &mut User<S>,
@@ -93,7 +93,7 @@ impl<S: Object> Shared<S> {
         transact(&self.region, &mut user.client, &mut user.logs, body, tries)
     }
 
-    /// A transaction that only reads, by at most so many attempts.
+    /// A transaction that only reads, by at most `tries` attempts.
     pub fn ask<B: Query<S>>(
         &self,
         user: &mut User<S>,
