@@ -98,7 +98,7 @@ impl Bank {
         self.shared.split(teller)
     }
 
-    /// Takes in another teller: its records, its grants and one grant more.
+    /// Gathers another teller: this one gets its records, its grants and one grant more.
     pub fn gather(&self, teller: &mut Teller, other: Teller)
         requires { (teller.old.table ≡ self.now.table) × (other.table ≡ self.now.table) }
         ensures { teller.new
@@ -107,9 +107,9 @@ impl Bank {
         self.shared.gather(teller, other)
     }
 
-    /// Closes the bank: its balances and its clock, once every other teller was gathered. The
-    /// teller's records are then one order of all transactions that were answered. A refusal gives
-    /// the bank and the teller back as they were.
+    /// Closes the bank, where every other teller was gathered, and returns its balances and its
+    /// clock. The teller's records are then one order of all transactions that were answered. A
+    /// refusal gives the bank and the teller back as they were.
     pub fn close(self, teller: Teller) -> Result<(Vec<u64>, Version), (Bank, Teller, RegionFault)>
         requires { teller.table ≡ self.table }
         ensures closes { IfOk result (λ r. Closes self teller.value r.0.items r.1) }

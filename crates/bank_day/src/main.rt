@@ -69,8 +69,8 @@ fn add_many(bank: &Bank, mut teller: Teller) -> (Teller, u32)
     (teller, sums)
 }
 
-/// A day with `movers` movers: the last of them beside those before it, and the one who adds up
-/// beside them all. Returns the teller, who has taken in all others.
+/// A day with `movers` movers: the last of them runs beside those before it, and the one who adds
+/// up beside them all. Returns the teller, who has gathered all others.
 fn spend<R: Threads + Sync>(rt: &R, bank: &Bank, mut teller: Teller, movers: u64) -> (Teller, Day)
     requires { teller.table ≡ bank.now.table }
     ensures { result.0.table ≡ bank.now.table }

@@ -95,7 +95,7 @@ fn take_many(ring: &Ring, mut user: RingUser) -> (RingUser, u32)
     (user, in_turn)
 }
 
-/// Both put their numbers in, side by side. Returns the one, who has taken in the other.
+/// Both put their numbers in, side by side. Returns the first, who has gathered the other.
 fn put_both<R: Threads + Sync>(
     rt: &R,
     ring: &Ring,
@@ -118,7 +118,7 @@ fn put_both<R: Threads + Sync>(
     (one, some.saturating_add(more))
 }
 
-/// A day: one takes out while the others put in. Returns the user, who has taken in all others.
+/// A day: one takes out while the others put in. Returns the user, who has gathered all others.
 fn spend<R: Threads + Sync>(rt: &R, ring: &Ring, mut user: RingUser) -> (RingUser, Day)
     requires { user.table ≡ ring.now.table }
     ensures { result.0.table ≡ ring.now.table }

@@ -1,4 +1,5 @@
--- What is known of the records of all clients, told by an object's entries, and of a call's tries.
+-- What is known of the records of all clients, in terms of an object's entries, and of a call's
+-- tries.
 use Rattle.std.specs.Prelude.{◌≡◌, ◌≢◌, ◌⊎◌, ℕ, zero, suc, ◌+◌, Bool, true, false, List, [], ◌∷◌, Result, Ok, Err, IfOk, IfErr, IsOk}
 use Rattle.tx_memory.specs.Image.{In}
 use Rattle.stm_core.specs.Client.{Client, Record, inserted}

@@ -123,7 +123,7 @@ impl<S: Object> Shared<S> {
         })
     }
 
-    /// Takes in another user: its records, its grants and one grant more.
+    /// Gathers another user: this one gets its records, its grants and one grant more.
     pub fn gather(&self, user: &mut User<S>, other: User<S>)
         requires { (user.old.table ≡ self.now.table) × (other.table ≡ self.now.table) }
         ensures { user.new
@@ -133,7 +133,7 @@ impl<S: Object> Shared<S> {
         self.region.gather(&mut user.client, client);
     }
 
-    /// Closes the memory: its words and its clock, once every other user was gathered.
+    /// Closes the memory, where every other user was gathered, and returns its words and its clock.
     pub fn close(
         self,
         user: User<S>,
