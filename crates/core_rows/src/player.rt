@@ -9,7 +9,7 @@ pub(crate) enum Stage {
     /// No attempt, or one that ended as a reader.
     Resting,
     Running,
-    /// It can only give its locks back.
+    /// It aborts: it can only give its locks back.
     Ending,
     /// A decided writer.
     Committed,

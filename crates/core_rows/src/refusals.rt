@@ -121,7 +121,7 @@ fn entry(client: u32, tag: u64, version: u64, writer: bool) -> Entry {
 }
 
 /// One client reads, writes, reads four times more and renews the clock. The order has room for
-/// four records at first, so that the fifth lets it grow.
+/// four records at first, so that the fifth makes it grow.
 #[test]
 fn each_growth_of_one_client_is_refused(rt: HostRuntime) -> Result<(), Fail> {
     let acts = [

@@ -169,7 +169,7 @@ pub record HasValidated (region : RegionShown) (v v' : Client) : Type 0 where
       ≡ inserted (ticked_record region v.attempt.tag v v.attempt.writes v.attempt.wv) v.records
   pub steps : v'.attempt.steps ≡ v.attempt.steps + length v.attempt.reads
 
--- a validation failed: the attempt can only give back what it holds
+-- a validation failed: the attempt aborts, and can only give back what it holds
 pub record HasFailedValidating (v v' : Client) : Type 0 where
   pub same : IsSameAttempt v v'
   pub records : v'.records ≡ v.records

@@ -52,7 +52,7 @@ impl<'a, L: Law, R: Allocator, A: Allocator + Copy> Attempt<'a, L, R, A> {
     /// Begins an attempt, with one load of the clock. It starts with the logs emptied.
     ///
     /// Not said: that the read version is the newest one where other clients are out; that a client
-    /// which is alone has all grants: it has where it gathered all others.
+    /// which is alone has all grants: it has them where it gathered all others.
     pub fn begin(
         region: &'a Region<L, R>,
         client: &'a mut Client<L>,

@@ -203,8 +203,8 @@ impl<'a, L: Law, R: Allocator, A: Allocator + Copy> Attempt<'a, L, R, A> {
     /// or the read version where nothing was written. A refused commit leaves no record, no lock
     /// held and the logs empty.
     ///
-    /// Not said: that calls whose answer knows no want of memory take none, which is read in the
-    /// code.
+    /// Not said: that calls whose result has no case for want of memory take none, which is read in
+    /// the code.
     pub fn commit<T: Tag, G: Gate>(self, tag: &T, gate: &mut G) -> Result<Version, Stop>
         requires running { runs self ≡ true }
         requires lawful { self.stopped ≡ None →

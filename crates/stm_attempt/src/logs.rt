@@ -10,7 +10,7 @@ use stm_logs::{ReadLog, WriteLog};
 pub struct Logs<A: Allocator + Copy = Global> {
     pub(crate) reads: ReadLog<A>,
     pub(crate) writes: WriteLog<A>,
-    /// An attempt runs that has not come to its commit.
+    /// Whether an attempt runs that has not come to its commit.
     pub(crate) in_use: bool,
 }
 

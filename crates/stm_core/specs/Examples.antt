@@ -33,7 +33,7 @@ overtaken =
     ∷ acts 2 (tick 2 (12 ∷ []) ((10, 7) ∷ []))
     ∷ acts 1 (validate 8) ∷ []
 
--- in the order in which they are decided. Client 1's stands before the last one in the history,
+-- in the order in which they are decided. Client 1's comes before the last one in the history,
 -- since its tick does
 abbrev pub overtaken_records : List Record
 overtaken_records =

@@ -52,7 +52,7 @@ pub record IsSerializable
   -- read version
   pub one_version : (i : ℕ) (v : Client) → At c.clients i v
       → Agrees (image_at c.opening v.attempt.rv present) v.attempt.reads
-  -- nothing fails a lone attempt that is no decided writer
+  -- nothing aborts a lone attempt that is no decided writer
   pub lone : (i : ℕ) (v : Client) → At c.clients i v → v.attempt.lone ≡ true → decided v ≡ false
       → GoesOn lawful lk c v
   -- when no lock is held the data words are the newest image

@@ -21,7 +21,7 @@ const WIDER: u32 = 4;
 /// How many bits further apart the addresses of one lock lie than the locks.
 const SPREAD: u32 = 6;
 
-/// The fingers of a number or a lock, from near neighbours to a large part of all.
+/// How many fingers a number or a lock has, from near neighbours to a large part of all.
 const SCALES: u32 = 5;
 
 /// The bits of all numbers.
@@ -30,7 +30,7 @@ const ALL: u32 = 32;
 /// What keeps the fingers of different ranges apart.
 const APART: u64 = 1_431_655_765;
 
-/// What a finger's range is of: locks, or the addresses of one lock.
+/// What a finger's range covers: locks, or the addresses of one lock.
 #[derive(Clone, Copy)]
 enum Among {
     Locks,
@@ -145,7 +145,7 @@ pub(crate) fn shows<A: Allocator>(nodes: &Nodes<A>, lock: u32) -> bool
     finger != 0 && nodes.get(finger).lock == lock
 }
 
-/// A node to walk on from in the place of one that may be far before the rank.
+/// A node to walk on from, instead of one that may be far before the rank.
 pub(crate) fn nearer<A: Allocator>(nodes: &Nodes<A>, near: usize, lock: u32, number: u32) -> usize
     requires chained { IsChained nodes.now.list nodes.now.count }
     requires room { nodes.now.count < length nodes.now.list }

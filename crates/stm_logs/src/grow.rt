@@ -8,7 +8,7 @@ use crate::index::{enter, probe};
 use crate::nodes::{MAX_PLACES, Nodes};
 use std::alloc::{AllocError, Allocator};
 
-/// The nodes of a log that is so short that a walk needs no finger.
+/// A log with fewer nodes than this is so short that a walk needs no finger.
 pub(crate) const SHORT: usize = 128;
 
 /// Whether walks go by fingers.

@@ -37,10 +37,10 @@ pub(crate) struct Slot {
 /// walk along the order ends at the root, to which the last node leads.
 pub(crate) const TOP: u32 = 4_294_967_295;
 
-/// The numbers that there are, from 0 on.
+/// How many numbers there are, from 0 on.
 pub(crate) const NUMBERS: u64 = 4_294_967_296;
 
-/// The places of the largest block.
+/// How many places the largest block has.
 pub(crate) const MAX_PLACES: usize = 2_147_483_648;
 
 /// A position without a node.

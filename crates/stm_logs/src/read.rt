@@ -10,10 +10,10 @@ use std::marker::Model;
 use std::mem::swap;
 use tx_memory::Addr;
 
-/// The places of a chunk.
+/// How many places a chunk has.
 const PLACES: usize = 1024;
 
-/// The chunks that a log may have: no address space holds more.
+/// The most chunks that a log may have: no address space holds more.
 const MAX_CHUNKS: usize = 1 << 50;
 
 /// A raw block for `PLACES` addresses.
@@ -75,13 +75,13 @@ pub struct ReadLog<A: Allocator + Copy = Global> {
     alloc: A,
     /// The chunk at hand, which the next address goes into.
     hand: Option<Chunk<A>>,
-    /// The addresses of the chunk at hand.
+    /// How many addresses the chunk at hand has.
     used: usize,
-    /// The places of the chunk at hand.
+    /// How many places the chunk at hand has.
     end: usize,
     /// The other chunks, those first that are full.
     rest: Vec<Chunk<A>, A>,
-    /// The other chunks that are full.
+    /// How many of the other chunks are full.
     full: usize,
 }
 

@@ -18,7 +18,7 @@ use crate::order::{seek, set_next};
 use std::alloc::{AllocError, Allocator};
 use std::marker::Model;
 
-/// The places of the first blocks.
+/// How many places the first blocks have.
 const PLACES: usize = 64;
 
 /// Words with their locks and values. The blocks are there from the start on, and grow.

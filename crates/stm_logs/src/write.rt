@@ -11,7 +11,7 @@ use std::alloc::{AllocError, Allocator, Global};
 use std::marker::Model;
 use tx_memory::Addr;
 
-/// The marks of a write log, one for each remainder of the addresses.
+/// How many marks a write log has, one for each remainder of the addresses.
 const MARKS: usize = 128;
 
 /// A finite map from addresses to values, with the number of each address's lock. It keeps its

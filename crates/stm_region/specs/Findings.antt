@@ -181,7 +181,7 @@ LoneTells (give_back k) n v w = Unit {0}
 LoneTells (finish tag) n v w = Unit {0}
 
 module _ (fits : List ℕ → Type 0) (lawful : RecordLaw) (r : RegionShown) where
-  -- what is told of the word found, and of the client's values before and after the step
+  -- what a step tells of the word found, and of the client's values before and after it
   abbrev pub Tells : Action → ℕ → Client → Client → Type 0
   Tells begin n v w =
       IsVersion r.last n × (v.floor ≤ n) × StandsOn fits r.size []

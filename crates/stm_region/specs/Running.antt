@@ -41,8 +41,8 @@ pub record IsListed (lawful : RecordLaw) (o : Opened) (s : State (Unit {0}) Clie
   -- and the core's clients
   pub clients : Mirrors s.views core.clients
   -- in both each client's records are in order, by renewal, then version, the writer of a version
-  -- before its readers: so none but readers of one version are in another order in one than in the
-  -- other
+  -- before its readers: so none but readers of one version can be in another order in one than in
+  -- the other
   pub sorted : (i : ℕ) (v : Client) → get_elem? s.views i ≡ some v → Sorted v.records
   pub core_sorted : (i : ℕ) (v : Client) → get_elem? core.clients i ≡ some v → Sorted v.records
   -- the core is in the region's renewal, which was opened on the region's image

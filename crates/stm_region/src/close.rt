@@ -49,8 +49,9 @@ fn unload<A: Allocator, B: Allocator>(
 type Kept<L, A> = (Region<L, A>, Client<L>, RegionFault);
 
 impl<L: Law, A: Allocator> Region<L, A> {
-    /// Ends the region: its data words and its clock, once every other client was gathered. The
-    /// clock is the client's floor. A refusal gives the region and the client back as they were.
+    /// Ends the region, where every other client was gathered, and returns its data words and its
+    /// clock. The clock is the client's floor. A refusal gives the region and the client back as
+    /// they were.
     pub fn close<B: Allocator>(
         self,
         alloc: B,

@@ -193,10 +193,10 @@ impl<L: Law, A: Allocator> Region<L, A> {
         Ok(Client::of_seat(seat, 0))
     }
 
-    /// Takes in another client: its records, its grants and one grant more.
+    /// Gathers another client: this one gets its records, its grants and one grant more.
     ///
-    /// Not said: that a client ever comes back; that no client comes to more than 63 grants so,
-    /// which is the law `gathering_keeps_all_grants` of two clients that are out in one state.
+    /// Not said: that a client ever comes back; that no client gets more than 63 grants in this
+    /// way, which is the law `gathering_keeps_all_grants` of two clients that are out in one state.
     pub fn gather(&self, client: &mut Client<L>, other: Client<L>)
         requires own { (client.old.table ≡ self.now.table) × (other.table ≡ self.now.table) }
         requires free_handed { IsFreeHanded client.old.value × IsFreeHanded other.value }

@@ -65,10 +65,10 @@ impl<L: Law, A: Allocator> Region<L, A> {
 }
 
 impl<L: Law, A: Allocator + Copy> Region<L, A> {
-    /// Goes on with the data words on a new clock, which may reach this last version: takes the
-    /// words out and opens a region on them, with as many lock words, once every other client was
-    /// gathered. The client keeps its records and its grants. Its floor is 0 now, as the clock is,
-    /// so its next attempt begins at version 0.
+    /// Renews the clock, which may then reach this last version, and keeps the data words: takes
+    /// the words out and opens a region on them, with as many lock words, where every other client
+    /// was gathered. The client keeps its records and its grants. Its floor is 0 now, as the clock
+    /// is, so its next attempt begins at version 0.
     pub fn renew(
         self,
         alloc: A,

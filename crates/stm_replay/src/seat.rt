@@ -610,7 +610,7 @@ impl<A: Allocator + Copy> Seat<A> {
             && self.passed + 1 == self.reads.len()
     }
 
-    /// Whether a tick from a value that finds the clock at another, or the same, decides at once.
+    /// Whether a tick from `from` that finds the clock at `now` decides at once.
     pub(crate) fn decides_from(&self, from: u64, now: u64) -> bool
         ensures { result
             ≡ (eqb now from

@@ -1,4 +1,5 @@
--- What the steps say that put the least node of the right side in the place of a node that goes.
+-- What is said of the steps that put the least node of the right side in the place of a node that
+-- goes.
 use Rattle.std.specs.Prelude.{◌≡◌, ◌≢◌, ℕ, ◌+◌, ◌<◌, ◌≤◌, ◌^◌, List, length, Bool, false, ◌++◌}
 use Rattle.tx_memory.specs.View.{View, Sees, RestsOn, Kept, IsWrite}
 use Rattle.tx_alloc.specs.Steps.{mem}
