@@ -5,10 +5,10 @@ use crate::walks::cars;
 use std::test::Fail;
 use vac_model::{Command, Kind, Reply};
 
-/// How many cars come, in ascending order.
+/// How many cars are added, in ascending order.
 const CARS: u32 = 1_000;
 
-/// How many steps there are: each car comes, and then the odd ones go.
+/// How many steps there are: each car is added, and then the odd ones are removed.
 const STEPS: u32 = 1_500;
 
 /// How many units each car has.

@@ -1,4 +1,4 @@
-//! Plain memory with a state, asked by tasks and commands.
+//! Plain memory that holds a state, called with tasks and commands.
 
 ghost use Rattle.std.specs.Prelude.{◌≤◌};
 ghost use Rattle.vac_model.specs.declared.limits.TheConstants.{MOST_BLOCKS};
@@ -9,14 +9,14 @@ use vac_audit::{AuditFault, audit_words};
 use vac_model::{Command, Kind, Reply, Report, Task};
 use vac_tasks::only_reads;
 
-/// Plain memory that holds a state, with calls in few words.
+/// Plain memory that holds a state, with short calls.
 #[derive(Drop)]
 pub(crate) struct Heap {
     memory: vac_plain::Heap,
 }
 
 impl Heap {
-    /// The memory of a state without entries, with room for so many.
+    /// The memory of a state without entries, with room for `blocks` of them.
     pub(crate) fn new(alloc: Global, blocks: u32) -> Result<Heap, AllocError>
         requires some { 1 ≤ blocks }
         requires most { blocks ≤ MOST_BLOCKS }
@@ -41,7 +41,7 @@ impl Heap {
         Some(self.memory.read(task))
     }
 
-    /// The heap as it is, and what the audit says of its words.
+    /// The heap as it is, and what the audit returns for its words.
     pub(crate) fn audited(self, alloc: Global) -> (Heap, Result<Report, AuditFault>) {
         let Heap { memory } = self;
         let words = memory.words();

@@ -7,12 +7,12 @@ use std::test::Fail;
 use vac_model::limits::MOST_BLOCKS;
 use vac_model::{Command, Joined, Kind, Pick, Reply, Task, TripReply, Why};
 
-/// A trip that found the customer so, and these picks.
+/// The reply to a trip: what became of its customer, and its picks.
 fn trip(joined: Joined, picks: [Option<Pick>; 3]) -> Option<Reply> {
     Some(Reply::Trip(TripReply { joined, picks }))
 }
 
-/// A pick that was refused so.
+/// A pick, and why it was refused, if it was.
 fn pick(id: u32, price: u64, refused: Option<Why>) -> Option<Pick> {
     Some(Pick { id, price, refused })
 }
@@ -49,8 +49,8 @@ fn four_blocks_for_two_customers(rt: HostRuntime) -> Result<(), Fail> {
     Ok(())
 }
 
-/// Three items, one of each kind, and a trip of customer 9 to all three, in a heap of so many
-/// blocks. The asks stand in another order than the kinds.
+/// Three items, one of each kind, and a trip of customer 9 to all three, in a heap of `blocks`
+/// blocks. The asks are in another order than the kinds.
 fn one_of_each(alloc: Global, blocks: u32) -> Result<Option<Reply>, AllocError>
     requires some { 1 ≤ blocks }
     requires most { blocks ≤ MOST_BLOCKS }
@@ -67,7 +67,7 @@ fn one_of_each(alloc: Global, blocks: u32) -> Result<Option<Reply>, AllocError>
     Ok(heap.answer(&asked))
 }
 
-/// The picks of that trip, refused so.
+/// The picks of that trip, and why each was refused, if it was.
 fn picks(car: Option<Why>, flight: Option<Why>, room: Option<Why>) -> [Option<Pick>; 3] {
     [pick(1, 10, car), pick(2, 20, flight), pick(3, 30, room)]
 }

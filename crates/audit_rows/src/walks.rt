@@ -1,11 +1,11 @@
-//! Words that were worked out by hand, and what the audit answers to them.
+//! Words that were worked out by hand, and what the audit returns for them.
 
 use std::alloc::Global;
 use std::test::Fail;
 use vac_audit::{AuditFault, Flaw, audit_words};
 use vac_model::Report;
 
-/// Words of this number, all 0 but those that are listed with their addresses.
+/// This many words, all 0 but those that are listed with their addresses.
 fn words_with(alloc: Global, length: usize, listed: &[(usize, u64)]) -> Result<Vec<u64>, Fail> {
     let mut words = Vec::from_elem(alloc, 0u64, length)?;
     for (at, word) in listed {
@@ -24,7 +24,7 @@ fn put(words: &mut Vec<u64>, at: usize, word: u64) {
 /// One block: car 7 with 100 units, all free, at a price of 50.
 const ONE_CAR: [(usize, u64); 5] = [(1, 16), (16, 7), (21, 100), (22, 100), (23, 50)];
 
-/// The answer to one car's words with these changed.
+/// What the audit returns for one car's words with these changed.
 fn damaged(alloc: Global, changed: &[(usize, u64)]) -> Result<Result<Report, AuditFault>, Fail> {
     let mut words = words_with(alloc, 24, &ONE_CAR)?;
     for (at, word) in changed {
@@ -142,7 +142,7 @@ const BOOKED: [(usize, u64); 13] = [
     (36, 3),
 ];
 
-/// The answer to the booking's words with these changed.
+/// What the audit returns for the booking's words with these changed.
 fn booked(alloc: Global, changed: &[(usize, u64)]) -> Result<Result<Report, AuditFault>, Fail> {
     let mut words = words_with(alloc, 48, &BOOKED)?;
     for (at, word) in changed {
@@ -208,7 +208,7 @@ fn lengths_that_no_heap_has(rt: HostRuntime) -> Result<(), Fail> {
     Ok(())
 }
 
-/// Cars in a chain by their left words, from the greatest key down.
+/// Cars chained by their left words, from the greatest key down.
 #[test]
 fn a_long_chain_on_the_left(rt: HostRuntime) -> Result<(), Fail> {
     let alloc = rt.alloc();

@@ -29,7 +29,7 @@ new_desk number = record { number = number; booked = 0; given_up = 0 }
 abbrev pub new_desks : List Desk
 new_desks = new_desk 0 ∷ new_desk 1 ∷ new_desk 2 ∷ new_desk 3 ∷ []
 
--- a desk may go on: it is one of the four, and has asked for no more trips than there are
+-- a desk may go on: it is one of the four, and has asked for at most all of its trips
 pub record MayServe (s : DeskSettings) (d : Desk) : Type 0 where
   pub number : d.number < DESKS
   pub within : asked d ≤ s.trips
@@ -39,8 +39,8 @@ abbrev pub Ascend : ℕ → List ℕ → ℕ → Type 0
 Ascend low [] high = low ≤ high
 Ascend low (n ∷ ns) high = (low ≤ n) × Ascend (n + 1) ns high
 
--- each record is of the desk's trip of the number at its place and of some reply, and there are no
--- others
+-- each record is of the desk's trip with the number at its place, and of some reply, and there are
+-- no others
 abbrev pub AreTrips : ℕ → List ℕ → List Record → Type 0
 AreTrips desk [] [] = Unit {0}
 AreTrips desk [] (r ∷ rs) = ⊥
@@ -57,8 +57,8 @@ pub record Booked : Type 0 where
   pub trips : List ℕ
   pub records : List Record
 
--- from one state of a desk to another these trips were booked, each once and in their order, and
--- each has its record; the others that were asked for were given up
+-- between two states of a desk these trips were booked, each once and in their order, and each has
+-- its record; the others that were asked for were given up
 pub record HasBooked (d d' : Desk) (x : Booked) : Type 0 where
   pub same : d'.number ≡ d.number
   pub ascend : Ascend (asked d) x.trips (asked d')
@@ -70,18 +70,18 @@ pub record HasBooked (d d' : Desk) (x : Booked) : Type 0 where
 abbrev pub session_of : RegionShown → CallerShown → SessionShown
 session_of region client = record { manager = region; client = client }
 
--- how many attempts a trip costs that is given up: all tries of all calls that ask for it
+-- how many attempts are spent on a trip that is given up: all tries of all calls that ask for it
 abbrev pub price_of : DeskSettings → ℕ
 price_of s = s.asks * TRIES
 
--- how many attempts the trips cost at least that a desk asked for: one each that was booked, and
--- its whole price each that was given up
+-- the least number of attempts for the trips that a desk asked for: one for each that was booked,
+-- and the whole price for each that was given up
 abbrev pub cost_of : DeskSettings → Desk → ℕ
 cost_of s d = d.booked + d.given_up * price_of s
 
 -- trips were asked for one after the other, from the number low to the number high, by the attempts
 -- from one number to another. Those with these numbers were booked, each by the attempt that its
--- record tells, which stands behind those of the trips before; each other one cost this price
+-- record names, which comes after those of the trips before; each other one cost this price
 abbrev pub Paid : ℕ → ℕ → ℕ → List ℕ → List Record → ℕ → ℕ → Type 0
 Paid price from low [] [] high to = from + high * price ≤ to + low * price
 Paid price from low [] (r ∷ rs) high to = ⊥
@@ -105,14 +105,15 @@ pub record Serves (s : DeskSettings) (d d' : Desk) (y y' : SessionShown) : Type 
   pub paid : Paid (price_of s) y.client.value.attempt.number (asked d) done.trips done.records
       (asked d') y'.client.value.attempt.number
 
--- a desk served in a round: until no trip was left, or the clock was found at its last version
+-- a desk served in a round: until no trip was left, or the clock was found to be at its last
+-- version
 pub record HasServed (s : DeskSettings) (d d' : Desk) (y y' : SessionShown) : Type 0 where
   pub serves : Serves s d d' y y'
   pub why : (asked d' ≡ s.trips) ⊎ (y'.client.value.attempt.next_from ≡ y.manager.last)
 
 -- why a trip was not booked: never for its numbers; for want of memory, after a step that showed no
 -- conflict; all attempts of all calls met a conflict, the last of them this one; or the clock was
--- found at its last version
+-- found to be at its last version
 -- Not said: which growth of a log was refused.
 abbrev pub IsRefusal : RegionShown → Task → ℕ → Fault → Client → Client → Type 0
 IsRefusal region t asks fault.Arguments v v' = ⊥

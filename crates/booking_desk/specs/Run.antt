@@ -17,7 +17,7 @@ use Rattle.booking_desk.specs.Trips.{stock_of}
 use Rattle.booking_desk.specs.Desks.{asked, new_desks, MayServe, price_of}
 use Rattle.booking_desk.specs.Rounds.{WentOn, booked_by}
 
--- the record is of the stock, with so many units of each item, and of some reply
+-- the record is of the stock, with this many units of each item, and of some reply
 abbrev pub IsStock : ℕ → Record → Type 0
 IsStock units r = (reply : Reply) × (r.tag ≡ code (stock_of units) reply)
 
@@ -25,7 +25,7 @@ IsStock units r = (reply : Reply) × (r.tag ≡ code (stock_of units) reply)
 abbrev pub IsStocked : ℕ → List Record → Type 0
 IsStocked units records = (r : Record) × IsStock units r × (records ≡ r ∷ [])
 
--- first comes the record of the stock. Behind it stand those of the trips that are booked, and no
+-- first comes the record of the stock. After it come those of the trips that are booked, and no
 -- others: of each of the four desks in the order of their numbers, each once
 pub record Went (s : DeskSettings) (ds : List Desk) (records : List Record) : Type 0 where
   pub stock : Record
@@ -35,8 +35,8 @@ pub record Went (s : DeskSettings) (ds : List Desk) (records : List Record) : Ty
   pub each : AllZip (WentOn (price_of s) rest) new_desks ds
   pub number : length rest ≡ booked_by ds
 
--- the desks after so many rounds, as many renewals of the manager, which has room for so many
--- entries and whose one client is alone
+-- the desks after some rounds, with as many renewals of the manager, which has room for as many
+-- entries as the settings say, and whose one client is alone
 pub record AreOn (s : DeskSettings) (p : Progress) : Type 0 where
   pub own : p.client.table ≡ p.manager.table
   pub alone : HasAllGrants p.client.value
@@ -50,12 +50,12 @@ pub record AreOn (s : DeskSettings) (p : Progress) : Type 0 where
 abbrev pub AreEnded : DeskSettings → List Desk → ℕ → Type 0
 AreEnded s ds rounds = All (λ d. asked d ≡ s.trips) ds ⊎ (rounds ≡ s.rounds)
 
--- what the desks leave: a manager that its last client, which was alone, closed with these words.
--- So that client's records are one history, legal from the empty state, and its last state has the
--- report. The records are those of the stock and of the trips that are booked. The rounds are the
--- renewals of the manager
--- Not said: that a booked trip found anything free, which its reply tells; in which round a trip
--- was booked; that desks run at once.
+-- what the desks leave: a manager that was closed, with these words, by its last client, which was
+-- alone. So that client's records are one history, legal from the empty state, and its last state
+-- has the report. The records are those of the stock and of the trips that are booked. The rounds
+-- are the renewals of the manager
+-- Not said: that a booked trip found anything free, which its reply says; in which round a trip was
+-- booked; that desks run at once.
 -- Not said: that a trip counted as given up was asked for, but where one before it and one after it
 -- were booked in the same round.
 -- Not said: how many tries a booked trip took: one that took long, with a trip counted as given up

@@ -12,7 +12,7 @@ use Rattle.booking_desk.specs.declared.trips.TheConstants.{DESKS, ITEMS, PRICE}
 abbrev pub item_of : ℕ → ℕ → ℕ
 item_of desk number = 1 + (desk + number) % ITEMS
 
--- the customer of a desk's trip of this number, who is that of no other trip
+-- the customer of a desk's trip of this number, which is that of no other trip
 abbrev pub customer_of : ℕ → ℕ → ℕ
 customer_of desk number = 1 + desk + DESKS * number
 
@@ -21,11 +21,11 @@ abbrev pub trip_of : ℕ → ℕ → Task
 trip_of desk number = Trip (customer_of desk number)
     ((Car, item_of desk number) ∷ (Flight, item_of desk number) ∷ (Room, item_of desk number) ∷ [])
 
--- so many units of an item, at the price of all
+-- this many units of an item are added, at the one price of all items
 abbrev pub stocked : ℕ → Kind → ℕ → Command
 stocked units kind id = Add kind id units (Some PRICE)
 
--- the stock: two items of each kind, with so many units each
+-- the stock: two items of each kind, with this many units each
 abbrev pub stock_of : ℕ → Task
 stock_of units = Update (stocked units Car 1 ∷ stocked units Car 2
     ∷ stocked units Flight 1 ∷ stocked units Flight 2

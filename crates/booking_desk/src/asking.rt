@@ -19,7 +19,8 @@ use vac_model::{Reply, Task};
 /// How many tries each call gets.
 pub(crate) const TRIES: u32 = 16;
 
-/// Asks for a trip, and again, after a pause, where the call met a conflict: by so many calls.
+/// Asks for a trip, and again, after a pause, where the call met a conflict: by at most `asks`
+/// calls.
 fn ask(session: &mut Session<'_>, task: &Task, asks: u32) -> Result<Reply, Fault>
     requires range { is_task task.now ≡ true }
     requires some { 1 ≤ asks }

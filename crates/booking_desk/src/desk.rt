@@ -8,8 +8,8 @@ ghost use Rattle.booking_desk.specs.Desks.{asked, new_desk, new_desks, MayServe}
 use crate::settings::DeskSettings;
 use std::alloc::{AllocError, Global};
 
-/// A desk, which asks for its trips one after the other, from number 0 on: so many were booked and
-/// so many given up, and the others are left.
+/// A desk, which asks for its trips one after the other, from number 0 on: some were booked, some
+/// were given up, and the others are left.
 #[derive(Clone, Copy, Debug, PartialEq, Eq)]
 pub struct Desk {
     /// Which desk it is, 0 to 3.

@@ -1,5 +1,5 @@
-//! A program over the manager: four desks book trips, each in a thread of its own, and do what is
-//! right at each fault of a call.
+//! A program over the manager: four desks book trips, each in a thread of its own, and handle each
+//! fault of a call as it should be handled.
 #![tactic(auto)]
 
 mod asking;

@@ -16,7 +16,7 @@ use std::thread::Threads;
 use stm_region::RegionFault;
 use vac_manager::{Client, Manager, RenewFault};
 
-/// The desks after a round, with the client that took in theirs.
+/// The desks after a round, with the client that took in their clients.
 #[derive(Drop)]
 struct Round {
     client: Client,

@@ -15,7 +15,7 @@ use thiserror::Error;
 use vac_manager::{Fault, Manager, report_of};
 use vac_model::Report;
 
-/// What the desks leave: how far each of them is, after how many rounds, and the report of the
+/// What the desks leave: how far each of them came, after how many rounds, and the report of the
 /// words.
 #[derive(Debug, Drop, PartialEq, Eq)]
 pub struct DeskReport {
@@ -64,7 +64,7 @@ fn open(alloc: Global, settings: DeskSettings) -> Result<Progress, DeskFault>
     }
 }
 
-/// Closes the manager, and answers what the desks leave.
+/// Closes the manager, and returns what the desks leave.
 fn close(progress: Progress, settings: DeskSettings) -> Result<DeskReport, DeskFault>
     requires on { AreOn settings progress }
     requires ended { AreEnded settings progress.desks.items progress.rounds }
@@ -85,7 +85,7 @@ fn close(progress: Progress, settings: DeskSettings) -> Result<DeskReport, DeskF
     }
 }
 
-/// Runs rounds until no trip is left, or as many as there may be.
+/// Runs rounds until no trip is left, or `settings.rounds` of them were run.
 fn run_rounds<R: Threads + Sync>(
     rt: &R,
     alloc: Global,
@@ -102,10 +102,10 @@ fn run_rounds<R: Threads + Sync>(
     close(progress, settings)
 }
 
-/// Opens a manager with a stock, and lets four desks book their trips in threads of their own, in
-/// rounds: each begins with a renewal of the clock, and ends where each desk has no trip left or
-/// found the clock at its last version. The rounds end when no trip is left, or when there are no
-/// more of them.
+/// Opens a manager with a stock, and has four desks book their trips in threads of their own, in
+/// rounds. Each round begins with a renewal of the clock, and ends when each desk has no trip left
+/// or has found the clock at its last version. The rounds end when no trip is left, or when there
+/// are no more of them.
 pub fn run_desks<R: Threads + Sync + AllocGlobal>(
     rt: &R,
     settings: DeskSettings,

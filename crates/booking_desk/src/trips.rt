@@ -45,7 +45,7 @@ fn item(kind: Kind, id: u32, units: u32) -> Command
     }
 }
 
-/// The stock, so many units of each item, as one task.
+/// The stock, `units` units of each item, as one task.
 pub(crate) fn stock(alloc: Global, units: u32) -> Result<Task, AllocError>
     requires units { units ≤ MOST_AMOUNT }
     ensures task { IfOk result (λ task. task ≡ stock_of units) }

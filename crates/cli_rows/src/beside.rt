@@ -35,10 +35,10 @@ const STOCK: u32 = 4;
 /// The most reports that are asked for.
 const MOST_REPORTS: u32 = 1_000_000;
 
-/// By how many tries each report is asked for.
+/// How many tries each report gets.
 const TRIES: u32 = 1_000;
 
-/// The report of the opening after so many trips.
+/// The report of the opening after `trips` trips.
 fn after(trips: u64) -> Report {
     Report {
         cars: 4,
@@ -75,7 +75,7 @@ impl Shown {
     }
 }
 
-/// A gate that waits for a report at each sixteenth answer that it is told of.
+/// A gate that waits for a report after each sixteenth answer that it is told of.
 #[derive(Drop)]
 struct Paced<'a> {
     shown: &'a Shown,
@@ -116,7 +116,7 @@ struct Reports {
     /// Those of the opening after some trips, no fewer than in the report before.
     sound: u32,
     others: u32,
-    /// How many trips there were in the last one.
+    /// How many trips there had been in the last report.
     trips: u64,
 }
 

@@ -29,7 +29,7 @@ impl<'a> Gate for Rival<'a> {
     }
 }
 
-/// By one try each, and the car of each is booked between its reads and its commit.
+/// Each task has one try, and its car is booked between its reads and its commit.
 #[test]
 fn each_task_is_busy(rt: HostRuntime) -> Result<(), Fail> {
     let alloc = rt.alloc();

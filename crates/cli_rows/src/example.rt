@@ -1,4 +1,4 @@
-//! A small script, what it answers, and the words that it leaves.
+//! A small script, its output, and the words that it leaves.
 
 pub(crate) const SCRIPT: &[u8] = b"add car 7 100 50\nfree car 7\nfly\nprice car 7";
 

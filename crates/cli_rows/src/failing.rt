@@ -7,7 +7,7 @@ use std::io::{ErrorKind, Read, Write};
 /// The number of a call that is never made.
 pub(crate) const NEVER: usize = usize::MAX;
 
-/// A reader that gives at most so many bytes at a call and fails at one, with this error.
+/// A reader that gives at most `most` bytes at a call and fails at one call, with this error.
 #[derive(Drop)]
 pub(crate) struct Pieces<'a> {
     bytes: &'a [u8],
@@ -52,20 +52,20 @@ impl Read for Pieces<'_> {
 /// What a writer does at the call at which it takes nothing.
 #[derive(Clone, Copy, Debug, PartialEq, Eq)]
 pub(crate) enum Stop {
-    /// It answers that it took no byte.
+    /// It returns that it took no byte.
     Nothing,
-    /// It answers this error.
+    /// It returns this error.
     Fails(ErrorKind),
 }
 
 impl Stop {
-    /// Whether who writes tries again.
+    /// Whether the caller writes again.
     pub(crate) fn is_tried_again(self) -> bool {
         self == Stop::Fails(ErrorKind::Interrupted)
     }
 }
 
-/// A writer that takes at most so many bytes at a call, and none at one.
+/// A writer that takes at most `most` bytes at a call, and none at one call.
 #[derive(Drop)]
 pub(crate) struct Sink {
     pub(crate) taken: Vec<u8>,

@@ -6,7 +6,7 @@ use std::alloc::Global;
 use std::io::{ErrorKind, Read, Write};
 use vac_cli::{StreamFault, check_words, dump_script, run_script};
 
-/// What is called.
+/// Which call is made.
 #[derive(Clone, Copy, Debug, PartialEq, Eq)]
 enum Call {
     Run,
@@ -14,7 +14,7 @@ enum Call {
     Check,
 }
 
-/// A call with its input, how often it reads that byte by byte, its answer and what it writes.
+/// A call with its input, how often it reads that byte by byte, what it returns and what it writes.
 #[derive(Clone, Copy)]
 struct Row {
     call: Call,

@@ -1,5 +1,5 @@
 //! A day at the desks: four desks book 25 trips each, in threads of their own, by clients of one
-//! manager. However they meet, each trip is booked.
+//! manager. Whatever conflicts they meet, each trip is booked.
 #![tactic(auto)]
 
 use booking_desk::{DeskReport, DeskSettings, run_desks};

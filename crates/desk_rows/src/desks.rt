@@ -1,4 +1,4 @@
-//! Desks that book their trips, beside the results that are stored here.
+//! Desks that book their trips, compared with the results that are stored here.
 
 use booking_desk::{Desk, DeskFault, DeskReport, DeskSettings, run_desks};
 use std::alloc::{AllocError, Global};
@@ -11,7 +11,7 @@ const TRIPS: u32 = 25;
 /// The greatest last version.
 const LAST: u64 = (1 << 62) - 1;
 
-/// Settings with a clock that ends at this version, and so many units of each item.
+/// Settings with a clock that ends at this version, and `units` units of each item.
 fn settings(last: u64, units: u32) -> DeskSettings {
     DeskSettings {
         blocks: 1_000,
@@ -32,8 +32,8 @@ fn done(number: u32) -> Desk {
     }
 }
 
-/// What is stored of a run in which all trips were booked, with so many units in all and so many
-/// of them in use, after these rounds.
+/// What is stored of a run in which all trips were booked, with `units` units in all and `used` of
+/// them in use, after these rounds.
 fn stored(alloc: Global, units: u64, used: u64, rounds: u32) -> Result<DeskReport, AllocError> {
     Ok(DeskReport {
         desks: vec![in alloc; done(0), done(1), done(2), done(3)]?,

@@ -59,7 +59,7 @@ impl<'a> Gate for ServesAtLocked<'a> {
     }
 }
 
-/// So many units more of each item that a desk asks for.
+/// Adds units of each item that a desk asks for.
 fn units_of_all(alloc: Global, num: u32) -> Result<Task, AllocError> {
     let changes = [
         add(Car, 1, num),
@@ -91,7 +91,7 @@ fn new_desk(number: u32) -> Desk
     }
 }
 
-/// Serves a desk while the call of this task holds its locks, and another one behind it.
+/// Serves a desk while the call of this task holds its locks, and then another desk.
 fn serve_two(
     rt: &impl Abort,
     alloc: Global,

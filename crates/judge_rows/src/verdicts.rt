@@ -145,7 +145,7 @@ fn lines_that_are_no_calls(rt: HostRuntime) -> Result<(), Fail> {
     Ok(())
 }
 
-/// A line of so many bytes: its reply is filled up.
+/// A line of `bytes` bytes: its reply is filled up.
 fn filled(alloc: Global, bytes: usize) -> Result<Vec<u8>, AllocError> {
     let mut line = Vec::new(alloc);
     line.extend_from_slice(b"0 0 0 newcust 1 -> ")?;
@@ -176,7 +176,7 @@ fn lines_of_most_bytes(rt: HostRuntime) -> Result<(), Fail> {
     Ok(())
 }
 
-/// What is written of a history that is given in two pieces, the first of so many bytes.
+/// What is written of a history that is given in two pieces, the first of `first` bytes.
 fn judged_in_pieces(alloc: Global, history: &[u8], first: usize) -> Result<Vec<u8>, JudgeFault> {
     let first = first.min(history.len());
     let mut input = (&history[..first]).chain(&history[first..]);

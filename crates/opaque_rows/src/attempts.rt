@@ -6,7 +6,7 @@ use std::test::Fail;
 use vac_opaque::{ATTEMPT_BYTES, judge_attempts};
 use vac_streams::StreamFault;
 
-/// The words that the rows are judged at.
+/// How many words there are where the rows are judged.
 const WORDS: u32 = 8;
 
 /// What is written of a text of attempts.
@@ -136,7 +136,7 @@ fn lines_that_are_no_attempts(rt: HostRuntime) -> Result<(), Fail> {
     Ok(())
 }
 
-/// A line of so many bytes: zeros stand in front of what it writes last.
+/// A line of `bytes` bytes: the last value that it writes is filled up with leading zeros.
 fn filled(alloc: Global, bytes: usize) -> Result<Vec<u8>, AllocError> {
     let mut line = Vec::new(alloc);
     line.extend_from_slice(b"0 0 0 abort")?;
@@ -165,7 +165,7 @@ fn lines_of_most_bytes(rt: HostRuntime) -> Result<(), Fail> {
     Ok(())
 }
 
-/// What is written of a text that is given in two pieces, the first of so many bytes.
+/// What is written of a text that is given in two pieces, the first of `first` bytes.
 fn judged_in_pieces(alloc: Global, text: &[u8], first: usize) -> Result<Vec<u8>, StreamFault> {
     let first = first.min(text.len());
     let mut input = (&text[..first]).chain(&text[first..]);

@@ -1,4 +1,4 @@
-//! Clients in threads, and one that audits meanwhile.
+//! Clients in threads, and one that audits at the same time.
 ghost use Rattle.std.specs.Prelude.{◌≡◌, ◌*◌};
 
 use crate::draws::{BLOCKS, draw_task};
@@ -124,7 +124,7 @@ fn two_and_another<R: Threads + Sync>(
     )
 }
 
-/// Four clients run random tasks, while a fifth one asks for reports. Answers the first one, which
+/// Four clients run random tasks, while a fifth one asks for reports. Returns the first one, which
 /// took in the others, and the reports.
 fn four_and_another<R: Threads + Sync + Abort>(
     rt: &R,

@@ -9,7 +9,7 @@ use vac_model::Reply;
 
 pub(crate) type Answer = Result<Reply, Fault>;
 
-/// Calls the task of each line, by so many tries, and compares the answers.
+/// Calls the task of each line, by `tries` tries, and compares the answers.
 pub(crate) fn expect(
     rt: &impl Abort,
     alloc: Global,

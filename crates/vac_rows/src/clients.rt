@@ -16,7 +16,7 @@ use vac_model::Kind::{Car, Flight, Room};
 use vac_model::Reply::{Done, No};
 use vac_model::Why::Full;
 
-/// Enters a customer, and answers the client that did.
+/// Enters a customer, and returns the client that did.
 fn enter(rt: &impl Abort, alloc: Global, manager: &Manager, client: Client, id: u32) -> Client
     requires { client.table ≡ manager.now.table }
     ensures { result.table ≡ manager.now.table }
@@ -77,7 +77,7 @@ fn sixty_four_clients(rt: HostRuntime) {
     holds(&rt, manager.close(client).is_ok());
 }
 
-/// Closes a manager while a client is out, and again once that client was taken in. Answers the
+/// Closes a manager while a client is out, and again once that client was taken in. Returns the
 /// words and the version.
 fn close_late(rt: &impl Abort, manager: Manager, client: Client, other: Client) -> (Vec<u64>, u64)
     requires { (client.table ≡ manager.table) × (other.table ≡ manager.table) }
@@ -127,9 +127,9 @@ fn closed_words(rt: &impl Abort, manager: Manager, client: Client) -> Vec<u64>
 }
 
 /// The second client's entries take their blocks from the second list, blocks 2 and 3, and then
-/// from the next one, which begins with block 4: what is behind it, block 5, is the second list
-/// then. All that it frees goes there, a flight's block too, so that the list is at last blocks 3,
-/// 2, 4 and 5. Block 0, of the first list, is the first client's.
+/// from the next one, which begins with block 4: what comes after it, block 5, is then the second
+/// list. All that it frees goes there, a flight's block too, so that in the end the list is blocks
+/// 3, 2, 4 and 5. Block 0, of the first list, is the first client's.
 #[test]
 fn each_client_has_a_list_of_its_own(rt: HostRuntime) {
     let alloc = rt.alloc();
@@ -157,10 +157,11 @@ fn each_client_has_a_list_of_its_own(rt: HostRuntime) {
     same(&rt, &found, &[0, 0, 16, 24, 40, 32, 48, 56, 0, 0].map(Some));
 }
 
-/// The same of tasks of several commands: an update, a trip and a leave of the second client. What
-/// it asks for takes blocks 2 to 8. Blocks 2, 3 and 4 are a car, a flight and a room, and the list
-/// is at last blocks 5, 8, 7, 6 and 9, since the leave gives the bookings back in the order of
-/// their kinds, and then the customer. The first list has its two blocks still.
+/// Tasks of several commands keep to the list of their client, too: an update, a trip and a leave
+/// of the second client. What it asks for takes blocks 2 to 8. Blocks 2, 3 and 4 are a car, a
+/// flight and a room, and in the end the list is blocks 5, 8, 7, 6 and 9, since the leave gives the
+/// bookings back in the order of their kinds, and then the customer. The first list still has its
+/// two blocks.
 #[test]
 fn tasks_keep_to_the_list_of_their_client(rt: HostRuntime) {
     let alloc = rt.alloc();

@@ -1,7 +1,7 @@
 //! Tests of the reservation tower: scripts whose replies were worked out by hand from the rules
 //! (`docs/RULES.md`), clients over a region that meet, come and go and call from threads, and
-//! random tasks beside the plain manager. The plain manager is proved to do what its definition
-//! says: these tests say that the definition is the one that was meant.
+//! random tasks compared with the plain manager. The plain manager is proved to do what its
+//! definition says: these tests say that the definition is the one that was meant.
 #![tactic(auto)]
 
 #[cfg(test)]

@@ -55,8 +55,8 @@ fn tasks_are_printed_plainly(rt: HostRuntime) {
     }
 }
 
-/// The number of bytes of the line of an update that adds a flight with these numbers so many
-/// times. It is read, as the same update, where it is no longer than a line may be.
+/// The number of bytes of the line of an update that adds a flight with these numbers `changes`
+/// times. The line is read as the same update where it is no longer than a line may be.
 fn flights_added(rt: &impl Abort, alloc: Global, changes: usize, id: u32, num: u32) -> usize
     requires { changes ≤ 32 }
 {

@@ -1,5 +1,5 @@
-//! Two clients whose calls meet over a region: one stands still at a point of its commit, which
-//! its gate is told, while the other one calls.
+//! Two clients whose calls meet over a region: one stops at a point of its commit, of which its
+//! gate is told, while the other one calls.
 ghost use Rattle.std.specs.Prelude.{◌≡◌};
 
 use crate::outcome::Outcome;
@@ -30,7 +30,7 @@ const fn reserve_car(customer: u32) -> Task {
     })
 }
 
-/// What the client was answered that called meanwhile.
+/// The answer to the client that called meanwhile.
 #[derive(Clone, Copy, Debug, PartialEq, Eq)]
 struct Answers {
     room: Outcome,
@@ -55,7 +55,7 @@ impl<'a> Gate for Meanwhile<'a> {
     }
 }
 
-/// What two clients were answered whose reservations met, and how many cars are free afterwards.
+/// The answers to two clients whose reservations met, and how many cars are free afterwards.
 #[derive(Clone, Copy, Debug, PartialEq, Eq)]
 struct Met {
     mine: Outcome,
@@ -63,7 +63,7 @@ struct Met {
     free: Outcome,
 }
 
-/// So many cars and two customers.
+/// Enters cars and two customers.
 fn fill(session: &mut Session<'_>, cars: u32) {
     let car = Task::One(add_command!(Car, 7, cars, Some(50)));
     let _ = session.call(&car, 1);
@@ -71,7 +71,7 @@ fn fill(session: &mut Session<'_>, cars: u32) {
     let _ = session.call(&enter(4), 1);
 }
 
-/// The client reserves a car by so many tries, and at this point the other client does.
+/// The client reserves a car by at most `tries` tries, and at this point the other client does.
 fn meet<'a>(
     session: &mut Session<'_>,
     other: Session<'a>,
@@ -93,7 +93,7 @@ fn meet<'a>(
     (Met { mine, told, free }, other)
 }
 
-/// Two clients reserve the last car, the first by so many tries.
+/// Two clients reserve the last car, the first by at most `tries` tries.
 fn last_car(rt: &impl Abort, manager: &Manager, client: Client, tries: u32) -> Met
     requires { client.table ≡ manager.now.table }
 {
@@ -104,7 +104,7 @@ fn last_car(rt: &impl Abort, manager: &Manager, client: Client, tries: u32) -> M
     met
 }
 
-/// The other client had the last car, and this is what the first was answered.
+/// The other client had the last car, and this is the answer to the first.
 fn lost_it(mine: Outcome) -> Met {
     let told = Answers {
         room: Outcome::Replied(Number(None)),

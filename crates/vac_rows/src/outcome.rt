@@ -1,11 +1,11 @@
-//! What a call was answered, as far as a worked row says it.
+//! The answer to a call, as far as a worked row says it.
 
 use crate::calls::Answer;
 use stm_attempt::Conflict;
 use vac_manager::Fault;
 use vac_model::Reply;
 
-/// What a call was answered. Numbers of locks and held words are left open.
+/// The answer to a call. Numbers of locks and held words are left open.
 #[derive(Clone, Copy, Debug, PartialEq, Eq)]
 pub(crate) enum Outcome {
     Replied(Reply),

@@ -1,4 +1,4 @@
-//! Random tasks over plain memory, beside the plain manager.
+//! Random tasks over plain memory, compared with the plain manager.
 
 use crate::draws::{BLOCKS, TASKS, draw_task};
 use crate::same::same;
@@ -14,7 +14,7 @@ use vac_plain::Heap;
 use vac_sequential::Sequential;
 use vac_tasks::only_reads;
 
-/// By so many seeds random tasks are drawn.
+/// How many seeds random tasks are drawn from.
 const SEEDS: u64 = 4;
 
 /// The reply to a task, or `None` where it cannot be asked for.
@@ -33,7 +33,7 @@ fn look(heap: &mut Heap, task: &Task) -> Option<Reply> {
     Some(heap.read(task))
 }
 
-/// Random tasks by a seed. New entries take their blocks from a list that is drawn, too.
+/// Random tasks drawn from a seed. New entries take their blocks from a list that is drawn, too.
 fn compare(rt: &impl Abort, alloc: Global, seed: u64) {
     let mut draws = Pcg32::new(seed, 3);
     let mut plain = Sequential::new(alloc, BLOCKS).expect(rt, "the blocks are in range");

@@ -13,7 +13,7 @@ use stm_attempt::{Gate, Point};
 use vac_manager::{Manager, Session};
 use vac_model::Kind::{Car, Room};
 
-/// So many points are kept; those that come later are counted alone.
+/// How many points are kept; later ones are only counted.
 const KEPT: usize = 12;
 
 /// The points that a gate was told of, in their order.
@@ -33,7 +33,7 @@ impl Gate for Points {
 }
 
 impl Points {
-    /// Of a gate that was told nothing.
+    /// The points of a gate that was told of none.
     pub(crate) fn none() -> Points {
         Points {
             kept: [None; KEPT],
@@ -41,7 +41,7 @@ impl Points {
         }
     }
 
-    /// Of a gate that was told these.
+    /// The points of a gate that was told of these.
     pub(crate) fn of(points: &[Point]) -> Points {
         let mut kept = Points::none();
         for point in points {
@@ -51,7 +51,7 @@ impl Points {
     }
 }
 
-/// The answer to a call by so many tries, and what its gate was told of.
+/// The answer to a call by at most `tries` tries, and what its gate was told of.
 pub(crate) fn call_with_points(
     rt: &impl Abort,
     alloc: Global,
@@ -70,7 +70,7 @@ pub(crate) fn call_with_points(
 /// A call that writes nothing tells that its reads are done.
 const READ: [Point; 1] = [Point::ReadsDone];
 
-/// One that writes tells each point of its commit.
+/// A call that writes tells each point of its commit.
 const WRITTEN: [Point; 5] = [
     Point::ReadsDone,
     Point::Locked,

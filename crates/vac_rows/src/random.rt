@@ -1,4 +1,4 @@
-//! Random tasks over a region, beside the plain manager.
+//! Random tasks over a region, compared with the plain manager.
 ghost use Rattle.std.specs.Prelude.{◌≡◌};
 
 use crate::draws::{BLOCKS, TASKS, draw_task};
@@ -36,7 +36,7 @@ impl Plain {
     }
 }
 
-/// Random tasks of one client, which is alone: it is answered by the one try of each call.
+/// Random tasks of one client, which is alone: each call is answered by its one try.
 fn alone(rt: &impl Abort, alloc: Global, session: &mut Session<'_>) {
     let mut plain = Plain::new(rt, alloc, 7);
     for _ in 0..TASKS {
@@ -51,7 +51,7 @@ fn random_tasks_of_one_client(rt: HostRuntime) {
     alone(&rt, alloc, &mut Session::of(&manager, client));
 }
 
-/// Each lock word stands for fifty-two words.
+/// Each lock word guards fifty-two words.
 #[test]
 fn random_tasks_of_one_client_with_four_lock_words(rt: HostRuntime) {
     let alloc = rt.alloc();
@@ -60,7 +60,7 @@ fn random_tasks_of_one_client_with_four_lock_words(rt: HostRuntime) {
     alone(&rt, alloc, &mut Session::of(&manager, client));
 }
 
-/// Random tasks of three clients in turns.
+/// Random tasks of three clients that take turns.
 fn in_turns(
     rt: &impl Abort,
     alloc: Global,

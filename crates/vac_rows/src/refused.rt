@@ -1,8 +1,8 @@
 //! Memory that is refused to a call: the state is as before, and the call that is made again
 //! answers as it should. The script `tests/refused_calls` runs this test with each allocation
-//! refused in turn, and reads the lines that it prints; run otherwise, it is refused none.
-//! Another client is out while the calls are made, and each has two tries: one that is refused
-//! memory makes none of the second.
+//! refused in turn, and reads the lines that it prints; in any other run none is refused. Another
+//! client is out while the calls are made, and each has two tries: one that is refused memory makes
+//! none of the second.
 ghost use Rattle.std.specs.Prelude.{◌≡◌, ◌*◌, IfOk};
 
 use crate::calls::Answer;
@@ -167,7 +167,7 @@ fn come_and_go(rt: &(impl Abort + Print), alloc: Global, session: &mut Session<'
     expect(rt, alloc, session, &script);
 }
 
-/// A first client fills the manager, while a second one is out, which comes and goes then.
+/// A first client fills the manager, while a second one is out, which then comes and goes.
 fn two_clients(rt: &(impl Abort + Print), alloc: Global, session: &mut Session<'_>)
     ensures { session.new.manager ≡ session.old.manager }
 {
@@ -215,7 +215,7 @@ fn renew(
     }
 }
 
-/// Closes the manager. Answers its words.
+/// Closes the manager. Returns its words.
 fn close(rt: &(impl Abort + Print), manager: Manager, client: Client) -> Vec<u64>
     requires { client.table ≡ manager.table }
 {

@@ -53,7 +53,7 @@ fn go_on(rt: &impl Abort, alloc: Global, manager: &Manager, client: Client) -> C
     session.into_client()
 }
 
-/// A renewal that is refused. Answers why.
+/// A renewal that is refused. Returns why.
 fn refused(
     rt: &impl Abort,
     manager: Manager,

@@ -77,7 +77,7 @@ fn bookings_of_several_units(rt: HostRuntime) {
     play(&rt, rt.alloc(), 3, &script);
 }
 
-/// Whoever drops a customer gives the units of all kinds back.
+/// Dropping a customer gives the units of all kinds back.
 #[test]
 fn a_dropped_customer(rt: HostRuntime) {
     let script = [
@@ -103,7 +103,7 @@ fn a_dropped_customer(rt: HostRuntime) {
     play(&rt, rt.alloc(), 7, &script);
 }
 
-/// A deletion keeps the price and takes free units alone; of none it is done.
+/// A deletion keeps the price and takes only free units; a deletion of none is done.
 #[test]
 fn deletions(rt: HostRuntime) {
     let script = [
@@ -147,7 +147,7 @@ fn items_made_and_asked_for(rt: HostRuntime) {
     play(&rt, rt.alloc(), 1024, &script);
 }
 
-/// Each item, customer and booking is an entry; want of a count comes before want of a block.
+/// Each item, customer and booking is an entry; a missing count comes before a missing block.
 #[test]
 fn capacities(rt: HostRuntime) {
     let three = [

@@ -1,4 +1,4 @@
-//! How a script is written, and played on a new plain manager and on a new manager over a region.
+//! How a script is written, and run on a new plain manager and on a new manager over a region.
 ghost use Rattle.std.specs.Prelude.{◌≡◌};
 
 use std::alloc::{AllocError, Global};
@@ -11,7 +11,7 @@ use vac_sequential::Sequential;
 #[derive(Clone, Copy)]
 pub(crate) enum Line<'a> {
     One(Command),
-    /// The same command so many times, each with the same reply.
+    /// A command that is given this many times, each with the same reply.
     Times(u32, Command),
     Trip(u32, &'a [(Kind, u32)]),
     Leave(u32),
@@ -32,7 +32,7 @@ pub(crate) fn task_of(alloc: Global, line: &Line<'_>) -> Result<Task, AllocError
 /// The greatest last version.
 pub(crate) const LAST: u64 = (1 << 62) - 1;
 
-/// Plays a script on a new plain manager of so many blocks, and as transactions of one client over
+/// Runs a script on a new plain manager of `blocks` blocks, and as transactions of one client over
 /// a region, and compares each reply.
 pub(crate) fn play(rt: &impl Abort, alloc: Global, blocks: u32, script: &[(Line<'_>, Reply)]) {
     let mut manager = Sequential::new(alloc, blocks).expect(rt, "the blocks are in range");

@@ -31,7 +31,7 @@ fn spend(rt: &impl Abort, alloc: Global, session: &mut Session<'_>) {
 }
 
 /// The call ends at once where it finds the clock spent, though another client is out and tries are
-/// left: its one attempt is told to have its locks, and nothing more.
+/// left: its one attempt tells that it has its locks, and nothing more.
 #[test]
 fn a_spent_clock_ends_a_call_of_one_of_two_clients(rt: HostRuntime) {
     let alloc = rt.alloc();

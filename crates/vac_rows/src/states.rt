@@ -10,7 +10,7 @@ use vac_model::Kind::{Car, Room};
 use vac_model::Reply;
 use vac_sequential::Sequential;
 
-/// A plain manager of so many blocks, after a script.
+/// A plain manager of `blocks` blocks, after a script.
 fn after(rt: &impl Abort, alloc: Global, blocks: u32, script: &[Line<'_>]) -> Sequential {
     let mut manager = Sequential::new(alloc, blocks).expect(rt, "the blocks are in range");
     run_all(rt, alloc, &mut manager, script);
@@ -56,7 +56,7 @@ fn two_histories_of_one_state(rt: HostRuntime) {
     same(&rt, &other.hash(), &one.hash());
 }
 
-/// Whether the state after this script, in a manager of so many blocks, is that of one car of two.
+/// Whether the state after this script, in a manager of `blocks` blocks, is that of one car of two.
 fn is_one_car_of_two(rt: &impl Abort, alloc: Global, blocks: u32, script: &[Line<'_>]) -> bool {
     let one = one_car_of_two(rt, alloc);
     let other = after(rt, alloc, blocks, script);
@@ -115,7 +115,7 @@ fn states_that_differ_in_one_number(rt: HostRuntime) {
     same(&rt, &found, &wanted);
 }
 
-/// A copy stays as it was, whatever becomes of the other one.
+/// A copy stays as it was, whatever happens to the other one.
 #[test]
 fn a_copy_keeps_its_state(rt: HostRuntime) {
     let mut one = one_car_of_two(&rt, rt.alloc());

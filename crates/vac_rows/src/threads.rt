@@ -41,7 +41,7 @@ fn task_of(call: u32, seed: u32) -> Task {
     })
 }
 
-/// Makes one call. Answers how many units were added.
+/// Makes one call. Returns how many units were added.
 fn add(session: &mut Session<'_>, call: u32, seed: u32) -> u64
     ensures { session.new.manager ≡ session.old.manager }
 {
@@ -88,7 +88,7 @@ fn two_clients<R: Threads + Sync>(
     )
 }
 
-/// Four clients, two and two. Answers the first one, which took in the others, and how many units
+/// Four clients, two and two. Returns the first one, which took in the others, and how many units
 /// all of them added.
 fn four_clients<R: Threads + Sync + Abort>(rt: &R, manager: &Manager, a: Client) -> Added
     requires { a.table ≡ manager.now.table }
