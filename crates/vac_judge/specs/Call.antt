@@ -42,7 +42,7 @@ pub record Parts : Type 0 where
 abbrev pub joined : List (List ℕ) → List ℕ
 joined words = join_with_byte 32 words
 
--- four words or more stand before the arrow, and one or more behind it
+-- four words or more are before the arrow, and one or more after it
 abbrev pub parts_of : List (List ℕ) → List (List ℕ) → Option Parts
 parts_of (client ∷ begin ∷ end ∷ word ∷ words) (reply ∷ more) =
     Some (record {

@@ -39,7 +39,8 @@ pub record Judges (after : Judge) (s : State) (earlier : List Call) (call : Call
   pub found_is : wrong_of s earlier call ≡ found
   pub taken : found ≡ None → Follows after (run s call.task).0 (call ∷ earlier)
 
--- the judge has taken a line: the verdict on it and those behind it is that on those behind it
+-- the judge has taken a line: the verdict on it and the lines after it is that on the lines after
+-- it
 pub record Takes (judge after : Judge) (line : Result Call CallFault) : Type 0 where
   pub on : (s : State) (earlier : List Call) → Follows judge s earlier →
       (t : State) × (calls : List Call) × Follows after t calls
@@ -51,8 +52,9 @@ pub record Ends (judge : Judge) (line : Result Call CallFault) (verdict : Verdic
   pub on : (s : State) (earlier : List Call) → Follows judge s earlier →
       (more : List (Result Call CallFault)) → judged s earlier (line ∷ more) ≡ verdict
 
--- why a judge did not judge a line: memory was refused, or its calls are as many as it can count
--- Not said: that memory was refused where Memory is answered.
+-- why a judge did not judge a line: memory was refused, or it has judged as many calls as it can
+-- count
+-- Not said: that memory was refused where Memory is returned.
 abbrev pub IsStop : Judge → JudgeFault → Type 0
 IsStop judge stop =
     (stop ≡ fault.Memory) ⊎ ((stop ≡ fault.Bound) × (judge.spans.count + 1 ≡ 2 ^ 64))

@@ -1,6 +1,6 @@
 -- The verdict is right: a history is legal exactly where the order in which its calls are given is
 -- a linearization of it (Herlihy and Wing, TOPLAS 1990). A call that was never answered ends later
--- than all times, and takes effect where it stands.
+-- than all times, and takes effect at its place in the order.
 use Rattle.std.specs.Prelude.{◌≡◌, ◌↔◌, ⊤, ℕ, Option, Some, None, Ok, List, [], ◌∷◌, map, true, reverse}
 use Rattle.vac_model.specs.State.{State, empty_state}
 use Rattle.vac_model.specs.Run.{run}
@@ -17,7 +17,7 @@ use Rattle.vac_judge.specs.Verdict.{verdict_on, is_legal, summary_of}
 abbrev pub IsAt : List Call → ℕ → Call → Type 0
 IsAt calls place call = spans.IsAt calls place call
 
--- a call may have been answered this: it was, or it was never answered
+-- a call may have been answered with this: it was, or it was never answered
 abbrev pub IsAnswerOf : Reply → Option (List ℕ) → Type 0
 IsAnswerOf reply None = ⊤
 IsAnswerOf reply (Some text) = reply_text reply ≡ text
@@ -32,11 +32,11 @@ GiveReplies s (call ∷ rest) =
 abbrev pub TakeTime : List Call → Type 0
 TakeTime calls = spans.TakeTime span_of calls
 
--- the calls of each client do not overlap, and stand in their order
+-- the calls of each client do not overlap, and are in their order
 abbrev pub AreSequential : List Call → Type 0
 AreSequential calls = spans.AreSequential span_of calls
 
--- a call that had ended before another began stands before it
+-- a call that had ended before another began comes before it
 abbrev pub KeepPrecedence : List Call → Type 0
 KeepPrecedence calls = spans.KeepPrecedence span_of calls
 
@@ -67,7 +67,7 @@ abbrev pub state_after : State → List Call → State
 state_after s [] = s
 state_after s (call ∷ rest) = state_after (run s call.task).0 rest
 
--- it then says how many calls and clients there are, and what the state is that they leave
+-- it then says how many calls and clients there are, and which state they leave
 abbrev pub LegalSummary : Type 0
 LegalSummary = (n : ℕ) (bytes : List ℕ) (calls : List Call) → Lists bytes calls →
     IsLinearization n calls →

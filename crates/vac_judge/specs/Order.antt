@@ -19,16 +19,16 @@ span_of call = record { client = call.client; begin = call.begin; end = call.end
 abbrev pub breaks_client : List Call → Call → Bool
 breaks_client earlier call = spans.breaks_client span_of earlier call
 
--- the call stands behind one that began only after this one had ended
+-- the call comes after one that began only after this one had ended
 abbrev pub breaks_time : List Call → Call → Bool
 breaks_time earlier call = spans.breaks_time span_of earlier call
 
--- the text of a reply is the one expected; where there was none, any would be right
+-- the text of a reply is the expected one; where there was none, any is right
 abbrev pub is_right : Option (List ℕ) → Reply → Bool
 is_right None expected = true
 is_right (Some text) expected = bytes_eq text (reply_text expected)
 
--- the first that is wrong with a call behind these earlier ones, which leave the state s
+-- the first thing that is wrong with a call after these earlier ones, which leave the state s
 abbrev pub wrong_of : State → List Call → Call → Option Wrong
 wrong_of s earlier call =
     let expected = (run s call.task).1 in

@@ -8,12 +8,12 @@ use Rattle.vac_judge.specs.declared.call.CallLine.{CallLine}
 use Rattle.vac_judge.specs.declared.call.TheConstants.{NEVER}
 use Rattle.vac_judge.specs.Call.{Call, Parts, is_arrow, call_parts}
 
--- these texts stand before and behind the first word that is an arrow
+-- these texts are before and after the first word that is an arrow
 pub record IsCutAtArrow (line before behind : List ℕ) : Type 0 where
   pub words : words_of line ≡ words_of before ++ codes "->" ∷ words_of behind
   pub first : list_any is_arrow (words_of before) ≡ false
 
--- the line is no call's
+-- the line is not that of a call
 abbrev pub NoParts : List ℕ → Type 0
 NoParts line = call_parts line ≡ None
 

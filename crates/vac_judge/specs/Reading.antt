@@ -1,4 +1,4 @@
--- What judging a history that is read answers and writes, as a function of all its bytes.
+-- What judging a history that is read returns and writes, as a function of all its bytes.
 use Rattle.std.specs.Prelude.{◌≡◌, ◌⊎◌, ℕ, ◌+◌, ◌≤◌, Bool, Option, IfSome, List, [], ◌++◌, map, length}
 use Rattle.std.specs.Io.KnownBytes.{Appends, Consumes, IsAtEnd}
 use Rattle.vac_model.specs.State.{State}
@@ -13,8 +13,8 @@ use Rattle.vac_judge.specs.Call.{Call, line_call}
 use Rattle.vac_judge.specs.Verdict.{judged, verdict_on, verdict_text, is_legal}
 use Rattle.vac_judge.specs.Judging.{Follows}
 
--- so much of the input was read as decides the verdict: all of it, or whatever follows; it is the
--- verdict on the whole input
+-- enough of the input was read to decide the verdict: all of it, or so much that the verdict holds
+-- whatever follows; it is the verdict on the whole input
 -- Not said: streams whose bytes no contract knows; that no byte is read after the chunk with the
 -- first wrong line, which is read in the code.
 pub record HasVerdict (n : ℕ) (unread left : Option (List ℕ)) (verdict : Verdict) : Type 0 where
@@ -40,7 +40,7 @@ pub record HasJudgedInPart (n : ℕ) (unread left held holds : Option (List ℕ)
 
 -- a fault ended it: one of the output while the verdict was written, any other before
 -- Not said: which of Read, Memory and Bound ends it before it writes; that the output failed where
--- Write is answered, since no contract says what a reader or a writer gives.
+-- Write is returned, since no contract says what a reader or a writer gives.
 abbrev pub HasStopped : ℕ → JudgeFault → Option (List ℕ) → Option (List ℕ) → Option (List ℕ)
     → Option (List ℕ) → Type 0
 HasStopped n fault.Write unread left held holds = HasJudgedInPart n unread left held holds
@@ -54,7 +54,7 @@ IsStopOfLines stop = (stop ≡ fault.Memory) ⊎ (stop ≡ fault.Bound)
 abbrev pub HasBegun : List ℕ → Type 0
 HasBegun line = HasNo 10 line × (length line ≤ CALL_BYTES + 1)
 
--- the verdict behind earlier calls, on a text that is still to be judged
+-- the verdict after earlier calls, on a text that is still to be judged
 abbrev pub verdict_behind : State → List Call → List ℕ → Verdict
 verdict_behind s earlier text = judged s earlier (map line_call (lines_of text))
 

@@ -28,7 +28,7 @@ abbrev pub unless_wrong : Option Wrong → ℕ → Verdict → Verdict
 unless_wrong None line rest = rest
 unless_wrong (Some wrong) line rest = Illegal line wrong
 
--- the verdict on these lines behind earlier calls, newest first, which leave the state s
+-- the verdict on these lines after earlier calls, newest first, which leave the state s
 abbrev pub judged : State → List Call → List (Result Call CallFault) → Verdict
 judged s earlier [] = Legal (summary_of s earlier)
 judged s earlier (Err fault ∷ rest) = Fault (length earlier + 1) fault

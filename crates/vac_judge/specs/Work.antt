@@ -69,7 +69,7 @@ is_last client call = call.client == client && is_none call.reply
 abbrev pub has_stopped : ℕ → List Call → Bool
 has_stopped client calls = list_any (is_last client) calls
 
--- there is a task, and it has the plain form of this one
+-- there is a task, and it has the same plain form as this one
 abbrev pub is_that : Option Task → Task → Bool
 is_that None task = false
 is_that (Some asked) task = bytes_eq (task_text asked) (task_text task)
@@ -88,16 +88,16 @@ first_foreign work earlier (Ok call ∷ rest) =
     if is_next work earlier call then first_foreign work (call ∷ earlier) rest
     else Some (length earlier + 1)
 
--- the calls of lines up to the first that is none, behind earlier ones, newest first
+-- the calls of lines up to the first that is none, after earlier ones, newest first
 abbrev pub calls_in : List Call → List (Result Call CallFault) → List Call
 calls_in earlier [] = earlier
 calls_in earlier (Err fault ∷ rest) = earlier
 calls_in earlier (Ok call ∷ rest) = calls_in (call ∷ earlier) rest
 
--- of a client that was handed so many tasks before, no call asks for a further one, though its
+-- no call of a client asks for a task after the first `before` tasks that it was handed, though its
 -- calls were all answered
--- Not said: that a call was never answered whose line is left out, since it took no effect: its
--- task is missing. The lines of such calls are to stand in a history that is held against work.
+-- Not said: that a call was never answered where its line is left out since it took no effect: its
+-- task is missing. A history that is held against work must have the lines of such calls.
 abbrev pub is_missing : List Call → ℕ → ℕ → Bool
 is_missing calls client before =
     nat_le (made_by client calls) before && not (has_stopped client calls)
@@ -121,7 +121,7 @@ abbrev pub unless_missing : Option (ℕ × ℕ) → Verdict → HeldVerdict
 unless_missing (Some missing) (Legal found) = Missing missing.0 missing.1
 unless_missing missing verdict = Judged verdict
 
--- the first line decides; on one line its task comes before its client, its times and its reply
+-- the first line decides; of one line the task is judged before its client, its times and its reply
 abbrev pub joined_verdict : Option ℕ → Option (ℕ × ℕ) → Verdict → HeldVerdict
 joined_verdict None missing verdict = unless_missing missing verdict
 joined_verdict (Some line) missing verdict =

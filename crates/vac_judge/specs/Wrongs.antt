@@ -1,5 +1,5 @@
 -- The verdict names the right line: the lines before it are a linearization, with it they are none,
--- and why, in the order in which it is asked.
+-- and why, in the order in which the causes are looked for.
 use Rattle.std.specs.Prelude.{◌≡◌, ◌↔◌, ℕ, ◌+◌, Ok, Err, Result, List, [], ◌∷◌, ◌++◌, map, length}
 use Rattle.vac_model.specs.State.{empty_state}
 use Rattle.vac_model.specs.Run.{run}
@@ -19,8 +19,8 @@ use Rattle.vac_judge.specs.Laws.{IsLinearization, state_after}
 abbrev pub TakeTurns : List Call → Type 0
 TakeTurns calls = spans.TakeTurns span_of calls
 
--- why no order goes on with a call behind calls in a legal one: clients come first, then times,
--- then the reply, which is another than the sequential manager's
+-- why no legal order goes on with this call after these calls: clients come first, then times, then
+-- the reply, which is not that of the sequential manager
 abbrev pub IsCause : ℕ → List Call → Call → Wrong → Type 0
 IsCause n calls call Client = TakeTurns (calls ++ call ∷ []) → ⊥
 IsCause n calls call Time =

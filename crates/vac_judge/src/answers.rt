@@ -48,7 +48,7 @@ fn read_update(update: &UpdateReply)
     read_room(update.refused);
 }
 
-/// The numbers of a reply are those of its type, as the laws on written lines want of it. It does
+/// The numbers of a reply are those of its type, as the laws on written lines ask of it. It does
 /// nothing.
 pub fn numbers_of_a_reply(reply: &Reply)
     ensures { IsReply reply.now }

@@ -19,7 +19,7 @@ pub(crate) struct CallParts<'a> {
     pub(crate) reply: &'a [u8],
 }
 
-/// What stands before the first word that is an arrow, and what stands behind it.
+/// What is before the first word that is an arrow, and what is after it.
 fn cut_at_arrow(line: &[u8]) -> Option<(&[u8], &[u8])>
     ensures { MatchOption result (NoParts line.now)
         (λ cut. IsCutAtArrow line.now cut.0.now cut.1.now) }
@@ -37,8 +37,8 @@ fn cut_at_arrow(line: &[u8]) -> Option<(&[u8], &[u8])>
     None
 }
 
-/// The parts of a call's line, or `None` where no arrow has four words or more before it and one
-/// or more behind it.
+/// The parts of a call's line, or `None` where no arrow has four words or more before it and one or
+/// more after it.
 pub(crate) fn cut_parts(line: &[u8]) -> Option<CallParts<'_>>
     ensures { MatchOption result (call_parts line.now ≡ None)
         (λ parts. call_parts line.now ≡ Some (shown_parts parts)) }

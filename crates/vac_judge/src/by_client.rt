@@ -1,4 +1,4 @@
-//! Values by the clients that they are of, which contracts see as a finite map.
+//! Values by client, which contracts see as a finite map.
 
 ghost use Rattle.std.specs.Prelude.{◌≡◌, OnOk};
 ghost use Rattle.std.specs.Option.{option_copied};

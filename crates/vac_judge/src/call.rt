@@ -26,7 +26,7 @@ const NO_END: &[u8] = b"-";
 /// The text in the place of REPLY where a call was never answered.
 const NO_REPLY: &[u8] = b"?";
 
-/// When a call was answered, and what.
+/// When a call was answered, and with what.
 #[derive(Clone, Copy)]
 pub struct Answer<'a> {
     /// A reading of the clock after the call was answered.
@@ -44,7 +44,7 @@ pub struct CallLine<'a> {
     pub begin: u64,
     /// What was asked for.
     pub task: Task,
-    /// When it was answered, and what, or `None` where it never was.
+    /// When it was answered, and with what, or `None` where it never was.
     pub answer: Option<Answer<'a>>,
 }
 
@@ -93,7 +93,7 @@ fn is_half(end: &[u8], reply: &[u8]) -> bool
     if end == NO_END { has_reply } else { !has_reply }
 }
 
-/// When a call was answered and what, or `None` where it never was.
+/// When a call was answered and with what, or `None` where it never was.
 fn answer_at<'a>(end: &[u8], reply: &'a [u8]) -> Result<Option<Answer<'a>>, CallFault>
     requires whole { is_half end.now reply.now ≡ false }
     ensures end { IfOk result (λ answer. at_end end.now ≡ Ok (shown_end answer)) }
@@ -142,9 +142,9 @@ fn parts_call<'a>(alloc: Global, parts: CallParts<'a>) -> Result<CallLine<'a>, C
     whole_call(alloc, parts)
 }
 
-/// Reads a line of a history, which is given without its line end: the call that it stands for,
-/// or its first fault. Where memory is refused for a task of many words, the fault is
-/// [`LineFault::Memory`], which is none of the line.
+/// Reads a line of a history, which is given without its line end: the call that it stands for, or
+/// its first fault. Where memory is refused for a task of many words, the fault is
+/// [`LineFault::Memory`], which is no fault of the line.
 pub fn read_call(alloc: Global, line: &[u8]) -> Result<CallLine<'_>, CallFault>
     ensures call { IfOk result (λ call. line_call line.now ≡ Ok (shown_call call)) }
     ensures fault { IfErr result (λ fault. fault ≢ CallFault.Line LineFault.Memory →

@@ -7,10 +7,10 @@ use vac_lines::{LineFault, NotWritten};
 /// Why a line of a history is no call.
 #[derive(Clone, Copy, Debug, PartialEq, Eq, Error)]
 pub enum CallFault {
-    /// No word is an arrow with four words or more before it and one or more behind it.
+    /// No word is an arrow with four words or more before it and one or more after it.
     #[error("the line has no task and reply with an arrow between them")]
     BadCall,
-    /// The line is too long or has a bad byte, a number is none, or the task's line has a fault.
+    /// The line is too long or has a bad byte, a number is not one, or the task's line has a fault.
     #[error("{0}")]
     Line(LineFault),
 }
@@ -35,7 +35,7 @@ pub enum JudgeFault {
     /// The output could not be written, or a write took nothing.
     #[error("the output could not be written")]
     Write = 2,
-    /// There was no memory.
+    /// Memory was refused.
     #[error("out of memory")]
     Memory = 3,
     /// More than 4,294,967,296 reads were made, or there are 2^64 lines.

@@ -24,7 +24,7 @@ pub enum HeldVerdict {
     Judged(Verdict),
     /// This line of the work hands out no task.
     BadTasks { line: u64 },
-    /// This line's task is not the next that its client was handed.
+    /// This line's task is not the next one that its client was handed.
     Foreign { line: u64 },
     /// The task with this number among those of a client, counted from 1, was not asked for.
     Missing { client: u32, number: u64 },
@@ -120,15 +120,15 @@ fn read_all<R: Read>(alloc: Global, input: &mut R) -> Result<Vec<u8>, JudgeFault
     }
 }
 
-/// Judges a history of a system of so many blocks, and holds it against the work that was handed
-/// out, lines `CLIENT LINE`: reads both to their ends, and writes the verdict. Answers whether the
+/// Judges a history of a system of `blocks` blocks, and holds it against the work that was handed
+/// out, lines `CLIENT LINE`: reads both to their ends, and writes the verdict. Returns whether the
 /// history is legal, and of all the work, but for what comes after a call that was never answered.
 ///
-/// Each call that was made is to have its line: where the line of one that was never answered
-/// is left out, its task is missing.
+/// Each call that was made must have its line: where the line of one that was never answered is
+/// left out, its task is missing.
 ///
 /// After a fault of the output a prefix of the verdict's text was written, after any other nothing.
-/// Not said: how much memory it takes; both texts are in it whole.
+/// Not said: how much memory it takes; it holds both texts as a whole.
 pub fn judge_work<V: Read, R: Read, W: Write>(
     alloc: Global,
     blocks: u32,

@@ -45,7 +45,7 @@ fn have_one_form(alloc: Global, wanted: &Task, given: &Task) -> Result<bool, All
     Ok(wanted_text.as_slice() == given_text.as_slice())
 }
 
-/// How far a client is after a call more.
+/// How far a client is after one more call.
 fn progress_after(progress: Progress, call: &CallLine<'_>) -> Result<Progress, JudgeFault>
     ensures made { IfOk result (λ next. next.made ≡ progress.made + 1) }
     ensures stopped { IfOk result (λ next.
@@ -81,7 +81,7 @@ impl Holding {
         }
     }
 
-    /// Counts a call more.
+    /// Counts one more call.
     fn count(&mut self, call: &CallLine<'_>, progress: Progress) -> Result<(), JudgeFault>
         ensures counts { OnOk result ((calls : List Call) → Counts self.old calls →
             IsProgress progress call.now.client calls →
@@ -117,7 +117,7 @@ impl Holding {
 }
 
 /// The calls of a history, counted, and the first line whose call is not its client's next task.
-/// Where there is one, the calls behind it do not count.
+/// Where there is one, the calls after it do not count.
 pub(crate) fn hold_calls(
     alloc: Global,
     work: &Work,

@@ -44,7 +44,7 @@ fn is_text_of(buffer: &mut Vec<u8>, reply: &Reply, text: &[u8]) -> Result<bool, 
     Ok(text == buffer.as_slice())
 }
 
-/// Whether a call may have been answered so: any reply is right where it never was.
+/// Whether a call may have been answered with this reply: any is right where it was never answered.
 fn is_right(
     buffer: &mut Vec<u8>,
     answer: Option<Answer<'_>>,
@@ -58,7 +58,7 @@ fn is_right(
     }
 }
 
-/// The fault of a line, where it is not want of memory.
+/// The fault of a line, where it is not that memory was refused.
 fn own_fault(fault: CallFault) -> Result<CallFault, JudgeFault>
     ensures own { IfOk result (λ found.
         (found ≡ fault) × (fault ≢ CallFault.Line LineFault.Memory)) }
@@ -71,7 +71,7 @@ fn own_fault(fault: CallFault) -> Result<CallFault, JudgeFault>
 }
 
 impl Judge {
-    /// A history without calls, of a system of so many blocks.
+    /// A history without calls, of a system of `blocks` blocks.
     pub fn new(alloc: Global, blocks: u32) -> Result<Judge, JudgeFault>
         requires some { 1 ≤ blocks }
         requires most { blocks ≤ MOST_BLOCKS }
@@ -85,7 +85,7 @@ impl Judge {
         })
     }
 
-    /// What is wrong with the times of a call, behind those before it.
+    /// What is wrong with the times of a call, after the calls before it.
     fn judge_times(&self, call: &CallLine<'_>) -> Option<Wrong>
         ensures { (s : State) (earlier : List Call) → Follows self.now s earlier →
             JudgesTimes earlier (shown_call call.now) result }
@@ -116,10 +116,10 @@ impl Judge {
         Ok(None)
     }
 
-    /// Judges a line, which is given without its end. Answers the verdict that it brings, whatever
+    /// Judges a line, which is given without its end. Returns the verdict that it brings, whatever
     /// lines follow; or `None`, where its call is right and was taken.
     ///
-    /// After a verdict or a fault, no further line can be judged by it.
+    /// After a verdict or a fault, it can judge no further line.
     ///
     /// Not said: that it keeps no more than the heap, one number for each client and a reply, which
     /// is read in the code.
@@ -146,7 +146,7 @@ impl Judge {
         }
     }
 
-    /// What is said of the calls, where no further line comes.
+    /// What is said of the calls, where no further line follows.
     pub fn summary(&mut self) -> Summary
         ensures same { self.new ≡ self.old }
         ensures summary { (s : State) (earlier : List Call) → Follows self.old s earlier →

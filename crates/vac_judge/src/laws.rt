@@ -15,8 +15,8 @@ use vac_model::{Reply, Task};
 
 /// A history is legal exactly where each of its lines is a call and the order in which the calls
 /// are given is a linearization: run one after the other they give their replies, each client's
-/// calls do not overlap and stand in their order, and no call stands before one that had ended
-/// before it began. A call that was never answered ends later than all times and gives any reply.
+/// calls do not overlap and are in their order, and no call comes before one that had ended before
+/// it began. A call that was never answered ends later than all times and gives any reply.
 pub fn a_verdict_finds_the_linearizations()
     ensures { LegalIsLinearization }
 {}
@@ -29,8 +29,9 @@ pub fn a_legal_history_has_this_summary()
 
 /// A history is illegal of a line exactly where the lines before it are calls whose order is a
 /// linearization, with the call of that line it is none, and this is the first cause: the calls of
-/// a client are not in turn; or they are, and the call had ended before one that stands before it
-/// began; or no time is broken, and the sequential manager answers another reply, which is named.
+/// a client are not in turn; or they are, and the call had ended before one that comes before it in
+/// the order began; or no time is broken, and the sequential manager gives another reply, which is
+/// named.
 pub fn an_illegal_verdict_names_the_first_wrong_line()
     ensures { IllegalIsFirstWrong }
 {}
@@ -59,7 +60,8 @@ pub fn call_texts_are_read()
     task_texts_are_read();
 }
 
-/// So is the line of this call, whatever the reply is: its numbers are those of its type.
+/// The line of a call that was answered with this reply, whichever it is, is no longer than a line
+/// of a history may be, and is read as that call: the numbers of a reply are those of its type.
 pub fn an_answered_call_is_read(client: u32, begin: u64, end: u64, task: &Task, reply: &Reply)
     requires in_range { is_task task.now ≡ true }
     requires fits { length (task_text task.now) ≤ LINE_BYTES }
@@ -69,7 +71,8 @@ pub fn an_answered_call_is_read(client: u32, begin: u64, end: u64, task: &Task, 
     call_texts_are_read();
 }
 
-/// So is the line of a call that was never answered.
+/// The line of a call that was never answered is no longer than a line of a history may be, and is
+/// read as that call.
 pub fn a_call_never_answered_is_read(client: u32, begin: u64, task: &Task)
     requires in_range { is_task task.now ≡ true }
     requires fits { length (task_text task.now) ≤ LINE_BYTES }

@@ -29,7 +29,7 @@ struct History {
     line: Vec<u8>,
 }
 
-/// Keeps what follows of a line that has begun, as far as there is need.
+/// Keeps what follows of a line that has begun, as far as it is needed.
 #[tactic(auto, using(crate::proofs::Cutting::kept_prefix))]
 fn keep_start(line: &mut Vec<u8>, more: &[u8]) -> Result<(), AllocError>
     requires { length line.old.items ≤ CALL_BYTES + 1 }
@@ -42,7 +42,7 @@ fn keep_start(line: &mut Vec<u8>, more: &[u8]) -> Result<(), AllocError>
 }
 
 impl History {
-    /// A history of which nothing was read, of a system of so many blocks.
+    /// A history of which nothing was read, of a system of `blocks` blocks.
     fn new(alloc: Global, blocks: u32) -> Result<History, JudgeFault>
         requires some { 1 ≤ blocks }
         requires most { blocks ≤ MOST_BLOCKS }
@@ -74,7 +74,7 @@ impl History {
         Ok(found)
     }
 
-    /// Judges the lines that end in a chunk of the input, and keeps what follows them. Answers the
+    /// Judges the lines that end in a chunk of the input, and keeps what follows them. Returns the
     /// verdict of the first that brings one.
     fn feed(&mut self, alloc: Global, chunk: &[u8]) -> Result<Option<Verdict>, JudgeFault>
         requires { HasBegun self.old.line.items }
@@ -153,8 +153,8 @@ fn is_legal(verdict: &Verdict) -> bool
     matches!(verdict, Verdict::Legal(_))
 }
 
-/// Judges a history of a system of so many blocks: reads its lines to the end of the input, or to
-/// the first that is not right, and writes the verdict. Answers whether it is legal.
+/// Judges a history of a system of `blocks` blocks: reads its lines to the end of the input, or to
+/// the first that is not right, and writes the verdict. Returns whether it is legal.
 ///
 /// After a fault of the output a prefix of the verdict's text was written, after any other nothing.
 pub fn judge_history<R: Read, W: Write>(

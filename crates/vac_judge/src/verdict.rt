@@ -9,14 +9,14 @@ use std::alloc::AllocError;
 use vac_lines::{print_fault, print_reply};
 use vac_model::{Reply, Report};
 
-/// What is wrong with a call, behind the calls that stand before it.
+/// What is wrong with a call, after the calls that come before it.
 #[derive(Clone, Copy, Debug, PartialEq, Eq)]
 pub enum Wrong {
     /// It ends before it begins, or begins before an earlier call of its client ends.
     Client,
     /// It ends before an earlier call begins.
     Time,
-    /// The sequential manager, after the calls before, answers this.
+    /// After the calls before it, the sequential manager gives this reply.
     Reply(Reply),
 }
 
@@ -38,7 +38,7 @@ pub enum Verdict {
     Legal(Summary),
     /// This line is no call.
     Fault { line: u64, fault: CallFault },
-    /// This line's call is wrong behind those before it.
+    /// This line's call is wrong after those before it.
     Illegal { line: u64, wrong: Wrong },
 }
 

@@ -86,7 +86,7 @@ impl Work {
         }
     }
 
-    /// Puts a task behind all others.
+    /// Puts a task after all others.
     fn push(&mut self, alloc: Global, client: u32, task: Task) -> Result<(), AllocError>
         ensures { OnOk result ((work : List Asked) → IsWork self.old work →
             IsWork self.new (work ++ asked_of (client, task) ∷ [])) }

@@ -1,4 +1,4 @@
--- What being told a line makes of a text of attempts that is read.
+-- What a line that is told does to a text of attempts that is read.
 use Rattle.std.specs.Prelude.{◌≡◌, ◌≢◌, ℕ, Some, Result, Ok, Err}
 use Rattle.vac_lines.specs.declared.fault.LineFault.{LineFault}
 use Rattle.vac_lines.specs.declared.fault.LineFault.TheVariants as fault
@@ -24,7 +24,7 @@ pub record Brings (x : Attempts) (told : Told) (y : Attempts) : Type 0 where
   pub found : y.found ≡ Some finding
   pub ends : Ends x.judge (told_attempt told) finding
 
--- a line was taken, or brought a verdict; or a fault of no output ended it
+-- a line was taken, or brought a verdict; or a fault that is none of an output ended it
 abbrev pub HearsLine : Attempts → Told → Result Next StreamFault → Attempts → Type 0
 HearsLine x told (Ok GoOn) y = Takes x.judge y.judge (told_attempt told)
 HearsLine x told (Ok Stop) y = Brings x told y
@@ -35,7 +35,7 @@ abbrev pub HearsPause : Attempts → Result Next StreamFault → Attempts → Ty
 HearsPause x (Ok next) y = (next ≡ GoOn) × (y ≡ x)
 HearsPause x (Err stop) y = stop ≢ Write
 
--- what being told this makes of a text that is read
+-- what being told this does to a text that is read
 abbrev pub Hears : Attempts → Told → Result Next StreamFault → Attempts → Type 0
 Hears x (Line text) answer y = HearsLine x (Line text) answer y
 Hears x LongLine answer y = HearsLine x LongLine answer y

@@ -10,7 +10,7 @@ use Rattle.vac_opaque.specs.Words.{left_by}
 use Rattle.vac_opaque.specs.Covered.{image_of}
 use Rattle.vac_opaque.specs.Verdict.{breach_of, committed_of, judged}
 
--- the judge has judged these attempts at so many words
+-- the judge has judged these attempts at this many words
 pub record Follows (words : ℕ) (judge : Judge) (earlier : List Attempt) : Type 0 where
   pub size : length judge.memory.words.items ≡ words
   pub left : image_of judge.memory.words.items ≡ left_by earlier
@@ -23,7 +23,8 @@ pub record Judges (words : ℕ) (after : Judge) (earlier : List Attempt) (attemp
   pub found_is : breach_of earlier attempt ≡ found
   pub taken : found ≡ None → Follows words after (attempt ∷ earlier)
 
--- the judge has taken a line: the verdict on it and those behind it is that on those behind it
+-- the judge has taken a line: the verdict on it and the lines after it is that on the lines after
+-- it
 pub record Takes (judge after : Judge) (line : ℕ → Result Attempt LineFault) : Type 0 where
   pub on : (words : ℕ) (earlier : List Attempt) → Follows words judge earlier →
       (attempts : List Attempt) × Follows words after attempts

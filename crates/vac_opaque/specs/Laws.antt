@@ -27,13 +27,13 @@ pub record IsLastWritten (accesses : List Access) (word value : ℕ) : Type 0 wh
   pub split : accesses ≡ before ++ Write word value ∷ after
   pub last : AllLeave word after
 
--- behind these accesses, which begin with all words at 0, a word has this value: it is the last
--- that was written there, or 0 where none was
+-- after these accesses, which begin with all words at 0, a word has this value: it is the last that
+-- was written there, or 0 where none was
 abbrev pub HasWord : List Access → ℕ → ℕ → Type 0
 HasWord accesses word value =
     IsLastWritten accesses word value ⊎ (AllLeave word accesses × (value ≡ 0))
 
--- each read gives the value that its word has there
+-- each read gives the value that its word has at that point
 abbrev pub AreLegal : List Access → Type 0
 AreLegal accesses = (before after : List Access) (word value : ℕ) →
     accesses ≡ before ++ Read word value ∷ after → HasWord before word value
@@ -44,8 +44,8 @@ committed [] = []
 committed (attempt ∷ more) =
     if attempt.commits then attempt.accesses ++ committed more else committed more
 
--- what an attempt stands on and does, in the order: the accesses of the committed attempts before
--- it, and then its own
+-- what comes before an attempt in the order, and what it does: the accesses of the committed
+-- attempts before it, and then its own
 abbrev pub visible : List Attempt → Attempt → List Access
 visible before attempt = committed before ++ attempt.accesses
 
@@ -55,13 +55,13 @@ EachIsLegal attempts = (before after : List Attempt) (attempt : Attempt) →
     attempts ≡ before ++ attempt ∷ after → AreLegal (visible before attempt)
 
 -- the order in which the attempts are given shows that they are opaque: each is legal, each
--- client's are in turn, and none stands before one that had ended before it began
+-- client's are in turn, and none comes before one that had ended before it began
 pub record IsOpaqueOrder (attempts : List Attempt) : Type 0 where
   pub legal : EachIsLegal attempts
   pub turns : TakeTurns span_of attempts
   pub precedence : KeepPrecedence span_of attempts
 
--- each line of a text is an attempt at so many words, and these are the attempts
+-- each line of a text is an attempt at this many words, and these are the attempts
 abbrev pub Lists : ℕ → List ℕ → List Attempt → Type 0
 Lists words bytes attempts = map (line_attempt words) (lines_of bytes) ≡ map Ok attempts
 
@@ -76,8 +76,8 @@ abbrev pub OpaqueIsOpacity : Type 0
 OpaqueIsOpacity = (words : ℕ) (bytes : List ℕ) →
     (is_opaque (finding_on words bytes) ≡ true) ↔ IsOpaqueText words bytes
 
--- it then says how many attempts there are, how many of them committed, and of how many clients
--- they are
+-- it then says how many attempts there are, how many of them committed, and how many clients made
+-- them
 abbrev pub OpaqueCounts : Type 0
 OpaqueCounts = (words : ℕ) (bytes : List ℕ) (attempts : List Attempt) →
     Lists words bytes attempts → IsOpaqueOrder attempts →

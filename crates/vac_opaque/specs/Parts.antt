@@ -38,12 +38,12 @@ abbrev pub put_before : List Access → Result (List Access) LineFault
 put_before accesses (Ok more) = Ok (accesses ++ more)
 put_before accesses (Err fault) = Err fault
 
--- an access is of one of so many words
+-- an access is of one of this many words
 abbrev pub IsAmong : ℕ → Access → Type 0
 IsAmong words (Read word value) = word < words
 IsAmong words (Write word value) = word < words
 
--- so is each of these
+-- each of these accesses is of one of this many words
 abbrev pub AllAmong : ℕ → List Access → Type 0
 AllAmong words [] = ⊤
 AllAmong words (access ∷ more) = IsAmong words access × AllAmong words more

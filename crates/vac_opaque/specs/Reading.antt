@@ -1,4 +1,4 @@
--- What judging a text of attempts that is read answers and writes, as a function of all its bytes.
+-- What judging a text of attempts that is read returns and writes, as a function of all its bytes.
 use Rattle.std.specs.Prelude.{◌≡◌, ◌⊎◌, ℕ, Bool, Option, IfSome, List, [], ◌++◌}
 use Rattle.std.specs.Io.KnownBytes.{Appends, Consumes, IsAtEnd}
 use Rattle.vac_lines.specs.Writing.{AppendsPrefix}
@@ -7,8 +7,8 @@ use Rattle.vac_streams.specs.declared.fault.StreamFault.TheVariants as fault
 use Rattle.vac_opaque.specs.declared.finding.Finding.{Finding}
 use Rattle.vac_opaque.specs.Verdict.{finding_on, finding_text, is_opaque}
 
--- so much of the input was read as decides the verdict: all of it, or whatever follows; it is the
--- verdict on the whole input
+-- enough of the input was read to decide the verdict: all of it, or so much that the verdict holds
+-- whatever follows; it is the verdict on the whole input
 -- Not said: streams whose bytes no contract knows; that no byte is read after the chunk with the
 -- first wrong line, which is read in the code.
 pub record HasFinding (words : ℕ) (unread left : Option (List ℕ)) (finding : Finding) : Type 0 where
@@ -34,7 +34,7 @@ pub record HasJudgedInPart (words : ℕ) (unread left held holds : Option (List 
 
 -- a fault ended it: one of the output while the verdict was written, any other before
 -- Not said: which of Read, Memory and Bound ends it before it writes; that the output failed where
--- Write is answered, since no contract says what a reader or a writer gives.
+-- Write is returned, since no contract says what a reader or a writer gives.
 abbrev pub HasStopped : ℕ → StreamFault → Option (List ℕ) → Option (List ℕ) → Option (List ℕ)
     → Option (List ℕ) → Type 0
 HasStopped words fault.Write unread left held holds =

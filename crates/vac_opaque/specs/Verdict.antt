@@ -21,7 +21,7 @@ abbrev pub place_first : Option Misplaced → Option Breach → Option Breach
 place_first None rest = rest
 place_first (Some wrong) rest = Some (breach.Place wrong)
 
--- what is wrong first with an attempt behind these earlier ones
+-- the first thing that is wrong with an attempt after these earlier ones
 abbrev pub breach_of : List Attempt → Attempt → Option Breach
 breach_of earlier attempt =
     place_first (misplaced span_of earlier attempt) (wrong_read (left_by earlier) attempt.accesses)
@@ -45,7 +45,7 @@ abbrev pub unless_breach : Option Breach → ℕ → Finding → Finding
 unless_breach None line rest = rest
 unless_breach (Some breach) line rest = Illegal line breach
 
--- the verdict on these lines behind earlier attempts
+-- the verdict on these lines after earlier attempts
 abbrev pub judged : List Attempt → List (Result Attempt LineFault) → Finding
 judged earlier [] = Opaque (counts_of earlier)
 judged earlier (Err fault ∷ rest) = Fault (length earlier + 1) fault
@@ -53,7 +53,7 @@ judged earlier (Ok attempt ∷ rest) =
     unless_breach (breach_of earlier attempt) (length earlier + 1)
     (judged (attempt ∷ earlier) rest)
 
--- the verdict on a text of attempts at so many words
+-- the verdict on a text of attempts at this many words
 abbrev pub finding_on : ℕ → List ℕ → Finding
 finding_on words bytes = judged [] (map (line_attempt words) (lines_of bytes))
 

@@ -19,12 +19,12 @@ zeros word = 0
 abbrev pub changed : Image → ℕ → ℕ → Image
 changed image word value = λ other. if word == other then value else image other
 
--- the words behind an access
+-- the words after an access
 abbrev pub behind : Image → Access → Image
 behind image (Read word value) = image
 behind image (Write word value) = changed image word value
 
--- the words behind accesses, one after the other
+-- the words after these accesses, one after the other
 abbrev pub after : Image → List Access → Image
 after image [] = image
 after image (access ∷ more) = after (behind image access) more
@@ -40,7 +40,7 @@ abbrev pub unless_same : ℕ → ℕ → ℕ → Option Breach → Option Breach
 unless_same word value is rest =
     if value == is then rest else Some (breach.Read word is)
 
--- the first read among accesses that gives another value than its word has there
+-- the first read among accesses that gives another value than its word has at that point
 abbrev pub wrong_read : Image → List Access → Option Breach
 wrong_read image [] = None
 wrong_read image (Read word value ∷ more) =

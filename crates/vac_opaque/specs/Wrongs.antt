@@ -1,5 +1,5 @@
 -- The verdict names the right line: the order of the lines before it shows that they are opaque,
--- with it it does not, and why, in the order in which it is asked.
+-- with it it does not, and why, in the order in which the causes are looked for.
 use Rattle.std.specs.Prelude.{◌≡◌, ◌≢◌, ◌↔◌, ℕ, ◌+◌, Ok, Err, Result, List, [], ◌∷◌, ◌++◌, map, length}
 use Rattle.vac_lines.specs.declared.fault.LineFault.{LineFault}
 use Rattle.vac_lines.specs.Lines.{lines_of}
@@ -13,8 +13,8 @@ use Rattle.vac_opaque.specs.Attempt.{Attempt, span_of, line_attempt}
 use Rattle.vac_opaque.specs.Verdict.{finding_on}
 use Rattle.vac_opaque.specs.Laws.{HasWord, AreLegal, IsOpaqueOrder, committed}
 
--- the first read of an attempt that is not legal behind these attempts is of this word, which has
--- this value there
+-- the first read of an attempt that is not legal after these attempts is of this word, which has
+-- this value at that point
 pub record IsWrongRead (attempts : List Attempt) (attempt : Attempt) (word expected : ℕ) :
     Type 0 where
   pub own : List Access
@@ -25,8 +25,8 @@ pub record IsWrongRead (attempts : List Attempt) (attempt : Attempt) (word expec
   pub has : HasWord (committed attempts ++ own) word expected
   pub other : value ≢ expected
 
--- why no opaque order goes on with an attempt behind these: clients come first, then times, then
--- its first read that is not legal
+-- why no opaque order goes on with an attempt after these: clients come first, then times, then its
+-- first read that is not legal
 abbrev pub IsBreach : List Attempt → Attempt → Breach → Type 0
 IsBreach attempts attempt (breach.Place wrong) = IsCause span_of attempts attempt wrong
 IsBreach attempts attempt (breach.Read word expected) =

@@ -25,7 +25,7 @@ fn access_at(words: u32, kind: &[u8], word: &[u8], value: &[u8]) -> Result<Acces
     }
 }
 
-/// The access that a word and those behind it write, and what is left behind them.
+/// The access that a word and those after it write, and what is left after them.
 fn read_access<'a>(
     words: u32,
     kind: &[u8],

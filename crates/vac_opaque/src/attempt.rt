@@ -43,7 +43,7 @@ fn span_at(client: &[u8], begin: &[u8], end: &[u8]) -> Result<Span, LineFault>
     Ok(Span { client, begin, end })
 }
 
-/// What a line says of an attempt before its reads and writes, and what is left behind that.
+/// What a line says of an attempt before its reads and writes, and what is left after that.
 fn read_head(line: &[u8]) -> Result<(Head, Option<&[u8]>), LineFault>
     ensures { MatchResult result
         (λ read. (words : ℕ) → words_attempt words (words_of line.now)
@@ -59,7 +59,7 @@ fn read_head(line: &[u8]) -> Result<(Head, Option<&[u8]>), LineFault>
     Ok((Head { span, commits }, rest))
 }
 
-/// Reads a line at so many words, which is not too long and is given without its line end: the
+/// Reads a line at `words` words, which is not too long and is given without its line end: the
 /// attempt that it stands for, whose accesses are left in `accesses`, or its first fault.
 pub(crate) fn read_attempt(
     words: u32,

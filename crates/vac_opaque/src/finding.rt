@@ -10,13 +10,13 @@ use vac_lines::{LineFault, print_fault, print_reply};
 use vac_model::Reply;
 use vac_spans::Misplaced;
 
-/// What is wrong with an attempt, behind those that stand before it.
+/// What is wrong with an attempt, after those that come before it.
 #[derive(Clone, Copy, Debug, PartialEq, Eq)]
 pub enum Breach {
-    /// It does not stand in its place.
+    /// Its place in the order is wrong.
     Place(Misplaced),
-    /// A read of this word is to give this value: the last that the attempt itself wrote there, or,
-    /// where it wrote none before, what the committed attempts before it left there.
+    /// A read of this word should give this value: the last that the attempt itself wrote there,
+    /// or, where it wrote none before, what the committed attempts before it left there.
     Read { word: u32, expected: u64 },
 }
 
@@ -38,7 +38,7 @@ pub enum Finding {
     Opaque(Counts),
     /// This line is no attempt.
     Fault { line: u64, fault: LineFault },
-    /// This line's attempt is wrong behind those before it.
+    /// This line's attempt is wrong after those before it.
     Illegal { line: u64, breach: Breach },
 }
 

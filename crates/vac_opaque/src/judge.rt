@@ -15,8 +15,8 @@ use vac_lines::LineFault;
 use vac_spans::Spans;
 use vac_streams::StreamFault;
 
-/// A judge of attempts that are given line by line: the words that the committed ones leave, and
-/// what the place of a further one is judged by.
+/// A judge of attempts that are given line by line: the words that the committed ones leave, and by
+/// what the place of a further one is judged.
 #[derive(Drop)]
 pub(crate) struct Judge {
     memory: Memory,
@@ -27,7 +27,7 @@ pub(crate) struct Judge {
     accesses: Vec<Access>,
 }
 
-/// How many attempts committed, with one more that did or did not.
+/// How many attempts committed, after one more that did or did not.
 fn count_commit(committed: u64, commits: bool) -> Result<u64, StreamFault>
     ensures count { IfOk result (λ count.
         count ≡ (if commits then committed + 1 else committed)) }
@@ -41,7 +41,7 @@ fn count_commit(committed: u64, commits: bool) -> Result<u64, StreamFault>
 }
 
 impl Judge {
-    /// A judge of attempts at so many words, who has seen none.
+    /// A judge of attempts at `words` words, which has seen none.
     pub(crate) fn new(alloc: Global, words: u32) -> Result<Judge, AllocError>
         ensures { IfOk result (λ judge. Follows words judge []) }
     {
@@ -86,7 +86,7 @@ impl Judge {
         Ok(None)
     }
 
-    /// Judges a line, which is not too long and is given without its end. Answers the verdict that
+    /// Judges a line, which is not too long and is given without its end. Returns the verdict that
     /// it brings, whatever lines follow; or `None`, where its attempt is right and was taken.
     pub(crate) fn judge_line(&mut self, text: &[u8]) -> Result<Option<Finding>, StreamFault>
         ensures judged { IfOk result (λ found. MatchOption found
@@ -104,7 +104,7 @@ impl Judge {
         }
     }
 
-    /// The verdict that a line brings which is too long.
+    /// The verdict that a line which is too long brings.
     pub(crate) fn long_line(&self) -> Result<Finding, StreamFault>
         ensures judged { IfOk result (λ finding.
             Ends self.now (λ words. Err LineFault.LongLine) finding) }
@@ -117,7 +117,7 @@ impl Judge {
         })
     }
 
-    /// What is said of the attempts, where no further line comes.
+    /// What is said of the attempts, where no further line follows.
     pub(crate) fn counts(&self) -> Counts
         ensures { (words : ℕ) (earlier : List Attempt) → Follows words self.now earlier →
             result ≡ counts_of earlier }

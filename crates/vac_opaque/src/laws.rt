@@ -5,15 +5,16 @@ ghost use Rattle.vac_opaque.specs.Wrongs.{IllegalIsFirstWrong, FaultIsFirst};
 
 /// A text of attempts is found opaque exactly where each of its lines is an attempt and the order
 /// in which they are given shows that they are opaque: each attempt, committed or not, reads what
-/// the committed ones before it and its own writes leave, each client's attempts do not overlap
-/// and stand in their order, and no attempt stands before one that had ended before it began.
+/// the committed ones before it and its own writes leave, each client's attempts do not overlap and
+/// are in their order, and no attempt comes before one that had ended before it began.
 ///
 /// Not said: that no other order would show it where the one that is given does not.
 pub fn a_finding_sees_opacity()
     ensures { OpaqueIsOpacity }
 {}
 
-/// Of opaque attempts the verdict has their number, how many committed, and that of their clients.
+/// Of opaque attempts the verdict has the number, how many committed, and the number of their
+/// clients.
 pub fn opaque_attempts_are_counted()
     ensures { OpaqueCounts }
 {}
@@ -21,8 +22,8 @@ pub fn opaque_attempts_are_counted()
 /// A text of attempts is illegal of a line exactly where the order of the lines before it shows
 /// that they are opaque, with the attempt of that line it does not, and this is the first cause:
 /// the attempts of a client are not in turn; or they are, and the attempt had ended before one that
-/// stands before it began; or no time is broken, and its first read that is not legal is of this
-/// word, which has this value there.
+/// comes before it in the order began; or no time is broken, and its first read that is not legal
+/// is of this word, which has this value at that point.
 pub fn a_finding_names_the_first_wrong_attempt()
     ensures { IllegalIsFirstWrong }
 {}

@@ -1,8 +1,8 @@
 //! A judge of opacity: it says whether the order in which the attempts of a transactional memory
-//! are given shows that they are opaque, those that were given up among them.
+//! are given shows that they are opaque, aborted ones among them.
 //!
 //! A text has a line `CLIENT BEGIN END commit|abort [r A V | w A V]..` for each attempt, in the
-//! order in which the runtime claims that the attempts stand.
+//! order that the runtime claims for the attempts.
 #![tactic(auto)]
 
 mod accesses;

@@ -9,7 +9,7 @@ use crate::attempt::Access;
 use crate::finding::Breach;
 use std::alloc::{AllocError, Global};
 
-/// How many words there are, where none say how many.
+/// How many words there are where the command line does not say.
 pub const USUAL_WORDS: u32 = 65_536;
 
 /// The most words that the command takes.
@@ -31,7 +31,7 @@ pub(crate) struct Memory {
     ghost sized: { length words.items ≡ size },
 }
 
-/// The value of a word; 0, where there is none.
+/// The value of a word; 0 where there is no such word.
 fn word_of(words: &[u64], word: u32) -> u64
     ensures { result ≡ image_of words.now word }
 {
@@ -41,7 +41,7 @@ fn word_of(words: &[u64], word: u32) -> u64
     }
 }
 
-/// Gives a word a value, where there is one.
+/// Gives a word a value, where there is such a word.
 fn set_word(words: &mut Vec<u64>, word: u32, value: u64)
     ensures { words.new.items ≡ slice_set words.old.items word value }
 {
@@ -52,7 +52,7 @@ fn set_word(words: &mut Vec<u64>, word: u32, value: u64)
 }
 
 impl Memory {
-    /// So many words, all 0.
+    /// `size` words, all 0.
     pub(crate) fn new(alloc: Global, size: u32) -> Result<Memory, AllocError>
         ensures zeros { IfOk result (λ memory. image_of memory.words.items ≡ zeros) }
         ensures size { IfOk result (λ memory. length memory.words.items ≡ size) }
@@ -97,7 +97,7 @@ impl Memory {
         Ok(())
     }
 
-    /// Does what an attempt did, and answers its first read that is not right, behind which nothing
+    /// Does what an attempt did, and returns its first read that is not right, after which nothing
     /// is done.
     pub(crate) fn run(&mut self, accesses: &[Access]) -> Result<Option<Breach>, AllocError>
         requires among { AllAmong (length self.old.words.items) accesses.now }

@@ -9,7 +9,7 @@ use vac_spans::read_client;
 /// The word of an attempt that committed.
 const COMMIT: &[u8] = b"commit";
 
-/// The word of an attempt that was given up.
+/// The word of an attempt that aborted.
 const ABORT: &[u8] = b"abort";
 
 /// The word of a read.
@@ -32,7 +32,7 @@ pub(crate) fn number_at(word: &[u8]) -> Result<u64, LineFault>
     read_memory_word(word).ok_or(LineFault::BadNumber)
 }
 
-/// The number of one of so many words.
+/// The number of one of `words` words.
 pub(crate) fn word_at(words: u32, text: &[u8]) -> Result<u32, LineFault>
     ensures word { result ≡ at_word words text.now }
     ensures among { IfOk result (λ word. word < words) }

@@ -50,7 +50,7 @@ impl Sink<()> for Attempts {
     }
 }
 
-/// The verdict on a text of attempts at so many words: reads the lines to the end of the input, or
+/// The verdict on a text of attempts at `words` words: reads the lines to the end of the input, or
 /// to the first that is not right.
 fn find_in<R: Read>(alloc: Global, words: u32, input: &mut R) -> Result<Finding, StreamFault>
     ensures found { IfOk result (λ finding.
@@ -70,8 +70,8 @@ fn find_in<R: Read>(alloc: Global, words: u32, input: &mut R) -> Result<Finding,
     }
 }
 
-/// Judges a text of attempts at so many words: reads its lines to the end of the input, or to the
-/// first that is not right, and writes the verdict. Answers whether it is that they are opaque.
+/// Judges a text of attempts at `words` words: reads its lines to the end of the input, or to the
+/// first that is not right, and writes the verdict. Returns whether they are opaque.
 ///
 /// It keeps the words, one number for each client, a line, and what a line reads and writes.
 ///

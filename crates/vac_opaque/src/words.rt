@@ -5,7 +5,7 @@ ghost use Rattle.vac_opaque.specs.Parts.{words_left};
 
 use vac_lines::{LineFault, cut_at};
 
-/// The first word of what is left of a line, and what is left behind it; `None` where nothing is
+/// The first word of what is left of a line, and what is left after it; `None` where nothing is
 /// left.
 pub(crate) fn next_word(left: Option<&[u8]>) -> Option<(&[u8], Option<&[u8]>)>
     ensures { MatchOption result (words_left left.entry ≡ [])
@@ -18,7 +18,7 @@ pub(crate) fn next_word(left: Option<&[u8]>) -> Option<(&[u8], Option<&[u8]>)>
     }
 }
 
-/// The first word of what is left of a line that is to have one, and what is left behind it.
+/// The first word of what is left of a line that must have one, and what is left after it.
 pub(crate) fn take_word(left: Option<&[u8]>) -> Result<(&[u8], Option<&[u8]>), LineFault>
     ensures { MatchResult result
         (λ cut. words_left left.entry ≡ cut.0.now ∷ words_left cut.1)

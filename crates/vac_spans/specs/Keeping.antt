@@ -25,7 +25,7 @@ abbrev pub EachSpan : (Span → Type 0) → List Span → Type 0
 EachSpan P [] = ⊤
 EachSpan P (span ∷ earlier) = P span × EachSpan P earlier
 
--- the spans of each client stand in their order
+-- the spans of each client are in their order
 abbrev pub AreInTurn : List Span → Type 0
 AreInTurn [] = ⊤
 AreInTurn (span ∷ earlier) =

@@ -1,10 +1,10 @@
--- What an order of things asks of their spans.
+-- What must hold of the spans of things in an order.
 use Rattle.std.specs.Prelude.{◌≡◌, ℕ, ◌<◌, ◌≤◌, Some, List, [], ◌∷◌, ◌++◌, slice_get}
 use Rattle.vac_spans.specs.declared.span.Span.{Span}
 use Rattle.vac_spans.specs.declared.span.Misplaced.{Misplaced}
 use Rattle.vac_spans.specs.declared.span.Misplaced.TheVariants.{Client, Time}
 
--- this stands at a place of the order
+-- this is at a place of the order
 abbrev pub IsAt : {C : Type 0} → List C → ℕ → C → Type 0
 IsAt xs place x = slice_get xs place ≡ Some x
 
@@ -12,12 +12,12 @@ IsAt xs place x = slice_get xs place ≡ Some x
 abbrev pub TakeTime : {C : Type 0} → (C → Span) → List C → Type 0
 TakeTime {C} span xs = (i : ℕ) (a : C) → IsAt xs i a → (span a).begin ≤ (span a).end
 
--- those of each client do not overlap, and stand in their order
+-- those of each client do not overlap, and are in their order
 abbrev pub AreSequential : {C : Type 0} → (C → Span) → List C → Type 0
 AreSequential {C} span xs = (i j : ℕ) (a b : C) → IsAt xs i a → IsAt xs j b → i < j →
     (span a).client ≡ (span b).client → (span a).end ≤ (span b).begin
 
--- one that had ended before another began stands before it
+-- one that had ended before another began comes before it
 abbrev pub KeepPrecedence : {C : Type 0} → (C → Span) → List C → Type 0
 KeepPrecedence {C} span xs = (i j : ℕ) (a b : C) → IsAt xs i a → IsAt xs j b →
     (span a).end < (span b).begin → i < j
@@ -27,7 +27,7 @@ pub record TakeTurns {C : Type 0} (span : C → Span) (xs : List C) : Type 0 whe
   pub times : TakeTime span xs
   pub clients : AreSequential span xs
 
--- why no order goes on with x behind things in order: clients come first, then times
+-- why no order goes on with x after things in order: clients come first, then times
 abbrev pub IsCause : {C : Type 0} → (C → Span) → List C → C → Misplaced → Type 0
 IsCause span xs x Client = TakeTurns span (xs ++ x ∷ []) → ⊥
 IsCause span xs x Time =

@@ -1,5 +1,5 @@
--- When something does not fit what stands before it, of which a span is known. Earlier ones are
--- listed from the newest on.
+-- When something does not fit what comes before it in an order, where the span of each is known.
+-- Earlier ones are listed from the newest on.
 use Rattle.std.specs.Prelude.{ℕ, ◌+◌, ◌==◌, ◌&&◌, ◌||◌, Bool, Option, Some, None, List, [], ◌∷◌, nat_lt, if◌then◌else◌}
 use Rattle.std.specs.List.{list_any}
 use Rattle.vac_spans.specs.declared.span.Span.{Span}
@@ -27,18 +27,18 @@ abbrev pub breaks_client : {C : Type 0} → (C → Span) → List C → C → Bo
 breaks_client span earlier x =
     nat_lt (span x).end (span x).begin || list_any (overlaps span x) earlier
 
--- it stands behind one that began only after it had ended
+-- it comes after one that began only after it had ended
 abbrev pub breaks_time : {C : Type 0} → (C → Span) → List C → C → Bool
 breaks_time span earlier x = list_any (ended_before span x) earlier
 
--- what is wrong first with its place behind these
+-- the first thing that is wrong with its place after these
 abbrev pub misplaced : {C : Type 0} → (C → Span) → List C → C → Option Misplaced
 misplaced span earlier x =
     if breaks_client span earlier x then Some Client
     else if breaks_time span earlier x then Some Time
     else None
 
--- of how many clients these are
+-- how many clients have these spans
 abbrev pub clients_of : {C : Type 0} → (C → Span) → List C → ℕ
 clients_of span [] = 0
 clients_of span (x ∷ earlier) =

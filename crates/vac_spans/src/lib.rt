@@ -1,5 +1,5 @@
-//! What is asked of the times of calls that clients make, one behind the other: the calls of each
-//! client are in turn, none ends before it begins, and none stands behind one that began only after
+//! What is asked of the times of calls that clients make, one after the other: the calls of each
+//! client are in turn, none ends before it begins, and none comes after one that began only after
 //! it had ended.
 #![tactic(auto)]
 

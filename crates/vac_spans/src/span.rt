@@ -11,7 +11,7 @@ pub struct Span {
     pub end: u128,
 }
 
-/// What is wrong with a span behind those before it.
+/// What is wrong with a span after those before it.
 #[derive(Clone, Copy, Debug, PartialEq, Eq)]
 pub enum Misplaced {
     /// It ends before it begins, or begins before an earlier one of its client ends.

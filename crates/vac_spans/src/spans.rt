@@ -1,4 +1,4 @@
-//! Spans, one behind the other.
+//! Spans, one after the other.
 
 ghost use Rattle.std.specs.Prelude.{◌≡◌, ◌<◌, ◌+◌, ◌^◌, OnOk, List, [], ◌∷◌, None};
 ghost use Rattle.vac_spans.specs.Order.{itself, misplaced, clients_of};
@@ -8,7 +8,7 @@ use crate::ends::Ends;
 use crate::span::{Misplaced, Span};
 use std::alloc::{AllocError, Global};
 
-/// What is kept of spans that stand one behind the other: one number for each client, the latest
+/// What is kept of spans that come one after the other: one number for each client, the latest
 /// BEGIN, and how many there are.
 #[derive(Drop)]
 pub struct Spans {
@@ -39,7 +39,7 @@ impl Spans {
         self.count
     }
 
-    /// Of how many clients they are.
+    /// How many clients they are of.
     pub fn clients(&self) -> u64
         ensures { (earlier : List Span) → Keeps self.now earlier →
             result ≡ clients_of itself earlier }
@@ -47,7 +47,7 @@ impl Spans {
         self.ends.len()
     }
 
-    /// What is wrong with a span behind these.
+    /// What is wrong with a span after these.
     pub fn find(&self, span: &Span) -> Option<Misplaced>
         ensures { (earlier : List Span) → Keeps self.now earlier →
             misplaced itself earlier span.now ≡ result }
@@ -67,7 +67,7 @@ impl Spans {
         None
     }
 
-    /// Puts a span behind these.
+    /// Puts a span after these.
     pub fn push(&mut self, span: &Span) -> Result<(), AllocError>
         requires { self.old.count + 1 < 2 ^ 64 }
         ensures count { OnOk result (self.new.count ≡ self.old.count + 1) }

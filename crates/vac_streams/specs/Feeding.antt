@@ -1,4 +1,4 @@
--- What a part of an input does, where a line has begun before it.
+-- What a part of an input does where a line has begun before it.
 use Rattle.std.specs.Prelude.{◌≡◌, ℕ, ◌+◌, ◌≤◌, Result, Ok, Err, List, [], ◌∷◌, ◌++◌, length}
 use Rattle.vac_lines.specs.Lines.{HasNo}
 use Rattle.vac_streams.specs.declared.fault.StreamFault.{StreamFault}
@@ -12,7 +12,7 @@ abbrev pub HasBegun : ℕ → List ℕ → Type 0
 HasBegun longest line = HasNo 10 line × (length line ≤ longest + 1)
 
 -- the sink was told the lines that end in a chunk, and then of one pause: whatever follows the
--- chunk, the lines behind them are those of the line that has begun then
+-- chunk, the lines after them are those of the line that has begun by then
 pub record FedAll {S O : Type 0}
     (hears : S → O → Told → Result Next StreamFault → S → O → Type 0) (longest : ℕ)
     (line line' chunk : List ℕ) (s : S) (o : O) (t : S) (p : O) : Type 0 where

@@ -1,5 +1,5 @@
--- What a sink has heard of an input. What a sink makes of being told something is a relation hears
--- of its own: from a sink and an output, told this, with this answer, to a sink and an output.
+-- What a sink has heard of an input. What being told something does to a sink is its own relation
+-- `hears`: from a sink and an output, told this, with this answer, to a sink and an output.
 use Rattle.std.specs.Prelude.{◌≡◌, ◌≢◌, ◌⊎◌, ℕ, Option, Result, Ok, Err, List, [], ◌∷◌, ◌++◌}
 use Rattle.std.specs.Io.KnownBytes.{Consumes, IsAtEnd}
 use Rattle.vac_streams.specs.declared.fault.StreamFault.{StreamFault}
@@ -33,8 +33,8 @@ pub record ToldLast {S O : Type 0}
 abbrev pub AreFirst : ℕ → List Told → List ℕ → Type 0
 AreFirst longest lines text = (more : List Told) × (told_lines longest text ≡ lines ++ more)
 
--- these are the first lines of an input of which these bytes were read: of all of it, where it was
--- read to its end, or whatever follows
+-- these are the first lines of an input of which these bytes were read: the input is all of these,
+-- where it was read to its end, or goes on in whatever way
 abbrev pub AreFirstOf : ℕ → List Told → List ℕ → Option (List ℕ) → Type 0
 AreFirstOf longest lines bytes left =
     (IsAtEnd left × AreFirst longest lines bytes)
@@ -73,8 +73,8 @@ pub record HeardFirst {S O : Type 0}
   pub first : (x : List ℕ) → AreFirst longest (lines_in told) (bytes ++ x)
 
 -- what reading an input for a sink leaves: the sink heard all of it; or it ended the reading; or
--- the reading ended by a fault of its own, which is none of an output
--- Not said: which fault of the reading is answered for which failure of the reader.
+-- the reading ended by a fault of its own, which is no fault of an output
+-- Not said: which fault of the reading is returned for which failure of the reader.
 abbrev pub Heard : {S O : Type 0}
     → (S → O → Told → Result Next StreamFault → S → O → Type 0) → ℕ
     → Result Next StreamFault → Option (List ℕ) → Option (List ℕ) → S → O → S → O → Type 0

@@ -2,13 +2,13 @@
 use Rattle.std.specs.Prelude.{ℕ, List, [], ◌∷◌, map, length, nat_lt, if◌then◌else◌}
 use Rattle.vac_lines.specs.Lines.{lines_of}
 
--- a line; that a line is too long; that all lines that were read to their end are told
+-- a line; that a line is too long; that all lines that were read to their end have been told
 pub data Told : Type 0 where
   Line : (text : List ℕ) → Told
   LongLine : Told
   Pause : Told
 
--- what is told of a line, where none is told that is longer than this
+-- what is told of a line, where no line is told that is longer than this
 abbrev pub told_of : ℕ → List ℕ → Told
 told_of longest line = if nat_lt longest (length line) then LongLine else Line line
 

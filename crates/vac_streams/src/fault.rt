@@ -15,10 +15,10 @@ pub enum StreamFault {
     /// The output could not be written, or a write took nothing.
     #[error("the output could not be written")]
     Write = 2,
-    /// There was no memory.
+    /// Memory was refused.
     #[error("out of memory")]
     Memory = 3,
-    /// The input takes more reads than may be made, or it has more lines than can be counted.
+    /// The input takes more reads than may be made, or has more lines than can be counted.
     #[error("the input is too long")]
     Bound = 6,
 }

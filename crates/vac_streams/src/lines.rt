@@ -34,7 +34,7 @@ impl Lines {
         Ok(Lines { longest, line })
     }
 
-    /// Keeps what follows of the line that has begun, as far as there is need.
+    /// Keeps what follows of the line that has begun, as far as it is needed.
     fn keep(&mut self, more: &[u8])
         requires { length self.old.line.items ≤ self.old.longest + 1 }
         ensures longest { self.new.longest ≡ self.old.longest }

@@ -16,15 +16,15 @@ use vac_lines::{CHUNK_BYTES, MOST_READS};
 pub const MOST_LINES: u64 = (MOST_READS + 1) * CHUNK_BYTES as u64 + 1;
 
 /// Reads an input to its end, or until the sink stops or a fault ends the reading, and tells the
-/// sink its lines in their order, each without its end; of a line that is longer than the longest
-/// only that it is. What follows the last line end is a line where it has a byte. After each read
-/// the sink is told of a pause. A read that was interrupted is done again.
+/// sink its lines in their order, each without its end; of a line that is too long, only that it
+/// is. What follows the last line end is a line where it has a byte. After each read the sink is
+/// told of a pause. A read that was interrupted is done again.
 ///
-/// Answers whether the sink still wants more at the end of the input.
+/// Returns whether the sink still wants more at the end of the input.
 ///
 /// # Errors
-/// The first fault that the sink answers; `Read`, where a read failed; `Bound`, where the input
-/// did not end within `MOST_READS` reads and one; `Memory`, before anything was read.
+/// The first fault that the sink returns; `Read`, where a read failed; `Bound`, where the input did
+/// not end within `MOST_READS` reads and one; `Memory`, before anything was read.
 ///
 /// Not said: which of the last three it is, but that it is no fault of an output.
 pub fn read_lines<R: Read, O, S: Sink<O>>(
