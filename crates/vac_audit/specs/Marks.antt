@@ -106,7 +106,7 @@ BookingLooked words codes p lo result =
     (λ i. (look_at_booking (slice_index words) tables p lo ≡ Ok tt))
     (λ flaw. look_at_booking (slice_index words) tables p lo ≡ Err flaw)
 
--- what was written down allows to count the bookings of this many further blocks
+-- what was written down leaves room to count the bookings of this many further blocks
 pub record Counting (notes : Notes) (left : ℕ) : Type 0 where
   pub order : InOrder notes.items.items
   pub booked : (i : ℕ) →

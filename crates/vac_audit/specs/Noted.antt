@@ -27,7 +27,8 @@ abbrev pub Rising : List ℕ → Type 0
 Rising xs =
     (i j : ℕ) → i < j → j < length xs → slice_index xs i < slice_index xs j
 
--- the items stand by ascending key. Ids are below 2 ^ 32, so that keys stand as their numbers do
+-- the items are in the order of their keys. Ids are below 2 ^ 32, so that keys are ordered as their
+-- numbers are
 pub record InOrder (items : List NotedItem) : Type 0 where
   pub rising : Rising (codes_in items)
   pub ids : All (λ key. key.id < 2 ^ 32) (keys_in items)

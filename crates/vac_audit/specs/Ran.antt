@@ -113,7 +113,7 @@ CustomersRan words marks marks' notes notes' result =
     (λ customers. CustomersWalked words marks marks' notes notes' tables customers s)
     (λ fault. Faulted fault (λ flaw. customer_table words (length marks) tables s ≡ Err flaw))
 
--- the items' blocks are inside of the words
+-- the items' blocks lie within the words
 abbrev pub Inside : List ℕ → List NotedItem → Type 0
 Inside words items = All (λ item. item.block + 8 ≤ length words) items
 
@@ -121,7 +121,7 @@ Inside words items = All (λ item. item.block + 8 ≤ length words) items
 abbrev pub IsUsed : List ℕ → NotedItem → Type 0
 IsUsed words item = slice_index words (item.block + 4) ≡ item.booked
 
--- the first item that has others
+-- the first item of which other numbers of units are used and booked
 pub record FirstUnused (words : List ℕ) (items : List NotedItem) (flaw : Flaw) : Type 0 where
   pub i : ℕ
   pub inside : i < length items
@@ -129,7 +129,8 @@ pub record FirstUnused (words : List ℕ) (items : List NotedItem) (flaw : Flaw)
   pub other : HoldsAt (λ item. IsUsed words item → ⊥) items i
   pub earlier : AllWithin (IsUsed words) items 0 i
 
--- of each item as many units are used as are booked, or the flaw is that of the first other one
+-- of each item as many units are used as are booked, or the flaw is that of the first item where
+-- they differ
 abbrev pub UsedRan : List ℕ → List NotedItem → Result ⊤ Flaw → Type 0
 UsedRan words items result = MatchResult result
     (λ _. All (IsUsed words) items)
@@ -141,7 +142,7 @@ HeapRan words blocks result = MatchResult result
     (λ report. audit (slice_index words) blocks ≡ Ok report)
     (λ fault. Faulted fault (λ flaw. audit (slice_index words) blocks ≡ Err flaw))
 
--- n words are those of a heap of one block or more, and of no more than there may be
+-- n words are those of a heap of one block or more, and of at most as many as there may be
 abbrev pub IsHeapSize : ℕ → Type 0
 IsHeapSize n = (blocks : ℕ) × ((n ≡ heap_words blocks) × (1 ≤ blocks) × (blocks ≤ MOST_BLOCKS))
 
@@ -155,6 +156,6 @@ abbrev pub fault_answer : Fault → AuditFault
 fault_answer Refused = Memory
 fault_answer (Found flaw) = Flawed flaw
 
--- the result is that of the audit, unless there was no memory
+-- the result is that of the audit, unless memory was refused
 abbrev pub Audited : (ℕ → ℕ) → ℕ → Result Report AuditFault → Type 0
 Audited m blocks result = (result ≡ Err Memory) ⊎ (result ≡ answer (audit m blocks))

@@ -13,7 +13,7 @@ pub record StateOf (words : List ℕ) (found : Report) : Type 0 where
   pub report_is : report state ≡ found
 
 -- where the words represent a balanced state of one block or more, its report is the result, unless
--- there was no memory
+-- memory was refused
 abbrev pub Recognised : List ℕ → Result Report AuditFault → Type 0
 Recognised words result = (s : State) → 1 ≤ s.capacity →
     IsState (slice_index words) (length words) s →

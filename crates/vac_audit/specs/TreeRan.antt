@@ -52,15 +52,15 @@ KeyLooked words p lo result = MatchResult result
     (λ next. (is_key (slice_index words) p lo ≡ true) × (next ≡ slice_index words p + 1))
     (λ flaw. (is_key (slice_index words) p lo ≡ false) × (flaw ≡ Order p))
 
--- the root of this tree was looked at. Where it is red, it stands in the block that the root word
--- leads to
+-- the root of this tree was looked at. Where it is red, it is in the block that the root word leads
+-- to
 abbrev pub RootLooked : List ℕ → ℕ → Side → Result ⊤ Flaw → Type 0
 RootLooked words root side result = MatchResult result
     (λ _. side.red ≡ false)
     (λ flaw. (side.red ≡ true) × (slice_index words root + 8 ≤ length words →
     flaw ≡ Colour (slice_index words root + 3)))
 
--- memory may be wanting at any time
+-- memory may be refused at any time
 abbrev pub Faulted : Fault → (Flaw → Type 0) → Type 0
 Faulted Memory P = Unit {0}
 Faulted (Found flaw) P = P flaw
@@ -145,12 +145,12 @@ pub record Summed (tally : Tally) (items : ℕ) : Type 0 where
   pub free : tally.free ≤ MOST_TOTAL * items
   pub total : tally.total ≤ MOST_TOTAL * items
 
--- what was written down allows a walk of such a table that reaches this many blocks more
+-- what was written down leaves room for a walk of such a table that reaches this many more blocks
 abbrev pub Ready : Table → Notes → ℕ → Type 0
 Ready (Items kind) notes left = Summed notes.tally (length notes.items.items)
 Ready Customers notes left = Counting notes left
 
--- there is room for this many items more
+-- there is room for this many more items
 abbrev pub HasRoom : Table → Notes → ℕ → Type 0
 HasRoom (Items kind) notes left = length notes.items.items + left ≤ MOST_BLOCKS
 HasRoom Customers notes left = Unit {0}

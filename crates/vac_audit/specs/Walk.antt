@@ -1,9 +1,9 @@
 -- The audit of words as a function: it walks the words of a heap in order and returns what it
--- found, or the first flaw that it met. Words 1 to 4 lead to the tables of cars, flights, rooms
--- and customers, words 8 to 15 to the lists of free blocks. From word 16 on stand the blocks, of
--- eight words each. A node of a table has key, left, right, colour; after them an item has used,
--- free, total, price, and a customer the head of its bookings. A booking has kind, id, sum, next,
--- units. Each flaw has the word at which it was met.
+-- found, or the first flaw that it met. Words 1 to 4 lead to the tables of cars, flights, rooms and
+-- customers, words 8 to 15 to the lists of free blocks. The blocks begin at word 16, and have eight
+-- words each. A node of a table has key, left, right, colour; after them an item has used, free,
+-- total, price, and a customer the head of its bookings. A booking has kind, id, sum, next, units.
+-- Each flaw has the word at which it was met.
 use Rattle.std.specs.Prelude.{ℕ, ◌+◌, ◌*◌, ◌^◌, Bool, true, false, cond, not, ◌&&◌, ◌||◌, List, [], ◌∷◌, length, Result, Ok, Err, nat_eq, nat_lt, nat_le, zero, suc, ◌%◌, sum_by}
 use Rattle.tx_alloc.specs.Pool.{held, sum_below, with_at}
 use Rattle.tx_alloc.specs.Rows.{Rows, block_at}
@@ -80,7 +80,7 @@ walk_bookings m n tables (suc levels) a lo seen =
     then (walk_bookings m n tables levels (p + 3) (place_code m p + 1) (p ∷ seen)) (λ x.
     Ok ((place_code m p, p) ∷ x.0, x.1))))))
 
--- what is looked at in the node in block p beside its key
+-- what is looked at in the node in block p besides its key
 abbrev pub Look : Type 0
 Look = ℕ → Seen → Result Seen Flaw
 

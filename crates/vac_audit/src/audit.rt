@@ -30,7 +30,7 @@ pub const MOST_HEAP_WORDS: usize = FIRST_BLOCK + BLOCK_WORDS * MOST_BLOCKS;
 pub enum AuditFault {
     /// The length is not that of a heap of 1 to 262,144 blocks.
     Size,
-    /// There was no memory.
+    /// Memory was refused.
     Memory,
     /// The words have a flaw.
     Flaw(Flaw),
@@ -99,7 +99,7 @@ fn walk_customers(
     walk_table(alloc, words, reached, notes, Table::Customers, CUSTOMERS.0 as usize)
 }
 
-/// Looks for an item that has another number of units used than are booked.
+/// Looks for an item whose used units are not as many as are booked of it.
 fn check_used(words: &[u64], notes: &Notes) -> Result<(), Flaw>
     requires few { length words.now ≤ MOST_HEAP_WORDS }
     requires inside { Inside words.now notes.now.items.items }
@@ -155,8 +155,8 @@ fn audit_heap(alloc: Global, words: &[u64], blocks: usize) -> Result<Report, Fau
 ///
 /// # Errors
 ///
-/// `Size` where the length is not that of a heap of 1 to 262,144 blocks, `Memory` where there was
-/// none for the walk, and `Flaw` with the first flaw that the walk met.
+/// `Size` where the length is not that of a heap of 1 to 262,144 blocks, `Memory` where memory was
+/// refused for the walk, and `Flaw` with the first flaw that the walk met.
 ///
 /// Not said: that no stack grows with the words and that time is near linear in them: the code has
 /// no recursion, and a test has a long chain.

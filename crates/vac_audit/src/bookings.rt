@@ -47,7 +47,7 @@ fn may_follow(key: Key, last: Option<Key>) -> bool
     }
 }
 
-/// Looks at a booking, whose key is to be above the last one, and returns the index of its item.
+/// Looks at a booking, whose key must be above the last one, and returns the index of its item.
 fn look_at_booking(
     words: &[u64],
     items: &[NotedItem],

@@ -32,7 +32,7 @@ pub enum Flaw {
     Colour(u32),
     /// The item's numbers are out of range, or used and free units do not make the total.
     Counts(u32),
-    /// The booking's units or sum are out of range, its item is not there, or of an item other
-    /// units are used than are booked.
+    /// The booking's units or sum are out of range, its item is not there, or the used units of an
+    /// item are not as many as are booked of it.
     Bookings(u32),
 }

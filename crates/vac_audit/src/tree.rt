@@ -89,8 +89,8 @@ const LEAF: Side = Side {
     red: false,
 };
 
-/// A node on the path from the root, and where the walk of it stands: in its left tree, or, its
-/// left tree and itself done, in its right one.
+/// A node on the path from the root, and where its walk is: in its left tree, or, after its left
+/// tree and itself, in its right one.
 #[derive(Clone, Copy)]
 pub enum Step {
     Left { node: usize },
@@ -124,7 +124,7 @@ fn look_at_item(words: &[u64], node: usize) -> Result<(), Flaw>
     Ok(())
 }
 
-/// Looks at a node beside its key, and writes down what it has.
+/// Looks at a node besides its key, and writes down what it has.
 fn look_at_node(
     words: &[u64],
     reached: &mut Vec<bool>,
@@ -216,8 +216,8 @@ fn follow_down(
     }
 }
 
-/// Looks at the key of a node, which is to be `above` or more, and returns the least key that
-/// may follow it.
+/// Looks at the key of a node, which must be `above` or more, and returns the least key that may
+/// follow it.
 fn look_at_key(words: &[u64], node: usize, above: u64) -> Result<u64, Flaw>
     requires inside { node + BLOCK_WORDS ≤ length words.now }
     requires few { length words.now ≤ MOST_HEAP_WORDS }
@@ -231,7 +231,7 @@ fn look_at_key(words: &[u64], node: usize, above: u64) -> Result<u64, Flaw>
     Ok(key + 1)
 }
 
-/// Looks at the root of a tree that is done: it is to be black.
+/// Looks at the root of a tree that is done: it must be black.
 fn look_at_root(words: &[u64], root: usize, tree: Side) -> Result<(), Flaw>
     requires inside { root < length words.now }
     requires few { length words.now ≤ MOST_HEAP_WORDS }

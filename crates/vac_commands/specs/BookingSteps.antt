@@ -1,4 +1,4 @@
--- What a command on bookings needs and does, where its customer and its item were found before.
+-- What a command on bookings needs and does, when its customer and its item have been found.
 use Rattle.std.specs.Prelude.{◌≡◌, ◌≢◌, ℕ, ◌+◌, ◌<◌, ◌≤◌, ◌^◌, List, [], length}
 use Rattle.tx_memory.specs.View.{View, Sees, RestsOn, Kept}
 use Rattle.vac_model.specs.declared.commands.Command.{Command}
@@ -24,7 +24,7 @@ use Rattle.vac_commands.specs.Entries.{item_block, customer_block}
 abbrev pub booking_block : {m : ℕ → ℕ} {n : ℕ} {s : State} → IsState m n s → ℕ → Place → ℕ
 booking_block h owner place = block_at (h.represents.parts.lists owner) (place_key place)
 
--- the customer and the item stand in these blocks
+-- the customer and the item are in these blocks
 pub record Here {m : ℕ → ℕ} {n : ℕ} {s : State} (h : IsState m n s) (customer owner : ℕ)
     (kind : Kind) (id item : ℕ) : Type 0 where
   pub owner_is : customer_block h customer ≡ owner
@@ -33,12 +33,12 @@ pub record Here {m : ℕ → ℕ} {n : ℕ} {s : State} (h : IsState m n s) (cus
   pub item_some : item ≢ 0
   pub small : id < 2 ^ 32
 
--- the customer and the item stand in these blocks, as it is asked of a state
+-- the customer and the item are in these blocks, as a condition on a state
 abbrev pub AtBlocks : ℕ → ℕ → Kind → ℕ → ℕ → (m : ℕ → ℕ) (n : ℕ) (s : State) →
     IsState m n s → Type 0
 AtBlocks customer owner kind id item m n s h = Here h customer owner kind id item
 
--- and the booking stands in this one
+-- and the booking is in this one
 pub record AtBooking (customer owner : ℕ) (kind : Kind) (id item b : ℕ) (m : ℕ → ℕ) (n : ℕ)
     (s : State) (h : IsState m n s) : Type 0 where
   pub here : Here h customer owner kind id item
@@ -79,7 +79,7 @@ pub record Lands {m : ℕ → ℕ} {n : ℕ} {s : State} (h : IsState m n s) (m'
   pub stays : Stays h.represents m' [] state
 
 -- under each image on which the memory represents a state of which P holds, the command ran, and
--- items and customers stand in the same tables as before
+-- items and customers are in the same tables as before
 pub record Serves (s s' : View) (c : Command) (r : Reply)
     (P : (m : ℕ → ℕ) (n : ℕ) (state : State) → IsState m n state → Type 0) : Type 0 where
   pub kept : Kept s s'

@@ -29,7 +29,7 @@ pub record RanOn (s s' : View) (id c : ℕ) (command : Command) (r : Reply) : Ty
       IsOutcome (mem s' image) (length image) (step state command) r
 
 -- under each image on which the customer's block was c, or the customer was missing where c is 0,
--- the items stand in the same blocks as before
+-- the items are in the same blocks as before
 pub record ItemsStayOn (s s' : View) (id c : ℕ) : Type 0 where
   pub stay : (image : List ℕ) (state state' : State) → Sees s' image →
       (h : IsState (mem s image) (length image) state) → customer_block h id ≡ c →
@@ -93,8 +93,8 @@ pub record OneGivenBack (s s' : View) (id c b : ℕ) : Type 0 where
       bookings_of state id ≡ Some bookings →
       IsLeaving (mem s' image) (length image) state id c (len bookings - 1)
 
--- under each image on which the customer is in block c, bookings were given back, until at most so
--- many were left
+-- under each image on which the customer is in block c, bookings were given back, until at most
+-- this many were left
 pub record GivenBack (s s' : View) (id c most : ℕ) : Type 0 where
   pub kept : Kept s s'
   pub under : (image : List ℕ) (state : State) → Sees s' image →

@@ -1,4 +1,4 @@
--- Where the entries of the state stand that a memory holds.
+-- Where the entries are of the state that a memory holds.
 use Rattle.std.specs.Prelude.{◌≡◌, ◌≢◌, ℕ, List, length}
 use Rattle.tx_memory.specs.View.{View, Sees, RestsOn}
 use Rattle.vac_model.specs.declared.items.Kind.{Kind}
@@ -64,14 +64,14 @@ pub record CustomerIsMissing (s : View) (id : ℕ) : Type 0 where
   pub none : (image : List ℕ) (state : State) → RestsOn s image →
       (h : IsState (mem s image) (length image) state) → customer_block h id ≡ 0
 
--- under each image the items stand in the same blocks as before
+-- under each image the items are in the same blocks as before
 pub record ItemsStay (s s' : View) : Type 0 where
   pub stay : (image : List ℕ) (state state' : State) → Sees s' image →
       (h : IsState (mem s image) (length image) state) →
       (h' : IsState (mem s' image) (length image) state') →
       (kind : Kind) (id : ℕ) → item_block h' kind id ≡ item_block h kind id
 
--- under each image the customers stand in the same blocks as before
+-- under each image the customers are in the same blocks as before
 pub record CustomersStay (s s' : View) : Type 0 where
   pub stay : (image : List ℕ) (state state' : State) → Sees s' image →
       (h : IsState (mem s image) (length image) state) →

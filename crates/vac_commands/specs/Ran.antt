@@ -44,7 +44,7 @@ Idle s s' command.Audit = Unit {0}
 
 -- under each image the memory was changed as the command changes the state, and the reply is the
 -- command's; a command that is refused, or has nothing to change, writes nothing
--- Not said: which blocks new entries get, and of which free list the block of an entry that goes
+-- Not said: which blocks new entries get, and of which free list the block of a removed entry
 -- becomes the first; tests of vac_rows see it for some commands.
 -- Not said: that the spare words of a block stay 0, and, where something is to change, that no word
 -- is written with the value that it has.
@@ -61,7 +61,7 @@ pub record Asked (s s' : View) (c : Command) (r : Reply) : Type 0 where
   pub ran : Ran s s' c r
   pub writes : s'.writes ≡ s.writes
 
--- the reply to a NewCustomer that was not refused for the customer's being there
+-- the reply to a NewCustomer that was not refused because the customer is there
 abbrev pub joining : Option ℕ → Reply
 joining None = reply.No Full
 joining (Some block) = reply.Done

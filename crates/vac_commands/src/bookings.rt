@@ -27,9 +27,9 @@ struct Offer {
     price: u64,
 }
 
-/// Books units of an item for a customer, at the item's price of now. A booking that is there takes
-/// more units; a new one takes its block from the first free list that has one, from `start` on,
-/// and refills list `start` where that had none.
+/// Books units of an item for a customer, at the item's present price. A booking that is there
+/// takes more units; a new one takes its block from the first free list that has one, from `start`
+/// on, and refills list `start` where that had none.
 pub fn reserve<M: TxMem>(
     memory: &mut M,
     customer: u32,

@@ -17,7 +17,7 @@ Reader X = List ℕ → Option (X × List ℕ)
 abbrev pub always : {X : Type 0} → X → Reader X
 always x words = Some (x, words)
 
--- one word, taken mod n
+-- one word modulo n
 abbrev pub below : ℕ → Reader ℕ
 below n [] = None
 below n (w ∷ words) = Some (w % n, words)
@@ -44,7 +44,7 @@ abbrev pub for_each : {X : Type 0} → ℕ → (ℕ → Reader (List X)) → Rea
 for_each zero f = always []
 for_each (suc n) f = joined (for_each n f) (f (suc n))
 
--- so many of them, one after the other
+-- n of them, one after the other
 abbrev pub times : {X : Type 0} → ℕ → Reader X → Reader (List X)
 times n reader = for_each n (λ _. one reader)
 

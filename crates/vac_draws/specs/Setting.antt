@@ -22,8 +22,8 @@ is_manager s =
     && (nat_le 1 s.tries && nat_le s.tries MOST_TRIES)
     && (nat_le 1 s.last && nat_lt s.last VERSION_LIMIT)
 
--- what the tasks are drawn by, and the numbers of the manager, are in their ranges, and there is a
--- block for each item of the three kinds and each customer that the opening makes
+-- the numbers by which the tasks are drawn, and those of the manager, are in their ranges, and
+-- there is a block for each item of the three kinds and each customer that the opening makes
 abbrev pub is_system : Settings → Bool
 is_system s =
     nat_le 1 s.items && nat_le s.items MOST_ITEMS && nat_le (BLOCKS_OF_ITEM * s.items) s.blocks

@@ -112,7 +112,8 @@ pub record DrawnTask {D E : Type 0} (leads : D → ℕ → D → Type 0) (reader
   pub drawn : Drawn leads reader state task last
   pub built : IfOk result (λ t. t ≡ task)
 
--- a turn of an iterator over tasks: of some left one is drawn, and at the end no word is drawn
+-- a turn of an iterator over tasks: where some are left, one is drawn, and at the end no word is
+-- drawn
 abbrev pub IsTurn : {D E : Type 0} → (D → ℕ → D → Type 0) → Settings
     → ℕ → D → Option (Result Task E) → ℕ → D → Type 0
 IsTurn leads s left state None left' last = (left ≡ 0) × (left' ≡ 0) × (last ≡ state)
@@ -134,7 +135,7 @@ AreBuilt [] (t ∷ ts) = ⊥
 AreBuilt (item ∷ items) [] = ⊥
 AreBuilt (item ∷ items) (t ∷ ts) = IfOk item (λ built. built ≡ t) × AreBuilt items ts
 
--- the words of exactly n tasks were drawn, and the items are those tasks as far as built
+-- the words of exactly n tasks were drawn, and the items are those tasks as far as they were built
 pub record AreTasksOf {D E : Type 0} (leads : D → ℕ → D → Type 0) (s : Settings)
     (n : ℕ) (state : D) (items : List (Result Task E)) (last : D) : Type 0 where
   pub tasks : List Task

@@ -49,7 +49,7 @@ impl Draws for PcgDraws {
     }
 }
 
-/// The same word each time.
+/// Gives one word, each time that one is drawn.
 #[derive(Clone, Copy, Debug, PartialEq, Eq)]
 pub struct FixedDraws(pub u32);
 

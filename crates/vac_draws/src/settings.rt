@@ -21,10 +21,10 @@ pub const BLOCKS_OF_ITEM: u32 = 4;
 /// The most rounds of a load.
 pub const MOST_ROUNDS: u32 = 100;
 
-/// A share of the whole is given in these.
+/// The number for the whole: shares are given in per cent.
 pub const PERCENT: u32 = 100;
 
-/// The units that an opening adds an item in, and that a change adds or deletes.
+/// An opening adds units in multiples of this number; a change adds or deletes this many.
 pub const UNITS: u32 = 100;
 
 /// How many prices there are, and how many amounts of units.
@@ -54,7 +54,7 @@ pub struct Settings {
     pub user: u32,
     /// Where the draws begin.
     pub seed: u64,
-    /// For how many entries there is room, 1 to 262,144.
+    /// How many entries there is room for, 1 to 262,144.
     pub blocks: u32,
     /// How many tries a task gets, 1 to 1,048,576.
     pub tries: u32,
@@ -77,7 +77,8 @@ impl Settings {
             && self.rounds <= MOST_ROUNDS
     }
 
-    /// Whether what the tasks are drawn by and the numbers of the manager are in their ranges.
+    /// Whether the numbers by which the tasks are drawn and those of the manager are in their
+    /// ranges.
     fn is_system_in_range(&self) -> bool
         ensures { result ≡ is_system self.now }
     {

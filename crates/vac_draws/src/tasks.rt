@@ -74,7 +74,7 @@ fn draw_ask<D: Draws>(draws: &mut D, settings: &Settings) -> (Kind, u32)
     (kind, draw_up_to(draws, settings.items))
 }
 
-/// So many asks of a trip.
+/// `count` asks of a trip.
 fn draw_asks<D: Draws>(
     draws: &mut D,
     settings: &Settings,
@@ -94,7 +94,7 @@ fn draw_asks<D: Draws>(
     asks
 }
 
-/// A trip. All its words are drawn, also where there is no memory to build it.
+/// A trip. All its words are drawn, even where memory is refused to build it.
 fn draw_trip<D: Draws>(
     alloc: Global,
     draws: &mut D,
@@ -169,7 +169,7 @@ fn draw_change<D: Draws>(draws: &mut D, settings: &Settings) -> Command
     draw_change_of(draws, kind, id, number)
 }
 
-/// So many changes of an update.
+/// `count` changes of an update.
 fn draw_changes<D: Draws>(
     draws: &mut D,
     settings: &Settings,
@@ -189,7 +189,7 @@ fn draw_changes<D: Draws>(
     changes
 }
 
-/// An update. All its words are drawn, also where there is no memory to build it.
+/// An update. All its words are drawn, even where memory is refused to build it.
 fn draw_update<D: Draws>(
     alloc: Global,
     draws: &mut D,
@@ -235,7 +235,7 @@ fn draw_question<D: Draws>(draws: &mut D, settings: &Settings) -> Task
     draw_question_at(draws, settings, number)
 }
 
-/// A task. All its words are drawn, also where there is no memory to build it.
+/// A task. All its words are drawn, even where memory is refused to build it.
 pub fn draw_task<D: Draws>(
     alloc: Global,
     draws: &mut D,
@@ -256,7 +256,7 @@ pub fn draw_task<D: Draws>(
     }
 }
 
-/// A task that is no question. All its words are drawn, also where there is no memory to build it.
+/// A task that is no question. All its words are drawn, even where memory is refused to build it.
 fn draw_work<D: Draws>(
     alloc: Global,
     draws: &mut D,
@@ -277,7 +277,7 @@ fn draw_work<D: Draws>(
 }
 
 /// The tasks of a client, each made of the words that are drawn for it, as many as the settings
-/// say. Where there is no memory to build one, its words are drawn all the same, so that those
+/// say. Where memory is refused to build one, its words are drawn all the same, so that the tasks
 /// after it stay the same.
 #[derive(Drop)]
 pub struct Tasks<'a, D> {

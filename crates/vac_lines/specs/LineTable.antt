@@ -1,5 +1,5 @@
--- Which task a line asks for, or what its first fault is. Words are looked at from left to right
--- once their number fits.
+-- Which task a line asks for, or what its first fault is. Once the number of words fits, they are
+-- looked at from left to right.
 use Rattle.std.specs.Prelude.{ℕ, ◌==◌, ◌%◌, ◌/◌, ◌&&◌, ◌||◌, Bool, Option, Some, None, Result, Ok, Err, List, [], ◌∷◌, length, nat_le, nat_lt, codes, if◌then◌else◌}
 use Rattle.std.specs.Option.{ok_or}
 use Rattle.std.specs.List.{list_any, slice_split}
@@ -53,7 +53,7 @@ at_id word = at_number 1 MOST_ID word
 abbrev pub at_amount : List ℕ → Result ℕ LineFault
 at_amount word = at_number 0 MOST_AMOUNT word
 
--- PRICE: the same, or a dash for none
+-- PRICE: 0 to 1,000,000, or a dash for none
 abbrev pub at_price : List ℕ → Result (Option ℕ) LineFault
 at_price word = if is_dash word then Ok None else (at_amount word >>= λ price. Ok (Some price))
 
@@ -205,7 +205,7 @@ cut_parts words = slice_split is_separator words
 abbrev pub changes_of : List (List ℕ) → Result (List Command) LineFault
 changes_of words = read_each change_line (cut_parts words)
 
--- update CHANGE ; CHANGE .., with 1 to 32 parts; no word is no part
+-- update CHANGE ; CHANGE .., with 1 to 32 parts; where there is no word, there is no part
 abbrev pub update_line : List (List ℕ) → Result Task LineFault
 update_line [] = Err BadCount
 update_line (word ∷ rest) =

@@ -3,8 +3,8 @@ use Rattle.std.specs.Prelude.{ℕ, ◌==◌, List, [], ◌∷◌, length, map, A
 use Rattle.std.specs.Borrow.{Bor}
 use Rattle.std.specs.List.{slice_split}
 
--- the parts of a text that stand between its line ends; what follows the last line end counts where
--- it has a byte
+-- the parts of a text between its line ends; what follows the last line end counts where it has a
+-- byte
 abbrev pub without_empty_end : List (List ℕ) → List (List ℕ)
 without_empty_end [] = []
 without_empty_end (last ∷ []) = if length last == 0 then [] else last ∷ []
@@ -19,10 +19,10 @@ lines_of bytes = without_empty_end (slice_split (λ b. b == 10) bytes)
 abbrev pub words_of : List ℕ → List (List ℕ)
 words_of line = slice_split (λ b. b == 32) line
 
--- the byte does not stand in the text
+-- the byte is not in the text
 abbrev pub HasNo : ℕ → List ℕ → Type 0
 HasNo byte text = All (λ b. b ≢ byte) text
 
--- the texts of words that are lent
+-- the texts of borrowed words
 abbrev pub texts : List (Bor (List ℕ)) → List (List ℕ)
 texts words = map (λ w. w.now) words

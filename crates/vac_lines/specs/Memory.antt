@@ -12,7 +12,7 @@ word_line word = as_line (decimal word)
 abbrev pub dump_text : List ℕ → List ℕ
 dump_text words = flat_map word_line words
 
--- a word in front of others, where all are there
+-- a word in front of others, where all of them are there
 abbrev pub word_before : Option ℕ → Option (List ℕ) → Option (List ℕ)
 word_before None words = None
 word_before (Some word) None = None

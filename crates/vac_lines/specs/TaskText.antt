@@ -111,7 +111,8 @@ is_short_change (command.Delete kind id num) = is_short id && is_short num
 is_short_change (command.DropFlight id) = is_short id
 is_short_change _ = false
 
--- a task whose line fits: each but an update of many changes, some of whose numbers are long
+-- a task whose line fits: each does, but for an update of many changes, some of whose numbers are
+-- long
 abbrev pub is_fitting : Task → Bool
 is_fitting (task.Update changes) =
     nat_le (length changes) FITTING_CHANGES || list_all is_short_change changes

@@ -102,7 +102,7 @@ reply_text (reply.No why) = codes "false " ++ why_name why
 reply_text (reply.Trip t) = trip_text t
 reply_text (reply.Update u) = update_text u
 
--- the name of a line's fault; want of memory is none of a line
+-- the name of a line's fault; that memory was refused is no fault of a line
 abbrev pub fault_name : LineFault → List ℕ
 fault_name fault.LongLine = codes "long-line"
 fault_name fault.BadByte = codes "bad-byte"
@@ -116,6 +116,6 @@ fault_name fault.Memory = codes "memory"
 abbrev pub fault_text : LineFault → List ℕ
 fault_text fault = codes "fault " ++ fault_name fault
 
--- new is old with something at its end
+-- new is old with something appended
 abbrev pub Extends : List ℕ → List ℕ → Type 0
 Extends old new = take (length old) new ≡ old

@@ -7,7 +7,7 @@ use Rattle.vac_model.specs.declared.items.Kind.{Kind}
 use Rattle.vac_model.specs.declared.items.Kind.TheVariants.{Car, Flight, Room}
 use Rattle.vac_lines.specs.declared.numbers.TheConstants.{MOST_WORD_DIGITS}
 
--- the number that decimal digits write
+-- the number that these decimal digits write
 abbrev pub decimal_value : List ℕ → ℕ
 decimal_value digits = fold (λ n digit. 10 * n + (digit - 48)) 0 digits
 

@@ -9,7 +9,7 @@ use std::alloc::{AllocError, Global};
 /// The words of a line. Lines of up to eight words need no allocation.
 pub(crate) type Words<'a> = SmallVec<&'a [u8], 8>;
 
-/// What stands before the first such byte, and what stands after it.
+/// What is before the first such byte, and what is after it.
 pub fn cut_at(byte: u8, bytes: &[u8]) -> Option<(&[u8], &[u8])>
     ensures { MatchOption result (HasNo byte bytes.now)
         (λ cut. HasNo byte cut.0.now × (bytes.now ≡ cut.0.now ++ byte ∷ cut.1.now)) }

@@ -6,7 +6,7 @@ use thiserror::Error;
 /// numbers.
 #[derive(Clone, Copy, Debug, PartialEq, Eq, Error)]
 pub enum LineFault {
-    /// More than 1,024 bytes stand before the line end.
+    /// More than 1,024 bytes are before the line end.
     #[error("the line is too long")]
     LongLine = 1,
     /// A byte is below 32 or above 126.
@@ -24,7 +24,7 @@ pub enum LineFault {
     /// A number was expected, or the number is out of its range.
     #[error("a word is no number in its range")]
     BadNumber = 6,
-    /// There was no memory to read the line. This is no fault of the line.
+    /// Memory was refused for reading the line. This is no fault of the line.
     #[error("out of memory")]
     Memory = 7,
 }

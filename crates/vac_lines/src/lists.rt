@@ -101,7 +101,7 @@ fn read_changes(words: &[&[u8]]) -> Result<Changes, LineFault>
     Ok(changes)
 }
 
-/// Whether a word stands between two parts of an update.
+/// Whether a word separates two parts of an update.
 fn is_separator(word: &[u8]) -> bool
     ensures { result ≡ spec.is_separator word.now }
 {

@@ -1,4 +1,4 @@
-//! What stands at a place of a line: a kind, an id, a count, a price.
+//! What a place of a line may have: a kind, an id, a count, a price.
 
 ghost use Rattle.std.specs.Prelude.{◌≡◌, ◌≤◌, IfOk, true};
 ghost use Rattle.vac_model.specs.Amounts.{is_id, is_amount, is_optional_amount, is_unit_count};

@@ -40,7 +40,7 @@ pub fn write_all<W: Write>(output: &mut W, text: &[u8]) -> Result<(), NotWritten
     Err(NotWritten)
 }
 
-/// Writes the text, and sees that it gets on its way.
+/// Writes the text, and flushes the output.
 ///
 /// # Errors
 /// The output could not be written or flushed: a prefix of the text was written.

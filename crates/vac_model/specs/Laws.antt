@@ -46,7 +46,7 @@ IsOne (task.Trip customer asks) = ⊥
 IsOne (task.Leave customer) = ⊥
 IsOne (task.Update changes) = ⊥
 
--- after a reservation the customer's bill has grown by the price of now for each unit
+-- after a reservation the customer's bill has grown by the present price for each unit
 pub record IsBilled (before : Bookings) (after : State) (customer num price : ℕ) : Type 0 where
   pub bookings : Bookings
   pub there : bookings_of after customer ≡ Some bookings

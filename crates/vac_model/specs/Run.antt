@@ -87,7 +87,7 @@ leave s customer =
     when_found (bookings_of s customer) (answered s None) (λ bookings.
     answered (step s (command.DropCustomer customer)).0 (Some (bill_of bookings)))
 
--- the state after these commands, and why each of them was refused
+-- the state after these commands, and why each of them was refused, if it was
 abbrev pub steps : State → List Command → State × List (Option Why)
 steps s [] = (s, [])
 steps s (c ∷ cs) =

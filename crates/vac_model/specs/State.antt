@@ -96,7 +96,7 @@ abbrev pub size : State → ℕ
 size s =
     len s.cars + len s.flights + len s.rooms + len s.customers + sum_by len (values s.customers)
 
--- whether no further entry has a place
+-- whether there is no room for a further entry
 abbrev pub is_full : State → Bool
 is_full s = nat_le s.capacity (size s)
 

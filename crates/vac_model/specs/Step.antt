@@ -1,4 +1,4 @@
--- What each command does to a state and what it returns. The commands and their refusals are those
+-- What each command does to a state, and the reply to it. The commands and their refusals are those
 -- of STAMP's Vacation, but for the refusals TotalLimit, Full, UnitLimit and NoCustomer of
 -- DropCustomer, the limits, and the report, which are this product's own.
 use Rattle.std.specs.Prelude.{ℕ, ◌+◌, ◌-◌, ◌*◌, Option, Some, None, List, unwrap_or, fold, nat_lt, ◌==◌, if◌then◌else◌}
@@ -40,7 +40,7 @@ done s = (s, reply.Done)
 abbrev pub answered : State → Option ℕ → Outcome
 answered s n = (s, reply.Number n)
 
--- goes on with an entry that is there, and else has the other outcome
+-- goes on with an entry that is there, and has the other outcome where it is not
 abbrev pub when_found : {X : Type 0} → Option X → Outcome → (X → Outcome) → Outcome
 when_found None missing found = missing
 when_found (Some x) missing found = found x
@@ -89,7 +89,7 @@ given_back item num = record {
 abbrev pub new_booking : ℕ → ℕ → Booking
 new_booking num price = record { units = num; sum = num * price }
 
--- a booking with more units, at the price of now; the older units keep their prices
+-- a booking with more units, at the present price; the older units keep their prices
 abbrev pub extended : Booking → ℕ → ℕ → Booking
 extended b num price = record { units = b.units + num; sum = b.sum + num * price }
 
@@ -167,7 +167,7 @@ book_more s customer kind id num bookings item b =
     (with_bookings s customer (insert bookings (kind, id) (extended b num item.price)))
     kind id (taken item num))
 
--- Reserve books units of an item for a customer, at the item's price of now
+-- Reserve books units of an item for a customer, at the item's present price
 abbrev pub reserve : State → ℕ → Kind → ℕ → ℕ → Outcome
 reserve s customer kind id num =
     when_found (bookings_of s customer) (refused s NoCustomer) (λ bookings.

@@ -9,9 +9,8 @@ use crate::limits::{MOST_AMOUNT, MOST_UNITS_AT_ONCE};
 
 /// One step of the manager of reservations.
 ///
-/// Ids are 1 to 4,294,967,295; counts and prices 0 to 1,000,000; a `Reserve` is for 1 to 100
-/// units. A number out of its range, and a `Delete` of a flight, make the command one that cannot
-/// be asked for.
+/// Ids are 1 to 4,294,967,295; counts and prices 0 to 1,000,000; a `Reserve` is for 1 to 100 units.
+/// A command with a number out of its range, or a `Delete` of a flight, cannot be asked for.
 #[derive(Clone, Copy, Debug, PartialEq, Eq, Default)]
 pub enum Command {
     /// Makes the item, or adds `num` units to it and replaces its price where one is given.
@@ -53,7 +52,7 @@ pub enum Command {
     Bill {
         id: u32,
     },
-    /// Books `num` units of the item for the customer at the price of now.
+    /// Books `num` units of the item for the customer at the present price.
     Reserve {
         customer: u32,
         kind: Kind,
@@ -149,8 +148,8 @@ fn has_deletable_units(kind: Kind) -> bool
     }
 }
 
-/// Why a command was refused. Nothing reads the numbers: the program writes names, and in the code
-/// of a record stands the refusal's place among these.
+/// Why a command was refused. Nothing reads the numbers: the program writes names, and the code of
+/// a record has the refusal's place among these.
 #[derive(Clone, Copy, Debug, PartialEq, Eq)]
 pub enum Why {
     NeedsCountAndPrice = 1,

@@ -1,6 +1,6 @@
 //! What can be booked.
 
-/// The kind of an item. Kinds are ordered as they stand here.
+/// The kind of an item. Kinds are in this order.
 #[derive(Clone, Copy, Debug, PartialEq, Eq, PartialOrd, Ord, Default)]
 pub enum Kind {
     #[default]

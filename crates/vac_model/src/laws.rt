@@ -69,7 +69,7 @@ pub fn bookings_are_given_back()
         ≡ option_map (λ item. given_back item (units_of bookings (kind, id))) (item_of s kind id) }
 {}
 
-/// A reservation adds the price of now to the customer's bill for each unit, and the prices of
+/// A reservation adds the present price to the customer's bill for each unit, and the prices of
 /// older units stay; a price that an `Add` replaces changes no booking.
 pub fn bills_keep_prices()
     ensures reserved { (s : State) (c : ℕ) (kind : Kind) (id num : ℕ)

@@ -1,7 +1,7 @@
 //! The rules of the reservation system, after the program Vacation of the STAMP benchmarks
 //! (Cao Minh, Chung, Kozyrakis, Olukotun, IISWC 2008).
 //!
-//! The types of commands, tasks and replies stand here with the definitions of what they mean
+//! The types of commands, tasks and replies are here, with the definitions of what they mean
 //! (`specs/`), below all other crates. The plain program that computes them is `vac_sequential`.
 #![tactic(auto)]
 

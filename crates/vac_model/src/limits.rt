@@ -1,4 +1,4 @@
-//! The limits of the reservation system. Each number stands here alone, but `MOST_BLOCKS`, which
+//! The limits of the reservation system. Each number is here alone, but `MOST_BLOCKS`, which
 //! `tx_alloc` has too; code, contracts and definitions cite it by its name.
 
 /// The most blocks that a manager has, which is the most entries of a state.

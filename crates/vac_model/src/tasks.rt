@@ -66,14 +66,14 @@ impl Changes {
     }
 }
 
-/// What a client asks for at once: all of it happens, or none.
+/// What a client asks for at once: all of it happens, or nothing.
 #[derive(Drop)]
 pub enum Task {
     /// One command.
     One(Command),
     /// Of each kind the dearest item among the asks, one unit of each, for this customer.
     Trip { customer: u32, asks: Asks },
-    /// The bill of the customer, who then is deleted.
+    /// The bill of the customer, who is then deleted.
     Leave { customer: u32 },
     /// Changes of the tables, one after the other.
     Update { changes: Changes },
@@ -99,7 +99,8 @@ impl Task {
         }
     }
 
-    /// The trip with these asks. Only memory can be refused, and none is asked for up to eight.
+    /// The trip with these asks. It fails only where memory is refused, and none is asked for up to
+    /// eight asks.
     pub fn trip(alloc: Global, customer: u32, asks: &[(Kind, u32)]) -> Result<Task, AllocError>
         ensures ok { IfOk result (λ task. task ≡ Task.Trip customer asks.now) }
         ensures inline { length asks.now ≤ INLINE_ASKS → IsOk result }
@@ -111,7 +112,8 @@ impl Task {
         })
     }
 
-    /// The update with these changes. Only memory can be refused, and none is asked for up to four.
+    /// The update with these changes. It fails only where memory is refused, and none is asked for
+    /// up to four changes.
     pub fn update(alloc: Global, changes: &[Command]) -> Result<Task, AllocError>
         ensures ok { IfOk result (λ task. task ≡ Task.Update changes.now) }
         ensures inline { length changes.now ≤ INLINE_CHANGES → IsOk result }

@@ -88,7 +88,7 @@ pub record CanBook (s : View) (customer : ℕ) (place : Place) (b : ℕ) : Type 
       IsListAt (mem s image) (length image) (head_of customer) rows →
       IsLoose (mem s image) (length image) customer rows place b
 
--- the block was made a booking, between, and then hung into the customer's list
+-- the block was made a booking, in the memory `between`, and then linked into the customer's list
 pub record IsBooked (m m' : ℕ → ℕ) (n customer : ℕ) (rows : Rows) (place : Place)
     (num price b : ℕ) : Type 0 where
   pub between : ℕ → ℕ
@@ -106,7 +106,7 @@ pub record Booked (s s' : View) (customer : ℕ) (place : Place) (num price b : 
       IsLoose (mem s image) (length image) customer rows place b →
       IsBooked (mem s image) (mem s' image) (length image) customer rows place num price b
 
--- the block was made a booking of this place, and hung into each customer's list that lacked one
+-- the block was made a booking of this place, and linked into each customer's list that lacked one
 -- and in which this was its spot
 pub record BookedAt (s s' : View) (spot : Spot) (place : Place) (num price b : ℕ) : Type 0 where
   pub kept : Kept s s'
@@ -127,7 +127,7 @@ block_of None = None
 block_of (Some taken) = Some taken.0
 
 -- the booking of the place left the list of these rows, if it was there, and the result is its
--- block with its units. No word was changed but those that lead on.
+-- block with its units. No word was changed but those that link the list.
 pub record IsUnbooking (m m' : ℕ → ℕ) (n customer : ℕ) (place : Place)
     (taken : Option (ℕ × ℕ)) (rows : Rows) : Type 0 where
   pub is : pointer (block_of taken) ≡ block_at rows (place_key place)

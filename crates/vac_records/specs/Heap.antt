@@ -6,7 +6,7 @@ use Rattle.tx_alloc.specs.Rows.{Rows, times}
 use Rattle.tx_tree.specs.Table.{IsTable}
 use Rattle.tx_list.specs.Bookings.{IsList}
 
--- what stands where: the tables of cars, flights, rooms and customers by their numbers 0 to 3, the
+-- what is where: the tables of cars, flights, rooms and customers by their numbers 0 to 3, the
 -- lists of bookings by their customers' blocks, the free blocks by their lists, the blocks in hand
 pub record Parts : Type 0 where
   pub tables : ℕ → Rows

@@ -1,4 +1,4 @@
--- Memories that hold a state, whatever image they stand on.
+-- Memories that hold a state, whatever image they rest on.
 use Rattle.std.specs.Prelude.{◌≡◌, ℕ, ◌≤◌, ◌^◌, List, length}
 use Rattle.tx_memory.specs.View.{View, RestsOn, Kept}
 use Rattle.vac_model.specs.State.{State}

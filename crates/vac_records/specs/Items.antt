@@ -61,11 +61,11 @@ pub record ItemRead (s s' : View) (node : ℕ) (item : Item) : Type 0 where
   pub writes : s'.writes ≡ s.writes
   pub answer : (image : List ℕ) → Sees s' image → item_in (mem s image) node ≡ item
 
--- under each image of the memory's size the word has room for so much more
+-- under each image of the memory's size the word has room for this much more
 pub record RoomAt (s : View) (a by : ℕ) : Type 0 where
   pub fits : (image : List ℕ) → RestsOn s image → mem s image a + by < 2 ^ 64
 
--- under each image of the memory's size the word is so much or more
+-- under each image of the memory's size the word is this much or more
 pub record EnoughAt (s : View) (a by : ℕ) : Type 0 where
   pub enough : (image : List ℕ) → RestsOn s image → by ≤ mem s image a
 

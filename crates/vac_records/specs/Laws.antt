@@ -90,7 +90,7 @@ OneShape =
     (m : ℕ → ℕ) (n : ℕ) (out out' : List ℕ) (s s' : State) (h : Represents m n out s)
     (h' : Represents m n out' s') (i : ℕ) → i < 4 → h'.parts.tables i ≡ h.parts.tables i
 
--- of a memory of n words no further word matters
+-- of a memory of n words, no word after the first n matters
 abbrev pub SameWords : Type 0
 SameWords =
     (m m' : ℕ → ℕ) (n : ℕ) (out : List ℕ) (s : State) → Represents m n out s →

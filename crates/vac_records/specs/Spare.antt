@@ -14,7 +14,7 @@ pub record IsCleared (m m' : ℕ → ℕ) (node : ℕ) : Type 0 where
   pub spare : (k : ℕ) → 5 ≤ k → k < BLOCK_WORDS → m' (node + k) ≡ 0
   pub others : (x : ℕ) → (x < node + 5) ⊎ (node + BLOCK_WORDS ≤ x) → m' x ≡ m x
 
--- it is so under each image
+-- under each image the three spare words are 0, and all others as before
 pub record SpareCleared (s s' : View) (node : ℕ) : Type 0 where
   pub kept : Kept s s'
   pub cleared : (image : List ℕ) → Sees s' image → IsCleared (mem s image) (mem s' image) node

@@ -92,7 +92,7 @@ pub fn sum_at<M: TxRead>(memory: &mut M, node: Block) -> Result<u64, M::Stop>
     load(memory, node.word(place::SUM))
 }
 
-/// Adds units at the price of now to a booking. The units that it has keep their prices.
+/// Adds units at the present price to a booking. The units that it has keep their prices.
 pub fn book_more<M: TxMem>(memory: &mut M, node: Block, num: u32, price: u64) -> Result<(), M::Stop>
     requires node { IsNode (M.view memory.old) node }
     requires sum { num * price < 2 ^ 64 }

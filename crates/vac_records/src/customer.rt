@@ -48,7 +48,7 @@ pub fn booking_of<M: TxRead>(
     Ok(found)
 }
 
-/// Where the booking of an item stands in the customer's list, or would stand.
+/// The spot of the booking of an item in the customer's list, or the spot where it would be.
 pub fn spot_of<M: TxRead>(
     memory: &mut M,
     customer: Block,

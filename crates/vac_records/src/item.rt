@@ -114,8 +114,8 @@ pub fn add_total<M: TxMem>(memory: &mut M, node: Block, num: u32) -> Result<(), 
     Ok(())
 }
 
-/// Takes free units away from the item. The caller sees to it that `num` are free; the price
-/// stays, also where no unit is left.
+/// Takes free units away from the item. The caller ensures that `num` are free; the price stays,
+/// even where no unit is left.
 pub fn sub_total<M: TxMem>(memory: &mut M, node: Block, num: u32) -> Result<(), M::Stop>
     requires node { IsNode (M.view memory.old) node }
     requires free { HasFree (M.view memory.old) node num }
@@ -140,8 +140,8 @@ pub fn set_price<M: TxMem>(memory: &mut M, node: Block, price: u32) -> Result<()
     store(memory, word, price as u64)
 }
 
-/// Makes a reservation of `num` units: free units become used ones. The caller sees to it that
-/// `num` are free.
+/// Makes a reservation of `num` units: free units become used ones. The caller ensures that `num`
+/// are free.
 pub fn make<M: TxMem>(memory: &mut M, node: Block, num: u32) -> Result<(), M::Stop>
     requires node { IsNode (M.view memory.old) node }
     requires units { CanMake (M.view memory.old) node num }
@@ -167,8 +167,8 @@ pub fn make_of<M: TxMem>(memory: &mut M, node: Block, num: u32, free: u64) -> Re
     Ok(())
 }
 
-/// Cancels a reservation of `num` units: used units become free ones. The caller sees to it that
-/// `num` are used.
+/// Cancels a reservation of `num` units: used units become free ones. The caller ensures that `num`
+/// are used.
 pub fn cancel<M: TxMem>(memory: &mut M, node: Block, num: u64) -> Result<(), M::Stop>
     requires node { IsNode (M.view memory.old) node }
     requires units { CanCancel (M.view memory.old) node num }

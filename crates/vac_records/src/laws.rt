@@ -2,7 +2,8 @@
 
 ghost use Rattle.vac_records.specs.Laws.{OneState, OneShape, SameWords, FreshState, SpreadState, ItemFound, ItemMissing, CustomerFound, CustomerMissing, BookingFound, BookingMissing, NoneLeft, SomeLeft, BlockTaken, BlockDrawn, BlockGiven, BlockWritten, ItemInserted, ItemReplaced, ItemRemoved, CustomerInserted, CustomerRemoved, BookingInserted, BookingReplaced, BookingRemoved, PoolThere, HandThere, TableThere, ListThere, BillThere};
 
-/// A memory represents at most one state, and of a memory of n words no word after them matters.
+/// A memory represents at most one state, and of a memory of n words, no word after the first n
+/// matters.
 pub fn one_state_for_a_memory()
     ensures one { OneState }
     ensures shape { OneShape }
@@ -15,7 +16,7 @@ pub fn empty_heaps_are_empty_states()
     ensures spread { SpreadState }
 {}
 
-/// An entry of the state is read off the block that its key leads to, and a key that leads to none
+/// An entry of the state is read from the block that its key leads to, and a key that leads to none
 /// has no entry.
 pub fn entries_are_read_off_blocks()
     ensures item { ItemFound }
@@ -40,7 +41,7 @@ pub fn blocks_in_hand_are_no_entries()
     ensures written { BlockWritten }
 {}
 
-/// What is hung into a table, written into an item, or taken out of a table changes the state by
+/// What is linked into a table, written into an item, or taken out of a table changes the state by
 /// that one item.
 pub fn items_follow_their_blocks()
     ensures inserted { ItemInserted }
@@ -48,14 +49,14 @@ pub fn items_follow_their_blocks()
     ensures removed { ItemRemoved }
 {}
 
-/// A customer that is hung into its table, or taken out of it, without bookings, changes the state
-/// by that one customer.
+/// A customer that is linked into its table, or taken out of it, without bookings, changes the
+/// state by that one customer.
 pub fn customers_follow_their_blocks()
     ensures inserted { CustomerInserted }
     ensures removed { CustomerRemoved }
 {}
 
-/// What is hung into a customer's list, written into a booking, or taken out of the list changes
+/// What is linked into a customer's list, written into a booking, or taken out of the list changes
 /// the state by that one booking.
 pub fn bookings_follow_their_blocks()
     ensures inserted { BookingInserted }

@@ -1,5 +1,5 @@
-//! Where the words of an item and of a customer stand in their blocks. The words between the key
-//! and these link the block into its table.
+//! Where the words of an item and of a customer are in their blocks. The words between the key and
+//! these link the block into its table.
 
 /// The key, which is the item's id.
 pub const KEY: u32 = tx_tree::place::KEY;

@@ -38,8 +38,8 @@ pub(crate) fn lower<M: TxMem>(memory: &mut M, word: Addr, by: u64) -> Result<(),
     Ok(())
 }
 
-/// Lets a word be 0. One that is 0 already is read and not written: a read costs less than a lock,
-/// a store and a release.
+/// Sets a word to 0. A word that is 0 already is read and not written: a read costs less than a
+/// lock, a store and a release.
 #[inline]
 fn clear<M: TxMem>(memory: &mut M, word: Addr) -> Result<(), M::Stop>
     requires { word.0 < (M.view memory.old).size }
@@ -54,7 +54,7 @@ fn clear<M: TxMem>(memory: &mut M, word: Addr) -> Result<(), M::Stop>
     Ok(())
 }
 
-/// Lets the three spare words of a booking's block or of a customer's be 0.
+/// Sets the three spare words of a booking's block or of a customer's to 0.
 pub(crate) fn clear_spare<M: TxMem>(memory: &mut M, node: Block) -> Result<(), M::Stop>
     requires { IsNode (M.view memory.old) node }
     ensures origin { M.origin memory.new ≡ M.origin memory.old }

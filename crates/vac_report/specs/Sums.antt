@@ -108,7 +108,7 @@ pub record SomeSums (m : ℕ → ℕ) (n customer : ℕ) : Type 0 where
   pub entries : Rows
   pub is : HasSums m n customer entries
 
--- under each image of the memory's size that there may be the customer's bookings have such sums.
+-- under each image of the memory's size that there may be, the customer's bookings have such sums.
 -- Addresses fit 32 bits.
 pub record CanCount (s : View) (customer : ℕ) : Type 0 where
   pub small : s.size ≤ 2 ^ 32

@@ -41,13 +41,13 @@ abbrev pub IsNone : List ℕ → Type 0
 IsNone words =
     (s : State) → 1 ≤ s.capacity → IsState (slice_index words) (length words) s → ⊥
 
--- the words are a heap's, and this is their first flaw: they represent no balanced state
+-- the words are those of a heap, and this is their first flaw: they represent no balanced state
 pub record HasFlaw (words : List ℕ) (flaw : Flaw) : Type 0 where
   pub heap : IsHeapSize (length words)
   pub first : audit (slice_index words) heap.0 ≡ Err flaw
   pub none : IsNone words
 
--- there are so many words as no heap has: they represent no balanced state
+-- no heap has this number of words: they represent no balanced state
 pub record IsNoHeap (words : List ℕ) : Type 0 where
   pub size : IsHeapSize (length words) → ⊥
   pub none : IsNone words
@@ -72,7 +72,8 @@ abbrev pub NoHeapOf : Option (List ℕ) → Type 0
 NoHeapOf None = ⊤
 NoHeapOf (Some words) = IsNoHeap words
 
--- so much of the input was read that it is no heap's: all of it, or whatever follows
+-- enough of the input was read to see that it is no heap's: all of it, or so much that this holds
+-- whatever follows
 pub record NoWords (unread left : Option (List ℕ)) : Type 0 where
   pub bytes : List ℕ
   pub consumed : Consumes unread left bytes
@@ -106,8 +107,8 @@ pub record CheckedPrefix (unread left held holds : Option (List ℕ)) : Type 0 w
   pub written : AppendsPrefix held holds (as_line (verdict_text verdict))
 
 -- a check ended by a fault: before it wrote, or while it wrote
--- Not said: which fault ended it, but that it is neither Busy nor Spent; that words are read no
--- further than they must be, which a test counts.
+-- Not said: which fault ended it, but that it is neither Busy nor Spent; that no more words are
+-- read than must be, which a test counts.
 abbrev pub CheckStopped : Option (List ℕ) → Option (List ℕ) → Option (List ℕ)
     → Option (List ℕ) → Type 0
 CheckStopped unread left held holds =

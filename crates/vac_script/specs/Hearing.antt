@@ -1,4 +1,4 @@
--- What being told a line makes of a script that runs, and of its output.
+-- What a line that is told does to a script that runs, and to its output.
 use Rattle.std.specs.Prelude.{◌≡◌, ℕ, List, [], ◌++◌, Option, Result, Ok, Err}
 use Rattle.std.specs.Io.KnownBytes.{Appends}
 use Rattle.vac_model.specs.State.{State}
@@ -22,29 +22,29 @@ told_task (Line text) = line_task text
 told_task LongLine = Err fault.LongLine
 told_task Pause = Err fault.BadCommand
 
--- no more was written than what was at hand and a part of the output line
+-- no more was written than the text at hand and a part of the output line
 pub record AnsweredCut (y : SessionShown) (out : List ℕ) (held holds : Option (List ℕ))
     (line : Result Task LineFault) : Type 0 where
   pub text : List ℕ
   pub written : Appends held holds text
   pub on : (s : State) → StandsAt y s → Extends text (out ++ (answer s line).1)
 
--- a line was answered and its output line came to hand; or memory was refused
--- Not said: that what was at hand is written before the fault is answered.
+-- a line was answered and its output line was added to the text at hand; or memory was refused
+-- Not said: that the text at hand is written before the fault is returned.
 abbrev pub HearsLine : SessionShown → List ℕ → Option (List ℕ) → Result Task LineFault
     → Result Next StreamFault → SessionShown → List ℕ → Option (List ℕ) → Type 0
 HearsLine y out held line (Ok next) y' out' holds =
     (next ≡ GoOn) × Answered y y' out out' line × (holds ≡ held)
 HearsLine y out held line (Err fault) y' out' holds = AnsweredCut y out held holds line
 
--- what was at hand was written, or a part of it
+-- the text at hand was written, or a part of it
 abbrev pub HearsPause : SessionShown → List ℕ → Option (List ℕ)
     → Result Next StreamFault → SessionShown → List ℕ → Option (List ℕ) → Type 0
 HearsPause y out held (Ok next) y' out' holds =
     (next ≡ GoOn) × (y' ≡ y) × (out' ≡ []) × Appends held holds out
 HearsPause y out held (Err fault) y' out' holds = AppendsPrefix held holds out
 
--- what being told this makes of the system, of what is at hand and of the output
+-- what being told this does to the system, to the text at hand and to the output
 abbrev pub Hears : SessionShown → List ℕ → Option (List ℕ) → Told
     → Result Next StreamFault → SessionShown → List ℕ → Option (List ℕ) → Type 0
 Hears y out held (Line text) answer y' out' holds =

@@ -1,4 +1,4 @@
--- What reading the words of a memory answers, as a function of all its bytes.
+-- What reading the words of a memory returns, as a function of all its bytes.
 use Rattle.std.specs.Prelude.{◌≡◌, ℕ, ◌<◌, ◌≤◌, ◌⊎◌, ⊤, Option, Some, None, Result, Ok, Err}
 use Rattle.std.specs.Prelude.{List, [], ◌∷◌, ◌++◌, length}
 use Rattle.std.specs.Io.KnownBytes.{Consumes, IsAtEnd}
@@ -23,14 +23,15 @@ pub record ReadWords (unread left : Option (List ℕ)) (words : List ℕ) : Type
   pub words_are : memory_words bytes ≡ Some words
   pub few : length words ≤ MOST_HEAP_WORDS
 
--- so much of the input was read that it is no memory's: all of it, or whatever follows
+-- enough of the input was read to see that it is no memory's: all of it, or so much that this holds
+-- whatever follows
 pub record ReadNone (unread left : Option (List ℕ)) : Type 0 where
   pub bytes : List ℕ
   pub consumed : Consumes unread left bytes
   pub none : (IsAtEnd left × NoneOrMany (memory_words bytes))
       ⊎ ((x : List ℕ) → NoneOrMany (memory_words (bytes ++ x)))
 
--- a line was taken as a word more
+-- a line was taken as one more word
 pub record TookLine (words words' line : List ℕ) : Type 0 where
   pub word : ℕ
   pub is : memory_word_of line ≡ Some word
@@ -41,7 +42,7 @@ pub record TookLine (words words' line : List ℕ) : Type 0 where
 abbrev pub RefusedLine : List ℕ → List ℕ → Type 0
 RefusedLine words line = (memory_word_of line ≡ None) ⊎ (MOST_HEAP_WORDS ≤ length words)
 
--- what being told a line makes of the words: it is one more; or they are no memory's
+-- what a line that is told does to the words: it is one more; or they are no memory's
 abbrev pub HearsWord : List ℕ → Told → Result Next StreamFault → List ℕ → Type 0
 HearsWord words (Line line) (Ok GoOn) words' = TookLine words words' line
 HearsWord words (Line line) (Ok Stop) words' = RefusedLine words line

@@ -21,7 +21,7 @@ pub record IsAlone (y : SessionShown) : Type 0 where
 abbrev pub StandsAt : SessionShown → State → Type 0
 StandsAt y s = IsHistory y.manager y.client.value.records s
 
--- the clock, as the client knows it, has so many versions left
+-- the clock, as the client knows it, has n versions left
 abbrev pub Lasts : SessionShown → ℕ → Type 0
 Lasts y n = y.client.value.floor + n ≤ LAST_VERSION
 
@@ -37,13 +37,12 @@ pub record OpensAlone (n : ℕ) (y : SessionShown) : Type 0 where
   pub capacity : capacity_of y.manager ≡ n
   pub fresh : IsNew y
 
--- it is the same manager, and its clock, as the client knows it, went on by so many versions at
--- most
+-- it is the same manager, and its clock, as the client knows it, went on by at most n versions
 pub record GoesOnBy (y y' : SessionShown) (n : ℕ) : Type 0 where
   pub same : y'.manager ≡ y.manager
   pub ticks : y'.client.value.floor ≤ y.client.value.floor + n
 
--- a line was answered, and its output line appended to the output; the clock ticked once at most
+-- a line was answered, and its output line appended to the output; the clock ticked at most once
 pub record Answered (y y' : SessionShown) (out out' : List ℕ) (line : Result Task LineFault) :
     Type 0 where
   pub state : (s : State) → StandsAt y s → StandsAt y' (answer s line).0
@@ -55,8 +54,8 @@ pub record AnsweredInPart (y : SessionShown) (out out' : List ℕ) (line : Resul
     Type 0 where
   pub text : (s : State) → StandsAt y s → Extends out' (out ++ (answer s line).1)
 
--- the input was read to its end, its script output was written, and the system stands at the state
--- that the script leaves
+-- the input was read to its end, its script output was written, and the system is in the state that
+-- the script leaves
 pub record RanAll (n : ℕ) (y : SessionShown) (unread left held holds : Option (List ℕ)) :
     Type 0 where
   pub bytes : List ℕ

@@ -15,9 +15,9 @@ use std::io::{Read, Write};
 use vac_lines::print_word;
 use vac_streams::{StreamFault, send_chunk, send_rest};
 
-/// Runs a script for a system of so many blocks, 1 to 262,144, and dumps its memory: reads the
-/// lines to the end of the input, writes no reply, closes the system and writes its words in
-/// order, each in decimal on a line of its own.
+/// Runs a script for a system of `blocks` blocks, 1 to 262,144, and dumps its memory: reads the
+/// lines to the end of the input, writes no reply, closes the system and writes its words in order,
+/// each in decimal on a line of its own.
 ///
 /// After a fault, what was written is nothing or a prefix of the whole dump.
 pub fn dump_script<R: Read, W: Write>(

@@ -16,7 +16,7 @@ struct MemoryText {
     words: Vec<u64>,
 }
 
-/// Takes a line as a word more. Answers whether it is a word for which a memory has room.
+/// Takes a line as one more word. Returns whether it is a word for which a memory has room.
 fn take_line(words: &mut Vec<u64>, line: &[u8]) -> Result<bool, AllocError>
     ensures { IfOk result (λ taken. MatchBool taken
         (TookLine words.old.items words.new.items line.now)
@@ -57,8 +57,9 @@ impl Sink<()> for MemoryText {
     }
 }
 
-/// Reads the words of a memory, as a dump writes them: one a line, in decimal. Answers `None` for
-/// a text that has another line or more words than a memory has; it may then be read no further.
+/// Reads the words of a memory, as a dump writes them: one a line, in decimal. Returns `None` for a
+/// text that has another line or more words than a memory has; the text may then not be read to its
+/// end.
 pub fn read_memory<R: Read>(alloc: Global, input: &mut R) -> Result<Option<Vec<u64>>, StreamFault>
     ensures { IfOk result (λ found. MatchOption found
         (ReadNone (R.remaining input.old) (R.remaining input.new))

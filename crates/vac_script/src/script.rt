@@ -73,7 +73,7 @@ fn run_line(
     run_read(system, &read, out)
 }
 
-/// Writes what is at hand before a fault ends the script.
+/// Writes the text at hand before a fault ends the script.
 fn halt<W: Write>(
     out: &mut Vec<u8>,
     fault: StreamFault,
@@ -128,7 +128,7 @@ impl<'a, W: Write> Sink<W> for Script<'a> {
     }
 }
 
-/// Runs a script on a system without entries, and answers the client that it leaves: reads the
+/// Runs a script on a system without entries, and returns the client that it leaves: reads the
 /// lines to the end of the input and writes an output line for each.
 pub(crate) fn run_input<R: Read, W: Write>(
     alloc: Global,
@@ -153,7 +153,7 @@ pub(crate) fn run_input<R: Read, W: Write>(
     Ok(script.system.into_client())
 }
 
-/// Runs a script for a system of so many blocks: reads its lines to the end of the input and
+/// Runs a script for a system of `blocks` blocks: reads its lines to the end of the input and
 /// writes an output line for each.
 ///
 /// After a fault, what was written is a prefix of the whole output.

@@ -48,7 +48,7 @@ impl<'a> System<'a> {
         System { session }
     }
 
-    /// Ends the session and answers its client.
+    /// Ends the session and returns its client.
     pub(crate) fn into_client(self) -> Client
         ensures client { result ≡ self.entry.client }
         ensures own { result.table ≡ self.entry.manager.table }
@@ -57,8 +57,8 @@ impl<'a> System<'a> {
         self.session.into_client()
     }
 
-    /// Runs a task as a transaction and answers its reply. A client that is alone meets no
-    /// conflict, and while the clock has a version left it does not end.
+    /// Runs a task as a transaction and returns its reply. A client that is alone meets no
+    /// conflict, and while the clock has a version left it is not at its end.
     #[tactic(auto, using(crate::proofs::Causes::only_memory))]
     pub(crate) fn apply(&mut self, task: &Task) -> Result<Reply, StreamFault>
         requires in_range { is_task task.now ≡ true }
@@ -94,8 +94,8 @@ pub(crate) fn open(alloc: Global, blocks: u32) -> Result<(Manager, Client), Stre
     }
 }
 
-/// Ends a manager with its one client, and answers the words of its memory. That is refused for
-/// want of memory alone.
+/// Ends a manager with its one client, and returns the words of its memory. It fails only where
+/// memory is refused.
 pub(crate) fn close(manager: Manager, client: Client) -> Result<Vec<u64>, StreamFault>
     requires own { client.table ≡ manager.table }
     requires alone { HasAllGrants client.value }

@@ -6,7 +6,7 @@ use Rattle.vac_sequential.specs.declared.tries.Node.TheVariants.{Empty, Bare, Fu
 use Rattle.vac_sequential.specs.declared.tries.Trie.TheDeep.{deep-Node}
 use Rattle.vac_sequential.specs.Tries.{seen}
 
--- no digit's map is deeper than the node's depth says
+-- no digit's map is deeper than the node's depth allows
 pub depth_falls : {V : Type 0} → (n : Node V) → max (deep-Node V n) 0 ≤ (seen n).1
 depth_falls Empty = omega arith
 depth_falls (Bare k) = grind arith

@@ -100,7 +100,7 @@ module _ {V : Type 0} where
     pub full : t.0 ≢ fin.empty
     pub depth : t.1 ≡ depth_of k
 
--- whether two are the same
+-- whether two values are the same
 abbrev pub TellsSame : {A : Type 0} → A → A → Bool → Type 0
 TellsSame x y true = x ≡ y
 TellsSame x y false = x ≢ y

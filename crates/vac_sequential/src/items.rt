@@ -85,7 +85,7 @@ pub(crate) fn new_booking(num: u32, price: u64) -> Booking
     }
 }
 
-/// The booking with more units at the price of now; the older units keep their prices.
+/// The booking with more units at the present price; the older units keep their prices.
 pub(crate) fn extended(booking: Booking, num: u32, price: u64) -> Booking
     requires range { IsBookingInRange booking }
     requires price { price ≤ MOST_AMOUNT }

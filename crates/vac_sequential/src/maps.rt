@@ -39,7 +39,7 @@ impl<V: Entry> Model for IdMap<V> {
     ghost invariant = { λ m. IsCounted V.weight (map_at m.root) m.len m.weight };
 }
 
-/// What a map adds up of one id.
+/// What one id adds to the sums of a map.
 #[derive(Clone, Copy)]
 struct Held {
     len: u64,
@@ -73,7 +73,7 @@ impl<V: Entry> IdMap<V> {
         self.weight
     }
 
-    /// A number of which nothing is promised; maps of the same entries have the same.
+    /// A number of which nothing is promised; maps with the same entries have the same number.
     pub(crate) fn hash(&self) -> u64 {
         self.hash
     }
@@ -87,7 +87,7 @@ impl<V: Entry> IdMap<V> {
         }
     }
 
-    /// What the numbers of the map owe to an id.
+    /// What an id adds to the numbers of the map.
     fn held(&self, id: u32) -> Held
         ensures { Holds V.weight (map.get self.now id) result.len result.weight }
     {
@@ -207,7 +207,7 @@ impl BookingMap {
         self.entries.get(&(kind, id)).copied()
     }
 
-    /// Puts a booking. Only memory for a new one can be refused.
+    /// Puts a booking. It fails only where memory for a new one is refused.
     pub(crate) fn insert(&mut self, kind: Kind, id: u32, booking: Booking) -> Result<(), AllocError>
         ensures ok { OnOk result (self.new ≡ map.insert self.old (kind, id) booking) }
         ensures err { OnErr result (self.new ≡ self.old) }

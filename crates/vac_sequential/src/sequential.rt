@@ -15,7 +15,7 @@ pub enum SequentialFault {
     /// A number is out of its range, or the task cannot be asked for.
     #[error("arguments out of range")]
     Arguments,
-    /// There is no memory.
+    /// Memory was refused.
     #[error("out of memory")]
     Memory,
 }
@@ -61,7 +61,7 @@ impl Sequential {
         })
     }
 
-    /// A copy of the state, which shares its entries. Nothing but memory can be refused.
+    /// A copy of the state, which shares its entries. It fails only where memory is refused.
     pub fn copy(&self) -> Result<Sequential, AllocError>
         ensures { IfOk result (λ copy. copy ≡ self.now) }
     {
@@ -70,7 +70,7 @@ impl Sequential {
         })
     }
 
-    /// Whether two have the same state. It walks over all entries where they have.
+    /// Whether two managers have the same state. Where they have, it walks over all entries.
     pub fn is_same(&self, other: &Sequential) -> bool
         ensures same { result ≡ true → self.now ≡ other.now }
         ensures found { self.now ≡ other.now → result ≡ true }
@@ -85,7 +85,7 @@ impl Sequential {
     }
 
     /// Does a task. A task that cannot be asked for is refused before anything else; where memory
-    /// is refused nothing has changed.
+    /// is refused, nothing has changed.
     pub fn run(&mut self, task: &Task) -> Result<Reply, SequentialFault>
         ensures ok { IfOk result (λ reply. tasks.run self.old task.now ≡ (self.new, reply)) }
         ensures err { OnErr result (self.new ≡ self.old) }

@@ -82,7 +82,7 @@ impl Tables {
         self.customers.is_same(&other.customers)
     }
 
-    /// A number of which nothing is promised; equal states have the same.
+    /// A number of which nothing is promised; equal states have the same number.
     pub(crate) fn hash(&self) -> u64 {
         let items = mixed(
             self.cars.hash(),

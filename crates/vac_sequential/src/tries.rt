@@ -1,7 +1,7 @@
-//! Finite maps of ids that share what they have in common: a trie of four ways, by the digits of
-//! an id from the last. A map is changed by making the nodes on the way to the id anew; all others
-//! stay shared with the map of before. No node with maps of digits is without an entry, so the
-//! shape of a map depends on its entries alone.
+//! Finite maps of ids that share what they have in common: a trie of four ways, by the digits of an
+//! id from the last. A map is changed by making new nodes on the way to the id; all others stay
+//! shared with the map before. No node with maps of digits is without an entry, so the shape of a
+//! map depends on its entries alone.
 
 ghost use Rattle.std.specs.Prelude.{◌≡◌, ◌<◌, ◌^◌, ℕ, None, IfOk, MatchOption, sum_by};
 ghost use Rattle.std.specs.Option.{option_copied};
@@ -94,7 +94,7 @@ impl<V> Kids<V> {
 }
 
 impl<V> Trie<V> {
-    /// What it is made of, where there is an entry.
+    /// The parts of the map, where there is an entry.
     fn shown(&self) -> Option<(Option<&Rc<V>>, &Kids<V>)>
         ensures { MatchOption result (self.now.0 ≡ map.empty)
             (λ s. Shows self.now (option_copied s.0) s.1.now) }
@@ -133,7 +133,7 @@ impl<V> Trie<V> {
     }
 }
 
-/// What a map is made of.
+/// The parts of a map.
 #[derive(Drop)]
 pub(crate) struct Parts<V> {
     value: Option<Rc<V>>,
@@ -219,7 +219,7 @@ fn open<V: Drop>(link: &Rc<Trie<V>>) -> Result<Parts<V>, AllocError>
     })
 }
 
-/// A value that shares its place with this one.
+/// A value that shares its place in memory with this one.
 fn shared<V: Drop>(value: Option<&Rc<V>>) -> Result<Option<Rc<V>>, AllocError>
     ensures { IfOk result (λ v. value_in v ≡ value_in (option_copied value.entry)) }
 {
@@ -420,7 +420,7 @@ pub(crate) fn is_same<V: Entry>(a: &Option<Rc<Trie<V>>>, b: &Option<Rc<Trie<V>>>
     }
 }
 
-/// A number that two numbers give, for hashes.
+/// A number made of two numbers, for hashes.
 pub(crate) fn mixed(a: u64, b: u64) -> u64 {
     let sum = a.wrapping_mul(0x9e37_79b9_7f4a_7c15) ^ b;
     let low = sum ^ (sum >> 31);

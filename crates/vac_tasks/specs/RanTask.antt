@@ -26,9 +26,9 @@ IdleBy s s' (task.Update changes) = Unit {0}
 
 -- under each image the memory was changed as the task changes the state, and the reply is the
 -- task's; a command that is refused, or has nothing to change, writes nothing
--- Not said: how often an entry is looked up: once where it stays, and once more where it comes or
--- goes, which is read in the code.
--- Not said: of a trip that finds nothing and of a leave of nobody, that they write nothing.
+-- Not said: how often an entry is looked up: once where it stays, and once more where it is made or
+-- removed, which is read in the code.
+-- Not said: that a trip that finds nothing, and a leave of a missing customer, write nothing.
 pub record RanTask (s s' : View) (t : Task) (r : Reply) : Type 0 where
   pub kept : Kept s s'
   pub untouched : UntouchedBy s s' t r

@@ -32,7 +32,7 @@ pub record RunsWhere {A : Type 0} (s s' : View) (f : State → State × A) (a : 
       (h : IsState (mem s image) (length image) state) → P (mem s image) (length image) state h →
       (f state).1 ≡ a
 
--- under each such image items and customers stand in the same blocks as before
+-- under each such image items and customers are in the same blocks as before
 pub record BlocksStay (s s' : View)
     (P : (m : ℕ → ℕ) (n : ℕ) (state : State) → IsState m n state → Type 0) : Type 0 where
   pub items : (image : List ℕ) (state state' : State) → Sees s' image →

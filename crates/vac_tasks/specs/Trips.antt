@@ -53,7 +53,7 @@ pub record IsKnown (s : View) (kind : Kind) (c : Choice) : Type 0 where
   pub id : is_id c.id ≡ true
   pub at : HasItemAt s kind c.id c.item
 
--- so is each that is chosen
+-- each item that is chosen is of its kind, in the block that is noted
 pub record AreKnown (s : View) (cs : Choices) : Type 0 where
   pub known : (kind : Kind) → IfSome (choice_in cs kind) (λ c. IsKnown s kind c)
 
@@ -63,16 +63,17 @@ pub record ChoiceIsAt (s : View) (kind : Kind) (c : Choice) : Type 0 where
   pub id : is_id c.id ≡ true
   pub at : ItemIsAt s kind c.id c.item
 
--- so is each that is chosen
+-- under each image of the memory's size each item that is chosen is of its kind, in the block that
+-- is noted
 pub record ChoicesAreAt (s : View) (cs : Choices) : Type 0 where
   pub known : (kind : Kind) → IfSome (choice_in cs kind) (λ c. ChoiceIsAt s kind c)
 
--- what is chosen of a kind stands in the block that is noted
+-- what is chosen of a kind is in the block that is noted
 abbrev pub IsChoiceAt : {m : ℕ → ℕ} {n : ℕ} {s : State} → IsState m n s → Kind → Option Choice →
     Type 0
 IsChoiceAt h kind choice = IfSome choice (λ c. item_block h kind c.id ≡ c.item)
 
--- so does all that is chosen
+-- all that is chosen is in the blocks that are noted
 pub record AtChoices (cs : Choices) (m : ℕ → ℕ) (n : ℕ) (s : State) (h : IsState m n s) : Type 0
   where
     pub at : (kind : Kind) → IsChoiceAt h kind (choice_in cs kind)
@@ -105,7 +106,7 @@ abbrev pub IsOwnerAt : {m : ℕ → ℕ} {n : ℕ} {s : State} → IsState m n s
 IsOwnerAt h id block =
     MatchOption block (customer_block h id ≡ 0) (λ c. customer_block h id ≡ c)
 
--- the customer and what is chosen of a kind stand in these blocks
+-- the customer and what is chosen of a kind are in these blocks
 pub record AtPick (id : ℕ) (block : Option ℕ) (kind : Kind) (choice : Option Choice)
     (m : ℕ → ℕ) (n : ℕ) (s : State) (h : IsState m n s) : Type 0 where
   pub owner : IsOwnerAt h id block
@@ -115,8 +116,8 @@ pub record AtPick (id : ℕ) (block : Option ℕ) (kind : Kind) (choice : Option
 abbrev pub joined : ℕ → State → State × Joined
 joined id s = ((step s (command.NewCustomer id)).0, joined_of (step s (command.NewCustomer id)).1)
 
--- under each image the customer was asked for, this is the customer's block now, and the items
--- stand in the same blocks as before
+-- under each image the customer was asked for, this is the customer's block now, and the items are
+-- in the same blocks as before
 pub record HasJoined (s s' : View) (id : ℕ) (owner : Owner) : Type 0 where
   pub runs : Runs s s' (joined id) owner.joined
   pub room : IsWithin s' owner.block

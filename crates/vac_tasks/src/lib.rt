@@ -3,7 +3,8 @@
 //!
 //! Each meets the definition of the same task (`vac_model`), under every image that agrees with
 //! what was read. A task finds an entry that is there and stays by one walk down its table; one
-//! that comes or goes is sought again where it enters or leaves. No call takes memory of its own.
+//! that is made or removed is looked up again where it enters or leaves its table. No call takes
+//! memory of its own.
 #![tactic(auto)]
 
 mod commands;

@@ -34,7 +34,7 @@ struct Choices {
     room: Option<Choice>,
 }
 
-/// What became of the customer of a trip, and the block, if the customer is there.
+/// What became of the customer of a trip, and the customer's block, if the customer is there.
 #[derive(Clone, Copy)]
 struct Owner {
     joined: Joined,
@@ -66,7 +66,7 @@ impl Choices {
         self.car.is_some() || self.flight.is_some() || self.room.is_some()
     }
 
-    /// Chooses what was found where it is dearer than the item so far.
+    /// Chooses what was found, where it is dearer than the choice so far.
     fn see(&mut self, kind: Kind, found: Option<Choice>)
         ensures { self.new ≡ with_found self.old kind found }
     {

@@ -7,20 +7,20 @@ use Rattle.vac_draws.specs.Draws.{Reader}
 use Rattle.vac_lines.specs.Writing.{AppendsPrefix}
 use Rattle.vac_worklist.specs.Worklist.{DrawnLines, IsTextOf}
 
--- of what was at hand and of a text behind it some was written, and the rest is at hand
+-- of the text at hand and of a text after it some was written, and the rest is at hand
 pub record Sent (held holds : Option (List ℕ)) (hand hand' text : List ℕ) : Type 0 where
   pub front : List ℕ
   pub written : Appends held holds front
   pub all : hand ++ text ≡ front ++ hand'
 
--- the lines of drawn items were sent so
+-- the lines of drawn items were sent in this way
 pub record SentLines {X : Type 0} (reader : Reader (List X)) (line : X → List ℕ)
     (state last : Lcg) (held holds : Option (List ℕ)) (hand hand' : List ℕ) : Type 0 where
   pub text : List ℕ
   pub lines : DrawnLines reader line state last text
   pub sent : Sent held holds hand hand' text
 
--- a prefix of what was at hand and of the lines of drawn items was written
+-- a prefix of the text at hand and of the lines of drawn items was written
 pub record SentInPart {X : Type 0} (reader : Reader (List X)) (line : X → List ℕ)
     (state : Lcg) (held holds : Option (List ℕ)) (hand : List ℕ) : Type 0 where
   pub text : List ℕ

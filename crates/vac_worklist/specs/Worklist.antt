@@ -14,7 +14,7 @@ use Rattle.vac_lines.specs.Writing.{AppendsPrefix}
 use Rattle.vac_lines.specs.Script.{as_line}
 use Rattle.vac_lines.specs.TaskText.{task_text}
 
--- CLIENT LINE: a task as an output line, behind the number of its client
+-- CLIENT LINE: a task as an output line, after the number of its client
 abbrev pub task_line : ℕ → Task → List ℕ
 task_line client t = as_line (decimal client ++ codes " " ++ task_text t)
 
@@ -23,7 +23,7 @@ abbrev pub opening_line : Command → List ℕ
 opening_line c = task_line 0 (task.One c)
 
 -- items are read from the words that a generator gives from the first state to the last one, and
--- these are their lines, one behind the other
+-- these are their lines, one after the other
 pub record DrawnLines {X : Type 0} (reader : Reader (List X)) (line : X → List ℕ)
     (state last : Lcg) (text : List ℕ) : Type 0 where
   pub items : List X
@@ -40,7 +40,7 @@ abbrev pub IsClientText : Settings → ℕ → List ℕ → Type 0
 IsClientText s client text = (last : Lcg) × DrawnLines (times (s.rounds * s.tasks) (task_of s))
     (task_line client) (stream_of s.seed client) last text
 
--- the lines of the opening, and behind them those of the clients from 1 to n, one client behind the
+-- the lines of the opening, and after them those of the clients from 1 to n, one client after the
 -- other
 abbrev pub IsTextOf : Settings → ℕ → List ℕ → Type 0
 IsTextOf s zero text = IsOpeningText s text
@@ -60,7 +60,7 @@ pub record WroteTasks (s : Settings) (held holds : Option (List ℕ)) : Type 0 w
   pub written : Appends held holds text
 
 -- a prefix of the tasks of a load was written
--- Not said: that want of memory or a failed write alone end it otherwise.
+-- Not said: that it ends otherwise only where memory is refused or a write fails.
 pub record WroteTasksPrefix (s : Settings) (held holds : Option (List ℕ)) : Type 0 where
   pub text : List ℕ
   pub is : IsTasksText s text

@@ -1,5 +1,5 @@
 //! The work of a load as lines: the commands of its opening and the tasks of its clients, each
-//! behind the number of its client. No manager is needed to write them.
+//! after the number of its client. No manager is needed to write them.
 #![tactic(auto)]
 
 mod clients;

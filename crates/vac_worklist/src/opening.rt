@@ -16,7 +16,7 @@ use std::io::Write;
 use vac_draws::{PcgDraws, Settings, draw_stock};
 use vac_model::{Command, Kind, Task};
 
-/// The opening's commands stand under this client.
+/// The number of the client under which the opening's commands are written.
 pub const OPENING: u32 = 0;
 
 /// Sends the command that adds an item of this kind.

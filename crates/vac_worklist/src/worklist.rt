@@ -41,8 +41,8 @@ fn send_all<W: Write>(
 
 /// Writes the tasks of a load with these settings, one a line as `CLIENT LINE`, LINE being what
 /// [`print_task`](vac_lines::print_task) prints: first the commands of the opening as those of
-/// client 0, then the tasks of client 1 in all rounds, then those of client 2, and so on. They
-/// are the very ones of the load with these settings. Its clients' tries, its blocks and its last
+/// client 0, then the tasks of client 1 in all rounds, then those of client 2, and so on. They are
+/// exactly those of the load with these settings. Its clients' tries, its blocks and its last
 /// version change nothing, but must be in their ranges.
 ///
 /// Takes memory for one chunk of text and one task. After a fault, what was written is nothing or

@@ -10,7 +10,8 @@ use crate::fault::TasksFault;
 use std::io::Write;
 use vac_lines::{CHUNK_BYTES, write_all, write_and_flush};
 
-/// Writes what is at hand, where it is a chunk. A fault is that the output could not be written.
+/// Writes the text at hand, where it is a chunk or more. A fault is that the output could not be
+/// written.
 pub fn send_chunk<W: Write>(output: &mut W, hand: &mut Vec<u8>) -> Result<(), TasksFault>
     ensures ok { OnOk result (Sent (W.contents output.old) (W.contents output.new)
         hand.old.items hand.new.items []) }
@@ -25,7 +26,7 @@ pub fn send_chunk<W: Write>(output: &mut W, hand: &mut Vec<u8>) -> Result<(), Ta
     Ok(())
 }
 
-/// Writes the rest, and sees that all gets on its way.
+/// Writes the rest, and flushes the output.
 pub fn send_rest<W: Write>(output: &mut W, hand: &[u8]) -> Result<(), TasksFault>
     ensures ok { OnOk result (Appends (W.contents output.old) (W.contents output.new) hand.now) }
     ensures err { OnErr result

@@ -1,9 +1,9 @@
 //! A reservation system after the program Vacation of the STAMP benchmarks. `vacation run` reads
 //! commands from standard input, one a line, and writes a line for each to standard output;
 //! `vacation dump` writes the words of the memory that they leave, and `vacation check` audits such
-//! words. `vacation load` lets clients in threads call the system with tasks drawn at random,
-//! `vacation tasks` writes these tasks for other programs, and `vacation judge` says whether the
-//! calls that such a program logged are right.
+//! words. `vacation load` runs clients in threads, which call the system with tasks drawn at
+//! random, `vacation tasks` writes these tasks for other programs, and `vacation judge` says
+//! whether the calls that such a program logged are right.
 #![tactic(auto)]
 
 use std::io::ErrorKind;
