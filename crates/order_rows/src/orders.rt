@@ -8,7 +8,7 @@ use vac_streams::StreamFault;
 /// The blocks of the system.
 const BLOCKS: u32 = 9;
 
-/// What is written of a history in so many steps, and how it is answered.
+/// What is written of a history in `steps` steps, and what is returned.
 fn ordered(alloc: Global, steps: u64, history: &str) -> Result<(Outcome, Vec<u8>), StreamFault> {
     let mut history = history.as_bytes();
     let mut text = Vec::new(alloc);
@@ -77,7 +77,7 @@ fn histories_that_have_no_order(rt: HostRuntime) -> Result<(), Fail> {
             "illegal order 2\nstuck 3 cars=1 flights=1 rooms=0 customers=0 bookings=0 used=0 \
             free=4 total=4 billed=0\n",
         ),
-        // a stale read behind a write that had ended
+        // a stale read after a write that had ended
         (
             "2 4 5 free car 1 -> 1\n0 0 1 add car 1 1 5 -> true\n1 2 3 add car 1 1 5 -> true\n",
             "illegal order 2\nstuck 1 2\n",

@@ -24,14 +24,14 @@ call_of line = record {
 abbrev pub calls_of : List Line → List Call
 calls_of lines = map call_of lines
 
--- a line may stand after another: it does not end before that, says of no earlier begin, and was
--- never answered where that was not
+-- a line may come after another: it does not end before that one, names no earlier begin, and was
+-- never answered where that one was not
 abbrev pub follows : Line → Line → Bool
 follows line next =
     nat_le line.end next.end && nat_le line.soonest next.soonest
     && (is_some line.reply || not (is_some next.reply))
 
--- the lines stand in the order in which they ended, and each says of no later begin than there is
+-- the lines are in the order in which they ended, and each names no later begin than there is
 abbrev pub are_sorted : List Line → Bool
 are_sorted [] = true
 are_sorted (line ∷ []) = nat_le line.soonest line.begin
@@ -44,13 +44,13 @@ least_begin [] = 2 ^ 64 - 1
 least_begin (line ∷ lines) =
     if nat_lt line.begin (least_begin lines) then line.begin else least_begin lines
 
--- each line says from when on it and those after it begin
+-- each line names the moment from which on it and those after it begin
 abbrev pub soonest_of : List Line → List Line
 soonest_of [] = []
 soonest_of (line ∷ lines) =
     record line { soonest = least_begin (line ∷ lines) } ∷ soonest_of lines
 
--- the call that stands where there is none
+-- the call that is taken where there is none
 abbrev pub no_call : Call
 no_call = record {
   client = 0;
@@ -60,14 +60,14 @@ no_call = record {
   reply = None;
 }
 
--- those of the calls, of which the first stands at a place, that have no place in the order
+-- of these calls, the first of which is at a place, those that have no place in the order
 abbrev pub rest_of : (ℕ → Bool) → ℕ → List Call → List Call
 rest_of made place [] = []
 rest_of made place (call ∷ calls) =
     if made place then rest_of made (suc place) calls
     else call ∷ rest_of made (suc place) calls
 
--- none that is left had ended when the call began, and none of its client stands before it
+-- none that is left had ended when the call began, and none of its client comes before it
 abbrev pub may_next : List Call → List Call → Call → Bool
 may_next rest before call =
     not (list_any (λ other. nat_lt other.end call.begin) rest)
@@ -94,14 +94,14 @@ abbrev pub tries_from : (ℕ → Bool) → List Call → ℕ → List Call
 tries_from made calls from =
     tries_of made (rest_of made 0 calls) (rest_of made 0 (take from calls)) from (drop from calls)
 
--- the next call from a place on that may come next stands there
+-- the first call from a place on that may come next is there
 pub record IsTry (made : ℕ → Bool) (calls : List Call) (from place : ℕ) : Type 0 where
   pub is : tries_from made calls from ≡
       get_or calls place no_call ∷ tries_from made calls (place + 1)
   pub can : can_come made calls place ≡ true
   pub within : place < length calls
 
--- where it stands, if there is one
+-- where it is, if there is one
 abbrev pub TellsTry : (ℕ → Bool) → List Call → ℕ → Option ℕ → Type 0
 TellsTry made calls from None = tries_from made calls from ≡ []
 TellsTry made calls from (Some place) = IsTry made calls from place

@@ -62,12 +62,12 @@ abbrev pub answered : List Call → ℕ
 answered [] = 0
 answered (call ∷ calls) = weight call + answered calls
 
--- of so many answered calls in all, no more than these ever have a place from here on
+-- of `total` answered calls in all, at most `most` ever have a place from here on
 abbrev pub PlacesAtMost : ℕ → ℕ → Configuration → Type 0
 PlacesAtMost total most at = (calls : List Call) (b : Configuration) →
     Reaches at calls b → total ≤ most + answered b.rest
 
--- from the start these calls lead here, where so many answered ones have a place and some have none
+-- from the start these calls lead here, where `most` answered ones have a place and some have none
 pub record Deepest (start : Configuration) (most : ℕ) (at : Configuration) : Type 0 where
   pub calls : List Call
   pub reaches : Reaches start calls at

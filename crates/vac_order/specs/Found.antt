@@ -46,7 +46,7 @@ pub record IsOrdered (n : ℕ) (bytes : List ℕ) (numbers : List ℕ) : Type 0 
   pub orders : IsOrderOf calls (numbered calls numbers)
   pub linearization : IsLinearization n (numbered calls numbers)
 
--- the lines of a text are calls, each client's in turn, which a search has in the order of these
+-- the lines of a text are calls, each client's in turn, which a search keeps in the order of these
 -- numbers
 pub record AreKept (bytes : List ℕ) (calls : List Call) (numbers : List ℕ) : Type 0 where
   pub listed : Lists bytes calls
@@ -54,14 +54,14 @@ pub record AreKept (bytes : List ℕ) (calls : List Call) (numbers : List ℕ) :
   pub numbers_are : AreNumbers calls numbers
   pub merges : IsMerge calls (numbered calls numbers)
 
--- the calls that are stuck are told by the numbers of their lines
+-- the calls that are stuck are given by the numbers of their lines
 abbrev pub told_by : List ℕ → List Stuck → List (ℕ × Reply)
 told_by numbers stuck = map (λ one. (get_or numbers one.place 0, one.expected)) stuck
 
--- no order of the calls is a linearization. At most so many answered calls, one after the other,
--- may come next and give their replies; where as many did, the answered ones that may come next are
--- told, each with what the manager would answer
--- Not said: in which order they are told.
+-- no order of the calls is a linearization. At most `most` answered calls, one after the other, may
+-- come next and give their replies; where that many did, the answered ones that may come next are
+-- given, each with what the manager would answer
+-- Not said: in which order they are given.
 pub record HasNone (n : ℕ) (bytes : List ℕ) (most : ℕ) (stuck : List (ℕ × Reply)) : Type 0 where
   pub calls : List Call
   pub numbers : List ℕ
@@ -77,15 +77,15 @@ pub record HasNone (n : ℕ) (bytes : List ℕ) (most : ℕ) (stuck : List (ℕ 
   pub are : AreStuck state made (numbered calls numbers) found
   pub told : stuck ≡ told_by numbers found
 
--- after so many steps neither an order is found nor that there is none; so many answered calls had
--- a place in what was tried, and nowhere had more
+-- after `steps` steps neither an order is found nor that there is none; `most` answered calls had a
+-- place in what was tried, and nowhere had more
 pub record IsOpen (n : ℕ) (bytes : List ℕ) (steps most : ℕ) : Type 0 where
   pub calls : List Call
   pub numbers : List ℕ
   pub kept : AreKept bytes calls numbers
   pub undecided : IsUndecided (start n (numbered calls numbers)) steps most
 
--- this is found of a text, for a system of n blocks, in so many steps
+-- this is found of a text, for a system of n blocks, in this many steps
 abbrev pub IsFound : ℕ → ℕ → List ℕ → Found → Type 0
 IsFound n steps bytes (Wrong verdict) = first_wrong bytes ≡ Some verdict
 IsFound n steps bytes (Order numbers) = IsOrdered n bytes numbers

@@ -22,14 +22,14 @@ pub record IsLinearizedBy (n : ℕ) (calls : List Call) (places : List ℕ) : Ty
   pub distinct : AreDistinct places
   pub within : All (λ place. place < length calls) places
 
--- no order of the calls is one. At most so many answered calls, one after the other, may come next
--- and give their replies; here as many did
+-- no order of the calls is one. At most `most` answered calls, one after the other, may come next
+-- and give their replies; here that many did
 pub record HasNoOrder (n : ℕ) (calls : List Call) (most : ℕ) (at : Configuration) : Type 0 where
   pub none : IsLinearizable n calls → ⊥
   pub deepest : Deepest (start n calls) most at
   pub bound : PlacesAtMost (answered calls) most (start n calls)
 
--- what is found of the calls, for a system of n blocks, in so many steps
+-- what is found of the calls, for a system of n blocks, in this many steps
 abbrev pub Judges : {W : Type 0} → (W → Configuration) → ℕ → List Call → ℕ → Finding W → Type 0
 Judges at n calls steps (finding.Order places) = IsLinearizedBy n calls places.items
 Judges at n calls steps (finding.NoOrder most world) = HasNoOrder n calls most (at world)

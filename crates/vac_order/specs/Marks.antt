@@ -2,7 +2,7 @@
 use Rattle.std.specs.Prelude.{◌≡◌, ◌==◌, ◌||◌, ℕ, Bool, List, nat_lt}
 use Rattle.std.specs.List.{list_any}
 
--- the call at this place has one
+-- the call at this place has a place in the order
 abbrev pub is_made : ℕ → List ℕ → ℕ → Bool
 is_made low beyond place = nat_lt place low || list_any (λ other. other == place) beyond
 

@@ -1,4 +1,4 @@
--- What ordering a history that is read answers and writes.
+-- What ordering a history that is read returns and writes.
 use Rattle.std.specs.Prelude.{◌≡◌, ◌⊎◌, ℕ, Option, IfSome, List, [], ◌++◌}
 use Rattle.std.specs.Io.KnownBytes.{Appends, Consumes, IsAtEnd}
 use Rattle.vac_lines.specs.Writing.{AppendsPrefix}
@@ -8,14 +8,14 @@ use Rattle.vac_order.specs.declared.ordering.Outcome.{Outcome}
 use Rattle.vac_order.specs.declared.ordering.Outcome.TheVariants as outcome
 use Rattle.vac_order.specs.Found.{Found, Wrong, Order, NoOrder, Undecided, IsFound, found_text}
 
--- how what is found is answered
+-- what is returned for what is found
 abbrev pub outcome_of : Found → Outcome
 outcome_of (Wrong verdict) = outcome.Illegal
 outcome_of (Order numbers) = outcome.Ordered
 outcome_of (NoOrder most stuck) = outcome.Illegal
 outcome_of (Undecided most) = outcome.Undecided
 
--- this is found of a text, is its text, and is answered so
+-- this is found of a text; this is what is written of it, and this is returned
 pub record FindsText (n steps : ℕ) (bytes : List ℕ) (result : Outcome) (text : List ℕ) :
     Type 0 where
   pub found : Found
@@ -23,7 +23,8 @@ pub record FindsText (n steps : ℕ) (bytes : List ℕ) (result : Outcome) (text
   pub answered : result ≡ outcome_of found
   pub text_is : text ≡ found_text bytes found
 
--- so much of the input was read as decides what is found: all of it, or whatever follows
+-- enough of the input was read to decide what is found: all of it, or so much that this holds
+-- whatever follows
 -- Not said: streams whose bytes no contract knows; that no byte is read after the chunk with the
 -- first wrong line, which is read in the code.
 pub record HasText (n steps : ℕ) (unread left : Option (List ℕ)) (result : Outcome)
@@ -34,7 +35,7 @@ pub record HasText (n steps : ℕ) (unread left : Option (List ℕ)) (result : O
       ⊎ ((x : List ℕ) → FindsText n steps (bytes ++ x) result text)
   pub of_input : IfSome unread (λ input. FindsText n steps input result text)
 
--- what is found was written and nothing else, and is answered
+-- what is found was written and nothing else, and this was returned
 pub record HasOrdered (n steps : ℕ) (result : Outcome)
     (unread left held holds : Option (List ℕ)) : Type 0 where
   pub text : List ℕ
@@ -50,7 +51,8 @@ pub record HasOrderedInPart (n steps : ℕ) (unread left held holds : Option (Li
   pub written : AppendsPrefix held holds text
 
 -- a fault ended it: one of the output while the text was written, any other before
--- Not said: which of Read, Memory and Bound ends it; that the output failed where Write is given.
+-- Not said: which of Read, Memory and Bound ends it; that the output failed where Write is
+-- returned.
 abbrev pub HasStopped : ℕ → ℕ → StreamFault → Option (List ℕ) → Option (List ℕ)
     → Option (List ℕ) → Option (List ℕ) → Type 0
 HasStopped n steps fault.Write unread left held holds =

@@ -11,7 +11,7 @@ of_client client [] = []
 of_client client (call ∷ calls) =
     if call.client == client then call ∷ of_client client calls else of_client client calls
 
--- each client's calls stand in both lists alike
+-- each client's calls are the same in both lists, in the same order
 abbrev pub IsMerge : List Call → List Call → Type 0
 IsMerge calls order = (client : ℕ) → of_client client order ≡ of_client client calls
 
@@ -19,8 +19,8 @@ IsMerge calls order = (client : ℕ) → of_client client order ≡ of_client cl
 abbrev pub is_answered : Call → Bool
 is_answered call = is_some call.reply
 
--- an order of the calls: each client's stand in it as they stand here, and those that are left out,
--- which are their clients' last, were never answered
+-- an order of the calls: each client's are in it in the order that they have here, and those that
+-- are left out, which are their clients' last, were never answered
 pub record IsOrderOf (calls order : List Call) : Type 0 where
   pub left : List Call
   pub merges : IsMerge calls (order ++ left)

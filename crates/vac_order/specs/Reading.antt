@@ -30,8 +30,8 @@ use Rattle.vac_order.specs.Orders.{IsMerge}
 use Rattle.vac_order.specs.Walking.{AreDistinct}
 use Rattle.vac_order.specs.Walk.{InTurn, IsTimed}
 
--- what is wrong with the first of these lines that is no call, or whose call is not in turn behind
--- those of its client; these calls stand before them
+-- what is wrong with the first of these lines that is no call, or whose call is not in turn after
+-- those of its client; these calls come before the lines
 abbrev pub wrong_behind : List Call → List (Result Call CallFault) → Option Verdict
 wrong_behind calls [] = None
 wrong_behind calls (Err fault ∷ rest) = Some (Fault (length calls + 1) fault)
@@ -47,7 +47,7 @@ first_wrong bytes = wrong_behind [] (map line_call (lines_of bytes))
 abbrev pub texts_of : List Line → List (List ℕ)
 texts_of lines = map (λ line. line.text.items) lines
 
--- a line has this number and this text, and is this call's
+-- a line has this number and this text, and is that of this call
 pub record IsLineOf (number : ℕ) (text : List ℕ) (call : Call) (line : Line) : Type 0 where
   pub number_is : line.number ≡ number
   pub text_is : line.text.items ≡ text
@@ -67,7 +67,7 @@ began_before (Some end) begin = nat_lt begin end
 abbrev pub overlaps : Call → Call → Bool
 overlaps call earlier = earlier.client == call.client && nat_lt call.begin earlier.end
 
--- by the last end of each client it is seen whether a call overlaps an earlier one
+-- the last end of each client shows whether a call overlaps an earlier one
 abbrev pub KeepsEnds : FinMap nat_cmp ℕ → List Call → Type 0
 KeepsEnds ends calls = (call : Call) →
     list_any (overlaps call) calls ≡ began_before (get ends call.client) call.begin
@@ -94,43 +94,45 @@ pub record IsLineAt (lines : List Line) (line : Line) : Type 0 where
   pub text : get_or (texts_of lines) (line.number - 1) [] ≡ line.text.items
   pub call : call_at (calls_of lines) line.number ≡ call_of line
 
--- these are the lines, each once, and each client's calls stand in both lists alike
+-- these are the lines, each once, and each client's calls are the same in both lists, in the same
+-- order
 pub record AreKeptLines (lines kept : List Line) : Type 0 where
   pub merges : IsMerge (calls_of lines) (calls_of kept)
   pub each : All (IsLineAt lines) kept
   pub distinct : AreDistinct (numbers_of kept)
 
--- these are the lines in another order, each of which says from when on it and those after it begin
+-- these are the lines in another order, each of which names the moment from which on it and those
+-- after it begin
 abbrev pub AreSortOf : List Line → List Line → Type 0
 AreSortOf lines sorted =
     (items : List Line) × IsPermutation lines items × (sorted ≡ soonest_of items)
 
--- the call of a line was taken, which is in turn
+-- the call of a line, which is in turn, was taken
 pub record Took (before after : History) (text : List ℕ) (call : Call) : Type 0 where
   pub fits : breaks_client (calls_of before.lines.items) call ≡ false
   pub held : IsHeld after
   pub texts : texts_of after.lines.items ≡ texts_of before.lines.items ++ text ∷ []
   pub calls : calls_of after.lines.items ≡ calls_of before.lines.items ++ call ∷ []
 
--- a line was taken as a call more
+-- a line was taken as one more call
 pub record TookLine (before after : HistoryText) (text : List ℕ) : Type 0 where
   pub call : Call
   pub is : line_call text ≡ Ok call
   pub took : Took before.history after.history text call
   pub wrong : after.wrong ≡ before.wrong
 
--- a line is wrong behind those before it, whatever follows
+-- a line is wrong after those before it, whatever follows
 pub record StopsAt (before after : HistoryText) (line : Result Call CallFault) : Type 0 where
   pub verdict : Verdict
   pub wrong : after.wrong ≡ Some verdict
   pub is : (more : List (Result Call CallFault)) →
       wrong_behind (calls_of before.history.lines.items) (line ∷ more) ≡ Some verdict
 
--- the number of the line behind those that were read
+-- the number of the line after those that were read
 abbrev pub next_line : HistoryText → ℕ
 next_line text = length text.history.lines.items + 1
 
--- what being told a line makes of a text
+-- what a line that is told does to a text
 abbrev pub HearsLine : HistoryText → told.Told → Result Next StreamFault → HistoryText → Type 0
 HearsLine x told (Err fault) y = fault ≢ Write
 HearsLine x (told.Line text) (Ok GoOn) y = IsHeld x.history → TookLine x y text
@@ -148,7 +150,8 @@ pub record ReadWhole (unread left : Option (List ℕ)) (history : History) : Typ
   pub listed : Lists bytes (calls_of history.lines.items)
   pub right : first_wrong bytes ≡ None
 
--- so much of the input was read as shows its first wrong line: all of it, or whatever follows
+-- enough of the input was read to show its first wrong line: all of it, or so much that this holds
+-- whatever follows
 pub record ReadWrong (unread left : Option (List ℕ)) (verdict : Verdict) : Type 0 where
   pub bytes : List ℕ
   pub consumed : Consumes unread left bytes

@@ -1,4 +1,4 @@
--- A search as it is done, step by step: how it stands, and what one step makes of it.
+-- A search as it is done, step by step: its state, and what one step makes of it.
 use Rattle.std.specs.Prelude.{◌≡◌, ◌⊎◌, ◌+◌, ◌≤◌, ℕ, suc, zero, max, true, false, List, [], ◌∷◌, ◌++◌}
 use Rattle.std.specs.List.{Contains}
 use Rattle.vac_judge.specs.Call.{Call}
@@ -28,7 +28,7 @@ pub record Tried (search : Search) (call : Call) (others : List Call) : Type 0 w
   pub is : search.tries ≡ call ∷ others
   pub may : MayBegin search.at.rest call
 
--- a call is tried and passed over: it has another reply, or leads to what is known
+-- a call is tried and passed over: it has another reply, or leads to a configuration that is known
 pub record PassesOver (search next : Search) : Type 0 where
   pub call : Call
   pub others : List Call
@@ -74,22 +74,23 @@ pub record GoesBack (search next : Search) : Type 0 where
 abbrev pub MakesStep : Search → Search → Type 0
 MakesStep search next = PassesOver search next ⊎ GoesOn search next ⊎ GoesBack search next
 
--- a search that began there has made so many steps, and nowhere placed more answered calls
+-- a search that began there has made this many steps, and nowhere placed more than this many
+-- answered calls
 abbrev pub HasMade : ℕ → Configuration → Search → ℕ → Type 0
 HasMade zero start search most = HasBegun start search × (most ≡ 0)
 HasMade (suc steps) start search most =
     (before : Search) × (less : ℕ) × HasMade steps start before less × MakesStep before search
     × (most ≡ max less search.placed)
 
--- so many answered calls have a place somewhere
+-- `most` answered calls have a place somewhere
 pub record Places (start : Configuration) (most : ℕ) : Type 0 where
   pub calls : List Call
   pub at : Configuration
   pub reaches : Reaches start calls at
   pub count : most + answered at.rest ≡ answered start.rest
 
--- a search that began there has made so many steps, and neither found an order nor seen that there
--- is none; so many answered calls had a place somewhere, and nowhere had more
+-- a search that began there has made `steps` steps, and neither found an order nor seen that there
+-- is none; `most` answered calls had a place somewhere, and nowhere had more
 pub record IsUndecided (start : Configuration) (steps most : ℕ) : Type 0 where
   pub search : Search
   pub made : HasMade steps start search most

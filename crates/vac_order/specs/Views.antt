@@ -14,11 +14,11 @@ pub record Views (W : Type 0) : Type 0 where
   pub can : W → ℕ → Bool
   pub tries : W → ℕ → List Call
 
--- whether no answered call is left, of so many
+-- whether no answered call is left, where this many are
 abbrev pub TellsLeft : ℕ → Bool → Type 0
 TellsLeft left done = (done ≡ true → left ≡ 0) × (done ≡ false → 0 < left)
 
--- the next call to try from a place on stands there
+-- the next call to try from a place on is there
 pub record IsNext {W : Type 0} (views : Views W) (world : W) (from place : ℕ) : Type 0 where
   pub is : views.tries world from ≡ views.call place ∷ views.tries world (place + 1)
   pub may : MayBegin (views.at world).rest (views.call place)

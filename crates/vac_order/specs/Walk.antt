@@ -7,7 +7,7 @@ use Rattle.vac_judge.specs.Follows.{IsBehind, EachCall}
 use Rattle.vac_order.specs.Orders.{is_answered}
 use Rattle.vac_order.specs.Configurations.{Configuration, MayBegin, Goes, Reaches, after, answered, PlacesAtMost, Deepest}
 
--- each client's calls stand in their order, and take time
+-- each client's calls are in their order, and take time
 abbrev pub InTurn : List Call → Type 0
 InTurn [] = ⊤
 InTurn (call ∷ calls) =
@@ -28,11 +28,11 @@ pub record IsWhole (calls : List Call) : Type 0 where
 abbrev pub AreChoices : List Call → List Call → Type 0
 AreChoices rest calls = (call : Call) → MayBegin rest call → Contains calls call
 
--- through this call no more than so many have a place
+-- through this call at most `most` calls have a place
 abbrev pub IsLost : ℕ → ℕ → Configuration → Call → Type 0
 IsLost total most at call = Goes at call → PlacesAtMost total most (after at call)
 
--- from a configuration no more than so many have a place, where that is so through these calls;
+-- from a configuration at most this many calls have a place, where that is so through these calls;
 -- this holds of each number from the least on
 abbrev pub HangsOn : ℕ → ℕ → Configuration → List Call → Type 0
 HangsOn total least at calls = (most : ℕ) → least ≤ most → All (IsLost total most at) calls →
@@ -60,7 +60,7 @@ Leads total least a [] b = a ≡ b
 Leads total least a (place ∷ path) b =
     (a ≡ place.at) × Made total least place × Leads total least (after place.at place.call) path b
 
--- a search that began at a configuration, and has seen so many answered calls placed
+-- a search that began at a configuration, and has seen `most` answered calls placed
 pub record IsWalk (start : Configuration) (most : ℕ) (at : Configuration) (placed : ℕ)
     (tries : List Call) (path : List Place) (known : List Configuration) : Type 0 where
   pub whole : IsWhole start.rest

@@ -22,11 +22,11 @@ place_of views frame = record {
   others = views.tries frame.world frame.next;
 }
 
--- no number stands in a list twice
+-- no number is in a list twice
 abbrev pub AreDistinct : List ℕ → Type 0
 AreDistinct numbers = (number : ℕ) → sum_by (λ other. if other == number then 1 else 0) numbers ≤ 1
 
--- besides those that had one before, the calls at these places have one in a world, each once
+-- besides the calls that had a place before, those at these places have one in a world, each once
 pub record AreMade {W : Type 0} (views : Views W) (first : ℕ → Bool) (places : List ℕ) (world : W) :
     Type 0 where
   pub made : (p : ℕ) →
@@ -34,7 +34,7 @@ pub record AreMade {W : Type 0} (views : Views W) (first : ℕ → Bool) (places
   pub distinct : AreDistinct places
   pub within : All (λ p. p < views.count) places
 
--- so it is all along a path, behind these places
+-- this holds all along a path, after these places
 abbrev pub AreMadeBy : {W : Type 0} → Views W → (ℕ → Bool) → List ℕ → List (Frame W) → W → Type 0
 AreMadeBy views first places [] world = AreMade views first places world
 AreMadeBy views first places (frame ∷ path) world =
@@ -51,7 +51,7 @@ search_of views world placed path known tries = record {
   known = map views.at known;
 }
 
--- a search that began there and has made so many steps: where it stands, how many answered calls
+-- a search that began there and has made `steps` steps: where it stands, how many answered calls
 -- have a place, its path, the worlds that are known, the deepest of them, how many have a place
 -- there, and the calls that are left to try
 pub record IsSearch {W : Type 0} (views : Views W) (start : Configuration) (steps : ℕ) (world : W)
@@ -64,7 +64,7 @@ pub record IsSearch {W : Type 0} (views : Views W) (start : Configuration) (step
   pub first : ℕ → Bool
   pub places : AreMadeBy views first [] path world
 
--- a walk that began there and has made so many steps, with these calls left to try
+-- a walk that began there and has made `steps` steps, with these calls left to try
 abbrev pub WalksWith : {W : Type 0} → Views W → Configuration → ℕ → Walk W → List Call → Type 0
 WalksWith views start steps walk tries =
     IsSearch views start steps walk.world walk.placed walk.path.items walk.known.worlds.items
@@ -74,7 +74,8 @@ abbrev pub Walks : {W : Type 0} → Views W → Configuration → ℕ → Walk W
 Walks views start steps walk =
     WalksWith views start steps walk (views.tries walk.world walk.next)
 
--- a search that tries the call at a place, which goes and has no place yet
+-- a search that tries the call at a place, which may come next, gives its reply and has no place
+-- yet
 pub record Tries {W : Type 0} (views : Views W) (start : Configuration) (steps : ℕ)
     (walk : Walk W) (place : ℕ) : Type 0 where
   pub walks : WalksWith views start steps walk
@@ -113,13 +114,13 @@ abbrev pub FailsBy : {W : Type 0} → Views W → Configuration → ℕ → W �
 FailsBy views start most world =
     Deepest start most (views.at world) × PlacesAtMost (answered start.rest) most start
 
--- what a step of a search comes to that has made so many then
+-- what a step of a search leads to, which has then made `steps` steps
 abbrev pub StepsTo : {W : Type 0} → Views W → Configuration → ℕ → Step W → Type 0
 StepsTo views start steps (step.On walk) = Walks views start steps walk
 StepsTo views start steps (step.Found places) = CompletesBy views start places.items
 StepsTo views start steps (step.NoOrder most world) = FailsBy views start most world
 
--- what is found of a configuration, in so many steps
+-- what is found from a configuration, in `steps` steps
 abbrev pub Finds : {W : Type 0} → Views W → Configuration → ℕ → Finding W → Type 0
 Finds views start steps (finding.Order places) = CompletesBy views start places.items
 Finds views start steps (finding.NoOrder most world) = FailsBy views start most world

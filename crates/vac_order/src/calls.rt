@@ -17,7 +17,7 @@ pub struct Calls {
 }
 
 impl Calls {
-    /// The calls of a history in the order in which they ended, each client's as they stand in it.
+    /// The calls of a history in the order in which they ended, each client's as they are in it.
     pub(crate) fn new(history: History) -> Result<Calls, AllocError>
         requires { IsHeld history }
         ensures { IfOk result (λ calls. AreKeptLines history.lines.items calls.lines.items) }

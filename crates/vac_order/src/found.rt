@@ -80,7 +80,7 @@ fn print_all_stuck(lines: &[Line], stuck: &[Stuck], out: &mut Vec<u8>) -> Result
     Ok(())
 }
 
-/// Appends that there is no order, at most so many answered calls having a place, and the calls
+/// Appends that there is no order, that at most `most` answered calls have a place, and the calls
 /// that are stuck there.
 pub(crate) fn print_no_order(
     most: u64,
@@ -96,7 +96,7 @@ pub(crate) fn print_no_order(
     print_all_stuck(lines, stuck, out)
 }
 
-/// Appends that neither is known, at most so many answered calls having had a place.
+/// Appends that neither is known, and that at most `most` answered calls had a place.
 pub(crate) fn print_undecided(most: u64, out: &mut Vec<u8>) -> Result<(), AllocError>
     ensures { OnOk result (out.new.items ≡ out.old.items ++ open_text most) }
 {

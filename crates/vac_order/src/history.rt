@@ -72,7 +72,7 @@ impl History {
         }
     }
 
-    /// Whether a call is in turn behind those of its client.
+    /// Whether a call is in turn after those of its client.
     fn is_in_turn(&self, call: &CallLine<'_>) -> bool
         ensures { IsHeld self.now →
             result ≡ not (breaks_client (calls_of self.now.lines.items) (shown_call call.now)) }
@@ -87,7 +87,7 @@ impl History {
         }
     }
 
-    /// Takes the call of a line with this text, where it is in turn. Answers whether it is.
+    /// Takes the call of a line with this text, where it is in turn. Returns whether it is.
     pub(crate) fn take(
         &mut self,
         alloc: Global,

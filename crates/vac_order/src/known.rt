@@ -7,7 +7,7 @@ use crate::world::World;
 use std::alloc::{AllocError, Global};
 use std::collections::BTreeMap;
 
-/// Worlds, and where those of a hash stand among them. Nothing is promised of the index: what it
+/// Worlds, and where those with a hash are among them. Nothing is promised of the index: what it
 /// names is compared.
 #[derive(Drop)]
 pub(crate) struct Known<W> {
@@ -49,7 +49,7 @@ impl<W: World + Drop> Known<W> {
         self.worlds.len()
     }
 
-    /// Takes the world at a place out, and lets the others go.
+    /// Takes the world at a place out, and drops the others.
     pub(crate) fn take(self, place: usize) -> W
         requires { place < vec_len self.worlds }
         ensures { slice_get self.worlds.items place ≡ Some result }

@@ -3,7 +3,7 @@
 ghost use Rattle.vac_order.specs.Laws.{OrderIsLinearization, NoOrderMeansNone};
 
 /// Where an order is found, some order of the calls of the history is a linearization: each
-/// client's calls stand in it as they came, and those that it leaves out were never answered.
+/// client's calls are in it as they came, and those that it leaves out were never answered.
 pub fn an_order_that_is_found_is_a_linearization()
     ensures { OrderIsLinearization }
 {}

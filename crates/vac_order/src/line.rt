@@ -6,7 +6,7 @@ ghost use Rattle.vac_judge.specs.declared.call.TheConstants.{NEVER};
 
 use vac_model::Task;
 
-/// A call of a client, and the line of the history that it stands in.
+/// A call of a client, and the line of the history that it is in.
 #[derive(Drop)]
 pub struct Line {
     /// The number of the line, the first being 1.
@@ -23,7 +23,7 @@ pub struct Line {
     pub task: Task,
     /// The text of the answer, where there was one.
     pub reply: Option<Vec<u8>>,
-    /// None of the lines from this one on begins before.
+    /// None of the lines from this one on begins before this.
     pub soonest: u64,
     ghost asked: { is_task task ≡ true },
     ghost ended: { nat_lt end NEVER ≡ is_some reply },

@@ -18,7 +18,7 @@ pub trait Machine: Sized {
         ensures { IfOk result (λ next.
             tasks.run (state self.now) task.now ≡ (state next.0, next.1)) };
 
-    /// Whether two are known to be in the same state.
+    /// Whether two machines are known to be in the same state.
     fn is_same(&self, other: &Self) -> bool
         ensures { result ≡ true → state self.now ≡ state other.now };
 

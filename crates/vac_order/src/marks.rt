@@ -5,14 +5,14 @@ ghost use Rattle.vac_order.specs.Marks.{is_made, MarksOneMore};
 
 use std::alloc::{AllocError, Global};
 
-/// Whether the call at a place has one.
+/// Whether the call at a place has a place in the order.
 pub(crate) fn is_made(low: usize, beyond: &[usize], place: usize) -> bool
     ensures { result ≡ is_made low beyond.now place }
 {
     place < low || beyond.contains(&place)
 }
 
-/// The first of so many places that has none.
+/// The first of `count` places whose call has no place in the order.
 pub(crate) fn first_left(low: usize, beyond: &[usize], count: usize) -> usize
     ensures within { result ≤ count }
     ensures below { (place : ℕ) → place < result → is_made low beyond.now place ≡ true }

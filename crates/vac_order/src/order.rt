@@ -16,7 +16,7 @@ use crate::walk::{Finding, find_order};
 use crate::watcher::Watcher;
 use std::alloc::{AllocError, Global};
 
-/// Looks for a linearization of these calls, from the state of a machine on, in at most so many
+/// Looks for a linearization of these calls, from the state of a machine on, in at most `steps`
 /// steps.
 pub(crate) fn judge_order<M: Machine + Drop, P: Watcher>(
     alloc: Global,
@@ -42,7 +42,7 @@ pub(crate) struct Ordered<M> {
 }
 
 /// Looks for a linearization of the calls of a history, from the state of a machine on, in at most
-/// so many steps.
+/// `steps` steps.
 pub(crate) fn judge_lines<M: Machine + Drop, P: Watcher>(
     alloc: Global,
     history: History,

@@ -1,4 +1,4 @@
-//! Where a search stands, and the path that led there.
+//! Where a search is, and the path that led there.
 
 use crate::known::Known;
 
@@ -12,10 +12,10 @@ pub(crate) struct Frame<W> {
     pub(crate) next: usize,
 }
 
-/// A search as it stands.
+/// The state of a search.
 #[derive(Drop)]
 pub(crate) struct Walk<W> {
-    /// Where it stands.
+    /// Where it is.
     pub(crate) world: W,
     /// How many answered calls have a place there.
     pub(crate) placed: u64,

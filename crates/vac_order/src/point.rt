@@ -1,4 +1,4 @@
-//! Where a search among the calls of a history stands.
+//! Where a search among the calls of a history is.
 
 ghost use Rattle.std.specs.Prelude.{◌≡◌, ◌⊎◌, ◌==◌, [], ◌≤◌, ◌<◌, ℕ, IfOk, IfSome, length, take, true};
 ghost use Rattle.std.specs.List.{list_any};
@@ -30,7 +30,7 @@ pub struct Point<M> {
 }
 
 impl<M: Drop> Point<M> {
-    /// None has, and the machine is this one.
+    /// No call has a place, and the machine is this one.
     pub(crate) fn new(alloc: Global, machine: M) -> Point<M>
         ensures low { result.low ≡ 0 }
         ensures beyond { result.beyond.items ≡ [] }
@@ -114,7 +114,7 @@ pub(crate) fn next_call(low: usize, beyond: &[usize], lines: &[Line], from: usiz
     None
 }
 
-/// Whether a reply may have been given, which it may where none was.
+/// Whether this reply may have been given, which is so where the call was never answered.
 fn is_right(alloc: Global, given: &Option<Vec<u8>>, reply: &Reply) -> Result<bool, AllocError>
     ensures { IfOk result (λ right. right ≡ is_right (given_text given.now) reply.now) }
 {

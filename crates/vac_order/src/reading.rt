@@ -14,7 +14,7 @@ use vac_judge::{CALL_BYTES, CallFault, Verdict, Wrong, read_call};
 use vac_lines::LineFault;
 use vac_streams::{MOST_LINES, Next, Sink, StreamFault, read_lines};
 
-/// A text that is read as a history: the calls so far, and what is wrong with the line behind them.
+/// A text that is read as a history: the calls so far, and what is wrong with the line after them.
 #[derive(Drop)]
 pub(crate) struct HistoryText {
     alloc: Global,
@@ -51,7 +51,7 @@ impl HistoryText {
         Next::Stop
     }
 
-    /// Takes a line as a call more.
+    /// Takes a line as one more call.
     fn take_line(&mut self, line: &[u8]) -> Result<Next, StreamFault>
         ensures { HearsLine self.old (Line line.now) result self.new }
     {

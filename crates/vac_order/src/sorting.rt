@@ -16,7 +16,7 @@ fn lesser(a: u64, b: u64) -> u64
     if a < b { a } else { b }
 }
 
-/// Lets each line say from when on it and those after it begin.
+/// Sets for each line from which moment on it and those after it begin.
 fn keep_soonest(lines: &mut [Line])
     ensures { lines.new ≡ soonest_of lines.old }
 {

@@ -1,4 +1,4 @@
-//! The calls that are stuck where a search stands.
+//! The calls that are stuck where a search is.
 
 ghost use Rattle.std.specs.Prelude.{◌≡◌, IfOk, true};
 ghost use Rattle.vac_order.specs.Marks.{is_made};
@@ -13,7 +13,7 @@ use crate::point::{Point, next_call};
 use std::alloc::{AllocError, Global};
 use vac_model::Reply;
 
-/// A call that may come next: where it stands, and what the manager would answer.
+/// A call that may come next: where it is, and what the manager would answer.
 #[derive(Drop)]
 pub struct Stuck {
     /// The place of the call among all.
@@ -22,7 +22,7 @@ pub struct Stuck {
     pub expected: Reply,
 }
 
-/// The answered calls of these lines that may come next, and what each would be answered.
+/// The answered calls of these lines that may come next, and the answer that each would get.
 fn stuck_lines<M: Machine + Drop>(
     alloc: Global,
     low: usize,
@@ -46,7 +46,7 @@ fn stuck_lines<M: Machine + Drop>(
     Ok(found)
 }
 
-/// The answered calls that may come next, and what each would be answered.
+/// The answered calls that may come next, and the answer that each would get.
 pub fn stuck_calls<M: Machine + Drop>(
     alloc: Global,
     calls: &Calls,

@@ -12,7 +12,7 @@ use crate::watcher::Watcher;
 use crate::world::World;
 use std::alloc::{AllocError, Global};
 
-/// What a step of the search comes to.
+/// What a step of the search leads to.
 #[derive(Drop)]
 pub(crate) enum Step<W> {
     On(Walk<W>),
@@ -25,10 +25,10 @@ pub(crate) enum Step<W> {
 pub enum Finding<W> {
     /// An order, by the places of its calls.
     Order(Vec<usize>),
-    /// There is none. The most answered calls have a place in this world, which is so many.
+    /// There is none. At most this many answered calls have a place: as many as in this world.
     NoOrder(u64, W),
-    /// All steps were made, and neither is known. So many answered calls had a place somewhere, and
-    /// nowhere had more.
+    /// All steps were made, and neither is known. This many answered calls had a place somewhere,
+    /// and nowhere had more.
     Unknown(u64),
 }
 
@@ -95,7 +95,7 @@ fn go_back<W: World + Drop>(
     }))
 }
 
-/// How many answered calls have a place, where one more call has.
+/// How many answered calls have a place after one more call has one.
 fn counted(placed: u64, answered: bool) -> Option<u64>
     ensures { IfSome result (λ count. count ≡ placed + (if answered then 1 else 0)) }
 {
@@ -181,7 +181,7 @@ impl<W: World + Drop> Walk<W> {
     }
 }
 
-/// How many answered calls have had a place at most.
+/// The most answered calls that have had a place.
 fn most_of<W>(walk: &Walk<W>) -> u64
     ensures { result ≡ max walk.now.most walk.now.placed }
 {
@@ -192,7 +192,7 @@ fn most_of<W>(walk: &Walk<W>) -> u64
     }
 }
 
-/// Looks for an order of the calls that are left in a world, in at most so many steps.
+/// Looks for an order of the calls that are left in a world, in at most `steps` steps.
 pub fn find_order<W: World + Drop, P: Watcher>(
     alloc: Global,
     ground: &W::Ground,

@@ -25,7 +25,7 @@ pub trait World: Sized {
     fn next_try(&self, ground: &Self::Ground, from: usize) -> Option<usize>
         ensures { TellsNext (view ground.now) self.now from result };
 
-    /// What a call leaves that may come next, where its reply is the right one.
+    /// The world after a call that may come next, where its reply is the right one.
     fn after(
         &self,
         alloc: Global,
@@ -41,11 +41,11 @@ pub trait World: Sized {
         requires { place < (view ground.now).count }
         ensures { result ≡ is_answered ((view ground.now).call place) };
 
-    /// Whether this one is known to be the same as another.
+    /// Whether this world is known to be the same as another.
     fn is_same(&self, ground: &Self::Ground, other: &Self) -> bool
         ensures { result ≡ true →
             (view ground.now).at self.now ≡ (view ground.now).at other.now };
 
-    /// A number that is the same for worlds that are.
+    /// A number that is the same for worlds that are the same.
     fn hash(&self, ground: &Self::Ground) -> u64;
 }
