@@ -38,7 +38,7 @@ AttemptsStopped words unread left held holds =
     HasJudgedInPart words unread left held holds
     ⊎ ((fault : StreamFault) × (fault ≢ stream.Write) × AppendsPrefix held holds (fault_line fault))
 
--- attempts at so many words are judged: 0 where they are opaque
+-- attempts at this many words are judged: 0 where they are opaque
 abbrev pub JudgesAttempts : ℕ → ℕ → Option (List ℕ) → Option (List ℕ) → Option (List ℕ)
     → Option (List ℕ) → Type 0
 JudgesAttempts words status unread left held holds =

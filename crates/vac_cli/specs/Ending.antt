@@ -36,7 +36,7 @@ load_fault_line (load.Opening fault) = as_line (codes "fault opening")
 
 -- status 0 where this was done, 1 where that stopped it
 -- Not said: that the line of a fault comes, or comes whole; that it is the fault that was met; that
--- the output is flushed. Tests play streams that fail.
+-- the output is flushed. Tests use streams that fail.
 abbrev pub Ends : ℕ → Type 0 → Type 0 → Type 0
 Ends status done stopped = ((status ≡ 0) × done) ⊎ ((status ≡ 1) × stopped)
 
@@ -44,12 +44,13 @@ Ends status done stopped = ((status ≡ 0) × done) ⊎ ((status ≡ 1) × stopp
 abbrev pub CanStopWriting : StreamFault → Type 0
 CanStopWriting fault = (fault ≡ stream.Memory) ⊎ (fault ≡ stream.Write)
 
--- behind what was written before a fault, a prefix of the line that names a fault was written
+-- after what was written before a fault, a prefix of the line that names a fault was written
 abbrev pub NamedAfter : (Option (List ℕ) → Type 0) → Option (List ℕ) → Type 0
 NamedAfter before holds = (held : Option (List ℕ)) × before held
     × ((fault : StreamFault) × AppendsPrefix held holds (fault_line fault))
 
--- the same for what reads nothing: a fault that can stop it
+-- for what reads nothing: after what was written before a fault, a prefix of the line that names a
+-- fault was written, and the fault is one that can stop it
 abbrev pub NamedAfterWriting : (Option (List ℕ) → Type 0) → Option (List ℕ) → Type 0
 NamedAfterWriting before holds = (held : Option (List ℕ)) × before held
     × ((fault : StreamFault) × CanStopWriting fault

@@ -47,8 +47,8 @@ WorkStopped tasks blocks unread left held holds =
     ((rest : Option (List ℕ)) × HasHeldInPart blocks tasks rest unread left held holds)
     ⊎ NamedAlone held holds
 
--- the file of the work was not opened: a prefix of the line that says so was written, or of that of
--- want of memory
+-- the file of the work was not opened: a prefix of the line that says so was written, or of the
+-- line of refused memory
 -- Not said: that it could not be opened.
 abbrev pub NotOpened : ℕ → Option (List ℕ) → Option (List ℕ) → Type 0
 NotOpened status held holds = (status ≡ 1) × (AppendsPrefix held holds unopened_line

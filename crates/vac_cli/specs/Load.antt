@@ -21,11 +21,11 @@ use Rattle.vac_load.specs.Streams.{LoadedBySeed}
 use Rattle.vac_lines.specs.Writing.{AppendsPrefix}
 use Rattle.vac_cli.specs.Ending.{NamedAfterWriting, load_fault_line}
 
--- how many tasks were answered, and how many met other clients in each try
+-- how many tasks were answered, and how many met a conflict with another client in each try
 abbrev pub tried_text : Tally → List ℕ
 tried_text t = field_text (codes "answered ") t.answered ++ field_text (codes " busy ") t.busy
 
--- how many wanted memory, and how many wanted a version
+-- how many were refused memory, and how many found no version left
 abbrev pub wanting_text : Tally → List ℕ
 wanting_text t = field_text (codes " memory ") t.memory ++ field_text (codes " spent ") t.spent
 
@@ -79,11 +79,12 @@ pub record HasNoted (s : Settings) (opening : List Note) (clients : List (List N
 -- the load was run to its end, and the history of its answered calls was written and nothing else:
 -- all in the order of their records, and readers of one version in that in which they began. In
 -- this order the calls are legal, and leave the state that the load reports
--- Not said: that a call which had ended before another began stands before it, by which alone the
--- judge could still call the history illegal (`LegalUpToPrecedence` of vac_history).
+-- Not said: that a call which had ended before another began comes before it, which is the only
+-- ground on which the judge could still call the history illegal (`LegalUpToPrecedence` of
+-- vac_history).
 -- Not said: that a stamp is a reading of the clock; that the lines are read by the judge; that the
--- state is the one which the load tells on the errors, of which no clause speaks.
--- Not said: that no call was left out since a journal had no room for it: of the journals that a
+-- state is the one which the load writes to the errors, of which no clause speaks.
+-- Not said: that no call was left out because a journal had no room for it: of the journals that a
 -- load hands back it is only known which calls they keep.
 pub record WroteCalls (s : Settings) (held holds : Option (List ℕ)) : Type 0 where
   pub opening : List Note
@@ -104,7 +105,7 @@ pub record WroteCallsInPart (s : Settings) (held holds : Option (List ℕ)) : Ty
   pub in_order : AreOrdered (map (λ e. e.note) written.all)
   pub legal : AreLegal s.blocks (map call_of written.all) noted.loaded.last
 
--- the same where the history is written, or the two lines are
+-- the load was run to its end, and its history was written, or its two lines were
 abbrev pub LoadWrote : Bool → Settings → Option (List ℕ) → Option (List ℕ) → Type 0
 LoadWrote true s held holds = WroteCalls s held holds
 LoadWrote false s held holds = WroteLoad s held holds

@@ -43,7 +43,7 @@ Lists status s held holds =
     ⊎ ((is_settings s ≡ false) × (status ≡ 2)
     × AppendsPrefix held holds (load_fault_line Arguments))
 
--- a script is run on a system of so many blocks, and its output is written
+-- a script is run on a system of this many blocks, and its output is written
 abbrev pub Runs : ℕ → ℕ → Option (List ℕ) → Option (List ℕ) → Option (List ℕ)
     → Option (List ℕ) → Type 0
 Runs blocks status unread left held holds =

@@ -31,7 +31,7 @@ fn as_stream_fault(fault: JudgeFault) -> StreamFault
     }
 }
 
-/// Judges a history, and answers the status: 0 where it is legal.
+/// Judges a history, and returns the status: 0 where it is legal.
 pub(crate) fn judge_alone<R: Read, W: Write>(
     alloc: Global,
     blocks: u32,
@@ -49,7 +49,7 @@ pub(crate) fn judge_alone<R: Read, W: Write>(
     }
 }
 
-/// Ends where the file of the tasks was not opened, and answers the status.
+/// Ends where the file of the tasks was not opened, and returns the status.
 fn end_unopened_by<W: Write>(error: &io::Error, output: &mut W) -> u8
     ensures { NotOpened result (W.contents output.old) (W.contents output.new) }
 {
@@ -60,7 +60,7 @@ fn end_unopened_by<W: Write>(error: &io::Error, output: &mut W) -> u8
     }
 }
 
-/// Judges a history, holds it against the tasks in the file of this name, and answers the status: 0
+/// Judges a history, holds it against the tasks in the file of this name, and returns the status: 0
 /// where it is legal and of all the tasks.
 fn judge_by_file<F: Open, R: Read, W: Write>(
     alloc: Global,
@@ -86,7 +86,7 @@ fn judge_by_file<F: Open, R: Read, W: Write>(
     }
 }
 
-/// Says that an order cannot be looked for where a file of tasks is named, and answers the status
+/// Says that an order cannot be looked for where a file of tasks is named, and returns the status
 /// of a refused command line.
 fn refuse_both<E: Write>(errors: &mut E) -> u8
     ensures { result ≡ 2 }
@@ -98,7 +98,7 @@ fn refuse_both<E: Write>(errors: &mut E) -> u8
     REFUSED
 }
 
-/// Judges a history as is asked for, and answers the status.
+/// Judges a history as it is asked for, and returns the status.
 pub(crate) fn judge<T: Clock + AllocGlobal, F: Open, R: Read, W: Write, E: Write>(
     rt: &T,
     files: &F,
@@ -123,7 +123,7 @@ pub(crate) fn judge<T: Clock + AllocGlobal, F: Open, R: Read, W: Write, E: Write
     }
 }
 
-/// Judges attempts at so many words, and answers the status: 0 where they are opaque.
+/// Judges attempts at `words` words, and returns the status: 0 where they are opaque.
 pub(crate) fn judge_opaque<R: Read, W: Write>(
     alloc: Global,
     words: u32,

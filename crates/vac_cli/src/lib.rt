@@ -1,6 +1,7 @@
-//! The program: what its command line asks for is done, over the streams that it is given.
+//! The program: it does what its command line asks for, over the streams that it is given.
 //!
-//! Scripts over streams, and what is read and printed line by line, are handed on from below.
+//! Scripts over streams, and what is read and printed line by line, are re-exported from the crates
+//! below.
 #![tactic(auto)]
 
 mod files;

@@ -27,9 +27,9 @@ use vac_model::{Reply, Report};
 use vac_options::How;
 use vac_streams::StreamFault;
 
-/// Runs a load, writes its two lines, or the history of its calls, and answers the status. Where
-/// that is asked for, tells on `errors` how far it is, and in the end how long its clients took and
-/// how often they tried. Where the history is written, the two lines go to `errors`.
+/// Runs a load, writes its two lines, or the history of its calls, and returns the status. Where
+/// that is asked for, writes to `errors` how far it is, and in the end how long its clients took
+/// and how often they tried. Where the history is written, the two lines go to `errors`.
 pub(crate) fn load<T: Threads + Wait + Clock + Sync + AllocGlobal, W: Write, E: Write + Send>(
     rt: &T,
     settings: &Settings,
@@ -47,7 +47,7 @@ pub(crate) fn load<T: Threads + Wait + Clock + Sync + AllocGlobal, W: Write, E: 
     }
 }
 
-/// Runs a load, writes its two lines, and answers the status.
+/// Runs a load, writes its two lines, and returns the status.
 fn load_reported<T: Threads + Wait + Clock + Sync + AllocGlobal, W: Write, E: Write + Send>(
     rt: &T,
     settings: &Settings,
@@ -76,8 +76,8 @@ fn load_reported<T: Threads + Wait + Clock + Sync + AllocGlobal, W: Write, E: Wr
     }
 }
 
-/// Tells the two lines of a load on `errors`. Where memory or the write is refused, nothing is lost
-/// but these lines.
+/// Writes the two lines of a load to `errors`. Where memory or the write is refused, only these
+/// lines are lost.
 pub(crate) fn tell_load<E: Write>(alloc: Global, report: &LoadReport, errors: &mut E) {
     let mut text = Vec::new(alloc);
     if append_load(&mut text, report).is_ok() {
@@ -85,7 +85,7 @@ pub(crate) fn tell_load<E: Write>(alloc: Global, report: &LoadReport, errors: &m
     }
 }
 
-/// Writes the two lines of a load, and answers the status.
+/// Writes the two lines of a load, and returns the status.
 fn write_load<W: Write>(alloc: Global, report: &LoadReport, output: &mut W) -> u8
     ensures status { result ≤ 1 }
     ensures done { result ≡ 0 →
@@ -112,7 +112,8 @@ fn append_count(out: &mut Vec<u8>, name: &[u8], count: u64) -> Result<(), AllocE
     print_reply(&Reply::Number(Some(count)), out)
 }
 
-/// Appends how many tasks were answered, and how many met other clients in each try.
+/// Appends how many tasks were answered, and how many met a conflict with another client in each
+/// try.
 fn append_tried(out: &mut Vec<u8>, tally: Tally) -> Result<(), AllocError>
     ensures { OnOk result (out.new.items ≡ out.old.items ++ tried_text tally) }
 {
@@ -120,7 +121,7 @@ fn append_tried(out: &mut Vec<u8>, tally: Tally) -> Result<(), AllocError>
     append_count(out, b" busy ", tally.busy)
 }
 
-/// Appends how many tasks wanted memory, and how many wanted a version.
+/// Appends how many tasks were refused memory, and how many found no version left.
 fn append_wanting(out: &mut Vec<u8>, tally: Tally) -> Result<(), AllocError>
     ensures { OnOk result (out.new.items ≡ out.old.items ++ wanting_text tally) }
 {

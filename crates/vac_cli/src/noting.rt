@@ -39,7 +39,7 @@ fn journals<'a, T: Clock>(
     Ok(journals)
 }
 
-/// Runs a load with these keepers, and tells how far it is where that is asked for.
+/// Runs a load with these keepers, and writes how far it is where that is asked for.
 pub(crate) fn run_told<
     T: Threads + Wait + Clock + Sync + AllocGlobal,
     K: Keep + Send + Drop,
@@ -65,9 +65,9 @@ pub(crate) fn run_told<
     }
 }
 
-/// Runs a load, writes the history of its calls, tells its two lines on `errors`, and answers the
-/// status. A call for which a journal had no room was not made, and the load then ends for want of
-/// memory.
+/// Runs a load, writes the history of its calls, its two lines to `errors`, and returns the status.
+/// A call for which a journal had no room was not made, and the load then ends with the fault of
+/// refused memory.
 pub(crate) fn load_noted<T: Threads + Wait + Clock + Sync + AllocGlobal, W: Write, E: Write + Send>(
     rt: &T,
     settings: &Settings,

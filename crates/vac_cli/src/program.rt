@@ -1,4 +1,4 @@
-//! The program: what its words ask for is done, and its status.
+//! The program: it does what its words ask for, and returns its status.
 
 ghost use Rattle.std.specs.Prelude.{◌≡◌, ◌≤◌, ℕ, true, List, map, string_bytes};
 ghost use Rattle.std.specs.Io.KnownBytes.{Appends};
@@ -26,17 +26,17 @@ use vac_script::{check_words, dump_script, run_script};
 use vac_streams::StreamFault;
 use vac_worklist::{TasksFault, write_tasks};
 
-/// Runs the program on a command line, of which the first word is the program's name, and answers
+/// Runs the program on a command line, of which the first word is the program's name, and returns
 /// its status: 0 where it did its work or showed its help or its version, 1 after a fault, where
 /// `check` found no balanced state, `judge` no legal history, `order` no order or `opaque` attempts
 /// that are not, 2 where the command line was refused, 3 where `order` did not decide.
 ///
 /// Help and the version go to `output`, the text of a refused command line to `errors`. A fault is
-/// the last line of `output`, unless `output` is what failed. What a load tells on `errors` (how
+/// the last line of `output`, unless `output` is what failed. What a load writes to `errors` (how
 /// far it is, its numbers, with `--history` its two lines) changes neither `output` nor the status.
 ///
-/// Not said: that a load which tells how far it is tells it, what, and when; what the line of
-/// `--stats` says. Tests look at both.
+/// Not said: that a load which is to write how far it is writes it, what it writes, and when; what
+/// the line of `--stats` says. Tests look at both.
 pub fn run_words<
     T: Threads + Wait + Clock + Sync + AllocGlobal,
     R: Read,
@@ -62,7 +62,7 @@ pub fn run_words<
     }
 }
 
-/// Says that a word of the command line is no text, and answers the status of a refused command
+/// Says that a word of the command line is no text, and returns the status of a refused command
 /// line. Whether that could be written changes nothing.
 ///
 /// Not said: that `main` calls it for words that are no text, and hands all words of any other line
@@ -77,7 +77,7 @@ pub fn refuse_words<E: Write>(errors: &mut E) -> u8
     REFUSED
 }
 
-/// Runs a script and answers the status.
+/// Runs a script and returns the status.
 fn run<R: Read, W: Write>(alloc: Global, blocks: u32, input: &mut R, output: &mut W) -> u8
     requires { is_block_count blocks ≡ true }
     ensures { Runs blocks result (R.remaining input.old) (R.remaining input.new)
@@ -89,7 +89,7 @@ fn run<R: Read, W: Write>(alloc: Global, blocks: u32, input: &mut R, output: &mu
     }
 }
 
-/// Dumps the memory that a script leaves, and answers the status.
+/// Dumps the memory that a script leaves, and returns the status.
 fn dump<R: Read, W: Write>(alloc: Global, blocks: u32, input: &mut R, output: &mut W) -> u8
     requires { is_block_count blocks ≡ true }
     ensures { Dumps blocks result (R.remaining input.old) (R.remaining input.new)
@@ -101,7 +101,7 @@ fn dump<R: Read, W: Write>(alloc: Global, blocks: u32, input: &mut R, output: &m
     }
 }
 
-/// Audits words, and answers the status: 0 where they are those of a balanced state.
+/// Audits words, and returns the status: 0 where they are those of a balanced state.
 fn check<R: Read, W: Write>(alloc: Global, input: &mut R, output: &mut W) -> u8
     ensures { Checks result (R.remaining input.old) (R.remaining input.new)
         (W.contents output.old) (W.contents output.new) }
@@ -113,7 +113,7 @@ fn check<R: Read, W: Write>(alloc: Global, input: &mut R, output: &mut W) -> u8
     }
 }
 
-/// Writes the tasks of a load, and answers the status.
+/// Writes the tasks of a load, and returns the status.
 #[tactic(auto, using(crate::proofs::Ending::nothing_then))]
 fn list_tasks<W: Write, E: Write>(
     alloc: Global,
@@ -132,7 +132,7 @@ fn list_tasks<W: Write, E: Write>(
 }
 
 /// Shows the help or the version that was asked for, or why the command line was refused, and
-/// answers the status.
+/// returns the status.
 fn show<W: Write, E: Write>(alloc: Global, error: &Error, output: &mut W, errors: &mut E) -> u8
     ensures { Shows (kind_of error.now) result (W.contents output.old) (W.contents output.new) }
 {
@@ -147,7 +147,7 @@ fn show<W: Write, E: Write>(alloc: Global, error: &Error, output: &mut W, errors
     }
 }
 
-/// Writes what the program says of itself, and answers the status.
+/// Writes what the program says of itself, and returns the status.
 fn show_version<W: Write>(output: &mut W) -> u8
     ensures { Shows DisplayVersion result (W.contents output.old) (W.contents output.new) }
 {
@@ -157,7 +157,7 @@ fn show_version<W: Write>(output: &mut W) -> u8
     }
 }
 
-/// Writes the help that was asked for, and answers the status.
+/// Writes the help that was asked for, and returns the status.
 fn show_help<W: Write>(alloc: Global, help: &Error, output: &mut W) -> u8
     ensures status { result ≤ 1 }
     ensures text { (text : List ℕ) × Appends (W.contents output.old) (W.contents output.new) text }

@@ -1,4 +1,4 @@
-//! Looking for an order of a history's calls, and telling how far the search is.
+//! Looking for an order of a history's calls, and writing how far the search is.
 
 ghost use Rattle.std.specs.Prelude.{◌≡◌, ◌≢◌, ◌⊎◌, true};
 ghost use Rattle.std.specs.Io.KnownBytes.{Appends};
@@ -19,7 +19,7 @@ use vac_streams::StreamFault;
 /// After how many steps the clock is looked at.
 const STRIDE: u64 = 4_096;
 
-/// Tells how far a search is, at most twice a second, where that is asked for.
+/// Writes how far a search is, at most twice a second, where that is asked for.
 #[derive(Drop)]
 struct Teller<'a, 'b, T, E> {
     rt: &'a T,
@@ -29,7 +29,7 @@ struct Teller<'a, 'b, T, E> {
 }
 
 impl<'a, 'b, T: Clock, E: Write> Teller<'a, 'b, T, E> {
-    /// A teller of a search that begins.
+    /// The teller of a search that begins.
     fn new(rt: &'a T, is_told: bool, errors: &'b mut E) -> Teller<'a, 'b, T, E> {
         Teller {
             rt,
@@ -65,7 +65,7 @@ fn status_of(outcome: Outcome) -> u8
 }
 
 /// Writes the calls of a history in an order in which they are right, or that there is none, and
-/// answers the status.
+/// returns the status.
 pub(crate) fn order<T: Clock + AllocGlobal, R: Read, W: Write, E: Write>(
     rt: &T,
     blocks: u32,
@@ -85,7 +85,7 @@ pub(crate) fn order<T: Clock + AllocGlobal, R: Read, W: Write, E: Write>(
     }
 }
 
-/// Writes what was found in the place of an order, and answers the status.
+/// Writes what was found instead of an order, and returns the status.
 fn write_found<W: Write>(outcome: Outcome, text: &[u8], output: &mut W) -> u8
     ensures { (Appends (W.contents output.old) (W.contents output.new) text.now
         × (result ≡ status_of outcome))
@@ -98,7 +98,8 @@ fn write_found<W: Write>(outcome: Outcome, text: &[u8], output: &mut W) -> u8
     }
 }
 
-/// The fault of a search that writes into memory: such an output fails for want of memory alone.
+/// The fault of a search that writes into memory: such an output fails only where memory is
+/// refused.
 fn without_output(fault: StreamFault) -> StreamFault
     ensures { result ≢ StreamFault.Write }
 {
@@ -110,7 +111,7 @@ fn without_output(fault: StreamFault) -> StreamFault
     }
 }
 
-/// Judges a history in an order that is found, or says that there is none, and answers the status.
+/// Judges a history in an order that is found, or says that there is none, and returns the status.
 #[tactic(auto, using(crate::proofs::Judgement::kept, crate::proofs::Judgement::unordered))]
 pub(crate) fn judge_any_order<T: Clock + AllocGlobal, R: Read, W: Write, E: Write>(
     rt: &T,

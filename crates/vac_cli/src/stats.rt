@@ -1,4 +1,4 @@
-//! How long the clients of a load took, and the numbers that it tells when it has ended.
+//! How long the clients of a load took, and the numbers that it writes when it has ended.
 
 use std::alloc::{AllocError, Global};
 use std::io::Write;
@@ -13,29 +13,29 @@ const SECOND: u128 = 1_000_000_000;
 /// The nanoseconds of a microsecond.
 const MICROSECOND: u64 = 1_000;
 
-/// How often a client that stands ready lets others run at most before it begins without them.
+/// How often, at most, a client that is ready lets other threads run before it begins without them.
 const MOST_TURNS: u32 = 1_000_000;
 
-/// How long the clients of a load took: from when all of them stood ready for the first time to
-/// when the last one was done. It is 0 where the time cannot be read.
+/// How long the clients of a load took: from when all of them were ready for the first time to when
+/// the last one was done. It is 0 where the time cannot be read.
 #[derive(Drop)]
 pub(crate) struct Span<'a, T> {
     rt: &'a T,
     clients: u32,
     /// When its nanoseconds begin to count.
     start: Option<Instant>,
-    /// How many clients stand ready.
+    /// How many clients are ready.
     ready: AtomicU32,
     /// How many clients are done.
     done: AtomicU32,
-    /// How often all clients stood ready.
+    /// How often all clients were ready.
     rounds: AtomicU32,
     begin: AtomicU64,
     end: AtomicU64,
 }
 
 impl<'a, T: Clock> Span<'a, T> {
-    /// The span of so many clients that did not begin.
+    /// The span of `clients` clients that have not begun.
     pub(crate) fn new(rt: &'a T, clients: u32) -> Span<'a, T> {
         Span {
             rt,
@@ -66,7 +66,8 @@ impl<'a, T: Clock> Span<'a, T> {
         }
     }
 
-    /// Adds a client to these, and says whether they are all. Then they count from none again.
+    /// Adds a client to this count, and says whether all are counted. Then the count begins at zero
+    /// again.
     fn are_all(&self, clients: &AtomicU32) -> bool {
         let before = clients.fetch_add(1, Ordering::SeqCst);
         if before.saturating_add(1) < self.clients {
@@ -76,7 +77,7 @@ impl<'a, T: Clock> Span<'a, T> {
         true
     }
 
-    /// Lets others run until all clients stand ready.
+    /// Lets other threads run until all clients are ready.
     fn wait_for_all(&self, round: u32) {
         for _ in 0..MOST_TURNS {
             if self.rounds.load(Ordering::SeqCst) != round {
@@ -86,8 +87,8 @@ impl<'a, T: Clock> Span<'a, T> {
         }
     }
 
-    /// Comes back once all clients stand ready. Where one cannot be started, the others begin
-    /// without it.
+    /// Returns once all clients are ready. Where one cannot be started, the others begin without
+    /// it.
     fn stand_ready(&self) {
         let round = self.rounds.load(Ordering::SeqCst);
         if !self.are_all(&self.ready) {
@@ -117,12 +118,12 @@ impl<T: Clock> Phases for &Span<'_, T> {
     }
 }
 
-/// How many of `count` come to each of `whole`, and none where that is zero.
+/// How many of `count` there are for each of `whole`, and none where that is zero.
 fn each(count: u128, whole: u128) -> u128 {
     if whole == 0 { 0 } else { count / whole }
 }
 
-/// The line that tells the numbers of a load: the seconds of its clients, how many tasks they had
+/// The line with the numbers of a load: the seconds of its clients, how many tasks they had
 /// answered in a second, how many attempts they made, how many of these ended by which conflict,
 /// over the lock of which word, and how many there were for each task that was answered.
 fn stats_line(
@@ -157,8 +158,8 @@ fn stats_line(
     )
 }
 
-/// Tells the numbers of a load on `errors`. Where memory or the write is refused, nothing is lost
-/// but the line.
+/// Writes the numbers of a load to `errors`. Where memory or the write is refused, only the line is
+/// lost.
 pub(crate) fn tell_stats<E: Write>(
     alloc: Global,
     nanos: u64,

@@ -43,7 +43,7 @@ fn fault_line(fault: StreamFault) -> &'static [u8]
     }
 }
 
-/// Writes the last line of a program that met a fault, and answers its status. A failed write of
+/// Writes the last line of a program that met a fault, and returns its status. A failed write of
 /// that line changes nothing.
 #[tactic(auto, using(crate::proofs::Ending::nothing))]
 pub(crate) fn end_by<W: Write>(fault: StreamFault, output: &mut W) -> u8
@@ -58,7 +58,7 @@ pub(crate) fn end_by<W: Write>(fault: StreamFault, output: &mut W) -> u8
     FAULT
 }
 
-/// Writes the last line of a program that could not open a file, and answers its status.
+/// Writes the last line of a program that could not open a file, and returns its status.
 pub(crate) fn end_unopened<W: Write>(output: &mut W) -> u8
     ensures status { result ≡ 1 }
     ensures line { AppendsPrefix (W.contents output.old) (W.contents output.new)
@@ -80,7 +80,8 @@ fn load_fault_line(fault: LoadFault) -> &'static [u8]
     }
 }
 
-/// The same for a load. Settings that do not fit each other are a refused command line.
+/// Writes the last line of a load that met a fault, and returns its status. Settings that do not
+/// fit each other are a refused command line.
 pub(crate) fn end_load_by<W: Write>(fault: LoadFault, output: &mut W) -> u8
     ensures low { 1 ≤ result }
     ensures high { result ≤ 2 }
@@ -96,8 +97,8 @@ pub(crate) fn end_load_by<W: Write>(fault: LoadFault, output: &mut W) -> u8
     status
 }
 
-/// Says on `errors` which numbers of a load do not fit each other: the one thing that is left to be
-/// wrong, once each of them is in its range. Whether that could be written changes nothing.
+/// Writes to `errors` which numbers of a load do not fit each other: the only thing that can still
+/// be wrong once each of them is in its range. Whether that could be written changes nothing.
 fn tell_settings<E: Write>(alloc: Global, settings: &Settings, errors: &mut E) {
     let (items, blocks) = (settings.items, settings.blocks);
     let least = u64::from(BLOCKS_OF_ITEM) * u64::from(items);
@@ -109,8 +110,8 @@ fn tell_settings<E: Write>(alloc: Global, settings: &Settings, errors: &mut E) {
     let _ = write_and_flush(errors, line.as_bytes());
 }
 
-/// Ends a load whose settings do not fit each other, says on `errors` which, and answers the status
-/// of a refused command line.
+/// Ends a load whose settings do not fit each other, writes to `errors` which, and returns the
+/// status of a refused command line.
 pub(crate) fn end_by_settings<W: Write, E: Write>(
     alloc: Global,
     settings: &Settings,

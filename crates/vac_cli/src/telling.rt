@@ -1,4 +1,4 @@
-//! Loads that tell how far they are while they run.
+//! Loads that write how far they are while they run.
 
 ghost use Rattle.std.specs.Prelude.{◌≡◌, ◌↔◌, false, vec_len, IfOk, IfErr, IsErrOf};
 ghost use Rattle.vac_load.specs.Load.{is_load};
@@ -34,7 +34,7 @@ impl Gate for Counter<'_> {
     }
 }
 
-/// What a load shares with the thread that tells how far it is.
+/// What a load shares with the thread that writes how far it is.
 #[derive(Drop)]
 struct Progress {
     answered: AtomicU64,
@@ -51,7 +51,7 @@ impl Progress {
         }
     }
 
-    /// Runs the load, and then lets the teller end.
+    /// Runs the load, and then has the teller end.
     fn run<T: Threads + Wait + Clock + Sync + AllocGlobal, K: Keep + Send + Drop>(
         &self,
         rt: &T,
@@ -95,7 +95,7 @@ fn pause() -> Duration {
     Duration::from_millis(PAUSE_MILLIS)
 }
 
-/// Whether the pause has passed since the last line. Not where the time cannot be read.
+/// Whether the pause has passed since the last line; no, where the time cannot be read.
 pub(crate) fn has_passed<T: Clock>(rt: &T, last: Option<Instant>) -> bool {
     let Some(last) = last else {
         return false;
@@ -106,8 +106,8 @@ pub(crate) fn has_passed<T: Clock>(rt: &T, last: Option<Instant>) -> bool {
     }
 }
 
-/// Writes how many of all tasks were answered. Where memory or the write is refused, nothing is
-/// lost but the line.
+/// Writes how many of all tasks were answered. Where memory or the write is refused, only the line
+/// is lost.
 fn write_line<E: Write>(alloc: Global, answered: u64, all: u64, errors: &mut E) {
     let Ok(line) = format!(in alloc; "answered {answered} of {all}\n") else {
         return;
@@ -123,10 +123,10 @@ fn all_tasks(settings: &Settings) -> u64 {
     of_one.saturating_mul(u64::from(settings.clients))
 }
 
-/// Runs the load of a seed as `run_load_kept` does. While it runs, tells on `errors`, at most twice
-/// a second, how many of its tasks were answered.
+/// Runs the load of a seed as `run_load_kept` does. While it runs, writes to `errors`, at most
+/// twice a second, how many of its tasks were answered.
 ///
-/// Where no thread can be started to tell that, the load is run and nothing is told: a join then
+/// Where no thread can be started for that, the load is run and nothing is written: a join then
 /// makes its second call first.
 pub(crate) fn run_load_told<
     T: Threads + Wait + Clock + Sync + AllocGlobal,

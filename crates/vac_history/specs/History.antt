@@ -40,7 +40,7 @@ pub record WroteHistory (kept : List (List Note)) (held holds : Option (List ℕ
   pub written : Appends held holds (entries_text all)
 
 -- a prefix of such a text was written
--- Not said: that want of memory or a failed write alone end it otherwise.
+-- Not said: that it ends otherwise only where memory is refused or a write fails.
 pub record WroteHistoryPrefix (kept : List (List Note)) (held holds : Option (List ℕ))
     : Type 0 where
   pub all : List Entry

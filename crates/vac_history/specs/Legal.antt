@@ -21,8 +21,7 @@ AreCallsOf (n ∷ notes) records =
     × IsNoted n r × AreCallsOf notes (first ++ more)
 
 -- the calls are those of a history of records, one for each: it is legal for a system of n blocks
--- and leaves this state, stands in order, and has one writer a version and readers that wrote
--- nothing
+-- and leaves this state, is in order, and has one writer a version and readers that wrote nothing
 pub record AreRecorded (n : ℕ) (all : List Entry) (last : State) : Type 0 where
   pub history : List Record
   pub legal : IsLegal (empty_state n) history last
@@ -32,7 +31,7 @@ pub record AreRecorded (n : ℕ) (all : List Entry) (last : State) : Type 0 wher
 
 -- the calls are legal in this order for a system of n blocks, as far as that does not rest on what
 -- the times of two clients say of each other: run one after the other they give their replies and
--- leave this state; no call ends before it begins; and each client's calls do not overlap and stand
+-- leave this state; no call ends before it begins; and each client's calls do not overlap and are
 -- in their order
 pub record AreLegal (n : ℕ) (calls : List Call) (last : State) : Type 0 where
   pub replies : GiveReplies (empty_state n) calls
@@ -46,8 +45,8 @@ OrderedCallsAreLegal = (n : ℕ) (kept : List (List Note)) (all : List Entry) (l
     AreRecorded n all last → IsMerged kept all → EachInTurn kept →
     AreOrdered (map (λ e. e.note) all) → AreLegal n (map call_of all) last
 
--- such an order is a linearization exactly where no call that had ended before another began
--- stands behind it
+-- such an order is a linearization exactly where no call that had ended before another began comes
+-- after it
 -- Not said: that it is so: what two clients read of the clock says nothing of which read it first.
 abbrev pub LegalUpToPrecedence : Type 0
 LegalUpToPrecedence = (n : ℕ) (calls : List Call) (last : State) → AreLegal n calls last →

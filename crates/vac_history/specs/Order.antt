@@ -36,7 +36,7 @@ Interleaves lists [] = (place : ℕ) → list_at lists place ≡ []
 Interleaves {X} lists (x ∷ all) =
     (others : List (List X)) × Takes x lists others × Interleaves others all
 
--- where a record stands among those of its renewal: by version, the writer of a version before its
+-- the place of a record among those of its renewal: by version, the writer of a version before its
 -- readers
 abbrev pub rank_of : Place → ℕ
 rank_of place = 2 * place.version + cond place.wrote 0 1
@@ -50,11 +50,11 @@ precedes a b =
     && (ltb (rank_of a.place) (rank_of b.place)
     || (eqb (rank_of a.place) (rank_of b.place) && ltb a.begin b.begin)))
 
--- none precedes one that stands before it
+-- none precedes one that comes before it in the list
 abbrev pub AreOrdered : List Note → Type 0
 AreOrdered notes = AllPairs (λ earlier later. precedes later earlier ≡ false) notes
 
--- so is each of the lists
+-- in each of the lists none precedes one that comes before it
 abbrev pub EachOrdered : List (List Note) → Type 0
 EachOrdered lists = (place : ℕ) → AreOrdered (list_at lists place)
 

@@ -9,11 +9,11 @@ use Rattle.vac_history.specs.Order.{Entry}
 use Rattle.vac_history.specs.Picking.{PicksAll, Merges}
 use Rattle.vac_history.specs.History.{entries_text}
 
--- a number, and a space behind it
+-- a number, and a space after it
 abbrev pub number_text : ℕ → List ℕ
 number_text n = decimal n ++ codes " "
 
--- the client and the times of a call, and a space behind each
+-- the client and the times of a call, and a space after each
 abbrev pub stamps_text : Entry → List ℕ
 stamps_text e = number_text e.client ++ number_text e.note.begin ++ number_text e.note.end
 

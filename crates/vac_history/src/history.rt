@@ -33,7 +33,7 @@ fn append_number(hand: &mut Vec<u8>, number: u64) -> Result<(), AllocError>
     hand.extend_from_slice(b" ")
 }
 
-/// Appends a call's client and times, with a space behind each.
+/// Appends a call's client and times, with a space after each.
 fn append_stamps(hand: &mut Vec<u8>, picked: Picked<'_>) -> Result<(), AllocError>
     ensures { OnOk result (hand.new.items ≡ hand.old.items ++ stamps_text (entry_of picked.entry)) }
 {
@@ -142,7 +142,7 @@ fn rests_of<'j, J: Watch>(
 ///
 /// Takes memory for one chunk of text, and a few words for each client. After a fault, what was
 /// written is nothing or a prefix of such a text. Where a journal had no room for a call, that call
-/// is wanting: then nothing is written, and the fault is want of memory.
+/// is missing: then nothing is written, and the fault is that memory was refused.
 pub fn write_history<J: Watch, W: Write>(
     alloc: Global,
     opening: &Journal<J>,

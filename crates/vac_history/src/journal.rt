@@ -24,7 +24,7 @@ pub struct Journal<W> {
     ghost over: { All (λ n. n.end ≤ latest) notes.items },
 }
 
-/// Reads the watch: a stamp, but none before the last one.
+/// Reads the watch: a stamp that is not before the last one.
 fn stamp<W: Watch>(watch: &mut W, last: u64) -> u64
     ensures read { IsStamp W.shows watch.old watch.new last result }
     ensures later { last ≤ result }

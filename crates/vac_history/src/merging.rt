@@ -21,7 +21,7 @@ pub(crate) struct Picked<'j> {
     pub(crate) note: &'j Note,
 }
 
-/// Where a record stands among those of its renewal.
+/// The place of a record among those of its renewal.
 fn rank(place: Place) -> u64
     ensures { result ≡ rank_of place }
 {

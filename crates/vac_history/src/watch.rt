@@ -4,7 +4,7 @@ ghost use Rattle.std.specs.Prelude.{ℕ};
 
 use std::time::{Clock, Instant};
 
-/// What a journal reads its times of.
+/// What a journal reads its times from.
 pub trait Watch {
     /// In the first state it shows this number, and the last one is the state after it was read.
     ghost shows: { Self → ℕ → Self → Type 0 };

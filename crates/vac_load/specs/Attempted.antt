@@ -21,15 +21,15 @@ no_effort = record {
   stocks = 0;
 }
 
--- how many attempts ended in a conflict
+-- how many attempts aborted on a conflict
 abbrev pub conflicts_in : Efforts → ℕ
 conflicts_in e = e.held + e.newer + e.moved + e.lost_lock + e.lost_tick
 
--- how many of these were over a lock, by which word it is of
+-- how many of these conflicts were over a lock, by the kind of word that it guards
 abbrev pub locks_in : Efforts → ℕ
 locks_in e = e.roots + e.heads + e.nodes + e.uses + e.stocks
 
--- with what one call more took
+-- with what one more call took
 abbrev pub with_call : Effort → Efforts → Efforts
 with_call c e = record {
   attempts = e.attempts + c.attempts;
@@ -61,15 +61,15 @@ both_efforts d e = record {
   stocks = d.stocks + e.stocks;
 }
 
--- how tasks ended, each of which was asked for with so many tries
+-- how tasks ended, each of which was asked for with this many tries
 pub record CountsShown : Type 0 where
   pub tally : Tally
   pub tries : ℕ
 
--- the calls of tasks that ended so, by so many tries each, took this: one attempt each for an
--- answer and for a spent clock, at most one for want of memory, which may come before the call, and
--- beside these only attempts that ended in a conflict, at least as many as its tries for each busy
--- task; together no more than so many tries for each task, of which one at least met no conflict
+-- the calls of tasks that ended so, with `tries` tries each, took this: one attempt for each answer
+-- and each spent clock, at most one for each refusal of memory, which may come before the call, and
+-- besides these only attempts that aborted on a conflict, at least as many as its tries for each
+-- busy task; together at most `tries` attempts for each task, of which at least one met no conflict
 -- where the task is not busy; each conflict but a lost tick is counted by its lock's word too
 -- Not said: of one task, that a busy one met as many conflicts as it had tries and that none took
 -- more attempts: the sums are compared.

@@ -10,7 +10,7 @@ use Rattle.vac_load.specs.Lists.{Paired}
 abbrev pub Kept : Type 0
 Kept = Option (List Note)
 
--- behind the calls that were kept before stand those of exactly these records, one each, in their
+-- after the calls that were kept before come those of exactly these records, one each, in their
 -- order
 pub record AreKept (records : List Record) (before after : Kept) : Type 0 where
   pub notes : List Note

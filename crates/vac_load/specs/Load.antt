@@ -33,14 +33,14 @@ use Rattle.vac_draws.specs.Draws.{Drawn, times}
 use Rattle.vac_draws.specs.Tasks.{task_of, opening}
 use Rattle.vac_load.specs.Sums.{plus, added_up}
 
--- the clock has a version for each command of the opening, and one for each task of a round of one
--- client behind them
+-- the clock has a version for each command of the opening, and, after them, one for each task of
+-- one client in a round
 abbrev pub HasTime : Settings → Type 0
 HasTime s = 4 * s.items + s.tasks ≤ s.last
 
--- a worker ran its tasks of a round, by the settings' tries each: its session went on, its client's
--- value has what its loop made of it in its manager's renewal and, where it is alone, by its
--- manager's clock, and its keeper kept its answered calls
+-- a worker ran its tasks of a round, with the settings' tries for each: its session went on, its
+-- client's value has what its loop made of it in its manager's renewal and, where it is alone, by
+-- its manager's clock, and its keeper kept its answered calls
 pub record HasWorked {D : Type 0} (leads : D → ℕ → D → Type 0) (s : Settings)
     (y y' : SessionShown) (state last : SeatShown D) (t : CountsShown) : Type 0 where
   pub session : GoesOn y y'
@@ -51,13 +51,13 @@ pub record HasWorked {D : Type 0} (leads : D → ℕ → D → Type 0) (s : Sett
   pub tries : t.tries ≡ s.tries
   pub kept : HasKeptAdded y.client.value y'.client.value state.kept last.kept
 
--- the same, of a worker before its tasks, and of that worker after them with how they ended
+-- this worker ran its tasks of a round, and became that worker, with how they ended
 abbrev pub DidWork : {D G K : Type 0} → (D → ℕ → D → Type 0) → (K → Kept) → Settings
     → Worker D G K → Worked D G K → Type 0
 DidWork leads notes s w d = HasWorked leads s w.session d.worker.session
     (shown notes w.seat) (shown notes d.worker.seat) d.tally
 
--- so did each worker of a crew, which stand in their order
+-- each worker of a crew ran its tasks of a round; the workers are in their order
 pub record DidAllWork {D G K : Type 0} (leads : D → ℕ → D → Type 0) (notes : K → Kept)
     (s : Settings) (crew : Crew (Worker D G K)) (done : Crew (Worked D G K)) : Type 0 where
   pub first : DidWork leads notes s crew.first done.first
@@ -109,18 +109,18 @@ pub record IsCrew {D P W : Type 0} (draws_of : P → D) (opener : SessionShown) 
   pub others_are : Paired (λ p w. IsWorker opener.manager [] opener.client.value.floor
       (draws_of p) (session_of w) (drawing w)) rest others
 
--- the record stands behind none that is added in this renewal by a client that knows this version
+-- the record comes after none that is added in this renewal by a client that knows this version
 pub record IsKnown (renewal version : ℕ) (r : Record) : Type 0 where
   pub present : r.renewal ≤ renewal
   pub known : r.renewal ≡ renewal → r.version ≤ version
   pub unplaced : r.renewal ≡ renewal → r.point ≡ 0
 
--- so is each of these records
+-- each of these records comes after none that such a client adds in this renewal
 abbrev pub AreKnown : ℕ → ℕ → List Record → Type 0
 AreKnown renewal version records = (r : Record) → In r records → IsKnown renewal version r
 
--- behind the records of earlier renewals, which have one writer a version and readers that wrote
--- nothing, stand those of this one
+-- after the records of earlier renewals, which have one writer a version and readers that wrote
+-- nothing, come those of this one
 pub record IsInRenewal (renewal : ℕ) (records : List Record) : Type 0 where
   pub past : List Record
   pub present : List Record
@@ -136,7 +136,7 @@ pub record Share (D : Type 0) : Type 0 where
   pub tally : Tally
   pub left : D
 
--- a client drew n tasks, one behind the other, from this state on. Those that were answered are a
+-- a client drew n tasks, one after the other, from this state on. Those that were answered are a
 -- part of them, in their order, and each has its record
 pub record HasShare {D : Type 0} (leads : D → ℕ → D → Type 0) (s : Settings) (n : ℕ)
     (state : D) (x : Share D) : Type 0 where
@@ -152,17 +152,17 @@ pub record HasShare {D : Type 0} (leads : D → ℕ → D → Type 0) (s : Setti
 abbrev pub drawn_share : {D : Type 0} → Share (SeatShown D) → Share D
 drawn_share x = record { records = x.records; tally = x.tally; left = x.left.draws }
 
--- a client drew n tasks, one behind the other, from this seat on, and its keeper kept the calls of
+-- a client drew n tasks, one after the other, from this seat on, and its keeper kept the calls of
 -- those that were answered
 pub record HasKeptShare {D : Type 0} (leads : D → ℕ → D → Type 0) (s : Settings) (n : ℕ)
     (state : SeatShown D) (x : Share (SeatShown D)) : Type 0 where
   pub has : HasShare leads s n state.draws (drawn_share x)
   pub kept : AreKept x.records state.kept x.left.kept
 
--- all clients ran n tasks each, in one round or in several, and were gathered: the records of
--- their answered tasks, and no others, stand behind those from before, each client's in their
--- order. The seat of each client is left as its tasks left it. One client alone meets no
--- conflict, and with a clock that has time it finds it at its end in no task
+-- all clients ran n tasks each, in one round or in several, and were gathered: the records of their
+-- answered tasks, and no others, come after those from before, each client's in their order. The
+-- seat of each client is left as its tasks left it. One client alone meets no conflict, and where
+-- the clock has time, none of its tasks finds the clock at its end
 pub record RanAll {D P : Type 0} (leads : D → ℕ → D → Type 0) (s : Settings)
     (shown_of : P → SeatShown D) (n : ℕ) (before : List Record) (seats : List P)
     (after : List Record) (left : List P) (t : Tally) : Type 0 where
@@ -184,7 +184,7 @@ pub record RanMore {D P : Type 0} (leads : D → ℕ → D → Type 0) (s : Sett
   pub ran : RanAll leads s shown_of s.tasks before seats after left more
   pub tally_is : t' ≡ plus t more
 
--- a load can be run with these settings and so many clients
+-- a load can be run with these settings and this many clients
 abbrev pub is_load : Settings → ℕ → Bool
 is_load s clients = is_settings s && nat_eq clients s.clients
 
@@ -223,10 +223,10 @@ pub record WasStopped {D : Type 0} (leads : D → ℕ → D → Type 0) (s : Set
   pub stopped : Stopped leads region.renewal s.last (opening s) e opener.value after state left
   pub short : IsTooShort s e
 
--- why a load that could be run stopped, with the opening's draws before and after it. For want of
--- memory: before the first word was drawn, or when the opening was answered whole. For want of a
--- thread: when it was. For the opening: since one of its commands was refused so
--- Not said: of memory that is wanting once the opening was answered, whether it was that of a
+-- why a load that could be run stopped, with the opening's draws before and after it. For refused
+-- memory: before the first word was drawn, or when the whole opening was answered. For a thread:
+-- when it was. For the opening: since one of its commands was refused so
+-- Not said: of memory that is refused once the opening was answered, whether it was that of a
 -- thread's place, of a renewal or of the closing; that a thread could not be started.
 -- Not said: that the opening which was drawn was this load's, so that with a clock that has time
 -- each of the three can be told for any settings in range.
@@ -239,7 +239,7 @@ IsStopOfLoad leads s state left (load.Opening e) = WasStopped leads s e state le
 
 -- why a load was not run to its end: for its arguments, or since it stopped when the opening's
 -- draws were in some state
--- Not said: when memory was wanting, since it gives back no draws.
+-- Not said: when memory was refused, since such a load gives back no draws.
 abbrev pub IsLoadFault : {D : Type 0} → (D → ℕ → D → Type 0) → Settings → D → LoadFault → Type 0
 IsLoadFault {D} leads s state e =
     (e ≡ load.Arguments) ⊎ ((left : D) × IsStopOfLoad leads s state left e)
@@ -247,10 +247,10 @@ IsLoadFault {D} leads s state e =
 -- what a load did: there is a history, legal from the empty state on, whose last state has the
 -- report. First come the commands of the opening, and then the tasks that were answered, and no
 -- others, in the order of renewals and versions. A client's tasks are drawn in turn over all
--- rounds, and those of them that were answered stand in the history in their order. Each version
--- has at most one writer, and a reader wrote nothing. The tally counts all tasks of all clients in
--- all rounds; no task of one client alone is busy, and where the clock has time none finds it at
--- its end
+-- rounds, and those of them that were answered are in the history in their order. Each version has
+-- at most one writer, and a reader wrote nothing. The tally counts all tasks of all clients in all
+-- rounds; no task of one client alone is busy, and where the clock has time none finds it at its
+-- end
 -- Not said: of several clients, that a task counted as busy or spent was asked for; of any number,
 -- that one counted under memory was refused it. Tests count the answers.
 -- Not said: in which round a task was answered; that the manager is renewed between two rounds;
@@ -283,8 +283,8 @@ pub record Loaded {D P : Type 0} (leads : D → ℕ → D → Type 0) (s : Setti
 
 -- a load whose keepers kept the answered calls: the opening's keeper those of the opening, and the
 -- keeper of each client those of its client's tasks, each call once, in the order of its records
--- Not said: what the keepers of a load keep that is refused; that want of room for a call is told
--- apart from other want of memory.
+-- Not said: what the keepers of a load keep that is refused; that a lack of room for a call is told
+-- apart from other refusals of memory.
 -- Not said: that a keeper is asked for room before its call begins, and is handed the call before
 -- anything else is told of it.
 pub record LoadedKept {D P : Type 0} (leads : D → ℕ → D → Type 0) (s : Settings)

@@ -24,8 +24,8 @@ AreOf (t ∷ ts) [] = ⊥
 AreOf (t ∷ ts) (r ∷ rs) = ((reply : Reply) × (r.tag ≡ code t reply)) × AreOf ts rs
 
 -- a record was added in this renewal by a client that knew the first version before and the second
--- one after it: it is of no version below the first, stands behind the writer of that version, and
--- is of no version above the second
+-- one after it: it is of no version below the first, comes after the writer of that version, and is
+-- of no version above the second
 pub record IsAdded (renewal before after : ℕ) (r : Record) : Type 0 where
   pub renewal_is : r.renewal ≡ renewal
   pub unplaced : r.point ≡ 0
@@ -33,7 +33,7 @@ pub record IsAdded (renewal before after : ℕ) (r : Record) : Type 0 where
   pub behind : 2 * before < rank r
   pub known : r.version ≤ after
 
--- exactly one record for each of these tasks was added behind the others, in their order, which is
+-- exactly one record for each of these tasks was added after the others, in their order, which is
 -- that of the versions, all in this renewal
 pub record Answered (renewal : ℕ) (tasks : List Task) (v v' : Client) : Type 0 where
   pub added : List Record
@@ -52,7 +52,7 @@ total t = t.answered + t.busy + t.memory + t.spent
 abbrev pub nothing : Tally
 nothing = record { answered = 0; busy = 0; memory = 0; spent = 0 }
 
--- the tally with one task more, by how it ended
+-- the tally with one more task, by how it ended
 abbrev pub counted : {R : Type 0} → Result R Fault → Tally → Tally
 counted (Ok reply) t = record t { answered = t.answered + 1 }
 counted (Err fault.Arguments) t = record t { memory = t.memory + 1 }
@@ -60,7 +60,7 @@ counted (Err fault.Memory) t = record t { memory = t.memory + 1 }
 counted (Err (fault.Busy conflict)) t = record t { busy = t.busy + 1 }
 counted (Err (fault.Spent version)) t = record t { spent = t.spent + 1 }
 
--- how many attempts were made at least, with so many tries for each task
+-- the least number of attempts that were made, with this many tries for each task
 abbrev pub least_attempts : ℕ → Tally → ℕ
 least_attempts tries t = t.answered + t.spent + t.busy * tries
 
@@ -80,23 +80,24 @@ pub record Looped {D : Type 0} (leads : D → ℕ → D → Type 0) (s : Setting
   pub attempts : v.attempt.number + least_attempts s.tries t ≤ v'.attempt.number
   pub alone : HasAllGrants v → t.busy ≡ 0
 
--- a client was alone, and its clock ends at this version. Each answer took the version that it
--- knows on by at most one; where a task found the clock at its end, the answers took it there
+-- a client was alone, and its clock ends at this version. Each answer raised the version that the
+-- client knows by at most one; where a task found the clock at its end, the answers raised it to
+-- that end
 pub record Clocked (last : ℕ) (v v' : Client) (t : Tally) : Type 0 where
   pub near : t.spent ≡ 0 → v'.floor ≤ v.floor + t.answered
   pub spent : 0 < t.spent → last ≤ v.floor + t.answered
 
--- how many attempts a task made at least that ended so, with so many tries
+-- the least number of attempts of a task that ended so, with this many tries
 abbrev pub attempts_of : {R : Type 0} → ℕ → Result R Fault → ℕ
 attempts_of tries end = least_attempts tries (counted end nothing)
 
--- the task that an end answered, if it did
+-- the task, where its end is an answer
 abbrev pub answered_by : {R : Type 0} → Task → Result R Fault → List Task
 answered_by t (Ok reply) = t ∷ []
 answered_by t (Err e) = []
 
--- a task that was built was asked for, and ended so, by a conflict only where other clients were
--- out; one that was not built ended for want of memory
+-- a task that was built was asked for, and ended so, with a conflict only where other clients were
+-- out; one that was not built ended because memory was refused
 abbrev pub RanOne : {R E : Type 0} → ℕ → Result Task E → ℕ → Result R Fault → Client → Client
     → Type 0
 RanOne renewal (Ok t) tries end v v' = Answered renewal (answered_by t end) v v'

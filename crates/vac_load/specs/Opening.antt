@@ -16,8 +16,8 @@ use Rattle.vac_load.specs.Looping.{Answered}
 abbrev pub as_tasks : List Command → List Task
 as_tasks commands = map (λ c. task.One c) commands
 
--- commands were read from drawn words, and each of them was asked for and answered, in their
--- order; each took the version that the client knows on by at most one
+-- commands were read from drawn words, and each of them was asked for and answered, in their order;
+-- each raised the version that the client knows by at most one
 pub record Ran {D : Type 0} (leads : D → ℕ → D → Type 0) (renewal : ℕ)
     (reader : Reader (List Command)) (v v' : Client) (state last : D) : Type 0 where
   pub commands : List Command
@@ -31,8 +31,8 @@ pub record IsAnswered (region : RegionShown) (v : Client) : Type 0 where
   pub whole : IsWhole region v
   pub legal : WasLegal region v
 
--- words were drawn from the first state to the last one, and with some words more behind them
--- these items are read first
+-- words were drawn from the first state to the last one, and from these words, with some more after
+-- them, these items are read first
 pub record Begun {D X : Type 0} (leads : D → ℕ → D → Type 0) (reader : Reader (List X))
     (state : D) (xs : List X) (last : D) : Type 0 where
   pub words : List ℕ
@@ -41,8 +41,8 @@ pub record Begun {D X : Type 0} (leads : D → ℕ → D → Type 0) (reader : R
   pub rest : List X
   pub reads : Reads reader (words ++ more) (xs ++ rest)
 
--- why a command of the opening is refused to a client that knows this version: want of memory, or
--- a clock that is spent at this last version, which is the one that the client knows
+-- why a command of the opening is refused to a client that knows this version: refused memory, or a
+-- clock that is spent at this last version, which is the one that the client knows
 abbrev pub IsOpeningFault : ℕ → ℕ → Fault → Type 0
 IsOpeningFault last floor fault.Arguments = ⊥
 IsOpeningFault last floor fault.Memory = Unit {0}

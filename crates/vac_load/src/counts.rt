@@ -11,7 +11,7 @@ use crate::tally::Tally;
 use std::marker::Model;
 use vac_manager::{Effort, Fault};
 
-/// How tasks ended, each of which was asked for with so many tries, and what their calls took.
+/// How tasks ended, each of which was asked for with `tries` tries, and what their calls took.
 /// Contracts see the tally and the tries.
 #[derive(Drop)]
 pub(crate) struct Counts {
@@ -33,7 +33,7 @@ impl Model for Counts {
 }
 
 impl Counts {
-    /// Those of no task, with so many tries for each.
+    /// The counts of no task, with `tries` tries for each.
     pub(crate) fn new(tries: u32) -> Counts
         requires few { tries ≤ MOST_TRIES }
         ensures { result ≡ record { tally = nothing; tries = tries } }

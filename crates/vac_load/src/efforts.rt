@@ -6,8 +6,8 @@ ghost use Rattle.vac_load.specs.Attempted.{no_effort, conflicts_in, locks_in, wi
 
 use vac_manager::Effort;
 
-/// How many attempts the calls of a load took, how many of these ended in a conflict of each kind,
-/// and how many of the conflicts were over the lock of which word.
+/// How many attempts the calls of a load took, how many of these aborted on a conflict of each
+/// kind, and how many of the conflicts were over the lock of which word.
 #[derive(Clone, Copy, Debug, PartialEq, Eq)]
 pub struct Efforts {
     /// How many attempts were begun.

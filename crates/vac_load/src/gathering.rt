@@ -121,7 +121,7 @@ fn split_crew<'m, D: Drop, G: Drop, K: Keep + Drop>(
     Ok(Crew { first, others })
 }
 
-/// One round: splits off a session for each seat, lets them all run their tasks in threads of their
+/// One round: splits off a session for each seat, has them all run their tasks in threads of their
 /// own, and gathers their clients into the first.
 pub(crate) fn run_clients<
     R: Threads + Wait,

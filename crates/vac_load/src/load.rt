@@ -47,13 +47,13 @@ pub enum LoadFault {
     /// A thread could not be started. Those that were started were joined first.
     #[error("a thread could not be started")]
     Spawn,
-    /// A command of the opening was refused: for want of memory, or since the clock was at the
-    /// settings' last version.
+    /// A command of the opening was refused: because memory was refused, or because the clock was
+    /// at the settings' last version.
     #[error("the opening stopped: {0}")]
     Opening(Fault),
 }
 
-/// Ends the manager with its one client. That is refused for want of memory alone.
+/// Ends the manager with its one client. It fails only where memory is refused.
 fn close(manager: Manager, client: Client) -> Result<(Vec<u64>, Version), LoadFault>
     requires own { client.table ≡ manager.table }
     requires alone { HasAllGrants client.value }
@@ -120,7 +120,7 @@ fn run_in_range<
     Ok((LoadReport { tally, report }, efforts, seats))
 }
 
-/// Whether a load can be run with these settings and so many clients.
+/// Whether a load can be run with these settings and `clients` clients.
 fn can_run(settings: &Settings, clients: usize) -> bool
     ensures { result ≡ is_load settings.now clients }
 {
@@ -185,9 +185,9 @@ pub fn run_load<R: Threads + Wait + AllocGlobal>(
     }
 }
 
-/// Runs a load as `run_load` does, each client with a copy of the gate. Beside the report, answers
-/// what the calls of all clients in all rounds took. The phases are told by each client when it
-/// stands ready and when it is done, in each round.
+/// Runs a load as `run_load` does, each client with a copy of the gate. Besides the report, returns
+/// what the calls of all clients in all rounds took. Each client tells the phases when it is ready
+/// and when it is done, in each round.
 pub fn run_load_counted<
     R: Threads + Wait + AllocGlobal,
     G: Gate + Copy + Send + Drop,
@@ -215,7 +215,8 @@ pub fn run_load_counted<
 /// Runs a load with keepers of the answered calls: one of the opening's, and one of each client's,
 /// which goes on from round to round. Each is asked for room before a call and is handed the call
 /// once it is answered; where it has no room the call is not made, and the task counts under
-/// memory, or the opening stops for want of memory. The keepers are handed back in their order.
+/// memory, or the opening stops with the fault of refused memory. The keepers are handed back in
+/// their order.
 pub fn run_load_kept<
     R: Threads + Wait + AllocGlobal,
     G: Gate + Copy + Send + Drop,

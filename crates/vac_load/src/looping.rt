@@ -18,7 +18,7 @@ use vac_manager::{Effort, Fault, Keep, Session, Unkept};
 use vac_model::Task;
 
 /// Asks for a task that was drawn, keeps the call where it is answered, and tells the gate then.
-/// Where there is no room to keep it, the task is not asked for. Beside how it ended, answers what
+/// Where there is no room to keep it, the task is not asked for. Besides how it ended, returns what
 /// its call took.
 fn ask_for<G: Gate, K: Keep>(
     session: &mut Session<'_>,

@@ -127,7 +127,7 @@ fn add_all<D: Draws, K: Keep>(
 }
 
 /// Makes the items and the customers of a load, one command after the other, each by one try, and
-/// keeps the calls. The client is alone: it has all grants. The first fault ends it, want of memory
+/// keeps the calls. The client is alone: it has all grants. The first fault ends it, refused memory
 /// or a spent clock; what was answered before it stays.
 pub(crate) fn open_kept<D: Draws, K: Keep>(
     session: &mut Session<'_>,
@@ -158,7 +158,7 @@ pub(crate) fn open_kept<D: Draws, K: Keep>(
 }
 
 /// Makes the items and the customers of a load, one command after the other, each by one try. The
-/// client is alone: it has all grants. The first fault ends it, want of memory or a spent clock;
+/// client is alone: it has all grants. The first fault ends it, refused memory or a spent clock;
 /// what was answered before it stays.
 pub fn open<D: Draws>(
     session: &mut Session<'_>,

@@ -30,7 +30,7 @@ pub(crate) struct Progress<D, G, K> {
     pub(crate) round: Round<D, G, K>,
 }
 
-/// Renews the clock. That is refused for want of memory alone.
+/// Renews the clock. It fails only where memory is refused.
 fn renew(
     manager: Manager,
     client: Client,

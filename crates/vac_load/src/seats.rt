@@ -24,7 +24,7 @@ pub(crate) struct Seat<D, G, K> {
     pub(crate) keep: K,
 }
 
-/// The keepers of a load of so many clients whose calls nobody wants: each keeps nothing.
+/// The keepers of a load of `count` clients whose calls nobody wants: each keeps nothing.
 pub fn no_keepers(alloc: Global, count: u32) -> Result<Keepers<Unkept>, AllocError>
     ensures { IfOk result (λ keepers. vec_len keepers.clients ≡ count) }
 {

@@ -13,7 +13,7 @@ pub struct Tally {
     pub answered: u64,
     /// How many met a conflict in each of their tries.
     pub busy: u64,
-    /// How many wanted memory that was refused, before the call or in it.
+    /// How many were refused memory, before the call or in it.
     pub memory: u64,
     /// How many found the clock at its end.
     pub spent: u64,

@@ -47,7 +47,7 @@ impl<'m, D: Draws, G, K: Keep> Promise<Worked<'m, D, G, K>> for WorkOf<'m, D, G,
 /// The thread of a worker.
 type Handle<'m, D, G, K> = PromisedHandle<Worked<'m, D, G, K>, WorkOf<'m, D, G, K>>;
 
-/// Lets a worker run its tasks.
+/// Has a worker run its tasks.
 fn work<'m, D: Draws, G: Gate, K: Keep, S: Phases + Drop>(
     alloc: Global,
     settings: &Settings,
@@ -209,8 +209,8 @@ fn run_in<
     Ok(Crew { first, others })
 }
 
-/// Lets each worker run its tasks in a thread of its own, all at once, and answers them in their
-/// order. Where a thread cannot be started, those that were started are joined first.
+/// Has each worker run its tasks in a thread of its own, all at once, and returns the workers in
+/// their order. Where a thread cannot be started, those that were started are joined first.
 pub(crate) fn run_all<
     'm,
     R: Threads + Wait,

@@ -67,11 +67,11 @@ pub record MayTry (region : RegionShown) (client : ClientShown) (t : Task) : Typ
   pub unplaced : IsUnplaced client.value
   pub range : is_task t ≡ true
 
--- so many tries may be asked for
+-- this many tries may be asked for
 abbrev pub is_try_count : ℕ → Bool
 is_try_count tries = nat_le 1 tries && nat_le tries MOST_TRIES
 
--- the task can be asked for, with so many tries
+-- the task can be asked for, with this many tries
 abbrev pub is_call : Task → ℕ → Bool
 is_call t tries = is_task t && is_try_count tries
 
@@ -112,7 +112,7 @@ Spares t (Ok reply) v v' = changes_nothing t reply ≡ true → AddsReader v v'
 Spares t (Err e) v v' = Unit {0}
 
 -- exactly one record was added, as the last one, with this tag, by the last attempt: of this
--- renewal and of no version below the floor, and behind the writer of that version
+-- renewal and of no version below the floor, and after the writer of that version
 pub record Adds (renewal : ℕ) (tag : List ℕ) (v v' : Client) : Type 0 where
   pub added : Record
   pub tag_is : added.tag ≡ tag
@@ -189,13 +189,13 @@ pub record IsSpent (region : RegionShown) (t : Task) (version : ℕ) (v : Client
   pub written : WouldWrite t v
 
 -- why an attempt of a task stopped: for a conflict that was shown, or, where the task may write,
--- for want of memory, where the last step showed none, or a spent clock
+-- for refused memory, where the last step showed no conflict, or for a spent clock
 abbrev pub IsStop : RegionShown → Task → Stop → Client → Type 0
 IsStop region t stop.Memory v = (only_reads t ≡ false) × ShowsNone region v
 IsStop region t (stop.Conflict conflict) v = WasShown region conflict v
 IsStop region t (stop.Spent version) v = (only_reads t ≡ false) × IsSpent region t version v
 
--- it was no conflict
+-- the attempt stopped for another reason than a conflict
 abbrev pub IsNoConflict : Stop → Type 0
 IsNoConflict stop.Memory = Unit {0}
 IsNoConflict (stop.Conflict conflict) = ⊥
@@ -210,7 +210,7 @@ IsCount tries before now (Err (stop.Conflict conflict)) = now ≡ before + tries
 IsCount tries before now (Err (stop.Spent version)) = (before < now) × (now ≤ before + tries)
 
 -- what an attempt leaves of the version that its client knows, where that client is alone: a record
--- takes it on by at most one, want of memory leaves it, and a spent clock was spent before
+-- raises it by at most one, refused memory leaves it as it was, and a spent clock was spent before
 abbrev pub IsNear : ℕ → ℕ → ℕ → Result Reply Stop → Type 0
 IsNear last before now (Ok reply) = now ≤ before + 1
 IsNear last before now (Err stop.Memory) = now ≡ before
@@ -225,9 +225,9 @@ pub record Repeated (region : RegionShown) (t : Task) (tries : ℕ) (v v' : Clie
   pub floor : v.floor ≤ v'.floor
   pub records : Records region t result v v'
 
--- how many attempts a call made: at most as many as tries, all of them where it answers Busy, none
--- where it answers Arguments
--- Not said: of a client that is not alone, that want of memory and a spent clock end the call at
+-- how many attempts a call made: at most as many as tries, all of them where it returns Busy, none
+-- where it returns Arguments
+-- Not said: of a client that is not alone, that refused memory and a spent clock end the call at
 -- once: `Took` of `call_placed` says it, by its counts.
 abbrev pub Attempts : ℕ → ℕ → ℕ → Result Reply Fault → Type 0
 Attempts tries before now (Ok reply) = (before < now) × (now ≤ before + tries)
@@ -245,7 +245,7 @@ IsNext last before now (Err (fault.Busy conflict)) = ⊥
 IsNext last before now (Err (fault.Spent version)) = before ≡ last
 
 -- why a call of a task was not answered: its numbers, a conflict that the last attempt showed, or,
--- where the task may write, want of memory after a step that showed none, or a spent clock
+-- where the task may write, refused memory after a step that showed no conflict, or a spent clock
 -- Not said: which growth of a log was refused; that a try wins.
 abbrev pub IsFault : RegionShown → Task → ℕ → Fault → Client → Client → Type 0
 IsFault region t tries fault.Arguments v v' = (is_call t tries ≡ false) × (v' ≡ v)
@@ -254,7 +254,7 @@ IsFault region t tries (fault.Busy conflict) v v' = WasShown region conflict v'
 IsFault region t tries (fault.Spent version) v v' =
     (only_reads t ≡ false) × IsSpent region t version v'
 
--- it is not that the client met a conflict
+-- the fault is another one than a conflict
 abbrev pub IsNotBusy : Fault → Type 0
 IsNotBusy fault.Arguments = Unit {0}
 IsNotBusy fault.Memory = Unit {0}
@@ -292,12 +292,12 @@ pub record Splits (before after other : CallerShown) : Type 0 where
     next = (before.next + 1) % LISTS;
   }
 
--- no client could be split off, for want of a grant
+-- no client could be split off, since no grant was left
 pub record SplitsNot (fault : RegionFault) (before after : CallerShown) : Type 0 where
   pub fault_is : fault ≡ Clients
   pub none : before.value.grants ≡ 0
   pub same : after ≡ before
 
--- nothing but what the two clients had is in the records of the one that took the other in
+-- the records of the client that took the other one in have nothing but what the two clients had
 abbrev pub OnlyOf : Client → Client → Client → Type 0
 OnlyOf v w after = (r : Record) → In r after.records → In r v.records ⊎ In r w.records

@@ -7,12 +7,12 @@ use Rattle.vac_manager.specs.declared.placed.Placed.{Placed}
 use Rattle.vac_manager.specs.Placed.{place_of}
 use Rattle.vac_manager.specs.declared.note.Note.{Note}
 
--- these calls behind those that are kept; nothing where nothing is kept
+-- these calls after those that are kept; nothing where nothing is kept
 abbrev pub behind : Option (List Note) → List Note → Option (List Note)
 behind None more = None
 behind (Some notes) more = Some (notes ++ more)
 
--- a call of this task, which was answered so, was kept behind the others
+-- a call of this task, which was answered so, was kept after the others
 pub record HasKept (t : Task) (p : Placed) (before after : Option (List Note)) : Type 0 where
   pub note : Note
   pub task : note.task ≡ t

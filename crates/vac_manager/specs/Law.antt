@@ -1,4 +1,4 @@
--- The law of the manager's records: which images it may stand on, and which records may be made on
+-- The law of the manager's records: which images it may rest on, and which records may be made on
 -- them.
 use Rattle.std.specs.Prelude.{◌≡◌, ℕ, List, length, slice_index, true}
 use Rattle.tx_memory.specs.Image.{Agrees, laid}

@@ -61,7 +61,7 @@ abbrev pub IsHistory : RegionShown → List Record → State → Type 0
 IsHistory region records last = IsLegal (empty_state (capacity_of region)) records last
 
 -- when a client that now has this value decided its last record, in the core state of its region
--- right after that step, the records of all clients were a history, and its own stood among them,
+-- right after that step, the records of all clients were a history, and its own were among them,
 -- each once and in their order
 -- Not said: which other clients there are.
 pub record WasLegal (region : RegionShown) (v : Client) : Type 0 where

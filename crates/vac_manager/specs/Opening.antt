@@ -17,7 +17,7 @@ use Rattle.vac_manager.specs.Called.{CallerShown}
 abbrev pub is_last : ℕ → Bool
 is_last last = nat_le 1 last && nat_lt last VERSION_LIMIT
 
--- there may be so many lock words
+-- there may be this many lock words
 abbrev pub is_stripe_count : ℕ → Bool
 is_stripe_count stripes = nat_le 1 stripes && nat_le stripes MOST_STRIPES
 
@@ -25,7 +25,7 @@ is_stripe_count stripes = nat_le 1 stripes && nat_le stripes MOST_STRIPES
 abbrev pub is_opening : ℕ → ℕ → ℕ → Bool
 is_opening blocks last stripes = is_block_count blocks && (is_last last && is_stripe_count stripes)
 
--- a manager's region was opened with so many blocks and lock words, this last version, and words
+-- a manager's region was opened with this many blocks and lock words, this last version, and words
 -- that represent the empty state, and was never renewed; its first client has all grants and no
 -- record
 pub record Opens (blocks last stripes : ℕ) (region : RegionShown) (client : CallerShown) :

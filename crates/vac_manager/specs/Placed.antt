@@ -21,7 +21,7 @@ use Rattle.vac_manager.specs.Sites.{site_of}
 use Rattle.vac_manager.specs.Called.{Adds, IsUnplaced, Spares, WasShown}
 use Rattle.vac_manager.specs.Legal.{WasLegal}
 
--- where a record stands
+-- the place of a record
 abbrev pub place_of : Record → Place
 place_of r = record { renewal = r.renewal; version = r.version; wrote = r.writer }
 
@@ -35,13 +35,14 @@ abbrev pub replied : {E : Type 0} → Result Placed E → Result Reply E
 replied (Ok placed) = Ok placed.reply
 replied (Err e) = Err e
 
--- at an answer the record of the task and its reply was added, at the place that is answered
+-- at an answer the record of the task and its reply was added, at the place that is returned
 abbrev pub IsPlaced : {E : Type 0} → RegionShown → Task → Result Placed E → Client → Client → Type 0
 IsPlaced region t (Ok placed) v v' =
     AddsAt region.renewal (code t placed.reply) placed.place v v'
 IsPlaced region t (Err e) v v' = v'.records ≡ v.records
 
--- the same, where the place stands beside the reply
+-- at an answer the record of the task and its reply was added, at the place that is given beside
+-- the reply
 abbrev pub WasPlaced : {E : Type 0} → RegionShown → Task → Result Reply E → Option Place
     → Client → Client → Type 0
 WasPlaced region t (Ok reply) (Some place) v v' = AddsAt region.renewal (code t reply) place v v'
@@ -49,9 +50,9 @@ WasPlaced region t (Ok reply) None v v' = ⊥
 WasPlaced region t (Err e) place v v' = v'.records ≡ v.records
 
 -- what one attempt of a task leaves, or several in a row: the client is still one of its region,
--- holds no lock, and its records keep no place; at an answer the record that was added stands at
--- the place that is left, is a reader's where the command changes nothing, and was legal; at a
--- refusal none was added
+-- holds no lock, and its records keep no place; at an answer the record that was added is at the
+-- place that is left, is a reader's where the command changes nothing, and was legal; at a refusal
+-- none was added
 pub record Leaves {E : Type 0} (region : RegionShown) (t : Task) (client client' : ClientShown)
     (result : Result Reply E) (place : Option Place) : Type 0 where
   pub own : client'.table ≡ client.table
@@ -77,19 +78,19 @@ nothing_done = record {
   stocks = 0;
 }
 
--- how many attempts ended in a conflict
+-- how many attempts aborted on a conflict
 abbrev pub conflicts_of : Effort → ℕ
 conflicts_of e = e.held + e.newer + e.moved + e.lost_lock + e.lost_tick
 
--- how many of these were over a lock, by which word it is of
+-- how many of these conflicts were over a lock, by the kind of word that it guards
 abbrev pub locks_of : Effort → ℕ
 locks_of e = e.roots + e.heads + e.nodes + e.uses + e.stocks
 
--- one attempt more
+-- one more attempt
 abbrev pub one_more : Effort → Effort
 one_more e = record e { attempts = e.attempts + 1 }
 
--- one conflict more over the lock of such a word
+-- one more conflict over the lock of such a word
 abbrev pub over : Site → Effort → Effort
 over Root e = record e { roots = e.roots + 1 }
 over Head e = record e { heads = e.heads + 1 }
@@ -97,7 +98,8 @@ over Node e = record e { nodes = e.nodes + 1 }
 over Use e = record e { uses = e.uses + 1 }
 over Stock e = record e { stocks = e.stocks + 1 }
 
--- one attempt more, which ended in this conflict: it is counted by its kind, and by its lock's word
+-- one more attempt, which aborted on this conflict: it is counted by its kind, and by its lock's
+-- word
 abbrev pub conflicted : Conflict → Effort → Effort
 conflicted (Held lock word) e =
     over (site_of lock) (record (one_more e) { held = e.held + 1 })
@@ -109,20 +111,20 @@ conflicted (LostLock lock found) e =
     over (site_of lock) (record (one_more e) { lost_lock = e.lost_lock + 1 })
 conflicted (LostTick found) e = record (one_more e) { lost_tick = e.lost_tick + 1 }
 
--- one attempt more, which ended so
+-- one more attempt, which ended so
 abbrev pub ended : {R : Type 0} → Result R Stop → Effort → Effort
 ended (Ok reply) e = one_more e
 ended (Err stop.Memory) e = one_more e
 ended (Err (stop.Conflict conflict)) e = conflicted conflict e
 ended (Err (stop.Spent version)) e = one_more e
 
--- attempts that ended in these conflicts, the newest first
+-- attempts that aborted on these conflicts, the newest first
 abbrev pub effort_of : List Conflict → Effort
 effort_of [] = nothing_done
 effort_of (conflict ∷ earlier) = conflicted conflict (effort_of earlier)
 
--- an attempt of this client, so many behind its present one, ended with this conflict shown, and
--- changed neither its records nor its grants
+-- an attempt of this client, `behind` attempts after its present one, ended with this conflict
+-- shown, and changed neither its records nor its grants
 -- Not said: of which kind the conflicts of earlier tries were: the witness is any value that has
 -- the client's records and grants and that attempt's number, and shows it.
 pub record HasShown (region : RegionShown) (v : Client) (behind : ℕ) (conflict : Conflict) :
@@ -133,14 +135,14 @@ pub record HasShown (region : RegionShown) (v : Client) (behind : ℕ) (conflict
   pub grants : client.grants ≡ v.grants
   pub shown : WasShown region conflict client
 
--- the client's next attempts, one after the other, ended with these conflicts shown, each its own,
--- the newest first
+-- the client's next attempts, one after the other, ended with these conflicts shown, each with its
+-- own, the newest first
 abbrev pub HaveShown : RegionShown → Client → List Conflict → Type 0
 HaveShown region v [] = Unit {0}
 HaveShown region v (conflict ∷ earlier) =
     HasShown region v (length (conflict ∷ earlier)) conflict × HaveShown region v earlier
 
--- one attempt more, but where that one met a conflict too
+-- one more attempt, unless that one met a conflict too
 abbrev pub left_by : {R : Type 0} → Result R Stop → Effort → Effort
 left_by (Ok reply) e = one_more e
 left_by (Err stop.Memory) e = one_more e
@@ -168,7 +170,7 @@ pub record Tallies {R : Type 0} (region : RegionShown) (v v' : Client) (result :
   pub effort : e ≡ left_by result (effort_of conflicts)
   pub begun : v.attempt.number + e.attempts ≡ v'.attempt.number
 
--- the same of a call, which may make no attempt
+-- one more attempt of a call, unless the call made none, or that one met a conflict too
 abbrev pub closed_by : {R : Type 0} → Result R Fault → Effort → Effort
 closed_by (Ok reply) e = one_more e
 closed_by (Err fault.Arguments) e = e
@@ -176,7 +178,7 @@ closed_by (Err fault.Memory) e = one_more e
 closed_by (Err (fault.Busy conflict)) e = e
 closed_by (Err (fault.Spent version)) e = one_more e
 
--- a call that answers Busy answers the newest of these conflicts
+-- a call that returns Busy returns the newest of these conflicts
 abbrev pub ClosesWith : Fault → List Conflict → Type 0
 ClosesWith fault.Arguments conflicts = Unit {0}
 ClosesWith fault.Memory conflicts = Unit {0}
@@ -184,7 +186,7 @@ ClosesWith (fault.Busy conflict) conflicts = newest conflicts ≡ Some conflict
 ClosesWith (fault.Spent version) conflicts = Unit {0}
 
 -- this is what a call took: each attempt that was begun is counted; all but the last one, and that
--- one too where the call answers Busy, are counted by the conflict that they ended with
+-- one too where the call returns Busy, are counted by the conflict that they ended with
 pub record Took {R : Type 0} (region : RegionShown) (v v' : Client) (result : Result R Fault)
     (e : Effort) : Type 0 where
   pub conflicts : List Conflict

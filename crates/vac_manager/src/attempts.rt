@@ -134,8 +134,7 @@ fn try_once<G: Gate>(
     }
 }
 
-/// Runs a task by at most so many attempts. One that met a conflict is followed by the next, after
-/// one pause.
+/// Runs a task by at most `tries` attempts: one that aborts on a conflict is retried after a pause.
 pub(crate) fn run_in_attempts<G: Gate>(
     region: &Region<ManagerLaw>,
     client: &mut Client<ManagerLaw>,

@@ -19,7 +19,7 @@ pub struct Client {
     pub(crate) pauses: Pauses,
     /// The free list that its new entries take their blocks from.
     pub(crate) start: FreeList,
-    /// The same of the next client that it splits off.
+    /// The free list that new entries of the next client that it splits off take their blocks from.
     pub(crate) next: FreeList,
 }
 

@@ -23,7 +23,7 @@ pub trait Keep {
         ensures same { notes self.new ≡ notes self.old }
         ensures room { OnOk result (ready self.new) };
 
-    /// Keeps a call that was answered, behind the others.
+    /// Keeps a call that was answered, after the others.
     fn keep(&mut self, task: Task, placed: Placed)
         requires { ready self.old }
         ensures { HasKept task placed (notes self.old) (notes self.new) };

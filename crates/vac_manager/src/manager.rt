@@ -100,9 +100,9 @@ impl Manager {
         Ok((Manager { alloc, region }, client))
     }
 
-    /// Runs a task as a transaction, by at most this many attempts, 1 to 1,048,576, and answers
-    /// its reply. After any fault the client may call again. A client that has
-    /// all grants is alone, and meets no conflict: it makes one attempt.
+    /// Runs a task as a transaction, by at most this many attempts, 1 to 1,048,576, and returns its
+    /// reply. After any fault the client may call again. A client that has all grants is alone, and
+    /// meets no conflict: it makes one attempt.
     pub fn call(&self, client: &mut Client, task: &Task, tries: u32) -> Result<Reply, Fault>
         requires own { client.old.table ≡ self.now.table }
         ensures called { HasCalled self.now task.now tries result client.old client.new }
@@ -129,8 +129,8 @@ impl Manager {
         self.call_traced(client, task, tries, gate, &mut traced)
     }
 
-    /// Runs a task as `call_gated` does, and tells where the record of the call stands and what the
-    /// call took.
+    /// Runs a task as `call_gated` does, and also returns where the record of the call stands and
+    /// what the call took.
     pub fn call_placed<G: Gate>(
         &self,
         client: &mut Client,
@@ -155,7 +155,8 @@ impl Manager {
         (end, traced.effort)
     }
 
-    /// The same, which leaves the place of the record and what the call took.
+    /// Runs a task as `call_gated` does, and leaves in `traced` the place of the record and what
+    /// the call took.
     fn call_traced<G: Gate>(
         &self,
         client: &mut Client,
@@ -232,8 +233,8 @@ impl Manager {
         self.region.gather(&mut client.client, other);
     }
 
-    /// Ends the manager: its words and its clock, once every other client was gathered. A refusal
-    /// gives the manager and the client back as they were.
+    /// Ends the manager: its words and its clock, once every other client was gathered. Where that
+    /// is refused, the manager and the client are given back as they were.
     pub fn close(self, client: Client) -> Result<(Vec<u64>, Version), Kept>
         requires { client.table ≡ self.table }
         ensures closes { IfOk result (λ r. Closes self client.value r.0.items r.1) }

@@ -4,17 +4,17 @@ use rand_core::utils::NextWord;
 use rand_pcg::Lcg64Xsh32;
 use std::{hint, thread};
 
-/// The first pause that is drawn stands behind this try. Those before it are none.
+/// The first pause that is drawn comes after this try. Earlier tries have no pause after them.
 const FIRST_DRAWN: u32 = 3;
 
-/// How many bits of a word are the idle turns of the first pause that is drawn. Each later pause
-/// has one bit more.
+/// How many bits of a drawn word are the number of idle turns of the first pause that is drawn.
+/// Each later pause has one bit more.
 const FEWEST_BITS: u32 = 4;
 
-/// The most bits of a word that are idle turns.
+/// The most bits of a drawn word that are a number of idle turns.
 const MOST_BITS: u32 = 13;
 
-/// From this try on the processor is handed on too.
+/// From this try on a pause also yields the processor.
 const FIRST_YIELD: u32 = 14;
 
 /// The pauses of a client. Each is drawn anew, so that clients that met do not stay in step; the
@@ -25,19 +25,19 @@ pub(crate) struct Pauses {
 }
 
 impl Pauses {
-    /// Those of the client with this seed.
+    /// The pauses of the client with this seed.
     pub(crate) fn new(seed: u64) -> Pauses {
         Pauses {
             generator: Lcg64Xsh32::new(seed, 0),
         }
     }
 
-    /// Those of a client that is split off, whose seed is drawn.
+    /// The pauses of a client that is split off, whose seed is drawn.
     pub(crate) fn split(&mut self) -> Pauses {
         Pauses::new(u64::from(self.generator.next_word()))
     }
 
-    /// Pauses behind this try of a call.
+    /// Pauses after this try of a call.
     pub(crate) fn wait(&mut self, tried: u32) {
         if tried < FIRST_DRAWN {
             return;

@@ -17,7 +17,7 @@ use vac_model::Reply;
 pub struct Place {
     /// How often the manager had been renewed.
     pub renewal: u32,
-    /// The version that the call made, or, where it wrote nothing, the one that it read.
+    /// The write version of the call, or, where it wrote nothing, its read version.
     pub version: Version,
     /// Whether it wrote.
     pub wrote: bool,
@@ -30,8 +30,8 @@ pub struct Placed {
     pub place: Place,
 }
 
-/// What a call took: how many attempts, how many of them ended in a conflict of each kind, and how
-/// many of the conflicts were over the lock of which word.
+/// What a call took: how many attempts, how many of them aborted on a conflict of each kind, and
+/// how many of the conflicts were over the lock of which word.
 #[derive(Clone, Copy, Debug, PartialEq, Eq)]
 pub struct Effort {
     /// How many attempts were begun.
@@ -58,7 +58,7 @@ pub struct Effort {
     pub stocks: u32,
 }
 
-/// What a call leaves beside its reply: the place of its record, if it was answered, and what it
+/// What a call leaves besides its reply: the place of its record, if it was answered, and what it
 /// took.
 #[derive(Drop)]
 pub(crate) struct Traced {
@@ -67,7 +67,7 @@ pub(crate) struct Traced {
 }
 
 impl Traced {
-    /// What stands there before a call.
+    /// What there is before a call.
     pub(crate) fn new() -> Traced
         ensures { result.effort ≡ nothing_done }
     {
@@ -112,7 +112,7 @@ impl Effort {
         }
     }
 
-    /// Counts an attempt that ended in a conflict, by its kind and by the word of its lock.
+    /// Counts an attempt that aborted on a conflict, by its kind and by the word of its lock.
     fn count_conflict(&mut self, conflict: Conflict)
         requires few { self.old.attempts < MOST_TRIES }
         requires conflicts { conflicts_of self.old ≤ self.old.attempts }

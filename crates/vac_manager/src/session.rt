@@ -44,7 +44,7 @@ impl<'a> Session<'a> {
         Session { manager, client }
     }
 
-    /// Ends the session and answers its client.
+    /// Ends the session and returns its client.
     pub fn into_client(self) -> Client
         ensures client { result ≡ self.entry.client }
         ensures own { result.table ≡ self.entry.manager.table }

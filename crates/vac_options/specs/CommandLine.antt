@@ -129,7 +129,7 @@ judging_options = blocks_option ∷ file_option ∷ flag (codes "any-order") ∷
 abbrev pub words_option : Rule
 words_option = number_option (codes "words") 1 MOST_WORDS (codes "65536")
 
--- those that say what a load tells of itself, and whether it writes its history
+-- those that say what a load writes of itself, and whether it writes its history
 abbrev pub telling_options : List Rule
 telling_options =
     flag (codes "progress") ∷ flag (codes "stats") ∷ flag (codes "history") ∷ []
@@ -142,7 +142,7 @@ load_options = client_options ++ task_options ++ telling_options
 abbrev pub with_options : Text → List Rule → Shape
 with_options name options = record (new_shape name) { rules = options }
 
--- the program without its subcommands, of which one must be named; it tells its version
+-- the program without its subcommands, of which one must be named; it shows its version
 abbrev pub top_command : App
 top_command = record {
   top = record (new_shape (codes "vacation")) {
@@ -169,7 +169,7 @@ abbrev pub load_commands : List Shape
 load_commands = with_options (codes "load") load_options
     ∷ with_options (codes "tasks") load_options ∷ []
 
--- a command with subcommands more
+-- a command with further subcommands
 abbrev pub with_commands : App → List Shape → App
 with_commands a [] = a
 with_commands a (s ∷ subs) = with_commands (with_subcommand a s) subs
@@ -191,7 +191,7 @@ pub record IsCommand (c : Command) (s : Shape) : Type 0 where
   pub app : app_of c ≡ record { top = s; subs = [] }
   pub own : (out-Command c).has_globals ≡ false
 
--- a command with options more
+-- a command with further options
 abbrev pub with_rules : App → List Rule → App
 with_rules a [] = a
 with_rules a (option ∷ options) = with_rules (with_rule a option) options
@@ -233,7 +233,7 @@ IsFlag rows name = Says rows name true ⊎ Says rows name false
 abbrev pub NamesFile : List Row → Text → Option (Bor Text) → Type 0
 NamesFile rows option file = first_of option rows ≡ option_map (λ name. name.now) file
 
--- a search gets a number of steps, and is to tell how far it is or not
+-- a search gets a number of steps, and is to write how far it is, or not
 pub record HasSearch (rows : List Row) : Type 0 where
   pub steps : GivesIn rows (codes "steps") 0 MOST_STEPS
   pub progress : IsFlag rows (codes "progress")
@@ -243,7 +243,7 @@ pub record IsSearch (rows : List Row) (search : Search) : Type 0 where
   pub steps : Gives rows (codes "steps") search.steps
   pub progress : Says rows (codes "progress") search.progress
 
--- what a judge's options say beside its blocks
+-- what a judge's options say besides its blocks
 pub record HasJudging (rows : List Row) : Type 0 where
   pub any_order : IsFlag rows (codes "any-order")
   pub search : HasSearch rows
@@ -288,7 +288,7 @@ pub record AreGiven (rows : List Row) (s : Settings) : Type 0 where
   pub last : s.last + 1 ≡ VERSION_LIMIT
   pub rounds : Gives rows (codes "rounds") s.rounds
 
--- a load is to tell of itself what the flags say
+-- a load is to write of itself what the flags say
 pub record IsTold (rows : List Row) (how : How) : Type 0 where
   pub progress : Says rows (codes "progress") how.progress
   pub stats : Says rows (codes "stats") how.stats

@@ -19,14 +19,14 @@ use vac_draws::Settings;
 /// The greatest seed of a load.
 pub const MOST_SEED: u64 = u64::MAX;
 
-/// What a load is to tell of itself, beside its two lines.
+/// What a load is to write of itself, besides its two lines.
 #[derive(Clone, Copy)]
 pub struct How {
-    /// Whether to tell how far it is.
+    /// Whether to write how far it is.
     pub progress: bool,
-    /// Whether to tell how long it took, and how often it tried.
+    /// Whether to write how long it took, and how often it tried.
     pub stats: bool,
-    /// Whether to write the history of its calls in place of its two lines, and to tell these.
+    /// Whether to write the history of its calls to the output, and its two lines to the errors.
     pub history: bool,
 }
 
@@ -41,7 +41,7 @@ pub const MOST_WORDS: u32 = 4_194_304;
 pub struct Search {
     /// The most steps.
     pub steps: u64,
-    /// Whether to tell how far it is.
+    /// Whether to write how far it is.
     pub progress: bool,
 }
 
@@ -58,19 +58,19 @@ pub struct Judging<'a> {
 
 /// What a command line asks for.
 pub enum Asked<'a> {
-    /// To run a script for a system of so many blocks.
+    /// To run a script for a system of this many blocks.
     Run(u32),
     /// To dump the memory that the script leaves.
     Dump(u32),
     /// To audit the words of a memory.
     Check,
-    /// To judge a history over a system of so many blocks.
+    /// To judge a history over a system of this many blocks.
     Judge(u32, Judging<'a>),
-    /// To find an order of a history's calls over a system of so many blocks.
+    /// To find an order of a history's calls over a system of this many blocks.
     Order(u32, Search),
-    /// To judge attempts over so many words.
+    /// To judge attempts over this many words.
     Opaque(u32),
-    /// To run a load, and what it is to tell of itself.
+    /// To run a load, and what it is to write of itself.
     Load(Settings, How),
     /// To write the tasks of a load.
     Tasks(Settings),
@@ -126,7 +126,7 @@ fn flag_of(matches: &ArgMatches, name: &str) -> bool
     matches.get_flag(name)
 }
 
-/// What a load is to tell of itself.
+/// What a load is to write of itself.
 fn how_of(matches: &ArgMatches) -> How
     requires { HasFlags (rows_of (found_of matches.now)) }
     ensures { IsTold (rows_of (found_of matches.now)) result }

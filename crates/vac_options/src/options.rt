@@ -271,7 +271,7 @@ fn flag<'a>(alloc: Global, name: &'a str, is_shown: bool, help: &'a str) -> Arg<
         .action(ArgAction::SetTrue)
 }
 
-/// Adds the flags that say what a load tells of itself, unless memory was refused before. Where no
+/// Adds the flags that say what a load writes of itself, unless memory was refused before. Where no
 /// load is run they change nothing, and the help does not show them.
 fn add_telling_options<'a>(
     alloc: Global,
@@ -309,7 +309,7 @@ fn plain_command<'a>(alloc: Global, name: &'a str, about: &'a str, example: &'a 
     Command::new(alloc, name).about(about).after_help(example)
 }
 
-/// A subcommand that works on a system of so many blocks.
+/// A subcommand that has an option for the number of blocks of its system.
 fn script_command<'a>(
     alloc: Global,
     name: &'a str,
