@@ -1,4 +1,4 @@
--- Where a search for an order stands, and which call may come next.
+-- Where a search for an order is, and which call may come next.
 use Rattle.std.specs.Prelude.{◌≡◌, ◌+◌, ◌≤◌, ◌==◌, ℕ, Bool, true, List, [], ◌∷◌, if◌then◌else◌}
 use Rattle.vac_model.specs.State.{State, empty_state}
 use Rattle.vac_model.specs.Run.{run}

@@ -1,4 +1,4 @@
--- Where a search among the calls of a history stands.
+-- Where a search among the calls of a history is.
 use Rattle.std.specs.Prelude.{ℕ, Bool, length, get_or}
 use Rattle.vac_model.specs.State.{State}
 use Rattle.vac_order.specs.declared.calls.Calls.{Calls}

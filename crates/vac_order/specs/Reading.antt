@@ -132,7 +132,7 @@ pub record StopsAt (before after : HistoryText) (line : Result Call CallFault) :
 abbrev pub next_line : HistoryText → ℕ
 next_line text = length text.history.lines.items + 1
 
--- what a line that is told does to a text
+-- what telling a line does to a text
 abbrev pub HearsLine : HistoryText → told.Told → Result Next StreamFault → HistoryText → Type 0
 HearsLine x told (Err fault) y = fault ≢ Write
 HearsLine x (told.Line text) (Ok GoOn) y = IsHeld x.history → TookLine x y text

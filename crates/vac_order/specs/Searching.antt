@@ -5,8 +5,8 @@ use Rattle.vac_judge.specs.Call.{Call}
 use Rattle.vac_order.specs.Configurations.{Configuration, MayBegin, Reaches, fits, after, weight, answered}
 use Rattle.vac_order.specs.Walk.{AreChoices, Place}
 
--- where a search stands, how many answered calls have a place there, the calls that are left to
--- try, the path that led there, and the configurations from which nothing is left to try
+-- where a search is, how many answered calls have a place there, the calls that are left to try,
+-- the path that led there, and the configurations from which nothing is left to try
 pub record Search : Type 0 where
   pub at : Configuration
   pub placed : ℕ
@@ -56,7 +56,7 @@ pub record GoesOn (search next : Search) : Type 0 where
   }) ∷ []
   pub known : next.known ≡ search.known
 
--- nothing is left to try: that is known now, and the search goes back by a place
+-- nothing is left to try: that is known now, and the search goes back by one place of the path
 pub record GoesBack (search next : Search) : Type 0 where
   pub path : List Place
   pub place : Place

@@ -1,4 +1,4 @@
--- The calls that are stuck where a search stands.
+-- The calls that are stuck where a search is.
 use Rattle.std.specs.Prelude.{◌≡◌, ◌<◌, ℕ, Bool, true, All, List, length, map, filter, get_or}
 use Rattle.vac_model.specs.State.{State}
 use Rattle.vac_model.specs.Run.{run}

@@ -3,9 +3,9 @@ use Rattle.std.specs.Prelude.{◌≡◌, ◌+◌, ◌<◌, ◌^◌, ◌==◌, �
 use Rattle.vac_judge.specs.Call.{Call}
 use Rattle.vac_order.specs.Configurations.{Configuration, MayBegin, fits, after}
 
--- where a world stands, how many places there are, the call that a place names, whether the call
--- at a place has one in the order, whether it may come next, and the calls that are left to try in
--- a world from a place on
+-- where a world is, how many places there are, the call that a place names, whether the call at a
+-- place has one in the order, whether it may come next, and the calls that are left to try in a
+-- world from a place on
 pub record Views (W : Type 0) : Type 0 where
   pub at : W → Configuration
   pub count : ℕ

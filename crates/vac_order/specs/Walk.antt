@@ -38,7 +38,7 @@ abbrev pub HangsOn : ℕ → ℕ → Configuration → List Call → Type 0
 HangsOn total least at calls = (most : ℕ) → least ≤ most → All (IsLost total most at) calls →
     total ≤ most + answered at.rest → PlacesAtMost total most at
 
--- a place of the path: where it stands, how many answered calls have a place there, the call that
+-- a place of the path: its configuration, how many answered calls have a place there, the call that
 -- was made there, and the calls that are left to try
 pub record Place : Type 0 where
   pub at : Configuration

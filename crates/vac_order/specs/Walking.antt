@@ -51,9 +51,9 @@ search_of views world placed path known tries = record {
   known = map views.at known;
 }
 
--- a search that began there and has made `steps` steps: where it stands, how many answered calls
--- have a place, its path, the worlds that are known, the deepest of them, how many have a place
--- there, and the calls that are left to try
+-- a search that began there and has made `steps` steps: where it is, how many answered calls have a
+-- place, its path, the worlds that are known, the deepest of them, how many have a place there, and
+-- the calls that are left to try
 pub record IsSearch {W : Type 0} (views : Views W) (start : Configuration) (steps : ℕ) (world : W)
     (placed : ℕ) (path : List (Frame W)) (known : List W) (best most : ℕ) (tries : List Call) :
     Type 0 where
