@@ -176,7 +176,7 @@ pub record RanAll {D P : Type 0} (leads : D → ℕ → D → Type 0) (s : Setti
   pub alone : length seats ≡ 1 → t.busy ≡ 0
   pub in_time : length seats ≡ 1 → HasTime s → t.spent ≡ 0
 
--- one round more was run, from these records, seats and tally on
+-- one more round was run, from these records, seats and tally on
 pub record RanMore {D P : Type 0} (leads : D → ℕ → D → Type 0) (s : Settings)
     (shown_of : P → SeatShown D) (before : List Record) (seats : List P) (t : Tally)
     (after : List Record) (left : List P) (t' : Tally) : Type 0 where

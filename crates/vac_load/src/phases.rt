@@ -1,17 +1,17 @@
-//! What is told of how far the clients of a load are.
+//! How far the clients of a load are, as they tell it.
 
 /// What the clients of a load tell how far they are, each in its own thread.
 ///
 /// Not said: that it is told at these places, which is read in the code.
 pub trait Phases {
-    /// Told by each client in each round, right before its first task.
+    /// Each client calls this in each round, right before its first task.
     fn ready(&self);
 
-    /// Told by each client in each round, right after its last task.
+    /// Each client calls this in each round, right after its last task.
     fn done(&self);
 }
 
-/// What is told where nobody asks.
+/// Does nothing, for loads whose phases nobody asks for.
 #[derive(Clone, Copy, Drop)]
 pub(crate) struct NoPhases;
 

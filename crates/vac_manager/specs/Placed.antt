@@ -1,4 +1,4 @@
--- Where the record of a call stands, and what the call took.
+-- The place of a call's record, and what the call took.
 use Rattle.std.specs.Prelude.{◌≡◌, ℕ, ◌+◌, List, [], ◌∷◌, length, Option, Some, None, Result, Ok, Err, IfOk, IfErr}
 use Rattle.stm_core.specs.Client.{Client, Record}
 use Rattle.stm_core.specs.Core.{IsFreeHanded}

@@ -13,7 +13,7 @@ pub trait Keep {
     /// The calls that it keeps, in their order; none where it keeps nothing.
     ghost notes: { Self → Option (List Note) };
 
-    /// It has room for one call more.
+    /// It has room for one more call.
     ghost ready: { Self → Type 0 };
 
     /// Makes room for a call that is about to begin.

@@ -129,8 +129,8 @@ impl Manager {
         self.call_traced(client, task, tries, gate, &mut traced)
     }
 
-    /// Runs a task as `call_gated` does, and also returns where the record of the call stands and
-    /// what the call took.
+    /// Runs a task as `call_gated` does, and also returns the place of the call's record and what
+    /// the call took.
     pub fn call_placed<G: Gate>(
         &self,
         client: &mut Client,
@@ -214,7 +214,7 @@ impl Manager {
         })
     }
 
-    /// Takes in another client: its records, its grants and one grant more.
+    /// Takes in another client: its records, its grants and one more grant.
     pub fn gather(&self, client: &mut Client, other: Client)
         requires { (client.old.table ≡ self.now.table) × (other.table ≡ self.now.table) }
         ensures client { client.new

@@ -12,6 +12,6 @@ pub struct Note {
     pub end: u64,
     pub task: Task,
     pub reply: Reply,
-    /// Where its record stands.
+    /// The place of its record.
     pub place: Place,
 }

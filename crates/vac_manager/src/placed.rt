@@ -1,4 +1,4 @@
-//! Where the record of a call stands, and what the call took.
+//! The place of a call's record, and what the call took.
 
 ghost use Rattle.std.specs.Prelude.{◌≡◌, ◌≤◌, ◌<◌};
 ghost use Rattle.vac_model.specs.declared.limits.TheConstants.{MOST_TRIES};
@@ -11,8 +11,8 @@ use stm_attempt::{Conflict, Stop};
 use stm_words::Version;
 use vac_model::Reply;
 
-/// Where the record of a call stands among those of its manager: they are ordered by renewal, then
-/// by version, the writer of a version before its readers.
+/// The place of a call's record among those of its manager: records are ordered by renewal, then by
+/// version, the writer of a version before its readers.
 #[derive(Clone, Copy, Debug, PartialEq, Eq)]
 pub struct Place {
     /// How often the manager had been renewed.
@@ -23,7 +23,7 @@ pub struct Place {
     pub wrote: bool,
 }
 
-/// A reply, and where the record of its call stands.
+/// A reply, and the place of its call's record.
 #[derive(Debug, PartialEq, Eq)]
 pub struct Placed {
     pub reply: Reply,

@@ -15,8 +15,8 @@ use stm_words::Version;
 pub enum RenewFault {
     /// The manager and its client are as they were.
     Kept(Manager, Client, RegionFault),
-    /// There was no memory for the new words once the old ones were out: the manager is closed, and
-    /// these are its words and its clock.
+    /// Memory for the new words was refused after the old ones had been taken out: the manager is
+    /// closed, and these are its words and its clock.
     Closed(Vec<u64>, Version),
 }
 
