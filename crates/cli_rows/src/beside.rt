@@ -1,4 +1,4 @@
-//! Loops of a load's clients in threads, while one client more asks for reports.
+//! Loops of a load's clients in threads, while one more client asks for reports.
 ghost use Rattle.std.specs.Prelude.{◌≡◌, ◌*◌};
 
 use crate::small_load::SETTINGS;
@@ -63,7 +63,7 @@ struct Shown {
 }
 
 impl Shown {
-    /// Waits until one report more was answered.
+    /// Waits until one more report was answered.
     fn wait_for_a_report(&self) {
         let seen = self.reports.load(Ordering::SeqCst);
         for _ in 0..1_000_000u32 {

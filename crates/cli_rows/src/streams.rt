@@ -90,8 +90,8 @@ fn play<R: Read, W: Write>(
     }
 }
 
-/// What is written before a read fails, of the script byte by byte: the answers of the lines that
-/// have ended.
+/// What is written before a read of the script, byte by byte, fails: the output lines of the lines
+/// that have ended.
 fn written_before(call: Call, fails_at: usize) -> &'static [u8] {
     match (call, fails_at) {
         (Call::Run, 17..=27) => b"true\n",

@@ -13,7 +13,7 @@ use Rattle.vac_judge.specs.Call.{Call, line_call}
 use Rattle.vac_judge.specs.Order.{span_of}
 use Rattle.vac_judge.specs.Verdict.{verdict_on, is_legal, summary_of}
 
--- this call stands at a place of the order
+-- this call is at a place of the order
 abbrev pub IsAt : List Call → ℕ → Call → Type 0
 IsAt calls place call = spans.IsAt calls place call
 

@@ -88,7 +88,7 @@ first_foreign work earlier (Ok call ∷ rest) =
     if is_next work earlier call then first_foreign work (call ∷ earlier) rest
     else Some (length earlier + 1)
 
--- the calls of lines up to the first that is none, after earlier ones, newest first
+-- the calls of lines up to the first that is no call, after earlier ones, newest first
 abbrev pub calls_in : List Call → List (Result Call CallFault) → List Call
 calls_in earlier [] = earlier
 calls_in earlier (Err fault ∷ rest) = earlier

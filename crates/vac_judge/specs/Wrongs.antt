@@ -41,7 +41,7 @@ pub record IsFirstWrong (n : ℕ) (bytes : List ℕ) (line : ℕ) (wrong : Wrong
   pub illegal : IsLinearization n (before ++ call ∷ []) → ⊥
   pub cause : IsCause n before call wrong
 
--- the verdict is illegal exactly of the first line that is wrong
+-- the verdict calls a line illegal exactly where it is the first that is wrong
 abbrev pub IllegalIsFirstWrong : Type 0
 IllegalIsFirstWrong = (n : ℕ) (bytes : List ℕ) (line : ℕ) (wrong : Wrong) →
     (verdict_on n bytes ≡ Illegal line wrong) ↔ IsFirstWrong n bytes line wrong
@@ -54,7 +54,7 @@ pub record IsFirstFault (n : ℕ) (bytes : List ℕ) (line : ℕ) (fault : CallF
   pub number : line ≡ length before + 1
   pub legal : IsLinearization n before
 
--- the verdict is a fault exactly of such a line
+-- the verdict is the fault of a line exactly where it is such a line
 abbrev pub FaultIsFirst : Type 0
 FaultIsFirst = (n : ℕ) (bytes : List ℕ) (line : ℕ) (fault : CallFault) →
     (verdict_on n bytes ≡ Fault line fault) ↔ IsFirstFault n bytes line fault

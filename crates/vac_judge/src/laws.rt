@@ -27,7 +27,7 @@ pub fn a_legal_history_has_this_summary()
     ensures { LegalSummary }
 {}
 
-/// A history is illegal of a line exactly where the lines before it are calls whose order is a
+/// The verdict calls a line illegal exactly where the lines before it are calls whose order is a
 /// linearization, with the call of that line it is none, and this is the first cause: the calls of
 /// a client are not in turn; or they are, and the call had ended before one that comes before it in
 /// the order began; or no time is broken, and the sequential manager gives another reply, which is

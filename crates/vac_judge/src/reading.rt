@@ -55,7 +55,7 @@ impl History {
         Ok(History { judge, line })
     }
 
-    /// Judges the line that has begun, of which this is the rest.
+    /// Judges the line that has begun, whose rest this is.
     fn end_line(&mut self, alloc: Global, rest: &[u8]) -> Result<Option<Verdict>, JudgeFault>
         requires { length self.old.line.items ≤ CALL_BYTES + 1 }
         ensures line { OnOk result (self.new.line.items ≡ []) }

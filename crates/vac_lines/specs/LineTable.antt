@@ -37,7 +37,7 @@ read_each read (x ∷ xs) = do
   ys ← read_each read xs
   Ok (y ∷ ys)
 
--- what stands at a place of a line, or the fault of that place: KIND
+-- what is at a place of a line, or the fault of that place: KIND
 abbrev pub at_kind : List ℕ → Result Kind LineFault
 at_kind word = ok_or (kind_of word) BadKind
 

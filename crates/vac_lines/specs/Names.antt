@@ -4,7 +4,7 @@ use Rattle.std.specs.Str.{bytes_eq}
 use Rattle.vac_lines.specs.declared.names.LineName.{LineName}
 use Rattle.vac_lines.specs.declared.names.LineName.TheVariants.{Add, Del, NewCustomer, DropCustomer, Free, Price, Bill, Reserve, Cancel, Audit, Trip, Leave, Update}
 
--- the line that a first word names which is none of the first eight
+-- the line that a first word names, where it is none of the first eight
 abbrev pub last_name : List ℕ → Option LineName
 last_name word =
     if bytes_eq word (codes "cancel") then Some Cancel
@@ -14,7 +14,7 @@ last_name word =
     else if bytes_eq word (codes "update") then Some Update
     else None
 
--- the line that a first word names which is none of the first four
+-- the line that a first word names, where it is none of the first four
 abbrev pub later_name : List ℕ → Option LineName
 later_name word =
     if bytes_eq word (codes "free") then Some Free

@@ -59,7 +59,7 @@ pub(crate) fn line_name(word: &[u8]) -> Option<LineName>
     }
 }
 
-/// The line that a first word names which is none of the first four.
+/// The line that a first word names, where it is none of the first four.
 fn later_name(word: &[u8]) -> Option<LineName>
     ensures { result ≡ spec.later_name word.now }
 {
@@ -76,7 +76,7 @@ fn later_name(word: &[u8]) -> Option<LineName>
     }
 }
 
-/// The line that a first word names which is none of the first eight.
+/// The line that a first word names, where it is none of the first eight.
 fn last_name(word: &[u8]) -> Option<LineName>
     ensures { result ≡ spec.last_name word.now }
 {

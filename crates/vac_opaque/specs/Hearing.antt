@@ -1,4 +1,4 @@
--- What a line that is told does to a text of attempts that is read.
+-- What telling a line does to a text of attempts that is read.
 use Rattle.std.specs.Prelude.{◌≡◌, ◌≢◌, ℕ, Some, Result, Ok, Err}
 use Rattle.vac_lines.specs.declared.fault.LineFault.{LineFault}
 use Rattle.vac_lines.specs.declared.fault.LineFault.TheVariants as fault
@@ -12,7 +12,7 @@ use Rattle.vac_opaque.specs.declared.reading.Attempts.{Attempts}
 use Rattle.vac_opaque.specs.Attempt.{Attempt, text_attempt}
 use Rattle.vac_opaque.specs.Judging.{Takes, Ends}
 
--- the attempt of a line that was told, or its fault; a pause is none
+-- the attempt of a line that was told, or its fault; a pause has none
 abbrev pub told_attempt : Told → ℕ → Result Attempt LineFault
 told_attempt (Line text) words = text_attempt words text
 told_attempt LongLine words = Err fault.LongLine
@@ -35,7 +35,7 @@ abbrev pub HearsPause : Attempts → Result Next StreamFault → Attempts → Ty
 HearsPause x (Ok next) y = (next ≡ GoOn) × (y ≡ x)
 HearsPause x (Err stop) y = stop ≢ Write
 
--- what being told this does to a text that is read
+-- what telling this does to a text that is read
 abbrev pub Hears : Attempts → Told → Result Next StreamFault → Attempts → Type 0
 Hears x (Line text) answer y = HearsLine x (Line text) answer y
 Hears x LongLine answer y = HearsLine x LongLine answer y

@@ -44,7 +44,7 @@ pub record IsFirstWrong (words : ℕ) (bytes : List ℕ) (line : ℕ) (breach : 
   pub illegal : IsOpaqueOrder (before ++ attempt ∷ []) → ⊥
   pub cause : IsBreach before attempt breach
 
--- the verdict is illegal exactly of the first line that is wrong
+-- the verdict calls a line illegal exactly where it is the first that is wrong
 abbrev pub IllegalIsFirstWrong : Type 0
 IllegalIsFirstWrong = (words : ℕ) (bytes : List ℕ) (line : ℕ) (breach : Breach) →
     (finding_on words bytes ≡ Illegal line breach) ↔ IsFirstWrong words bytes line breach
@@ -57,7 +57,7 @@ pub record IsFirstFault (words : ℕ) (bytes : List ℕ) (line : ℕ) (fault : L
   pub number : line ≡ length before + 1
   pub opaque : IsOpaqueOrder before
 
--- the verdict is a fault exactly of such a line
+-- the verdict is the fault of a line exactly where it is such a line
 abbrev pub FaultIsFirst : Type 0
 FaultIsFirst = (words : ℕ) (bytes : List ℕ) (line : ℕ) (fault : LineFault) →
     (finding_on words bytes ≡ Fault line fault) ↔ IsFirstFault words bytes line fault

@@ -19,11 +19,11 @@ pub fn opaque_attempts_are_counted()
     ensures { OpaqueCounts }
 {}
 
-/// A text of attempts is illegal of a line exactly where the order of the lines before it shows
-/// that they are opaque, with the attempt of that line it does not, and this is the first cause:
-/// the attempts of a client are not in turn; or they are, and the attempt had ended before one that
-/// comes before it in the order began; or no time is broken, and its first read that is not legal
-/// is of this word, which has this value at that point.
+/// The verdict calls a line illegal exactly where the order of the lines before it shows that they
+/// are opaque, with the attempt of that line it does not, and this is the first cause: the attempts
+/// of a client are not in turn; or they are, and the attempt had ended before one that comes before
+/// it in the order began; or no time is broken, and its first read that is not legal is of this
+/// word, which has this value at that point.
 pub fn a_finding_names_the_first_wrong_attempt()
     ensures { IllegalIsFirstWrong }
 {}

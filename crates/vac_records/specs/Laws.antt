@@ -103,7 +103,7 @@ FreshState =
     IsPool (λ (a : ℕ). slice_index words a) (length words) (fresh_lists blocks) (λ (x : ℕ). 0) 0 →
     Represents (λ (a : ℕ). slice_index words a) (length words) [] (empty_state blocks)
 
--- and so do the words of one whose lists have a piece of it each
+-- and so do the words of an empty heap whose lists have a piece of it each
 abbrev pub SpreadState : Type 0
 SpreadState =
     (words : List ℕ) (blocks : ℕ) → IsSpreadHeap words blocks →

@@ -1,5 +1,5 @@
-//! Memory that is refused to a call: the state is as before, and the call that is made again
-//! answers as it should. The script `tests/refused_calls` runs this test with each allocation
+//! Memory that is refused to a call: the state is as before, and the call that is made again is
+//! answered as it should be. The script `tests/refused_calls` runs this test with each allocation
 //! refused in turn, and reads the lines that it prints; in any other run none is refused. Another
 //! client is out while the calls are made, and each has two tries: one that is refused memory makes
 //! none of the second.

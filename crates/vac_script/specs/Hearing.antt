@@ -1,4 +1,4 @@
--- What a line that is told does to a script that runs, and to its output.
+-- What telling a line does to a script that runs, and to its output.
 use Rattle.std.specs.Prelude.{◌≡◌, ℕ, List, [], ◌++◌, Option, Result, Ok, Err}
 use Rattle.std.specs.Io.KnownBytes.{Appends}
 use Rattle.vac_model.specs.State.{State}
@@ -16,7 +16,7 @@ use Rattle.vac_streams.specs.declared.next.Next.TheVariants.{GoOn}
 use Rattle.vac_streams.specs.Told.{Told, Line, LongLine, Pause}
 use Rattle.vac_script.specs.System.{StandsAt, Answered}
 
--- the task of a line that was told, or its fault; a pause is none
+-- the task of a line that was told, or its fault; a pause has none
 abbrev pub told_task : Told → Result Task LineFault
 told_task (Line text) = line_task text
 told_task LongLine = Err fault.LongLine
@@ -44,7 +44,7 @@ HearsPause y out held (Ok next) y' out' holds =
     (next ≡ GoOn) × (y' ≡ y) × (out' ≡ []) × Appends held holds out
 HearsPause y out held (Err fault) y' out' holds = AppendsPrefix held holds out
 
--- what being told this does to the system, to the text at hand and to the output
+-- what telling this does to the system, to the text at hand and to the output
 abbrev pub Hears : SessionShown → List ℕ → Option (List ℕ) → Told
     → Result Next StreamFault → SessionShown → List ℕ → Option (List ℕ) → Type 0
 Hears y out held (Line text) answer y' out' holds =

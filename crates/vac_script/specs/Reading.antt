@@ -42,7 +42,7 @@ pub record TookLine (words words' line : List ℕ) : Type 0 where
 abbrev pub RefusedLine : List ℕ → List ℕ → Type 0
 RefusedLine words line = (memory_word_of line ≡ None) ⊎ (MOST_HEAP_WORDS ≤ length words)
 
--- what a line that is told does to the words: it is one more; or they are no memory's
+-- what telling a line does to the words: they have one more; or they are no memory's
 abbrev pub HearsWord : List ℕ → Told → Result Next StreamFault → List ℕ → Type 0
 HearsWord words (Line line) (Ok GoOn) words' = TookLine words words' line
 HearsWord words (Line line) (Ok Stop) words' = RefusedLine words line

@@ -67,7 +67,7 @@ impl Lines {
         sink.line(line, output)
     }
 
-    /// Tells the line that has begun, of which this is the rest.
+    /// Tells the line that has begun, whose rest this is.
     fn end_line<O, S: Sink<O>>(
         &mut self,
         rest: &[u8],
