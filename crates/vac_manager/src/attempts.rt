@@ -17,7 +17,7 @@ use tx_alloc::FreeList;
 use vac_model::{Reply, Task};
 use vac_tasks::{only_reads, read_task, run_task};
 
-/// One attempt of a task that only reads. It keeps no log, and stops for a conflict alone.
+/// One attempt of a task that only reads. It keeps no log, and aborts only on a conflict.
 fn try_reading<G: Gate>(
     region: &Region<ManagerLaw>,
     client: &mut Client<ManagerLaw>,

@@ -17,7 +17,7 @@ const MOST_BITS: u32 = 13;
 /// From this try on a pause also yields the processor.
 const FIRST_YIELD: u32 = 14;
 
-/// The pauses of a client. Each is drawn again, so that clients that met do not stay in step; the
+/// The pauses of a client. Each is drawn afresh, so that clients that met do not stay in step; the
 /// generator is the client's own, so that its pauses can be repeated.
 #[derive(Drop)]
 pub(crate) struct Pauses {
