@@ -79,9 +79,8 @@ pub record HasNoted (s : Settings) (opening : List Note) (clients : List (List N
 -- the load was run to its end, and the history of its answered calls was written and nothing else:
 -- all in the order of their records, and readers of one version in that in which they began. In
 -- this order the calls are legal, and leave the state that the load reports
--- Not said: that a call which had ended before another began comes before it, which is the only
--- ground on which the judge could still call the history illegal (`LegalUpToPrecedence` of
--- vac_history).
+-- Not said: that a call which had ended before another began comes before it; only by this could
+-- the judge still call the history illegal (`LegalUpToPrecedence` of vac_history).
 -- Not said: that a stamp is a reading of the clock; that the lines are read by the judge; that the
 -- state is the one which the load writes to the errors, of which no clause speaks.
 -- Not said: that no call was left out because a journal had no room for it: of the journals that a

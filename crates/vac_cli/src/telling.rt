@@ -95,7 +95,7 @@ fn pause() -> Duration {
     Duration::from_millis(PAUSE_MILLIS)
 }
 
-/// Whether the pause has passed since the last line; no, where the time cannot be read.
+/// Whether the pause has passed since the last line; false where the time cannot be read.
 pub(crate) fn has_passed<T: Clock>(rt: &T, last: Option<Instant>) -> bool {
     let Some(last) = last else {
         return false;
