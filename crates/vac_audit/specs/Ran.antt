@@ -121,7 +121,7 @@ Inside words items = All (λ item. item.block + 8 ≤ length words) items
 abbrev pub IsUsed : List ℕ → NotedItem → Type 0
 IsUsed words item = slice_index words (item.block + 4) ≡ item.booked
 
--- the first item of which other numbers of units are used and booked
+-- the first item of which not as many units are used as are booked
 pub record FirstUnused (words : List ℕ) (items : List NotedItem) (flaw : Flaw) : Type 0 where
   pub i : ℕ
   pub inside : i < length items

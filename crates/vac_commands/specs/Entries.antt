@@ -1,4 +1,4 @@
--- Where the entries are of the state that a memory holds.
+-- The blocks of the entries of the state that a memory holds.
 use Rattle.std.specs.Prelude.{◌≡◌, ◌≢◌, ℕ, List, length}
 use Rattle.tx_memory.specs.View.{View, Sees, RestsOn}
 use Rattle.vac_model.specs.declared.items.Kind.{Kind}

@@ -49,7 +49,7 @@ impl Draws for PcgDraws {
     }
 }
 
-/// Gives one word, each time that one is drawn.
+/// Gives this word whenever one is drawn.
 #[derive(Clone, Copy, Debug, PartialEq, Eq)]
 pub struct FixedDraws(pub u32);
 

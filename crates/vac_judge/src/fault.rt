@@ -10,7 +10,8 @@ pub enum CallFault {
     /// No word is an arrow with four words or more before it and one or more after it.
     #[error("the line has no task and reply with an arrow between them")]
     BadCall,
-    /// The line is too long or has a bad byte, a number is not one, or the task's line has a fault.
+    /// The line is too long or has a bad byte, a word that should be a number is none, or the
+    /// task's line has a fault.
     #[error("{0}")]
     Line(LineFault),
 }

@@ -1,5 +1,5 @@
--- Which task a line asks for, or what its first fault is. Once the number of words fits, they are
--- looked at from left to right.
+-- Which task a line asks for, or what its first fault is. The words are looked at from left to
+-- right, once their number fits.
 use Rattle.std.specs.Prelude.{ℕ, ◌==◌, ◌%◌, ◌/◌, ◌&&◌, ◌||◌, Bool, Option, Some, None, Result, Ok, Err, List, [], ◌∷◌, length, nat_le, nat_lt, codes, if◌then◌else◌}
 use Rattle.std.specs.Option.{ok_or}
 use Rattle.std.specs.List.{list_any, slice_split}

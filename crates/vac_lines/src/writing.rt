@@ -11,7 +11,7 @@ use std::io::{ErrorKind, Write};
 pub struct NotWritten;
 
 /// Writes the text. A write that fails, and one that takes nothing, ends it; one that was
-/// interrupted is done again.
+/// interrupted is retried.
 ///
 /// # Errors
 /// The output could not be written: a prefix of the text was.

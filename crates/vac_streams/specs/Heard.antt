@@ -33,8 +33,8 @@ pub record ToldLast {S O : Type 0}
 abbrev pub AreFirst : ℕ → List Told → List ℕ → Type 0
 AreFirst longest lines text = (more : List Told) × (told_lines longest text ≡ lines ++ more)
 
--- these are the first lines of an input of which these bytes were read: the input is all of these,
--- where it was read to its end, or goes on in whatever way
+-- these are the first lines of an input of which these bytes were read: it was read to its end, or
+-- these are its first lines whatever follows
 abbrev pub AreFirstOf : ℕ → List Told → List ℕ → Option (List ℕ) → Type 0
 AreFirstOf longest lines bytes left =
     (IsAtEnd left × AreFirst longest lines bytes)

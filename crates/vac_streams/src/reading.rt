@@ -16,9 +16,9 @@ use vac_lines::{CHUNK_BYTES, MOST_READS};
 pub const MOST_LINES: u64 = (MOST_READS + 1) * CHUNK_BYTES as u64 + 1;
 
 /// Reads an input to its end, or until the sink stops or a fault ends the reading, and tells the
-/// sink its lines in their order, each without its end; of a line that is too long, only that it
-/// is. What follows the last line end is a line where it has a byte. After each read the sink is
-/// told of a pause. A read that was interrupted is done again.
+/// sink its lines in their order, each without its end; of a line that is longer than `longest`,
+/// only that it is. What follows the last line end is a line where it has a byte. After each read
+/// the sink is told of a pause. A read that was interrupted is retried.
 ///
 /// Returns whether the sink still wants more at the end of the input.
 ///
