@@ -110,7 +110,7 @@ impl<'a> Session<'a> {
     }
 
     /// Takes in the client of another session of the same manager: its records, its grants and one
-    /// grant more.
+    /// more grant.
     pub fn gather(&mut self, other: Session<'_>)
         requires own { other.manager.table ≡ self.old.manager.table }
         ensures session { self.new ≡ record self.old {
