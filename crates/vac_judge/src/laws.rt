@@ -82,7 +82,7 @@ pub fn a_call_never_answered_is_read(client: u32, begin: u64, task: &Task)
 }
 
 /// The history of calls that were answered, or never were, one such line for each, has these calls
-/// and no other, and is legal exactly where their order is a linearization.
+/// and no others, and is legal exactly where their order is a linearization.
 pub fn histories_are_read()
     ensures { HistoriesAreRead }
 {

@@ -37,7 +37,7 @@ fn spend(rt: &impl Abort, alloc: Global, manager: &Manager, client: Client) -> C
     session.into_client()
 }
 
-/// Two more calls on the entries of before take both versions of the new clock.
+/// Two more calls on the entries from before take both versions of the new clock.
 fn go_on(rt: &impl Abort, alloc: Global, manager: &Manager, client: Client) -> Client
     requires { client.table ≡ manager.now.table }
     ensures { result.table ≡ manager.now.table }

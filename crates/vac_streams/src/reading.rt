@@ -12,7 +12,7 @@ use std::io::{ErrorKind, Read};
 use vac_lines::{CHUNK_BYTES, MOST_READS};
 
 /// The most lines that a sink is told: no read gives more line ends than a chunk has bytes, and
-/// what follows the last of them is one line more.
+/// what follows the last of them is one more line.
 pub const MOST_LINES: u64 = (MOST_READS + 1) * CHUNK_BYTES as u64 + 1;
 
 /// Reads an input to its end, or until the sink stops or a fault ends the reading, and tells the

@@ -11,7 +11,7 @@ use crate::next::Next;
 /// What is told the lines of a text, one after the other. It keeps what it finds, or writes to an
 /// output that is lent to it. It is told nothing more once it stops or returns a fault.
 pub trait Sink<O> {
-    /// How many lines more it can be told.
+    /// How many more lines it can be told.
     ghost room: { Self → ℕ };
 
     /// The first sink and output, told this, become the last ones, with this answer.
