@@ -115,7 +115,8 @@ fn read_verdict<R: Read>(alloc: Global, input: &mut R) -> Result<Verdict, Stream
 }
 
 /// Audits the words of a memory, as `dump_script` writes them: reads the lines to the end of the
-/// input, or to the first that shows that there is no memory of these words, and writes one line. 
+/// input, or to the first that shows that there is no memory of these words, and writes one line.
+///
 /// Returns true where the words are those of a balanced state, and writes its report. Otherwise
 /// returns false and writes `flaw NAME WORD`, the first flaw and the word at which it was met, or
 /// `fault bad-words` where the lines are not the words of 1 to 262,144 blocks.
