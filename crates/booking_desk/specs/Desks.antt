@@ -7,7 +7,7 @@ use Rattle.stm_region.specs.Shown.{RegionShown}
 use Rattle.vac_model.specs.declared.tasks.Task.{Task}
 use Rattle.vac_model.specs.declared.replies.Reply.{Reply}
 use Rattle.vac_model.specs.Code.{code}
-use Rattle.vac_manager.specs.Called.{CallerShown, IsSpent, WasShown, ShowsNone}
+use Rattle.vac_manager.specs.Called.{CallerShown, IsSpent}
 use Rattle.vac_manager.specs.Session.{SessionShown, GoesOn}
 use Rattle.vac_manager.specs.declared.fault.Fault.{Fault}
 use Rattle.vac_manager.specs.declared.fault.Fault.TheVariants as fault
@@ -111,13 +111,12 @@ pub record HasServed (s : DeskSettings) (d d' : Desk) (y y' : SessionShown) : Ty
   pub serves : Serves s d d' y y'
   pub why : (asked d' ≡ s.trips) ⊎ (y'.client.value.attempt.next_from ≡ y.manager.last)
 
--- why a trip was not booked: never for its numbers; for want of memory, after a step that showed no
--- conflict; all attempts of all calls met a conflict, the last of them this one; or the clock was
--- found to be at its last version
--- Not said: which growth of a log was refused.
+-- why a trip was not booked: never for its numbers; all attempts of all calls met a conflict; or
+-- the clock was found to be at its last version
+-- Not said: that `Memory` is returned only where memory was refused.
 abbrev pub IsRefusal : RegionShown → Task → ℕ → Fault → Client → Client → Type 0
 IsRefusal region t asks fault.Arguments v v' = ⊥
-IsRefusal region t asks fault.Memory v v' = ShowsNone region v'
+IsRefusal region t asks fault.Memory v v' = Unit {0}
 IsRefusal region t asks (fault.Busy conflict) v v' =
-    (v'.attempt.number ≡ v.attempt.number + asks * TRIES) × WasShown region conflict v'
+    v'.attempt.number ≡ v.attempt.number + asks * TRIES
 IsRefusal region t asks (fault.Spent version) v v' = IsSpent region t version v'
