@@ -1,6 +1,6 @@
 #!/usr/bin/env python3
-"""Measures the program beside its peers, on tasks that the program itself has drawn: every program
-does the very same work. Prints a table in Markdown, and writes it with the raw numbers and a picture
+"""Measures the program beside its peers, on tasks that all of them draw alike: every program does
+the very same work. Prints a table in Markdown, and writes it with the raw numbers and a picture
 of each setting into a folder."""
 
 import argparse
@@ -18,8 +18,8 @@ from pathlib import Path
 import estimates
 from picture import picture
 # (tests/stats takes `numbers_told` from here)
-from programs import (OURS, PARTS, ROOT, Judge, Ours, Peer, Pinner, give_up, has_option, lines_of,
-                      numbers_told, options_of)
+from programs import (OURS, PARTS, ROOT, TRIED, Judge, Ours, Peer, Pinner, give_up, has_option,
+                      lines_of, numbers_told, options_of)
 
 PROGRAM = ROOT / "crates/vacation/out/vacation"
 
@@ -125,7 +125,16 @@ class Plan:
             if not name or not command:
                 give_up(f"'--peer {text}' is not NAME=COMMAND")
             found.append(Peer(name, shlex.split(command), self.tries))
+        tried = subprocess.run([self.ours.program, "tasks", *options_of(TRIED)], capture_output=True)
+        for peer in found:
+            peer.find_whether_it_draws(tried.stdout)
+            if not peer.draws and peer.name in PEERS:
+                give_up(f"{peer.name} draws other tasks than 'tasks' writes")
         return found
+
+    def readers(self):
+        """The programs that read their tasks."""
+        return [program for program in self.programs if isinstance(program, Peer) and not program.draws]
 
     def turns(self):
         """The programs of each round; each round begins with another one. Those beside which the
@@ -174,7 +183,8 @@ def measure(plan, name, clients, tasks):
     for; one program after the other, round by round."""
     first = plan.ours.run(with_tasks(plan.settings[name], clients, FIRST_TASKS), None)
     settings = with_tasks(plan.settings[name], clients, first.answered / first.seconds * plan.seconds)
-    draw_tasks(plan.ours.program, settings, tasks)
+    if plan.readers():
+        draw_tasks(plan.ours.program, settings, tasks)
     found = {program.name: Measured() for program in plan.programs}
     for programs in plan.turns():
         for program in programs:
@@ -244,6 +254,8 @@ def heading(plan, load):
     kit = lines_of(["rt", "version"]) or ["unknown"]
     compiler = lines_of([os.environ.get("CXX", "g++"), "--version"]) or ["unknown"]
     tries = "No program gave a task up" if plan.tries == TRIES else f"A task had {plan.tries} tries"
+    readers = ", ".join(program.name for program in plan.readers())
+    but = f", but those of {readers} have read them before" if readers else ""
     return [
         "# Measured", "",
         "| | |", "|---|---|",
@@ -257,8 +269,9 @@ def heading(plan, load):
         f"| peers | {compiler[0]}, {os.environ.get('CXXFLAGS', '-O3')} |", "",
         "Answered tasks a second, in thousands, from when all clients stand ready to the last answer: "
         f"medians, and their intervals by bootstrap ({estimates.SURE} of a hundred). All programs had the "
-        f"same drawn tasks, so many as take {OURS} about {plan.seconds:g} seconds, and their runs were "
-        f"interleaved. {tries}. Attempts a task are medians, for each number of clients. The history of a "
+        f"same tasks, so many as take {OURS} about {plan.seconds:g} seconds, and their runs were "
+        f"interleaved. Each client draws its tasks within the time{but}. "
+        f"{tries}. Attempts a task are medians, for each number of clients. The history of a "
         "short run of each program was judged legal"
         f"{' and whole' if plan.judge.knows_work else ''} for each cell; the longest task is of that run. "
         "Raw numbers: `measured.csv`.", "",
@@ -292,8 +305,12 @@ def title_of(name, options):
     return f"{name}: " + ", ".join(f"{option} {value}" for option, value in options.items())
 
 
+def named(clients):
+    return "1 client" if clients == 1 else f"{clients} clients"
+
+
 def rates_table(plan, name, found):
-    heads = ["1 client" if c == 1 else f"{c} clients" for c in plan.clients]
+    heads = [named(clients) for clients in plan.clients]
     lines = [row(["Program", *heads, "attempts a task"]), "|---|" + "--:|" * (len(heads) + 1)]
     for program in plan.programs:
         measured = [found[name, clients][program.name] for clients in plan.clients]
@@ -308,7 +325,7 @@ def rates_table(plan, name, found):
 def conflicts_table(plan, name, found, longest):
     """Where the most clients met, and the longest task."""
     clients = plan.clients[-1]
-    lines = [f"With {clients} clients, of a hundred conflicts, and the longest task in milliseconds:", "",
+    lines = [f"With {named(clients)}, of a hundred conflicts, and the longest task in milliseconds:", "",
              row(["Program", *PARTS, "longest"]), "|---|" + "--:|" * (len(PARTS) + 1)]
     for program in plan.programs:
         parts = found[name, clients][program.name].parts()

@@ -163,20 +163,37 @@ class Ours:
         return output, errors.splitlines()[1]
 
 
+# What a peer that draws is asked to write, to see whether it draws the program's tasks.
+TRIED = {"clients": 2, "tasks": 50, "items": 5, "asks": 3, "reads": 40, "user": 70, "seed": 3, "blocks": 20}
+
+
 class Peer:
-    """A peer reads the tasks on standard input."""
+    """A peer draws its tasks as the program does, or reads them on standard input."""
 
     def __init__(self, name, words, tries, environment=None):
         self.name, self.words, self.tries = name, words, tries
         self.environment = environment or {}
+        self.draws = False
+
+    def find_whether_it_draws(self, tried_tasks):
+        """It does where it writes these tasks, which are those of the settings `TRIED`."""
+        try:
+            done = subprocess.run([*self.words, "--print", *options_of(TRIED)], stdin=subprocess.DEVNULL,
+                                  capture_output=True, env=os.environ | self.environment, timeout=10)
+            self.draws = done.returncode == 0 and done.stdout == tried_tasks
+        except (OSError, subprocess.TimeoutExpired):
+            self.draws = False
 
     def execute(self, settings, tasks, *more, pinned=None):
-        words = [*self.words, "--blocks", str(settings["blocks"]), "--tries", str(self.tries), *more]
+        words = [*self.words, "--tries", str(self.tries), *more]
+        if tasks is None:
+            return execute([*words, "--draw", *options_of(settings)], subprocess.DEVNULL, self.environment,
+                           pinned)
         with open(tasks, "rb") as stdin:
-            return execute(words, stdin, self.environment, pinned)
+            return execute([*words, "--blocks", str(settings["blocks"])], stdin, self.environment, pinned)
 
     def run(self, settings, tasks):
-        output, errors = self.execute(settings, tasks, pinned=settings["clients"])
+        output, errors = self.execute(settings, None if self.draws else tasks, pinned=settings["clients"])
         run = Run(*output.splitlines(), errors)
         if run.seconds is None:
             give_up(f"{self.name} tells no seconds on standard error")

@@ -21,7 +21,7 @@ import manual
 ROOT = Path(__file__).resolve().parent.parent
 PAGES = ("JUDGE.md", "USING.md", "RULES.md")
 LICENSES = ("LICENSE-MIT", "LICENSE-APACHE")
-PEER = "mutex.cpp"
+PEER = "tl2.cpp"
 # Debian has a package named vacation already, which answers letters.
 DEBIAN_NAME = "pighvelo"
 PROGRAM_MODE, TEXT_MODE = 0o755, 0o644

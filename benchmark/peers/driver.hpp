@@ -1,5 +1,5 @@
-// What all peers do alike: the command line, reading the tasks, running the opening and then each
-// client in a thread, timing, looking after them, and what is written.
+// What all peers do alike: the command line, reading or drawing the tasks, running the opening and
+// then each client in a thread, timing, looking after them, and what is written.
 //
 // A peer is a class `Runtime`, made from the words of an empty heap and whether the order of its
 // calls will be asked for, with
@@ -25,6 +25,7 @@
 
 #include "attempts.hpp"
 #include "board.hpp"
+#include "draws.hpp"
 #include "history.hpp"
 #include "lookout.hpp"
 #include "manager.hpp"
@@ -80,17 +81,38 @@ inline void look_at(const Reply& reply)
 
 // One call; where a history is kept and it was answered, it stands there before it is counted.
 template <class Client>
-void run_call(Client& client, const Call& call, const Options& options, Progress& progress)
+void run_call(Client& client, const Task& task, const Call* call, const Options& options,
+              Progress& progress)
 {
     Reply reply;
     const Word begin = options.history ? nanoseconds() : 0;
-    const bool answered = client.call(call.task, reply, static_cast<unsigned>(options.tries));
+    const bool answered = client.call(task, reply, static_cast<unsigned>(options.tries));
     look_at(reply);
     auto& count = answered ? progress.answered : progress.given_up;
     const Word before = count.load(std::memory_order_relaxed);
     if (answered && options.history)
-        progress.history[before] = {client.place(), begin, nanoseconds(), &call, reply};
+        progress.history[before] = {client.place(), begin, nanoseconds(), call, reply};
     count.store(before + 1, std::memory_order_release);
+}
+
+// The calls of a client, of tasks that were read.
+template <class Client>
+void run_read(Client& client, const Run& run, std::size_t number)
+{
+    for (const Call& call : run.calls[number].calls)
+        run_call(client, call.task, &call, run.options, run.progress[number]);
+}
+
+// The same, each task drawn right before its call. Those of a history are there as calls, too.
+template <class Client>
+void run_drawn(Client& client, const Run& run, std::size_t number)
+{
+    const Call* calls = run.options.history ? run.calls[number].calls.data() : nullptr;
+    TaskDraws draws(run.options.drawn, run.calls[number].client);
+    for (std::uint64_t i = 0; i < run.options.drawn.tasks; ++i) {
+        const Call* call = calls == nullptr ? nullptr : calls + i;
+        run_call(client, draws.next(), call, run.options, run.progress[number]);
+    }
 }
 
 // The whole life of a client, in its thread. The opening is client 0.
@@ -107,13 +129,15 @@ void run_client(Runtime& runtime, const Run& run, std::size_t number, StartLine&
     Progress& progress = run.progress[number];
     if (number != 0)
         line.stand_ready();
-    for (const Call& call : run.calls[number].calls)
-        run_call(client, call, run.options, progress);
+    if (number != 0 && run.options.draw)
+        run_drawn(client, run, number);
+    else
+        run_read(client, run, number);
     progress.attempts = client.attempts();
     progress.ended.store(nanoseconds());
 }
 
-// Runs the clients in threads, from when all stand ready.
+// Runs the clients in threads. Their time is that from when all stand ready to the last answer.
 template <class Runtime>
 void run_clients(Runtime& runtime, const Run& run)
 {
@@ -266,10 +290,20 @@ pid_t fork_child(const char* name, Does does)
     return child;
 }
 
+// What the clients are to do, as far as it does not come by drawing.
+inline std::string text_to_do(const Options& options)
+{
+    if (!options.draw && !options.print)
+        return read_all(stdin);
+    const bool is_whole = options.history || options.print;
+    return drawn_opening(options.drawn) + (is_whole ? drawn_tasks(options.drawn) : "");
+}
+
 template <class Runtime, class Jittery>
 int run(const Options& options, const char* name)
 {
-    const Workload workload(read_all(stdin));
+    const Workload workload(text_to_do(options),
+                            options.draw ? static_cast<std::uint32_t>(options.drawn.clients) : 0);
     const Run run = make_run(workload.clients(), options);
     const pid_t child = fork_child(name, [&] {
         return options.jitter == 0 ? run_child<Runtime>(run) : run_child<Jittery>(run);
@@ -293,7 +327,12 @@ int run_peer(int count, char** words)
     }
     int status = 1;
     try {
-        status = run<Runtime, Jittery>(*options, words[0]);
+        if (options->print) {
+            std::fputs(text_to_do(*options).c_str(), stdout);
+            status = 0;
+        } else {
+            status = run<Runtime, Jittery>(*options, words[0]);
+        }
     } catch (const std::exception& error) {
         std::fprintf(stderr, "%s: %s\n", words[0], error.what());
     }

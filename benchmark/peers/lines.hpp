@@ -1,4 +1,5 @@
-// Reading tasks from lines, and the texts of replies (docs/RULES.md, section 5).
+// Reading tasks from lines, the lines of those that are drawn, and the texts of replies
+// (docs/RULES.md, section 5).
 #pragma once
 
 #include "task.hpp"
@@ -6,6 +7,7 @@
 #include <array>
 #include <charconv>
 #include <optional>
+#include <stdexcept>
 #include <string>
 #include <string_view>
 #include <vector>
@@ -147,6 +149,69 @@ inline std::optional<Task> read_task(std::string_view text, std::vector<Command>
     task.len = static_cast<std::uint8_t>(len);
     return task;
 }
+
+// ---- the line of a task that is drawn
+
+inline std::string text_of(Kind kind, std::uint32_t id)
+{
+    return std::string(KIND_NAMES[static_cast<unsigned>(kind)]) + ' ' + std::to_string(id);
+}
+
+inline std::string line_of(const Command& command)
+{
+    const auto [verb, kind, id, num, price] = command;
+    switch (verb) {
+    case Verb::Add:
+        return "add " + text_of(kind, id) + ' ' + std::to_string(num) + ' ' +
+               (price == NO_PRICE ? "-" : std::to_string(price));
+    case Verb::Delete:
+        return "del " + text_of(kind, id) + ' ' + std::to_string(num);
+    case Verb::DropFlight:
+        return "del " + text_of(kind, id);
+    case Verb::NewCustomer:
+        return "newcust " + std::to_string(id);
+    case Verb::DropCustomer:
+        return "dropcust " + std::to_string(id);
+    case Verb::Free:
+        return "free " + text_of(kind, id);
+    case Verb::Price:
+        return "price " + text_of(kind, id);
+    case Verb::Bill:
+        return "bill " + std::to_string(id);
+    case Verb::Audit:
+        return "audit";
+    case Verb::Ask:
+        return text_of(kind, id);
+    case Verb::Reserve:
+    case Verb::Cancel:
+        break;
+    }
+    throw std::logic_error("bookings are drawn as trips alone");
+}
+
+inline std::string line_of(const Task& task)
+{
+    std::string text;
+    switch (task.form) {
+    case Form::One:
+        return line_of(task.parts[0]);
+    case Form::Leave:
+        return "leave " + std::to_string(task.customer);
+    case Form::Trip:
+        text = "trip " + std::to_string(task.customer);
+        break;
+    case Form::Update:
+        text = "update";
+        break;
+    }
+    for (unsigned i = 0; i < task.len; ++i) {
+        text += i > 0 && task.form == Form::Update ? " ; " : " ";
+        text += line_of(task.parts[i]);
+    }
+    return text;
+}
+
+// ---- the texts of replies
 
 inline std::string_view name_of(Outcome outcome)
 {

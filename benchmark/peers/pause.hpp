@@ -1,6 +1,8 @@
 // Waiting a little: in a loop for a lock, and between the tries of a call.
 #pragma once
 
+#include "pcg.hpp"
+
 #include <algorithm>
 #include <cstdint>
 #include <thread>
@@ -39,25 +41,6 @@ public:
 private:
     static constexpr unsigned MOST_DOUBLINGS = 6;
     unsigned step_ = 0;
-};
-
-// Numbers that are drawn (PCG-XSH-RR, O'Neill 2014), the same ones from the same seed.
-class Draws {
-public:
-    explicit Draws(std::uint64_t seed) : state_(seed + INCREMENT) { next(); }
-
-    std::uint32_t next()
-    {
-        const std::uint64_t old = state_;
-        state_ = old * UINT64_C(6364136223846793005) + INCREMENT;
-        const auto mixed = static_cast<std::uint32_t>(((old >> 18) ^ old) >> 27);
-        const auto turn = static_cast<unsigned>(old >> 59);
-        return mixed >> turn | mixed << (-turn & 31);
-    }
-
-private:
-    static constexpr std::uint64_t INCREMENT = 1;
-    std::uint64_t state_;
 };
 
 // The pauses between the tries of a call, each drawn anew, so that clients that met do not stay in

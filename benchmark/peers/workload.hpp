@@ -1,5 +1,5 @@
-// What `vacation tasks` prints, read from standard input: a line per task, `CLIENT LINE`. The
-// tasks of client 0 open the system.
+// The tasks as `vacation tasks` prints them: a line per task, `CLIENT LINE`. The tasks of client 0
+// open the system.
 #pragma once
 
 #include "lines.hpp"
@@ -31,9 +31,12 @@ struct ClientCalls {
 
 class Workload {
 public:
-    // Throws what is wrong with a line that is no task of a client.
-    explicit Workload(std::string text) : text_(std::move(text))
+    // The first `clients` clients are there also where they have no line. Throws what is wrong with
+    // a line that is no task of a client.
+    explicit Workload(std::string text, std::uint32_t clients = 0) : text_(std::move(text))
     {
+        for (std::uint32_t client = 1; client <= clients; ++client)
+            calls_of(client);
         std::string_view rest = text_;
         for (std::size_t number = 1; !rest.empty(); ++number) {
             const std::size_t end = rest.find('\n');
