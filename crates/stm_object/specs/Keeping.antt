@@ -40,3 +40,26 @@ module _ {E : Type 0} (code : E → List ℕ) (finds : E → List ℕ → Type 0
   }
   found xs (x ∷ rs) (e ∷ es) last r h p (suc j, is) =
       found (after e xs) rs es last r h.2 (keeps e xs h.1 p) (j, is)
+
+-- one after the other, these operations with their answers lead from a value of the object to another
+abbrev pub Runs : {E M : Type 0} → (E → M → Type 0) → (E → M → M) → M → List E → M → Type 0
+Runs answers next m [] last = m ≡ last
+Runs answers next m (e ∷ es) last = answers e m × Runs answers next (next e m) es last
+
+-- where the words mean a value, and each entry is an operation on it, so is each history
+module _ {E M : Type 0} (code : E → List ℕ) (finds : E → List ℕ → Type 0)
+    (after : E → List ℕ → List ℕ) (P : List ℕ → Type 0)
+    (keeps : (e : E) (xs : List ℕ) → finds e xs → P xs → P (after e xs))
+    (answers : E → M → Type 0) (next : E → M → M) (of : List ℕ → M)
+    (answered : (e : E) (xs : List ℕ) → finds e xs → P xs → answers e (of xs))
+    (moved : (e : E) (xs : List ℕ) → finds e xs → P xs → of (after e xs) ≡ next e (of xs)) where
+  pub runs : (xs : List ℕ) (rs : List Record) (es : List E) (last : List ℕ) →
+      IsHistory code finds after xs rs es last → P xs → Runs answers next (of xs) es (of last)
+  runs xs [] [] last h p = ap of h
+  runs xs [] (e ∷ es) last h p = absurd h
+  runs xs (r ∷ rs) [] last h p = absurd h
+  runs xs (r ∷ rs) (e ∷ es) last h p = (
+    answered e xs h.1 p,
+    subst (λ (m : M). Runs answers next m es (of last)) (moved e xs h.1 p)
+        (runs (after e xs) rs es last h.2 (keeps e xs h.1 p)),
+  )

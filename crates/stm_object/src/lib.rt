@@ -3,8 +3,10 @@
 
 mod object;
 mod run;
+mod search;
 mod shared;
 
 pub use object::{Object, ObjectLaw};
 pub use run::{Body, Query, ask, ask_once, attempt_once, transact};
+pub use search::find;
 pub use shared::{Shared, User};

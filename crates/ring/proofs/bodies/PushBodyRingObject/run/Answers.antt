@@ -1,12 +1,18 @@
-use Rattle.std.proofs.Common.{arith, rules}
-use Rattle.ring.proofs.Steps.{in_order, has_pushed}
+use Rattle.std.proofs.Common.{true, arith, rules, refl}
+use Rattle.stm_object.specs.Steps.{load_step, store_step, two_steps, known_le, has_done}
+use Rattle.ring.specs.declared.entry.Entry.TheVariants.{Push}
+use Rattle.ring.specs.declared.law.TheConstants.{WORDS}
+use Rattle.ring.specs.Queue.{IsRing, Finds, after}
 use Rattle.ring.proofs.bodies.PushBodyRingObject.run.Goals as goal
 
 pub overflow_sub-tail : goal.overflow_sub-tail
-overflow_sub-tail g c = in_order _ _ _ _ _ c.requires c.in_ok-head.ensures.answer c.in_ok-tail.ensures.answer
-    (g.met.M.TxRead.seen c.load-2.new.memory)
+overflow_sub-tail g c = known_le _ _ c.requires
+    (two_steps (load_step c.in_ok-head.ensures.answer (omega arith)) (load_step c.in_ok-tail.ensures.answer (omega arith)))
+    (g.met.M.TxRead.seen c.load-2.new.memory) (λ xs b p. omega (arith, p.0, p.1, b.order))
 
 pub returns-clause-answer : goal.returns-clause-answer
-returns-clause-answer g c =
-    has_pushed _ _ _ _ _ _ _ _ _ c.in_ok-head.ensures.answer c.in_ok-tail.ensures.answer (omega arith) (search rules)
-    c.slot.ensures c.in_ok-store.ensures.answer c.in_ok-store-2.ensures.answer
+returns-clause-answer g c = has_done WORDS IsRing Finds after (Push c.args.self.now.0 true) (λ xs b. b.size)
+    (two_steps (load_step c.in_ok-head.ensures.answer (omega arith))
+    (two_steps (load_step c.in_ok-tail.ensures.answer (omega arith))
+    (two_steps (store_step c.in_ok-store.ensures.answer) (store_step c.in_ok-store-2.ensures.answer))))
+    (λ xs b p. (record { slot = omega (arith, p.0, p.1.0); count = omega (arith, p.1.0) }, rw (p.1.0, c.slot.ensures) refl))

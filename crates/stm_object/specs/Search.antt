@@ -1,0 +1,63 @@
+-- What a search through the words of a memory finds.
+use Rattle.std.proofs.Common.{◌≡◌, ◌≢◌, ℕ, ◌+◌, ◌<◌, ◌≤◌, inl, inr, List, Option, Some, None, IfSome, slice_index, refl, sym, ◌∙◌, arith}
+use Rattle.tx_memory.specs.View.{View, Sees, Loaded, mem}
+use Rattle.tx_memory.specs.Seen.{same_or}
+use Rattle.stm_object.specs.Bodies.{Are}
+use Rattle.stm_object.specs.Steps.{OnlyRead, Step, then_read, read_by, read_step}
+
+-- of the addresses from one up to another, this is the first whose word is this one, or none is
+abbrev pub IsFirst : (ℕ → ℕ) → ℕ → ℕ → ℕ → Option ℕ → Type 0
+IsFirst m from end word None = (a : ℕ) → from ≤ a → a < end → m a ≢ word
+IsFirst m from end word (Some b) = (from ≤ b) × (b < end) × (m b ≡ word)
+    × ((a : ℕ) → from ≤ a → a < b → m a ≢ word)
+
+-- only reads were made, and the search found this, under each image that there may be
+pub record Searched (s s' : View) (from end word : ℕ) (found : Option ℕ) : Type 0 where
+  pub only : OnlyRead s s'
+  pub range : IfSome found (λ a. (from ≤ a) × (a < end))
+  pub first : (image : List ℕ) → Sees s' image → IsFirst (mem s image) from end word found
+
+-- one address more has another word
+pub passed : {s s' s'' : View} {from a v word : ℕ} → Searched s s' from a word None →
+    Loaded s' s'' a v → v ≢ word → Searched s s'' from (a + 1) word None
+passed {s} {s'} {s''} {from} {a} {v} {word} h l other = record {
+  only = then_read s s' s'' h.only (read_by l);
+  range = tt;
+  first = λ image i b ge less. elim (same_or b a) [
+    | inl here ↦ (
+        let is : mem s' image a ≡ v = l.answer image i in
+        let same : mem s' image a ≡ mem s image a = rw h.only.writes refl in
+        λ e. other (sym is ∙ (same ∙ rw (sym here) e)))
+    | inr else ↦ h.first image (l.kept.seen image i) b ge (omega (arith, less, else))
+  ];
+}
+
+-- one address more has the word
+pub met : {s s' s'' : View} {from a end word : ℕ} → Searched s s' from a word None →
+    Loaded s' s'' a word → from ≤ a → a < end → Searched s s'' from end word (Some a)
+met {s} {s'} {s''} {from} {a} {end} {word} h l ge less = record {
+  only = then_read s s' s'' h.only (read_by l);
+  range = (ge, less);
+  first = λ image i.
+      let same : mem s' image a ≡ mem s image a = rw h.only.writes refl in
+      (ge, less, sym same ∙ l.answer image i, h.first image (l.kept.seen image i));
+}
+
+same_first : (m m' : ℕ → ℕ) (from end word : ℕ) (found : Option ℕ) →
+    ((a : ℕ) → a < end → m a ≡ m' a) → IsFirst m' from end word found → IsFirst m from end word found
+same_first m m' from end word None same h = λ a ge less e. h a ge less (sym (same a less) ∙ e)
+same_first m m' from end word (Some b) same h = (
+  h.0,
+  h.1,
+  same b h.1 ∙ h.2,
+  λ a ge less e. h.3 a ge less (sym (same a (omega (arith, less, h.1))) ∙ e),
+)
+
+-- a search as a step
+pub find_step : {n : ℕ} {s s' : View} {from end word : ℕ} {found : Option ℕ} →
+    Searched s s' from end word found → end ≤ n →
+    Step n s s' (λ xs. IsFirst (λ a. slice_index xs a) from end word found) (λ xs. xs)
+find_step {s = s} {from = from} {end = end} {word = word} {found = found} h le =
+    read_step h.only (λ image i xs are.
+    same_first (λ a. slice_index xs a) (mem s image) from end word found
+    (λ a less. are.each a (omega (arith, less, le))) (h.first image i))

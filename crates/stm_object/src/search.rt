@@ -1,0 +1,31 @@
+//! A search through the words of a memory.
+
+ghost use Rattle.std.specs.Prelude.{◌≡◌, ◌≤◌, IfOk, IfErr};
+ghost use Rattle.stm_object.specs.Search.{Searched};
+
+use tx_memory::{Addr, TxRead, load};
+
+/// The first address from `from` on and below `end` whose word is this one.
+///
+/// Not said: what a refused search leaves; that no word behind the one that is found enters the
+/// reads.
+pub fn find<M: TxRead>(
+    memory: &mut M,
+    from: u32,
+    end: u32,
+    word: u64,
+) -> Result<Option<u32>, M::Stop>
+    requires { end ≤ (M.view memory.old).size }
+    ensures origin { M.origin memory.new ≡ M.origin memory.old }
+    ensures answer { IfOk result (λ found.
+        Searched (M.view memory.old) (M.view memory.new) from end word found) }
+    ensures stopped { IfErr result (λ stop. M.stopped_for memory.new stop) }
+{
+    for address in from..end {
+        let here = load(memory, Addr(address))?;
+        if here == word {
+            return Ok(Some(address));
+        }
+    }
+    Ok(None)
+}
