@@ -7,8 +7,8 @@
 //
 //     Attempt(Shared&, Exit&);             // one for each client, made and used in its thread
 //     void begin();                        // an attempt begins; what was before is over
-//     Word read(Addr);                     // these two may leave by exit.leave(CONFLICT, addr),
-//     void write(Addr, Word);              // as may ..
+//     Word read(Addr);                     // these and `begin` may leave by
+//     void write(Addr, Word);              // exit.leave(CONFLICT, addr), as may ..
 //     bool commit();                       // .. this one, which also ends by
 //                                          // `return exit.fail(CONFLICT, addr)`
 //     Word place() const;                  // of the attempt that has ended: `2 * v` for a writer
@@ -17,8 +17,17 @@
 //                                          // begin, `2 * v + 1` where its reads are of version v
 //
 // An attempt that leaves is at its end: no lock may be held then. No body holds anything that must
-// be destroyed. The second word of `Shared` says whether the order of the calls will be asked for;
-// one that knows it only by counting then counts.
+// be destroyed. CONFLICT is an index into CONFLICTS, of which there are 8 at most. The second
+// argument of `Shared` says whether the order of the calls will be asked for; a runtime that knows
+// it only by counting then counts. `Word`, `Addr` and `Words` are those of heap.hpp. All is in the
+// namespace `vacation`. The program is
+//
+//     #include "attempt_runtime.hpp"
+//     #include "driver.hpp"
+//     int main(int count, char** words)
+//     {
+//         return vacation::run_peer<vacation::AttemptRuntime<Attempt>>(count, words);
+//     }
 #pragma once
 
 #include "attempts.hpp"

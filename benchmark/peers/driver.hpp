@@ -20,7 +20,8 @@
 // writer of a version stands before its readers, and these before the next writer. One that
 // counts its calls under a lock has that count.
 //
-// A runtime of attempts that may meet conflicts writes these alone (attempt_runtime.hpp).
+// The program is `return run_peer<Runtime>(count, words);` in `main`. A runtime of attempts that
+// may meet conflicts writes these alone (attempt_runtime.hpp).
 #pragma once
 
 #include "attempts.hpp"

@@ -3,7 +3,8 @@
 // A memory is anything with `Word read(Addr)` and `void write(Addr, Word)`, by value: a pointer to
 // what does the work. Each peer has its own, and the code over it is the same for all: what
 // differs between the peers is how a word is read and written, and what makes a task one
-// transaction.
+// transaction. `Words` begin on a cache line by `LineAllocator`, which other arrays of a peer have
+// too; what its clients write apart stands `APART`.
 #pragma once
 
 #include <cstddef>

@@ -1,4 +1,4 @@
-// Waiting a little: in a loop for a lock, and between the tries of a call.
+// Waiting a little: in a loop for a lock (`Pause`), and between the tries of a call (`Backoff`).
 #pragma once
 
 #include "pcg.hpp"
