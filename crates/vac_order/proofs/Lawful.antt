@@ -5,14 +5,14 @@ use Rattle.vac_judge.specs.Call.{Call}
 use Rattle.vac_order.specs.Orders.{IsLinearizable}
 use Rattle.vac_order.specs.Laws.{OrderIsLinearization, NoOrderMeansNone}
 
-tail_same : (a b : Result Call CallFault) (xs ys : List (Result Call CallFault)) → a ∷ xs ≡ b ∷ ys → (a ≡ b) × (xs ≡ ys)
+pub tail_same : (a b : Result Call CallFault) (xs ys : List (Result Call CallFault)) → a ∷ xs ≡ b ∷ ys → (a ≡ b) × (xs ≡ ys)
 tail_same a b xs ys e = (cc, cc)
 
 ok_same : (a b : Call) → ◌≡◌ {A = Result Call CallFault} (Ok a) (Ok b) → a ≡ b
 ok_same a b e = cc
 
 -- a text lists its calls in one way
-calls_same : (xs ys : List Call) → ◌≡◌ {A = List (Result Call CallFault)} (map Ok xs) (map Ok ys) → xs ≡ ys
+pub calls_same : (xs ys : List Call) → ◌≡◌ {A = List (Result Call CallFault)} (map Ok xs) (map Ok ys) → xs ≡ ys
 calls_same [] [] e = refl
 calls_same [] (y ∷ ys) e = cc
 calls_same (x ∷ xs) [] e = cc

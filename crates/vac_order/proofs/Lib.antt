@@ -20,3 +20,4 @@ pub mod Kept
 pub mod Founds
 pub mod Printing
 pub mod Lawful
+pub mod Written

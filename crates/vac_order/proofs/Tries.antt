@@ -6,7 +6,7 @@ use Rattle.vac_judge.specs.Call.{Call}
 use Rattle.vac_spans.proofs.Tests.{both_false}
 use Rattle.vac_order.specs.Orders.{of_client}
 use Rattle.vac_order.specs.Configurations.{IsFirst, MayBegin, without_next}
-use Rattle.vac_order.specs.Walk.{AreChoices}
+use Rattle.vac_order.specs.Walk.{AreChoices, AreApart}
 use Rattle.vac_order.specs.Calls.{no_call, rest_of, may_next, can_come, tries_of, tries_from}
 use Rattle.vac_order.proofs.Each.{Each, test, self}
 use Rattle.vac_order.proofs.Clients.{head_same}
@@ -305,3 +305,62 @@ covers made rest before i (x ∷ xs) c f n e = go (made i) f (λ b g m. covers m
 pub all_choices : (made : ℕ → Bool) (cs : List Call) → AreChoices (rest_of made 0 cs) (tries_from made cs 0)
 all_choices made cs c may =
     covers made (rest_of made 0 cs) [] 0 cs c may.first refl (late_ended c.begin (rest_of made 0 cs) may.early)
+
+-- where one of these is of the client, so it is with one more
+some_more : (k : ℕ) (xs : List Call) (x : Call) → list_any (λ (o : Call). o.client == k) xs ≡ true → list_any (λ (o : Call). o.client == k) (xs ++ x ∷ []) ≡ true
+some_more k [] x h = absurd (false_true h)
+  where
+    false_true : false ≡ true → ⊥
+    false_true e = cc
+some_more k (y ∷ ys) x h = go (y.client == k) h (λ g. some_more k ys x g)
+  where
+    go : (b : Bool) → (b || list_any (λ (o : Call). o.client == k) ys) ≡ true
+        → (list_any (λ (o : Call). o.client == k) ys ≡ true → list_any (λ (o : Call). o.client == k) (ys ++ x ∷ []) ≡ true)
+        → (b || list_any (λ (o : Call). o.client == k) (ys ++ x ∷ [])) ≡ true
+    go true e more = refl
+    go false e more = more e
+
+some_last : (xs : List Call) (x : Call) → list_any (λ (o : Call). o.client == x.client) (xs ++ x ∷ []) ≡ true
+some_last [] x = rw (self x.client) refl
+some_last (y ∷ ys) x = go (y.client == x.client) (some_last ys x)
+  where
+    go : (b : Bool) → list_any (λ (o : Call). o.client == x.client) (ys ++ x ∷ []) ≡ true → (b || list_any (λ (o : Call). o.client == x.client) (ys ++ x ∷ [])) ≡ true
+    go true h = refl
+    go false h = h
+
+-- a client of whom a call stands before has none among the tries
+other_clients : (made : ℕ → Bool) (rest before : List Call) (i : ℕ) (cs : List Call) (k : ℕ) → list_any (λ (o : Call). o.client == k) before ≡ true
+    → Each (λ o. o.client ≢ k) (tries_of made rest before i cs)
+other_clients made rest before i [] k h = tt
+other_clients made rest before i (x ∷ xs) k h =
+    go (made i) (may_next rest before x) refl (other_clients made rest before (suc i) xs k h)
+    (other_clients made rest (before ++ x ∷ []) (suc i) xs k (some_more k before x h))
+  where
+    true_false : true ≡ false → ⊥
+    true_false e = cc
+
+    go : (b m : Bool) → may_next rest before x ≡ m → Each (λ o. o.client ≢ k) (tries_of made rest before (suc i) xs)
+        → Each (λ o. o.client ≢ k) (tries_of made rest (before ++ x ∷ []) (suc i) xs)
+        → Each (λ o. o.client ≢ k)
+        (cond b (tries_of made rest before (suc i) xs) (cond m (x ∷ tries_of made rest (before ++ x ∷ []) (suc i) xs) (tries_of made rest (before ++ x ∷ []) (suc i) xs)))
+    go true m e same more = same
+    go false true e same more =
+        let both = both_true (not (list_any (λ (o : Call). nat_lt o.end x.begin) rest)) (not (list_any (λ (o : Call). o.client == x.client) before)) e in
+        let none = not_true (list_any (λ (o : Call). o.client == x.client) before) both.1 in
+        (λ own. true_false (sym h ∙ subst (λ n. list_any (λ (o : Call). o.client == n) before ≡ false) own none), more)
+    go false false e same more = more
+
+-- no two of the tries are of one client
+apart : (made : ℕ → Bool) (rest before : List Call) (i : ℕ) (cs : List Call) → AreApart (tries_of made rest before i cs)
+apart made rest before i [] = tt
+apart made rest before i (x ∷ xs) =
+    go (made i) (may_next rest before x) (apart made rest before (suc i) xs) (apart made rest (before ++ x ∷ []) (suc i) xs)
+  where
+    go : (b m : Bool) → AreApart (tries_of made rest before (suc i) xs) → AreApart (tries_of made rest (before ++ x ∷ []) (suc i) xs)
+        → AreApart (cond b (tries_of made rest before (suc i) xs) (cond m (x ∷ tries_of made rest (before ++ x ∷ []) (suc i) xs) (tries_of made rest (before ++ x ∷ []) (suc i) xs)))
+    go true m same more = same
+    go false true same more = (other_clients made rest (before ++ x ∷ []) (suc i) xs x.client (some_last before x), more)
+    go false false same more = more
+
+pub tries_apart : (made : ℕ → Bool) (cs : List Call) → AreApart (tries_from made cs 0)
+tries_apart made cs = apart made (rest_of made 0 cs) [] 0 cs

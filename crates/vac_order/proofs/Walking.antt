@@ -11,7 +11,7 @@ use Rattle.vac_judge.specs.Call.{Call}
 use Rattle.vac_order.specs.declared.path.Frame.{Frame}
 use Rattle.vac_order.specs.declared.path.Walk.{Walk}
 use Rattle.vac_order.specs.Configurations.{Configuration, MayBegin, after, fits, answered, weight, PlacesAtMost, Deepest}
-use Rattle.vac_order.specs.Walk.{IsWhole, AreChoices, Place, IsWalk, IsDeepest, KeepsDeepest, Completes}
+use Rattle.vac_order.specs.Walk.{IsWhole, AreChoices, AreApart, Place, IsWalk, IsDeepest, KeepsDeepest, Completes}
 use Rattle.vac_order.specs.Views.{Views, TellsLeft}
 use Rattle.std.specs.Global.{Vec}
 use Rattle.vac_order.specs.declared.known.Known.{Known}
@@ -258,10 +258,10 @@ pub steps_on : {W : Type 0} (views : Views W) (start : Configuration) (steps : �
     → Tries views start steps walk place → place < views.count → views.at next ≡ after (views.at walk.world) (views.call place)
     → TellsLeft (answered (views.at next).rest) false
     → ((p : ℕ) → views.made next p ≡ (views.made walk.world p || p == place))
-    → AreChoices (views.at next).rest (views.tries next 0) → count ≡ walk.placed + weight (views.call place)
+    → AreChoices (views.at next).rest (views.tries next 0) → AreApart (views.tries next 0) → count ≡ walk.placed + weight (views.call place)
     → path.items ≡ walk.path.items ++ (record { world = walk.world; placed = walk.placed; place = place; next = walk.next }) ∷ []
     → Walks views start (suc steps) (record { world = next; placed = count; next = 0; path = path; known = walk.known; best = walk.best; most = walk.most })
-steps_on {W = W} views start steps walk place count next path w within e l more choices c p =
+steps_on {W = W} views start steps walk place count next path w within e l more choices apart c p =
     let frame : Frame W = record { world = walk.world; placed = walk.placed; place = place; next = walk.next } in
     let known = map views.at walk.known.worlds.items in
     let call = views.call place in
@@ -287,6 +287,7 @@ steps_on {W = W} views start steps walk place count next path w within e l more 
           at = e;
           placed = c;
           choices = choices;
+          apart = apart;
           path = places;
           known = refl;
         })),
@@ -297,14 +298,14 @@ steps_on {W = W} views start steps walk place count next path w within e l more 
     }
 
 pub starts : {W : Type 0} (views : Views W) (world : W) (path : Vec (Frame W)) (known : Known W) → path.items ≡ [] → known.worlds.items ≡ []
-    → IsWhole (views.at world).rest → TellsLeft (answered (views.at world).rest) false → AreChoices (views.at world).rest (views.tries world 0)
+    → IsWhole (views.at world).rest → TellsLeft (answered (views.at world).rest) false → AreChoices (views.at world).rest (views.tries world 0) → AreApart (views.tries world 0)
     → Walks views (views.at world) 0 (record { world = world; placed = 0; next = 0; path = path; known = known; best = 0; most = 0 })
-starts views world path known p k whole l choices = record {
+starts views world path known p k whole l choices apart = record {
   is = subst (λ ks. IsWalk (views.at world) 0 (views.at world) 0 (views.tries world 0) (map (place_of views) path.items) ks) (ap (map views.at) (sym k))
       (subst (λ ps. IsWalk (views.at world) 0 (views.at world) 0 (views.tries world 0) ps []) (ap (map (place_of views)) (sym p))
       (walk_start (views.at world) (views.tries world 0) whole (l.1 refl) choices));
   deepest = subst (λ ks. KeepsDeepest (views.at world) 0 0 ks) (ap (map views.at) (sym k)) refl;
-  made = (record { at = refl; placed = refl; path = ap (map (place_of views)) p; known = ap (map views.at) k; some = l.1 refl; choices = choices }, refl);
+  made = (record { at = refl; placed = refl; path = ap (map (place_of views)) p; known = ap (map views.at) k; some = l.1 refl; choices = choices; apart = apart }, refl);
   first = views.made world;
   places = subst (λ fs. AreMadeBy views (views.made world) [] fs world) (sym p) (made_none views world);
 }

@@ -3,7 +3,7 @@ use Rattle.std.specs.Prelude.{◌≡◌, ◌⊎◌, ◌+◌, ◌≤◌, ℕ, suc
 use Rattle.std.specs.List.{Contains}
 use Rattle.vac_judge.specs.Call.{Call}
 use Rattle.vac_order.specs.Configurations.{Configuration, MayBegin, Reaches, fits, after, weight, answered}
-use Rattle.vac_order.specs.Walk.{AreChoices, Place}
+use Rattle.vac_order.specs.Walk.{AreChoices, AreApart, Place}
 
 -- where a search is, how many answered calls have a place there, the calls that are left to try,
 -- the path that led there, and the configurations from which nothing is left to try
@@ -14,7 +14,8 @@ pub record Search : Type 0 where
   pub path : List Place
   pub known : List Configuration
 
--- no step was made: answered calls are left, and those that may come next are all left to try
+-- no step was made: answered calls are left, and those that may come next are all left to try, each
+-- client's once
 pub record HasBegun (start : Configuration) (search : Search) : Type 0 where
   pub at : search.at ≡ start
   pub placed : search.placed ≡ 0
@@ -22,6 +23,7 @@ pub record HasBegun (start : Configuration) (search : Search) : Type 0 where
   pub known : search.known ≡ []
   pub some : 1 ≤ answered start.rest
   pub choices : AreChoices start.rest search.tries
+  pub apart : AreApart search.tries
 
 -- this call is tried, which may come next; these are left
 pub record Tried (search : Search) (call : Call) (others : List Call) : Type 0 where
@@ -36,7 +38,8 @@ pub record PassesOver (search next : Search) : Type 0 where
   pub why : (fits search.at.state call ≡ false) ⊎ Contains search.known (after search.at call)
   pub is : next ≡ record search { tries = others }
 
--- a call is tried and made, and answered calls are left
+-- a call is tried and made, and answered calls are left; those that may come next are all left to
+-- try, each client's once
 -- Not said: that a configuration that is known is not entered again; in which order the calls that
 -- may come next are tried.
 pub record GoesOn (search next : Search) : Type 0 where
@@ -48,6 +51,7 @@ pub record GoesOn (search next : Search) : Type 0 where
   pub at : next.at ≡ after search.at call
   pub placed : next.placed ≡ search.placed + weight call
   pub choices : AreChoices next.at.rest next.tries
+  pub apart : AreApart next.tries
   pub path : next.path ≡ search.path ++ (record {
     at = search.at;
     placed = search.placed;

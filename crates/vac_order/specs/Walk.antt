@@ -1,6 +1,6 @@
 -- A search as it runs: a path of calls from the start, at each place of the path the calls that are
 -- left to try, and the configurations from which it is known how many calls have a place at most.
-use Rattle.std.specs.Prelude.{◌≡◌, ◌+◌, ◌≤◌, ⊤, ℕ, false, Some, List, [], ◌∷◌, All, slice_get}
+use Rattle.std.specs.Prelude.{◌≡◌, ◌≢◌, ◌+◌, ◌≤◌, ⊤, ℕ, false, Some, List, [], ◌∷◌, All, slice_get}
 use Rattle.std.specs.List.{Contains}
 use Rattle.vac_judge.specs.Call.{Call}
 use Rattle.vac_judge.specs.Follows.{IsBehind, EachCall}
@@ -27,6 +27,11 @@ pub record IsWhole (calls : List Call) : Type 0 where
 -- the calls that may come next are among these
 abbrev pub AreChoices : List Call → List Call → Type 0
 AreChoices rest calls = (call : Call) → MayBegin rest call → Contains calls call
+
+-- no two of the calls are of one client
+abbrev pub AreApart : List Call → Type 0
+AreApart [] = ⊤
+AreApart (call ∷ calls) = EachCall (λ other. other.client ≢ call.client) calls × AreApart calls
 
 -- through this call at most `most` calls have a place
 abbrev pub IsLost : ℕ → ℕ → Configuration → Call → Type 0

@@ -23,7 +23,10 @@ mod walk;
 mod watcher;
 mod world;
 
-pub use laws::{an_order_that_is_found_is_a_linearization, where_none_is_found_there_is_none};
+pub use laws::{
+    an_order_that_is_found_is_a_linearization, an_order_that_is_written_is_judged_legal,
+    where_none_is_found_there_is_none,
+};
 pub use ordering::{Outcome, STEPS, order_history};
 pub use walk::{Finding, find_order};
 pub use watcher::Watcher;

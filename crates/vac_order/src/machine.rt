@@ -22,6 +22,8 @@ pub trait Machine: Sized {
     fn is_same(&self, other: &Self) -> bool
         ensures { result ≡ true → state self.now ≡ state other.now };
 
-    /// A number that is the same for the same states.
+    /// A number that is meant to be the same for the same states.
+    ///
+    /// Not said: anything of it.
     fn hash(&self) -> u64;
 }

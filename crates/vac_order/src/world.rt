@@ -3,7 +3,7 @@
 ghost use Rattle.std.specs.Prelude.{◌≡◌, ◌<◌, IfOk, true};
 ghost use Rattle.vac_order.specs.Orders.{is_answered};
 ghost use Rattle.vac_order.specs.Configurations.{answered};
-ghost use Rattle.vac_order.specs.Walk.{AreChoices};
+ghost use Rattle.vac_order.specs.Walk.{AreChoices, AreApart};
 ghost use Rattle.vac_order.specs.Views.{Views, TellsLeft, TellsNext, LedTo};
 
 use std::alloc::{AllocError, Global};
@@ -15,11 +15,13 @@ pub trait World: Sized {
 
     ghost view: { Self.Ground → Views Self };
 
-    /// Whether no answered call is left. The calls that may come next are all among those to try.
+    /// Whether no answered call is left. The calls that may come next are all among those to try,
+    /// and no two of those are of one client.
     fn is_done(&self, ground: &Self::Ground) -> bool
         ensures left { TellsLeft (answered ((view ground.now).at self.now).rest) result }
         ensures all { AreChoices ((view ground.now).at self.now).rest
-            ((view ground.now).tries self.now 0) };
+            ((view ground.now).tries self.now 0) }
+        ensures apart { AreApart ((view ground.now).tries self.now 0) };
 
     /// The first call from a place on that may come next.
     fn next_try(&self, ground: &Self::Ground, from: usize) -> Option<usize>
@@ -46,6 +48,8 @@ pub trait World: Sized {
         ensures { result ≡ true →
             (view ground.now).at self.now ≡ (view ground.now).at other.now };
 
-    /// A number that is the same for worlds that are the same.
+    /// A number that is meant to be the same for worlds that are.
+    ///
+    /// Not said: anything of it.
     fn hash(&self, ground: &Self::Ground) -> u64;
 }

@@ -27,7 +27,7 @@ walk-init g c =
     let within : 0 ≤ vec_len c.new-3.result.worlds = omega arith in (
       within,
       starts views c.args.start c.new-2.result c.new-3.result c.new-2.ensures.items c.new-3.ensures c.requires
-          (subst (TellsLeft (answered start.rest)) c.if-is_done.false c.is_done.ensures.left) c.is_done.ensures.all,
+          (subst (TellsLeft (answered start.rest)) c.if-is_done.false c.is_done.ensures.left) c.is_done.ensures.all c.is_done.ensures.apart,
     )
 
 pub returns-in-Found : goal.returns-in-Found

@@ -1,7 +1,10 @@
 use Rattle.vac_order.specs.Calls.{calls_of}
 use Rattle.vac_order.specs.Point.{made_of}
-use Rattle.vac_order.proofs.Tries.{all_choices}
+use Rattle.vac_order.proofs.Tries.{all_choices, tries_apart}
 use Rattle.vac_order.proofs.point.PointWorld.is_done.Goals as goal
 
 pub returns-clause-all : goal.returns-clause-all
 returns-clause-all g c = all_choices (made_of c.args.self.now) (calls_of c.args.calls.now.lines.items)
+
+pub returns-clause-apart : goal.returns-clause-apart
+returns-clause-apart g c = tries_apart (made_of c.args.self.now) (calls_of c.args.calls.now.lines.items)
