@@ -41,7 +41,8 @@ module _ {E : Type 0} (code : E → List ℕ) (finds : E → List ℕ → Type 0
   found xs (x ∷ rs) (e ∷ es) last r h p (suc j, is) =
       found (after e xs) rs es last r h.2 (keeps e xs h.1 p) (j, is)
 
--- one after the other, these operations with their answers lead from a value of the object to another
+-- one after the other, these operations with their answers lead from a value of the object to
+-- another one
 abbrev pub Runs : {E M : Type 0} → (E → M → Type 0) → (E → M → M) → M → List E → M → Type 0
 Runs answers next m [] last = m ≡ last
 Runs answers next m (e ∷ es) last = answers e m × Runs answers next (next e m) es last

@@ -44,7 +44,8 @@ met {s} {s'} {s''} {from} {a} {end} {word} h l ge less = record {
 }
 
 same_first : (m m' : ℕ → ℕ) (from end word : ℕ) (found : Option ℕ) →
-    ((a : ℕ) → a < end → m a ≡ m' a) → IsFirst m' from end word found → IsFirst m from end word found
+    ((a : ℕ) → a < end → m a ≡ m' a) → IsFirst m' from end word found →
+    IsFirst m from end word found
 same_first m m' from end word None same h = λ a ge less e. h a ge less (sym (same a less) ∙ e)
 same_first m m' from end word (Some b) same h = (
   h.0,

@@ -153,8 +153,8 @@ set_slot key key' value value' (suc n) i k v less ks vs alone place = elim (same
   | inr before ↦ (
       let a : key' n ≡ key n = ks.others n (omega arith) (omega (arith, before)) in
       let b : value' n ≡ value n = vs.others n (omega arith) (omega (arith, before)) in
-      let rest = set_slot key key' value value' n i k v (omega (arith, less, before)) (fewer ks) (fewer vs)
-      (λ j l ne. alone j (omega (arith, l)) ne) place in
+      let rest = set_slot key key' value value' n i k v (omega (arith, less, before))
+      (fewer ks) (fewer vs) (λ j l ne. alone j (omega (arith, l)) ne) place in
       rw (a, b, rest) (slot_put (key n) (value n) (map_in key value n) k v
       (alone n (omega arith) (omega (arith, before)))))
 ]
@@ -178,7 +178,8 @@ free_slot key key' value value' (suc n) i k less ks vs alone is = elim (same_or 
       let rest = same_slots key key' value value' n
       (λ j l. ks.others j (omega (arith, l)) (omega (arith, l, last)))
       (λ j l. vs j (omega (arith, l))) in
-      let none = no_slot key value n k (λ j l. alone j (omega (arith, l)) (omega (arith, l, last))) in
+      let none = no_slot key value n k
+      (λ j l. alone j (omega (arith, l)) (omega (arith, l, last))) in
       rw (a, b, rest) (sym (undone (map_in key value n) k (value n) none)))
   | inr before ↦ (
       let a : key' n ≡ key n = ks.others n (omega arith) (omega (arith, before)) in
@@ -190,12 +191,14 @@ free_slot key key' value value' (suc n) i k less ks vs alone is = elim (same_or 
 ]
 
 -- a key stands in one slot
-alone_at : (key : ℕ → ℕ) (n i k : ℕ) → AreApart key n → i < n → key i ≡ suc k → NoOther key n i (suc k)
+alone_at : (key : ℕ → ℕ) (n i k : ℕ) → AreApart key n → i < n → key i ≡ suc k →
+    NoOther key n i (suc k)
 alone_at key n i k apart less is = λ j l ne e.
     let free = apart j i l less ne (e ∙ sym is) in
     let never : suc k ≡ 0 = sym e ∙ free in omega (arith, never)
 
-alone_in : (key : ℕ → ℕ) (n i k : ℕ) → AreApart key n → IsPlace key n (suc k) i → NoOther key n i (suc k)
+alone_in : (key : ℕ → ℕ) (n i k : ℕ) → AreApart key n → IsPlace key n (suc k) i →
+    NoOther key n i (suc k)
 alone_in key n i k apart (less, inl is) = alone_at key n i k apart less is
 alone_in key n i k apart (less, inr free) = λ j l ne. free.1 j l
 
@@ -230,7 +233,8 @@ pub value_in : (key value : ℕ → ℕ) (n i k : ℕ) → AreApart key n → i 
 value_in key value n i k apart less is =
     let ks : IsSet n key key i (k + 1) = record { here = is; others = λ j l ne. refl } in
     let vs : IsSet n value value i (value i) = record { here = refl; others = λ j l ne. refl } in
-    ap (λ (m : Words). get m k) (put_in key key value value n i k (value i) apart (less, inl is) ks vs)
+    ap (λ (m : Words). get m k)
+    (put_in key key value value n i k (value i) apart (less, inl is) ks vs)
     ∙ get_here (map_in key value n) k (value i)
 
 -- a key that no slot has is not in the map
@@ -289,7 +293,8 @@ pub put_apart : (key key' : ℕ → ℕ) (n i k : ℕ) → AreApart key n → Is
     IsSet n key key' i (k + 1) → AreApart key' n
 put_apart key key' n i k apart place set =
     let spot = rw (next_number k) at place in
-    apart_set key key' n i (suc k) apart (rw (next_number k) at set) (inr (alone_in key n i k apart spot))
+    apart_set key key' n i (suc k) apart (rw (next_number k) at set)
+    (inr (alone_in key n i k apart spot))
 
 pub freed_apart : (key key' : ℕ → ℕ) (n i : ℕ) → AreApart key n → IsSet n key key' i 0 →
     AreApart key' n

@@ -1,5 +1,5 @@
--- What loads and stores are to the words of a memory, one step after the other: what a body did, from
--- what its loads and stores did.
+-- What loads and stores are to the words of a memory, one step after the other: what a body did,
+-- from what its loads and stores did.
 use Rattle.std.proofs.Common.{◌≡◌, ℕ, ◌<◌, ◌≤◌, inl, inr, List, length, slice_index, slice_set, sym, subst, ◌∙◌, arith, length-set, get_or-set_same, get_or-set_other}
 use Rattle.tx_memory.specs.View.{View, Sees, RestsOn, IsWrite, Kept, Loaded, Stored, mem}
 use Rattle.tx_memory.specs.Seen.{same_or, some_le}

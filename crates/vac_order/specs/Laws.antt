@@ -1,6 +1,6 @@
 -- What is found is right, in the field's words (Herlihy and Wing, TOPLAS 1990): some order of the
--- calls of a history, each client's as they came, is a linearization, or none is. What is written of
--- an order is legal for a judge that believes the order of the lines.
+-- calls of a history, each client's as they came, is a linearization, or none is. What is written
+-- of an order is legal for a judge that believes the order of the lines.
 use Rattle.std.specs.Prelude.{◌≡◌, ℕ, Option, IfSome, List, reverse}
 use Rattle.std.specs.Io.KnownBytes.{Appends}
 use Rattle.vac_model.specs.State.{empty_state}
