@@ -2,7 +2,6 @@
 use Rattle.std.proofs.Common.{◌≡◌, ◌≢◌, ℕ, ◌+◌, ◌<◌, ◌≤◌, inl, inr, List, Option, Some, None, IfSome, slice_index, refl, sym, ◌∙◌, arith}
 use Rattle.tx_memory.specs.View.{View, Sees, Loaded, mem}
 use Rattle.tx_memory.specs.Seen.{same_or}
-use Rattle.stm_object.specs.Bodies.{Are}
 use Rattle.stm_object.specs.Steps.{OnlyRead, Step, then_read, read_by, read_step}
 
 -- of the addresses from one up to another, this is the first whose word is this one, or none is
