@@ -1,4 +1,4 @@
-use Rattle.std.proofs.Common.{true, arith, rules, refl}
+use Rattle.std.proofs.Common.{true, arith, refl}
 use Rattle.stm_object.specs.Steps.{load_step, store_step, two_steps, known_le, has_done}
 use Rattle.ring.specs.declared.entry.Entry.TheVariants.{Push}
 use Rattle.ring.specs.declared.law.TheConstants.{WORDS}
