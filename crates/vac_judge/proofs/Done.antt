@@ -17,7 +17,7 @@ use Rattle.vac_judge.specs.Work.{Asked, line_asked, onto_work, work_of, tasks_of
 use Rattle.vac_judge.specs.Whole.{asked_by, forms, IsDoneBy, IsWholeHistory, LegalIsWhole}
 use Rattle.vac_judge.proofs.Handed.{Test, test}
 
-false_true : false ≡ true → ⊥
+pub false_true : false ≡ true → ⊥
 false_true e = cc
 
 -- ---- what a legal verdict says
@@ -46,7 +46,7 @@ err_ok : (k : ℕ) (ys : List Asked) → ◌≡◌ {A = Result (List Asked) ℕ}
 err_ok k ys e = cc
 
 -- work that is read whole is that of its lines
-work_lines : (lines : List (Result Asked CallFault)) (work : List Asked) → work_of lines ≡ Ok work → lines ≡ map Ok work
+pub work_lines : (lines : List (Result Asked CallFault)) (work : List Asked) → work_of lines ≡ Ok work → lines ≡ map Ok work
 work_lines [] work e = ap (map Ok) (ok_same [] work e)
 work_lines (Err fault ∷ rest) work e = absurd (err_ok 1 work e)
 work_lines (Ok a ∷ rest) work e = go (λ more g. work_lines rest more g) (work_of rest) refl e
@@ -55,20 +55,20 @@ work_lines (Ok a ∷ rest) work e = go (λ more g. work_lines rest more g) (work
     go next (Ok more) g h = ap (λ t. Ok a ∷ t) (next more g) ∙ ap (map Ok) (ok_same (a ∷ more) work h)
     go next (Err k) g h = absurd (err_ok (k + 1) work h)
 
-lines_work : (work : List Asked) → work_of (map Ok work) ≡ Ok work
+pub lines_work : (work : List Asked) → work_of (map Ok work) ≡ Ok work
 lines_work [] = refl
 lines_work (a ∷ work) = ap (onto_work a) (lines_work work)
 
 -- ---- the tasks that are left of a client's
 
-drop_at : (ts : List Task) (m : ℕ) (t : Task) → is_that (slice_get ts m) t ≡ true → drop m (forms ts) ≡ task_text t ∷ drop (m + 1) (forms ts)
+pub drop_at : (ts : List Task) (m : ℕ) (t : Task) → is_that (slice_get ts m) t ≡ true → drop m (forms ts) ≡ task_text t ∷ drop (m + 1) (forms ts)
 drop_at [] m t h = absurd (false_true h)
 drop_at (x ∷ xs) zero t h = ap (λ a. a ∷ forms xs) ((bytes_eq-Decides (task_text x) (task_text t)).0 h)
 drop_at (x ∷ xs) (suc m) t h =
     let same : suc (m + 1) ≡ suc m + 1 = omega arith in
     drop_at xs m t h ∙ ap (λ n. task_text t ∷ drop n (forms (x ∷ xs))) same
 
-at_drop : (ts : List Task) (m : ℕ) (t : Task) (rest : List (List ℕ)) → drop m (forms ts) ≡ task_text t ∷ rest → is_that (slice_get ts m) t ≡ true
+pub at_drop : (ts : List Task) (m : ℕ) (t : Task) (rest : List (List ℕ)) → drop m (forms ts) ≡ task_text t ∷ rest → is_that (slice_get ts m) t ≡ true
 at_drop [] zero t rest h = absurd (let e = h in cc)
 at_drop [] (suc m) t rest h = absurd (let e = h in cc)
 at_drop (x ∷ xs) zero t rest h = let same : task_text x ≡ task_text t = cc in (bytes_eq-Decides (task_text x) (task_text t)).1 same
@@ -83,14 +83,14 @@ drop_tail (t ∷ ts) (suc m) x rest h =
     ap (λ n. drop n (t ∷ ts)) same ∙ drop_tail ts m x rest h
 
 -- behind the earlier calls, a client's further ones ask for the tasks that are left
-abbrev Goes : List Asked → List Call → List Call → ℕ → List (List ℕ) → Type 0
+abbrev pub Goes : List Asked → List Call → List Call → ℕ → List (List ℕ) → Type 0
 Goes work earlier calls k left = drop (made_by k earlier) (forms (tasks_of k work)) ≡ forms (asked_by k calls) ++ left
 
-none_some : (line : ℕ) → ◌≡◌ {A = Option ℕ} (Some line) None → ⊥
+pub none_some : (line : ℕ) → ◌≡◌ {A = Option ℕ} (Some line) None → ⊥
 none_some line e = cc
 
 -- none is foreign: each client's calls ask for its tasks
-goes_on : (work : List Asked) (earlier calls : List Call) → first_foreign work earlier (map Ok calls) ≡ None → (k : ℕ) → (left : List (List ℕ)) × Goes work earlier calls k left
+pub goes_on : (work : List Asked) (earlier calls : List Call) → first_foreign work earlier (map Ok calls) ≡ None → (k : ℕ) → (left : List (List ℕ)) × Goes work earlier calls k left
 goes_on work earlier [] h k = (drop (made_by k earlier) (forms (tasks_of k work)), refl)
 goes_on work earlier (c ∷ cs) h k = go (λ g. goes_on work (c ∷ earlier) cs g k) (is_next work earlier c) refl h
   where
@@ -116,7 +116,7 @@ goes_on work earlier (c ∷ cs) h k = go (λ g. goes_on work (c ∷ earlier) cs 
     go next false e g = absurd (none_some (length earlier + 1) g)
 
 -- and where they do, none is
-none_foreign : (work : List Asked) (earlier calls : List Call) → ((k : ℕ) → (left : List (List ℕ)) × Goes work earlier calls k left) → first_foreign work earlier (map Ok calls) ≡ None
+pub none_foreign : (work : List Asked) (earlier calls : List Call) → ((k : ℕ) → (left : List (List ℕ)) × Goes work earlier calls k left) → first_foreign work earlier (map Ok calls) ≡ None
 none_foreign work earlier [] h = refl
 none_foreign work earlier (c ∷ cs) h =
     let own = h c.client in
@@ -140,7 +140,7 @@ none_foreign work earlier (c ∷ cs) h =
 -- ---- tasks that are missing
 
 -- counts of all calls
-made_in : (k : ℕ) (earlier calls : List Call) → made_by k (calls_in earlier (map Ok calls)) ≡ made_by k earlier + length (asked_by k calls)
+pub made_in : (k : ℕ) (earlier calls : List Call) → made_by k (calls_in earlier (map Ok calls)) ≡ made_by k earlier + length (asked_by k calls)
 made_in k earlier [] = plain (made_by k earlier)
   where
     plain : (n : ℕ) → n ≡ n + 0
@@ -152,7 +152,7 @@ made_in k earlier (c ∷ cs) =
     split true = omega arith
     split false = refl
 
-stopped_in : (k : ℕ) (earlier calls : List Call) → has_stopped k (calls_in earlier (map Ok calls)) ≡ (has_stopped k earlier || has_stopped k calls)
+pub stopped_in : (k : ℕ) (earlier calls : List Call) → has_stopped k (calls_in earlier (map Ok calls)) ≡ (has_stopped k earlier || has_stopped k calls)
 stopped_in k earlier [] = plain (has_stopped k earlier)
   where
     plain : (b : Bool) → b ≡ (b || false)
@@ -165,13 +165,13 @@ stopped_in k earlier (c ∷ cs) = stopped_in k (c ∷ earlier) cs ∙ turn (is_l
     turn true false d = refl
     turn false b d = refl
 
-not_both : (a b : ℕ) (s : Bool) → s ≡ false → (nat_le a b && not s) ≡ false → b < a
+pub not_both : (a b : ℕ) (s : Bool) → s ≡ false → (nat_le a b && not s) ≡ false → b < a
 not_both a b s e h = grind (arith, nat_tests)
 
-closed_more : (a b : ℕ) (s : Bool) → b < a → (nat_le a b && not s) ≡ false
+pub closed_more : (a b : ℕ) (s : Bool) → b < a → (nat_le a b && not s) ≡ false
 closed_more a b s h = grind (arith, nat_tests)
 
-closed_stop : (a b : ℕ) (s : Bool) → s ≡ true → (nat_le a b && not s) ≡ false
+pub closed_stop : (a b : ℕ) (s : Bool) → s ≡ true → (nat_le a b && not s) ≡ false
 closed_stop a b s e = ap (λ t. nat_le a b && not t) e ∙ never (nat_le a b)
   where
     never : (t : Bool) → (t && false) ≡ false
@@ -243,7 +243,7 @@ no_forms : (left : List (List ℕ)) → length left ≡ 0 → left ≡ []
 no_forms [] e = refl
 no_forms (x ∷ left) e = absurd (omega arith)
 
-forms_size : (xs : List Task) → length (forms xs) ≡ length xs
+pub forms_size : (xs : List Task) → length (forms xs) ≡ length xs
 forms_size [] = refl
 forms_size (x ∷ xs) = ap suc (forms_size xs)
 

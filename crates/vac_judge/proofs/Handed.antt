@@ -69,13 +69,14 @@ test a b =
 
 -- ---- work
 
-tasks_more : (client : ℕ) (work : List Asked) (a : Asked) → tasks_of client (work ++ a ∷ []) ≡ tasks_of client work ++ tasks_of client (a ∷ [])
-tasks_more client [] a = refl
-tasks_more client (b ∷ work) a =
-    let more = tasks_more client work a in
-    elim (b.client == client) as (λ v. cond v (b.task ∷ tasks_of client (work ++ a ∷ [])) (tasks_of client (work ++ a ∷ []))
-    ≡ cond v (b.task ∷ tasks_of client work) (tasks_of client work) ++ tasks_of client (a ∷ [])) [
-      | true ↦ ap (λ t. b.task ∷ t) more
+-- the tasks of a client in work of two parts
+pub tasks_both : (client : ℕ) (a b : List Asked) → tasks_of client (a ++ b) ≡ tasks_of client a ++ tasks_of client b
+tasks_both client [] b = refl
+tasks_both client (x ∷ a) b =
+    let more = tasks_both client a b in
+    elim (x.client == client) as (λ v. cond v (x.task ∷ tasks_of client (a ++ b)) (tasks_of client (a ++ b))
+    ≡ cond v (x.task ∷ tasks_of client a) (tasks_of client a) ++ tasks_of client b) [
+      | true ↦ ap (λ t. x.task ∷ t) more
       | false ↦ more
     ]
 
@@ -92,11 +93,11 @@ push_more old new client task tasks tasks' left had pushed l i c = λ work h. re
     | inl same ↦
         subst (λ q. listed (get new.tasks q) ≡ tasks_of q (work ++ asked_of (client, task) ∷ [])) same.1
         (ap (λ (m : FinMap nat_cmp (Vec Task)). listed (get m client)) i ∙ ap listed (get_here left client tasks') ∙ pushed ∙ ap (λ t. t ++ task ∷ []) (had ∙ h.tasks client)
-        ∙ ap (λ t. tasks_of client work ++ t) (ap (λ b. cond b (task ∷ []) []) (sym (itself client))) ∙ sym (tasks_more client work (asked_of (client, task))))
+        ∙ ap (λ t. tasks_of client work ++ t) (ap (λ b. cond b (task ∷ []) []) (sym (itself client))) ∙ sym (tasks_both client work (asked_of (client, task) ∷ [])))
     | inr other ↦
         ap (λ (m : FinMap nat_cmp (Vec Task)). listed (get m k)) i ∙ ap listed (get_other left client tasks' k other.1) ∙ ap (λ (m : FinMap nat_cmp (Vec Task)). listed (get m k)) l
         ∙ ap listed (get_left old.tasks client k other.1) ∙ h.tasks k ∙ sym (append-nil (tasks_of k work))
-        ∙ ap (λ t. tasks_of k work ++ t) (ap (λ b. cond b (task ∷ []) []) (sym other.0)) ∙ sym (tasks_more k work (asked_of (client, task)))
+        ∙ ap (λ t. tasks_of k work ++ t) (ap (λ b. cond b (task ∷ []) []) (sym other.0)) ∙ sym (tasks_both k work (asked_of (client, task) ∷ []))
   ];
 }
   where

@@ -9,5 +9,6 @@ pub mod Texts
 pub mod CallText
 pub mod Handed
 pub mod Done
+pub mod NotWhole
 pub mod Histories
 pub mod Stops

@@ -12,3 +12,4 @@ pub mod Work
 pub mod Holding
 pub mod HeldReading
 pub mod Whole
+pub mod NotWhole

@@ -3,6 +3,7 @@
 ghost use Rattle.vac_judge.specs.Laws.{LegalIsLinearization, LegalSummary};
 ghost use Rattle.vac_judge.specs.Wrongs.{IllegalIsFirstWrong, FaultIsFirst};
 ghost use Rattle.vac_judge.specs.Whole.{LegalIsWhole};
+ghost use Rattle.vac_judge.specs.NotWhole.{BadTasksIsFirst, ForeignIsFirst, MissingIsFirst};
 ghost use Rattle.std.specs.Prelude.{◌≡◌, ◌≤◌, length, true};
 ghost use Rattle.vac_model.specs.Ranges.{is_task};
 ghost use Rattle.vac_lines.specs.TaskText.{task_text};
@@ -47,6 +48,29 @@ pub fn a_fault_names_the_first_line_that_is_no_call()
 /// client one of whose calls was never answered, for the first of them.
 pub fn a_whole_history_is_of_all_the_work()
     ensures { LegalIsWhole }
+{
+    a_verdict_finds_the_linearizations();
+}
+
+/// Held against work, a history has the verdict that a line of the work hands out no task exactly
+/// where that line hands out none and those before it hand out one each.
+pub fn bad_tasks_name_the_first_line_without_a_task()
+    ensures { BadTasksIsFirst }
+{}
+
+/// It has the verdict that a line's task is foreign exactly where each line of the work hands out a
+/// task, the lines before that line are calls whose order is a linearization, each client's of them
+/// ask for its first tasks, in their order, and with the call of that line its client's do not.
+pub fn a_foreign_verdict_names_the_first_line_of_another_task()
+    ensures { ForeignIsFirst }
+{}
+
+/// It has the verdict that a client's task is missing exactly where each line of the work hands out
+/// a task, the history is legal by itself, each client's calls ask for its first tasks, in their
+/// order, and this is the first task of the work that no call asks for though each call of its
+/// client was answered.
+pub fn a_missing_verdict_names_the_first_task_that_is_left_out()
+    ensures { MissingIsFirst }
 {
     a_verdict_finds_the_linearizations();
 }

@@ -26,9 +26,11 @@ pub use held::{HeldVerdict, judge_work, print_held};
 pub use judge::Judge;
 pub use laws::{
     a_call_never_answered_is_read, a_fault_names_the_first_line_that_is_no_call,
-    a_legal_history_has_this_summary, a_verdict_finds_the_linearizations,
+    a_foreign_verdict_names_the_first_line_of_another_task, a_legal_history_has_this_summary,
+    a_missing_verdict_names_the_first_task_that_is_left_out, a_verdict_finds_the_linearizations,
     a_whole_history_is_of_all_the_work, an_answered_call_is_read,
-    an_illegal_verdict_names_the_first_wrong_line, call_texts_are_read, histories_are_read,
+    an_illegal_verdict_names_the_first_wrong_line, bad_tasks_name_the_first_line_without_a_task,
+    call_texts_are_read, histories_are_read,
 };
 pub use reading::judge_history;
 pub use verdict::{Summary, Verdict, Wrong, print_verdict};
