@@ -15,8 +15,8 @@ use Rattle.vac_order.specs.declared.ordering.Outcome.TheVariants as outcome
 use Rattle.vac_order.specs.Ordering.{HasText, HasOrdered}
 use Rattle.vac_order.specs.Ordering as order
 use Rattle.vac_opaque.specs.Reading as opaque
-use Rattle.vac_cli.specs.Judging.{Judges, JudgeStopped, WorkStopped}
-use Rattle.vac_cli.specs.Ordering.{OrderStopped, JudgesAnyOrder, status_of}
+use Rattle.vac_cli.specs.Judging.{Judges, JudgesHeld, JudgeStopped, WorkStopped}
+use Rattle.vac_cli.specs.Ordering.{OrderStopped, FindsNone, JudgesAnyOrder, JudgesAnyHeld, status_of}
 use Rattle.vac_cli.specs.Asking.{AttemptsStopped}
 use Rattle.vac_cli.proofs.Ending.{nothing_then}
 
@@ -91,23 +91,53 @@ is_order outcome.Ordered = true
 is_order outcome.Illegal = false
 is_order outcome.Undecided = false
 
+no_order : (found : Outcome) → is_order found ≡ false → found ≢ outcome.Ordered
+no_order found none e = let bad : true ≡ false = subst (λ (f : Outcome). is_order f ≡ false) e none in cc
+
 -- what was found was kept, and then written
 pub kept : (blocks steps : ℕ) (found : Outcome) (status : ℕ) (unread left held holds : Option (List ℕ)) (text : List ℕ) → is_order found ≡ false
     → HasOrdered blocks steps found unread left (Some []) (Some text)
-    → (Appends held holds text × (status ≡ status_of found)) ⊎ (AppendsPrefix held holds text × (status ≡ 1)) → JudgesAnyOrder blocks steps status unread left held holds
+    → (Appends held holds text × (status ≡ status_of found)) ⊎ (AppendsPrefix held holds text × (status ≡ 1)) → FindsNone blocks steps status unread left held holds
 kept blocks steps found status unread left held holds text none has (inl whole) =
-    let other : found ≢ outcome.Ordered = λ e. (let bad : true ≡ false = subst (λ (f : Outcome). is_order f ≡ false) e none in cc) in
-    inr (inl (found, other, whole.1, record { text = text; is = subst (HasText blocks steps unread left found) (sym has.written) has.is; written = whole.0 }))
+    inl (found, no_order found none, whole.1, record { text = text; is = subst (HasText blocks steps unread left found) (sym has.written) has.is; written = whole.0 })
 kept blocks steps found status unread left held holds text none has (inr part) =
-    inr (inr (part.1, inl (record { result = found; text = text; is = subst (HasText blocks steps unread left found) (sym has.written) has.is; written = part.0 })))
+    inr (
+      part.1,
+      inl (
+        record { result = found; text = text; is = subst (HasText blocks steps unread left found) (sym has.written) has.is; written = part.0 },
+        no_order found none,
+      ),
+    )
+
+-- the same where what was found and its text are known by other names
+pub kept_as : (blocks steps : ℕ) (given found : Outcome) (status : ℕ) (unread left held holds : Option (List ℕ)) (before text shown : List ℕ) → given ≡ found
+    → is_order found ≡ false → before ≡ [] → shown ≡ text → HasOrdered blocks steps given unread left (Some before) (Some text)
+    → (Appends held holds shown × (status ≡ status_of found)) ⊎ (AppendsPrefix held holds shown × (status ≡ 1)) → FindsNone blocks steps status unread left held holds
+kept_as blocks steps given found status unread left held holds before text shown e none f same has wrote =
+    kept blocks steps found status unread left held holds shown none
+    (subst (λ t. HasOrdered blocks steps found unread left (Some []) (Some t)) (sym same)
+    (subst (λ t. HasOrdered blocks steps found unread left (Some t) (Some text)) f
+    (subst (λ (o : Outcome). HasOrdered blocks steps o unread left (Some before) (Some text)) e has))) wrote
 
 -- a fault came before anything was found
 pub unordered : (blocks steps status : ℕ) (unread left held holds : Option (List ℕ)) (fault : StreamFault) → status ≡ 1 → (fault ≢ stream.Write) → AppendsPrefix held holds (fault_line fault)
-    → JudgesAnyOrder blocks steps status unread left held holds
-unordered blocks steps status unread left held holds fault one other line = inr (inr (one, inr (fault, other, line)))
+    → FindsNone blocks steps status unread left held holds
+unordered blocks steps status unread left held holds fault one other line = inr (one, inr (fault, other, line))
 
--- an order was kept, and then judged
-pub found_judged : (blocks steps status : ℕ) (unread left rest held holds : Option (List ℕ)) (text : List ℕ) → HasOrdered blocks steps outcome.Ordered unread left (Some []) (Some text)
-    → Judges blocks status (Some text) rest held holds → JudgesAnyOrder blocks steps status unread left held holds
-found_judged blocks steps status unread left rest held holds text has judged =
-    inl (record { text = text; order = subst (HasText blocks steps unread left outcome.Ordered) (sym has.written) has.is; rest = rest; judged = judged })
+-- an order was kept
+pub order_is_kept : (blocks steps : ℕ) (unread left : Option (List ℕ)) (text : List ℕ) → HasOrdered blocks steps outcome.Ordered unread left (Some []) (Some text)
+    → HasText blocks steps unread left outcome.Ordered text
+order_is_kept blocks steps unread left text has = subst (HasText blocks steps unread left outcome.Ordered) (sym has.written) has.is
+
+-- and then judged
+pub found_judged : (blocks steps status : ℕ) (unread left rest held middle holds : Option (List ℕ)) (text : List ℕ) → HasText blocks steps unread left outcome.Ordered text
+    → middle ≡ held → Judges blocks status (Some text) rest middle holds → JudgesAnyOrder blocks steps status unread left held holds
+found_judged blocks steps status unread left rest held middle holds text has same judged =
+    inl (record { text = text; order = has; rest = rest; judged = subst (λ h. Judges blocks status (Some text) rest h holds) same judged })
+
+-- or judged and held against work
+pub found_held : (tasks : Option (List ℕ)) (blocks steps status : ℕ) (unread left rest held middle holds : Option (List ℕ)) (text : List ℕ)
+    → HasText blocks steps unread left outcome.Ordered text → middle ≡ held → JudgesHeld tasks blocks status (Some text) rest middle holds
+    → JudgesAnyHeld tasks blocks steps status unread left held holds
+found_held tasks blocks steps status unread left rest held middle holds text has same judged =
+    inl (record { text = text; order = has; rest = rest; judged = subst (λ h. JudgesHeld tasks blocks status (Some text) rest h holds) same judged })

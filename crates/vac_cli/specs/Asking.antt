@@ -7,14 +7,7 @@ use Rattle.vac_streams.specs.declared.fault.StreamFault.TheVariants as stream
 use Rattle.vac_opaque.specs.Reading.{HasJudged, HasJudgedInPart}
 use Rattle.vac_cli.specs.Ending.{Ends, fault_line}
 use Rattle.vac_cli.specs.Judging.{Judges, JudgesWork}
-use Rattle.vac_cli.specs.Ordering.{JudgesAnyOrder}
-
--- an order and a file of tasks were asked for: the command line is refused, and nothing is read or
--- written
-abbrev pub RefusesBoth : ℕ → Option (List ℕ) → Option (List ℕ) → Option (List ℕ)
-    → Option (List ℕ) → Type 0
-RefusesBoth status unread left held holds =
-    (status ≡ 2) × (left ≡ unread) × (holds ≡ held)
+use Rattle.vac_cli.specs.Ordering.{JudgesAnyOrder, JudgesAnyWork}
 
 -- a history is judged in any order or in its own; where a file is named, it is held against the
 -- work in that, of which the bytes are known that this file has
@@ -27,7 +20,7 @@ JudgesAs files false (Some name) blocks steps status unread left held holds =
 JudgesAs files true None blocks steps status unread left held holds =
     JudgesAnyOrder blocks steps status unread left held holds
 JudgesAs files true (Some name) blocks steps status unread left held holds =
-    RefusesBoth status unread left held holds
+    JudgesAnyWork (files name.now) blocks steps status unread left held holds
 
 -- a fault ended a judgement of attempts: one of the output, and a prefix of the verdict was
 -- written; or another, and nothing was written but a prefix of the line that names it

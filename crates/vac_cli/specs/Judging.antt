@@ -54,12 +54,18 @@ abbrev pub NotOpened : ℕ → Option (List ℕ) → Option (List ℕ) → Type 
 NotOpened status held holds = (status ≡ 1) × (AppendsPrefix held holds unopened_line
     ⊎ AppendsPrefix held holds (fault_line Memory))
 
--- a history is judged and held against the work in a file of which these bytes are known: 0 where
--- it is legal and of all the work; where the file was not opened, nothing is read
-abbrev pub JudgesWork : Option (List ℕ) → ℕ → ℕ → Option (List ℕ) → Option (List ℕ)
+-- a history is judged and held against work of which these bytes are known: 0 where it is legal and
+-- of all the work
+abbrev pub JudgesHeld : Option (List ℕ) → ℕ → ℕ → Option (List ℕ) → Option (List ℕ)
     → Option (List ℕ) → Option (List ℕ) → Type 0
-JudgesWork tasks blocks status unread left held holds =
+JudgesHeld tasks blocks status unread left held holds =
     Ends status (HasHeldFile tasks blocks true unread left held holds)
     (HasHeldFile tasks blocks false unread left held holds
     ⊎ WorkStopped tasks blocks unread left held holds)
+
+-- the same of the work in a file; where that was not opened, nothing is read
+abbrev pub JudgesWork : Option (List ℕ) → ℕ → ℕ → Option (List ℕ) → Option (List ℕ)
+    → Option (List ℕ) → Option (List ℕ) → Type 0
+JudgesWork tasks blocks status unread left held holds =
+    JudgesHeld tasks blocks status unread left held holds
     ⊎ ((left ≡ unread) × NotOpened status held holds)

@@ -3,20 +3,20 @@
 ghost use Rattle.std.specs.Prelude.{◌≡◌, true};
 ghost use Rattle.vac_model.specs.Ranges.{is_block_count};
 ghost use Rattle.vac_cli.specs.Ending.{as_stream_fault};
-ghost use Rattle.vac_cli.specs.Judging.{Judges, JudgesWork, NotOpened};
+ghost use Rattle.vac_cli.specs.Judging.{Judges, JudgesHeld, JudgesWork, NotOpened};
+ghost use Rattle.vac_cli.specs.Ordering.{JudgesAnyWork};
 ghost use Rattle.vac_cli.specs.Asking.{JudgesAs, JudgesAttempts};
 
 use crate::files::Open;
-use crate::searching::judge_any_order;
-use crate::status::{DONE, FAULT, REFUSED, end_by, end_unopened};
+use crate::searching::{judge_any_held, judge_any_order};
+use crate::status::{DONE, FAULT, end_by, end_unopened};
 use std::alloc::Global;
 use std::io;
 use std::io::{ErrorKind, Read, Write};
 use std::time::Clock;
 use vac_judge::{JudgeFault, judge_history, judge_work};
-use vac_lines::write_and_flush;
 use vac_opaque::judge_attempts;
-use vac_options::Judging;
+use vac_options::{Judging, Search};
 use vac_streams::StreamFault;
 
 /// The fault of the same name.
@@ -60,6 +60,27 @@ fn end_unopened_by<W: Write>(error: &io::Error, output: &mut W) -> u8
     }
 }
 
+/// Judges a history, holds it against tasks, and returns the status: 0 where it is legal and of all
+/// the tasks.
+pub(crate) fn judge_held<F: Read, R: Read, W: Write>(
+    alloc: Global,
+    blocks: u32,
+    tasks: &mut F,
+    input: &mut R,
+    output: &mut W,
+) -> u8
+    requires { is_block_count blocks ≡ true }
+    ensures { JudgesHeld (F.remaining tasks.old) blocks result
+        (R.remaining input.old) (R.remaining input.new)
+        (W.contents output.old) (W.contents output.new) }
+{
+    match judge_work(alloc, blocks, tasks, input, output) {
+        Ok(true) => DONE,
+        Ok(false) => FAULT,
+        Err(fault) => end_by(as_stream_fault(fault), output),
+    }
+}
+
 /// Judges a history, holds it against the tasks in the file of this name, and returns the status: 0
 /// where it is legal and of all the tasks.
 fn judge_by_file<F: Open, R: Read, W: Write>(
@@ -75,27 +96,33 @@ fn judge_by_file<F: Open, R: Read, W: Write>(
         (R.remaining input.old) (R.remaining input.new)
         (W.contents output.old) (W.contents output.new) }
 {
-    let mut tasks = match files.open(name) {
-        Ok(tasks) => tasks,
-        Err(error) => return end_unopened_by(&error, output),
-    };
-    match judge_work(alloc, blocks, &mut tasks, input, output) {
-        Ok(true) => DONE,
-        Ok(false) => FAULT,
-        Err(fault) => end_by(as_stream_fault(fault), output),
+    match files.open(name) {
+        Ok(mut tasks) => judge_held(alloc, blocks, &mut tasks, input, output),
+        Err(error) => end_unopened_by(&error, output),
     }
 }
 
-/// Says that an order cannot be looked for where a file of tasks is named, and returns the status
-/// of a refused command line.
-fn refuse_both<E: Write>(errors: &mut E) -> u8
-    ensures { result ≡ 2 }
+/// Judges a history in an order that is found, holds it against the tasks in the file of this name,
+/// and returns the status.
+fn judge_any_by_file<T: Clock + AllocGlobal, F: Open, R: Read, W: Write, E: Write>(
+    rt: &T,
+    files: &F,
+    name: &str,
+    blocks: u32,
+    search: Search,
+    input: &mut R,
+    output: &mut W,
+    errors: &mut E,
+) -> u8
+    requires { is_block_count blocks ≡ true }
+    ensures { JudgesAnyWork (F.holds files.now name.now) blocks search.steps result
+        (R.remaining input.old) (R.remaining input.new)
+        (W.contents output.old) (W.contents output.new) }
 {
-    let _ = write_and_flush(
-        errors,
-        b"error: --any-order and --tasks do not go together\n",
-    );
-    REFUSED
+    match files.open(name) {
+        Ok(mut tasks) => judge_any_held(rt, blocks, search, &mut tasks, input, output, errors),
+        Err(error) => end_unopened_by(&error, output),
+    }
 }
 
 /// Judges a history as it is asked for, and returns the status.
@@ -119,7 +146,9 @@ pub(crate) fn judge<T: Clock + AllocGlobal, F: Open, R: Read, W: Write, E: Write
         (false, None) => judge_alone(alloc, blocks, input, output),
         (false, Some(name)) => judge_by_file(alloc, files, name, blocks, input, output),
         (true, None) => judge_any_order(rt, blocks, how.search, input, output, errors),
-        (true, Some(_)) => refuse_both(errors),
+        (true, Some(name)) => {
+            judge_any_by_file(rt, files, name, blocks, how.search, input, output, errors)
+        }
     }
 }
 

@@ -1,0 +1,14 @@
+use Rattle.std.proofs.Common.{ℕ, List, inr, sym, subst}
+use Rattle.vac_order.specs.declared.ordering.Outcome.TheVariants as outcome
+use Rattle.vac_order.specs.Ordering.{HasText}
+use Rattle.vac_cli.proofs.Judgement.{found_held}
+use Rattle.vac_cli.proofs.searching.judge_any_held.Goals as goal
+
+pub returns-in-Ok : goal.returns-in-Ok
+returns-in-Ok g c =
+    found_held _ _ _ _ _ _ _ _ _ _ c.as_slice-order.result.now
+    (subst (λ (t : List ℕ). HasText c.args.blocks c.args.search.steps (g.R.Read.remaining c.args.input.now) (g.R.Read.remaining c.order_kept.new.input) outcome.Ordered t)
+    (sym c.as_slice-order.ensures.value) c.in-Ok.ensures.order) c.in-Ok.ensures.unwritten c.judge_held.ensures
+
+pub returns-in-Err : goal.returns-in-Err
+returns-in-Err g c = inr c.in-Err.ensures.none
