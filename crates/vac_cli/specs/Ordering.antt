@@ -43,8 +43,8 @@ HasRefusedInPart blocks steps unread left held holds =
     (part : HasOrderedInPart blocks steps unread left held holds)
     × (part.result ≢ outcome.Ordered)
 
--- no order is found, and that is written; or a fault ended the search, and the lines of an order are
--- not written
+-- no order is found, and that is written; or a fault ended the search, and the lines of an order
+-- are not written
 abbrev pub FindsNone : ℕ → ℕ → ℕ → Option (List ℕ) → Option (List ℕ) → Option (List ℕ)
     → Option (List ℕ) → Type 0
 FindsNone blocks steps status unread left held holds =
