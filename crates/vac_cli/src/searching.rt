@@ -143,7 +143,7 @@ fn order_kept<T: Clock + AllocGlobal, R: Read, W: Write, E: Write>(
     }
 }
 
-/// Judges a history in an order that is found, or says that there is none, and answers the status.
+/// Judges a history in an order that is found, or says that there is none, and returns the status.
 pub(crate) fn judge_any_order<T: Clock + AllocGlobal, R: Read, W: Write, E: Write>(
     rt: &T,
     blocks: u32,
@@ -166,7 +166,7 @@ pub(crate) fn judge_any_order<T: Clock + AllocGlobal, R: Read, W: Write, E: Writ
     }
 }
 
-/// The same, and holds the history against tasks.
+/// Judges a history in an order that is found, holds it against tasks, and returns the status.
 pub(crate) fn judge_any_held<T: Clock + AllocGlobal, F: Read, R: Read, W: Write, E: Write>(
     rt: &T,
     blocks: u32,
