@@ -68,12 +68,12 @@ fn walk_items(
     ensures size { length reached.new.items ≡ length reached.old.items }
     ensures ran { ItemsRan words.now reached.old.items reached.new.items notes.new result }
 {
-    let cars =
-        walk_table(alloc, words, reached, notes, Table::Items(Kind::Car), CARS.0 as usize)?;
-    let flights =
-        walk_table(alloc, words, reached, notes, Table::Items(Kind::Flight), FLIGHTS.0 as usize)?;
-    let rooms =
-        walk_table(alloc, words, reached, notes, Table::Items(Kind::Room), ROOMS.0 as usize)?;
+    let table = Table::Items(Kind::Car);
+    let cars = walk_table(alloc, words, reached, notes, table, CARS.0 as usize)?;
+    let table = Table::Items(Kind::Flight);
+    let flights = walk_table(alloc, words, reached, notes, table, FLIGHTS.0 as usize)?;
+    let table = Table::Items(Kind::Room);
+    let rooms = walk_table(alloc, words, reached, notes, table, ROOMS.0 as usize)?;
     Ok(Kinds {
         cars,
         flights,
@@ -96,7 +96,8 @@ fn walk_customers(
     ensures ran { CustomersRan words.now reached.old.items reached.new.items
         notes.old notes.new result }
 {
-    walk_table(alloc, words, reached, notes, Table::Customers, CUSTOMERS.0 as usize)
+    let table = Table::Customers;
+    walk_table(alloc, words, reached, notes, table, CUSTOMERS.0 as usize)
 }
 
 /// Looks for an item whose used units are not as many as are booked of it.
