@@ -1,7 +1,7 @@
-//! The search that stm_object has for bodies, over plain memory.
+//! The searches that stm_object has for bodies, over plain memory.
 
 use std::test::Fail;
-use stm_object::find;
+use stm_object::{find, seek};
 use tx_memory::Flat;
 
 #[test]
@@ -23,5 +23,23 @@ fn the_first_of_a_range(rt: HostRuntime) -> Result<(), Fail> {
     assert_eq!(rt; empty.ok(), Some(None));
     assert_eq!(rt; turned.ok(), Some(None));
     assert_eq!(rt; words.as_slice(), [7u64, 5, 9, 5].as_slice());
+    Ok(())
+}
+
+#[test]
+fn the_word_or_else_the_first_free(rt: HostRuntime) -> Result<(), Fail> {
+    let mut flat = Flat::new(vec![in rt.alloc(); 7u64, 0, 5, 0, 5]?);
+    let there = seek(&mut flat, 0, 5, 5);
+    let first_free = seek(&mut flat, 0, 5, 9);
+    let next_free = seek(&mut flat, 2, 5, 7);
+    let full = seek(&mut flat, 2, 3, 9);
+    let empty = seek(&mut flat, 3, 3, 0);
+    let words = flat.words();
+    assert_eq!(rt; there.ok(), Some(Some(2)));
+    assert_eq!(rt; first_free.ok(), Some(Some(1)));
+    assert_eq!(rt; next_free.ok(), Some(Some(3)));
+    assert_eq!(rt; full.ok(), Some(None));
+    assert_eq!(rt; empty.ok(), Some(None));
+    assert_eq!(rt; words.as_slice(), [7u64, 0, 5, 0, 5].as_slice());
     Ok(())
 }

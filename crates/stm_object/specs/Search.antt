@@ -1,5 +1,5 @@
 -- What a search through the words of a memory finds.
-use Rattle.std.proofs.Common.{◌≡◌, ◌≢◌, ℕ, ◌+◌, ◌<◌, ◌≤◌, inl, inr, List, Option, Some, None, IfSome, slice_index, refl, sym, ◌∙◌, arith}
+use Rattle.std.proofs.Common.{◌≡◌, ◌≢◌, ℕ, ◌+◌, ◌<◌, ◌≤◌, ◌⊎◌, inl, inr, List, Option, Some, None, IfSome, slice_index, refl, sym, ◌∙◌, arith}
 use Rattle.tx_memory.specs.View.{View, Sees, Loaded, mem}
 use Rattle.tx_memory.specs.Seen.{same_or}
 use Rattle.stm_object.specs.Steps.{OnlyRead, Step, then_read, read_by, read_step}
@@ -61,3 +61,70 @@ find_step {s = s} {from = from} {end = end} {word = word} {found = found} h le =
     read_step h.only (λ image i xs are.
     same_first (λ a. slice_index xs a) (mem s image) from end word found
     (λ a less. are.each a (omega (arith, less, le))) (h.first image i))
+
+-- of these addresses, this one is for the word: it is the first that has it, or none has it and it
+-- is the first that has 0; or none has either
+abbrev pub IsSlot : (ℕ → ℕ) → ℕ → ℕ → ℕ → Option ℕ → Type 0
+IsSlot m from end word None = IsFirst m from end word None × IsFirst m from end 0 None
+IsSlot m from end word (Some b) =
+    IsFirst m from end word (Some b)
+    ⊎ (IsFirst m from end word None × IsFirst m from end 0 (Some b))
+
+-- only reads were made, and the search for a slot found this, under each image that there may be
+pub record Sought (s s' : View) (from end word : ℕ) (found : Option ℕ) : Type 0 where
+  pub only : OnlyRead s s'
+  pub range : IfSome found (λ a. (from ≤ a) × (a < end))
+  pub slot : (image : List ℕ) → Sees s' image → IsSlot (mem s image) from end word found
+
+-- the word is found
+pub found_one : {s s' : View} {from end word a : ℕ} → Searched s s' from end word (Some a) →
+    Sought s s' from end word (Some a)
+found_one h = record { only = h.only; range = h.range; slot = λ image i. inl (h.first image i) }
+
+-- it is not, and the first 0 is looked for
+pub found_free : {s s' s'' : View} {from end word : ℕ} {found : Option ℕ} →
+    Searched s s' from end word None → Searched s' s'' from end 0 found →
+    Sought s s'' from end word found
+found_free {s} {s'} {s''} {from} {end} {word} {found = None} h k = record {
+  only = then_read s s' s'' h.only k.only;
+  range = k.range;
+  slot = λ image i.
+      let same : (a : ℕ) → a < end → mem s image a ≡ mem s' image a =
+      λ a less. rw h.only.writes refl in (
+        h.first image (k.only.kept.seen image i),
+        same_first (mem s image) (mem s' image) from end 0 None same (k.first image i),
+      );
+}
+found_free {s} {s'} {s''} {from} {end} {word} {found = Some b} h k = record {
+  only = then_read s s' s'' h.only k.only;
+  range = k.range;
+  slot = λ image i.
+      let same : (a : ℕ) → a < end → mem s image a ≡ mem s' image a =
+      λ a less. rw h.only.writes refl in
+      inr (
+        h.first image (k.only.kept.seen image i),
+        same_first (mem s image) (mem s' image) from end 0 (Some b) same (k.first image i),
+      );
+}
+
+same_slot : (m m' : ℕ → ℕ) (from end word : ℕ) (found : Option ℕ) →
+    ((a : ℕ) → a < end → m a ≡ m' a) → IsSlot m' from end word found → IsSlot m from end word found
+same_slot m m' from end word None same h = (
+  same_first m m' from end word None same h.0,
+  same_first m m' from end 0 None same h.1,
+)
+same_slot m m' from end word (Some b) same (inl h) =
+    inl (same_first m m' from end word (Some b) same h)
+same_slot m m' from end word (Some b) same (inr h) = inr (
+  same_first m m' from end word None same h.0,
+  same_first m m' from end 0 (Some b) same h.1,
+)
+
+-- the search for a slot as a step
+pub seek_step : {n : ℕ} {s s' : View} {from end word : ℕ} {found : Option ℕ} →
+    Sought s s' from end word found → end ≤ n →
+    Step n s s' (λ xs. IsSlot (λ a. slice_index xs a) from end word found) (λ xs. xs)
+seek_step {s = s} {from = from} {end = end} {word = word} {found = found} h le =
+    read_step h.only (λ image i xs are.
+    same_slot (λ a. slice_index xs a) (mem s image) from end word found
+    (λ a less. are.each a (omega (arith, less, le))) (h.slot image i))

@@ -1,12 +1,13 @@
 -- Maps in slots: a slot has a word for its key, which is one more than the key, or 0 where the slot
 -- is free, and a word for its value. Where these words lie, two functions say.
-use Rattle.std.proofs.Common.{◌≡◌, ◌≢◌, ◌⊎◌, inl, inr, ℕ, zero, suc, ◌+◌, ◌<◌, true, false, Option, Some, None, refl, sym, ap, ◌∙◌, subst, cond, is_some, arith}
+use Rattle.std.proofs.Common.{◌≡◌, ◌≢◌, ◌⊎◌, inl, inr, ℕ, zero, suc, ◌+◌, ◌<◌, ◌≤◌, true, false, Option, Some, None, refl, sym, ap, ◌∙◌, subst, cond, is_some, arith}
 use Rattle.std.specs.FinMap.{get, insert, remove, empty, len, get-empty, get-remove, len-empty, len-insert, same_map, nat_cmp-IsAntisymmetric}
 use Rattle.std.specs.Ordering.{nat_cmp, eq_by_cmp}
 use Rattle.std.proofs.lemmas.Cmp.{nat_cmp_total}
 use Rattle.std.proofs.lemmas.Bool.Decides.{nat_tests}
 use Rattle.tx_memory.specs.View.{Words}
 use Rattle.tx_memory.specs.Seen.{same_or, get_here, get_other}
+use Rattle.stm_object.specs.Search.{IsSlot}
 
 -- a map, and what a slot has beside it
 abbrev with_slot : ℕ → ℕ → Words → Words
@@ -255,6 +256,38 @@ full_in key value (suc n) apart none =
     alone_at key (suc n) n k apart (omega arith) is j (omega (arith, l)) (omega (arith, l))))
     ∙ ap suc rest
 
+counted : (o : Option ℕ) (n c : ℕ) → c ≡ cond (is_some o) n (n + 1) → c ≤ n + 1
+counted None n c e = omega (arith, e)
+counted (Some x) n c e = omega (arith, e)
+
+slot_more : (w x : ℕ) (m : Words) → len (with_slot w x m) ≤ len m + 1
+slot_more zero x m = omega arith
+slot_more (suc k) x m = counted (get m k) (len m) _ (len-insert nat_cmp_total m k x)
+
+-- it has no more entries than there are slots
+pub len_in : (key value : ℕ → ℕ) (n : ℕ) → len (map_in key value n) ≤ n
+unfolding map_in
+len_in key value zero = let none = len-empty nat_cmp ℕ in omega (arith, none)
+len_in key value (suc n) =
+    let rest = len_in key value n in
+    let more = slot_more (key n) (value n) (map_in key value n) in
+    omega (arith, rest, more)
+
+-- and fewer where a slot is free
+pub room_in : (key value : ℕ → ℕ) (n i : ℕ) → i < n → key i ≡ 0 → len (map_in key value n) < n
+unfolding map_in
+room_in key value zero i less free = absurd (omega (arith, less))
+room_in key value (suc n) i less free = elim (same_or i n) [
+  | inl last ↦ (
+      let here : key n ≡ 0 = subst (λ (j : ℕ). key j ≡ 0) last free in
+      let rest = len_in key value n in
+      rw here (omega (arith, rest)))
+  | inr before ↦ (
+      let rest = room_in key value n i (omega (arith, less, before)) free in
+      let more = slot_more (key n) (value n) (map_in key value n) in
+      omega (arith, rest, more))
+]
+
 -- with all slots free it is empty
 pub empty_in : (key value : ℕ → ℕ) (n : ℕ) → ((j : ℕ) → j < n → key j ≡ 0) →
     map_in key value n ≡ empty
@@ -299,3 +332,8 @@ put_apart key key' n i k apart place set =
 pub freed_apart : (key key' : ℕ → ℕ) (n i : ℕ) → AreApart key n → IsSet n key key' i 0 →
     AreApart key' n
 freed_apart key key' n i apart set = apart_set key key' n i 0 apart set (inl refl)
+
+-- a search for a slot, where the keys are the first words, finds a place
+pub place_in : (key : ℕ → ℕ) (n word i : ℕ) → IsSlot key 0 n word (Some i) → IsPlace key n word i
+place_in key n word i (inl h) = (h.1, inl h.2)
+place_in key n word i (inr h) = (h.1.1, inr (h.1.2, λ j less. h.0 j (omega arith) less))

@@ -8,5 +8,5 @@ mod shared;
 
 pub use object::{Object, ObjectLaw};
 pub use run::{Body, Query, ask, ask_once, attempt_once, transact};
-pub use search::find;
+pub use search::{find, seek};
 pub use shared::{Shared, User};

@@ -1,7 +1,7 @@
 //! A search through the words of a memory.
 
 ghost use Rattle.std.specs.Prelude.{◌≡◌, ◌≤◌, IfOk, IfErr};
-ghost use Rattle.stm_object.specs.Search.{Searched};
+ghost use Rattle.stm_object.specs.Search.{Searched, Sought};
 
 use tx_memory::{Addr, TxRead, load};
 
@@ -28,4 +28,26 @@ pub fn find<M: TxRead>(
         }
     }
     Ok(None)
+}
+
+/// The address for a word, from `from` on and below `end`: the first whose word is this one, or
+/// where there is none the first whose word is 0.
+///
+/// Not said: what `find` does not say.
+pub fn seek<M: TxRead>(
+    memory: &mut M,
+    from: u32,
+    end: u32,
+    word: u64,
+) -> Result<Option<u32>, M::Stop>
+    requires { end ≤ (M.view memory.old).size }
+    ensures origin { M.origin memory.new ≡ M.origin memory.old }
+    ensures answer { IfOk result (λ found.
+        Sought (M.view memory.old) (M.view memory.new) from end word found) }
+    ensures stopped { IfErr result (λ stop. M.stopped_for memory.new stop) }
+{
+    match find(memory, from, end, word)? {
+        Some(address) => Ok(Some(address)),
+        None => find(memory, from, end, 0),
+    }
 }
