@@ -1,13 +1,13 @@
 -- Maps in slots: a slot has a word for its key, which is one more than the key, or 0 where the slot
 -- is free, and a word for its value. Where these words lie, two functions say.
-use Rattle.std.proofs.Common.{◌≡◌, ◌≢◌, ◌⊎◌, inl, inr, ℕ, zero, suc, ◌+◌, ◌<◌, ◌≤◌, true, false, Option, Some, None, refl, sym, ap, ◌∙◌, subst, cond, is_some, arith}
+use Rattle.std.proofs.Common.{◌≡◌, ◌≢◌, ◌⊎◌, inl, inr, ℕ, zero, suc, ◌+◌, ◌<◌, ◌≤◌, true, false, List, length, slice_index, slice_set, get_or-set_same, get_or-set_other, Option, Some, None, refl, sym, ap, ◌∙◌, subst, cond, is_some, arith}
 use Rattle.std.specs.FinMap.{get, insert, remove, empty, len, get-empty, get-remove, len-empty, len-insert, same_map, nat_cmp-IsAntisymmetric}
 use Rattle.std.specs.Ordering.{nat_cmp, eq_by_cmp}
 use Rattle.std.proofs.lemmas.Cmp.{nat_cmp_total}
 use Rattle.std.proofs.lemmas.Bool.Decides.{nat_tests}
 use Rattle.tx_memory.specs.View.{Words}
 use Rattle.tx_memory.specs.Seen.{same_or, get_here, get_other}
-use Rattle.stm_object.specs.Search.{IsSlot}
+use Rattle.stm_object.specs.Search.{IsFirst, IsSlot}
 
 -- a map, and what a slot has beside it
 abbrev with_slot : ℕ → ℕ → Words → Words
@@ -337,3 +337,26 @@ freed_apart key key' n i apart set = apart_set key key' n i 0 apart set (inl ref
 pub place_in : (key : ℕ → ℕ) (n word i : ℕ) → IsSlot key 0 n word (Some i) → IsPlace key n word i
 place_in key n word i (inl h) = (h.1, inl h.2)
 place_in key n word i (inr h) = (h.1.1, inr (h.1.2, λ j less. h.0 j (omega arith) less))
+
+-- one that finds none of a word
+pub none_at : (key : ℕ → ℕ) (n word : ℕ) → IsFirst key 0 n word None → HasNone key n word
+none_at key n word h = λ j less. h j (omega arith) less
+
+-- what the map has of a key, for which this is the place
+pub had_in : (key value : ℕ → ℕ) (n i k : ℕ) → AreApart key n → IsPlace key n (k + 1) i →
+    (key i ≡ k + 1 → get (map_in key value n) k ≡ Some (value i))
+    × (key i ≢ k + 1 → get (map_in key value n) k ≡ None)
+had_in key value n i k apart (less, inl is) =
+    (λ e. value_in key value n i k apart less e, λ ne. absurd (ne is))
+had_in key value n i k apart (less, inr free) = (
+  λ e. (let never : 0 ≡ k + 1 = sym free.0 ∙ e in absurd (omega (arith, never))),
+  λ ne. none_in key value n k free.1,
+)
+
+-- a store sets one of the words from b on
+pub set_at : (xs : List ℕ) (b n i w : ℕ) → b + i < length xs →
+    IsSet n (λ j. slice_index xs (b + j)) (λ j. slice_index (slice_set xs (b + i) w) (b + j)) i w
+set_at xs b n i w less = record {
+  here = get_or-set_same xs (b + i) w 0 less;
+  others = λ j l ne. get_or-set_other xs (b + i) (b + j) w 0 (omega (arith, ne));
+}
