@@ -7,7 +7,7 @@ use Rattle.std.proofs.KnownBytes.{Appends-nil}
 use Rattle.vac_lines.specs.Script.{as_line}
 use Rattle.vac_judge.specs.CallText.{call_text, history_text}
 use Rattle.vac_lines.specs.Writing.{AppendsPrefix}
-use Rattle.vac_worklist.specs.Sending.{Sent}
+use Rattle.vac_streams.specs.Sent.{Sent}
 use Rattle.vac_worklist.proofs.Texts.{sent_both, part_second, prefix_longer, prefix_is, none_written, sent_end, sent_end_in_part}
 use Rattle.vac_manager.specs.declared.note.Note.{Note}
 use Rattle.vac_history.specs.Order.{Entry, entries_from}

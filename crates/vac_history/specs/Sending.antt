@@ -4,7 +4,7 @@ use Rattle.vac_lines.specs.TaskText.{task_text}
 use Rattle.vac_lines.specs.Text.{reply_text}
 use Rattle.vac_manager.specs.declared.note.Note.{Note}
 use Rattle.vac_lines.specs.Writing.{AppendsPrefix}
-use Rattle.vac_worklist.specs.Sending.{Sent}
+use Rattle.vac_streams.specs.Sent.{Sent}
 use Rattle.vac_history.specs.Order.{Entry}
 use Rattle.vac_history.specs.Picking.{PicksAll, Merges}
 use Rattle.vac_history.specs.History.{entries_text}

@@ -5,7 +5,7 @@ ghost use Rattle.std.specs.List.{list_all};
 ghost use Rattle.vac_lines.specs.Script.{as_line};
 ghost use Rattle.vac_judge.specs.CallText.{call_text};
 ghost use Rattle.vac_lines.specs.Writing.{AppendsPrefix};
-ghost use Rattle.vac_worklist.specs.Sending.{Sent};
+ghost use Rattle.vac_streams.specs.Sent.{Sent};
 ghost use Rattle.vac_history.specs.Order.{entries_from};
 ghost use Rattle.vac_history.specs.Rests.{left_of, entry_of};
 ghost use Rattle.vac_history.specs.History.{call_of, kept_by, are_whole};
@@ -22,7 +22,8 @@ use std::io::Write;
 use vac_lines::{print_reply, print_task};
 use vac_manager::Note;
 use vac_model::Reply;
-use vac_worklist::{OPENING, send_chunk, send_rest};
+use vac_streams::{send_chunk, send_rest};
+use vac_worklist::OPENING;
 
 /// Appends a number and a space.
 fn append_number(hand: &mut Vec<u8>, number: u64) -> Result<(), AllocError>

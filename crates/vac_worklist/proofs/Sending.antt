@@ -12,7 +12,8 @@ use Rattle.vac_draws.specs.Tasks.{task_of, stocks, customers, opening, DrawnTask
 use Rattle.vac_draws.proofs.Drawing.{drawn_always, drawn_then_always, drawn_joined, drawn_one, plus_one}
 use Rattle.vac_lines.specs.Writing.{AppendsPrefix}
 use Rattle.vac_worklist.specs.Worklist.{task_line, opening_line, DrawnLines, IsTextOf, WroteTasksPrefix}
-use Rattle.vac_worklist.specs.Sending.{Sent, SentLines, SentInPart, SentTasks}
+use Rattle.vac_streams.specs.Sent.{Sent}
+use Rattle.vac_worklist.specs.Sending.{SentLines, SentInPart, SentTasks}
 use Rattle.vac_worklist.proofs.Texts.{sent_nothing, sent_both, part_second, part_first, prefix_is, prefix_longer, none_written, sent_end_in_part}
 use Rattle.vac_worklist.proofs.Totals.{IsTotal, task_total, times_total, opening_total}
 

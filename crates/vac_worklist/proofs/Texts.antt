@@ -4,7 +4,7 @@ use Rattle.std.proofs.Math.Seq.{take-append_seam}
 use Rattle.std.specs.Io.KnownBytes.{Appends, Keeps}
 use Rattle.std.proofs.KnownBytes.{Appends-nil, Appends-trans, Appends-kept}
 use Rattle.vac_lines.specs.Writing.{AppendsPrefix}
-use Rattle.vac_worklist.specs.Sending.{Sent}
+use Rattle.vac_streams.specs.Sent.{Sent}
 
 -- what follows from a fact of success or of failure
 pub on_ok_map : {T E P Q : Type 0} (r : Result T E) → (P → Q) → OnOk r P → OnOk r Q

@@ -1,17 +1,11 @@
 -- Lines that are gathered before they are written.
-use Rattle.std.specs.Prelude.{◌≡◌, ℕ, List, [], ◌++◌, Option}
-use Rattle.std.specs.Io.KnownBytes.{Appends}
+use Rattle.std.specs.Prelude.{ℕ, List, [], ◌++◌, Option}
 use Rattle.rand_pcg.specs.Lcg.{Lcg}
 use Rattle.vac_draws.specs.declared.settings.Settings.{Settings}
 use Rattle.vac_draws.specs.Draws.{Reader}
 use Rattle.vac_lines.specs.Writing.{AppendsPrefix}
+use Rattle.vac_streams.specs.Sent.{Sent}
 use Rattle.vac_worklist.specs.Worklist.{DrawnLines, IsTextOf}
-
--- of the text at hand and of a text after it some was written, and the rest is at hand
-pub record Sent (held holds : Option (List ℕ)) (hand hand' text : List ℕ) : Type 0 where
-  pub front : List ℕ
-  pub written : Appends held holds front
-  pub all : hand ++ text ≡ front ++ hand'
 
 -- the lines of drawn items were sent in this way
 pub record SentLines {X : Type 0} (reader : Reader (List X)) (line : X → List ℕ)

@@ -1,5 +1,5 @@
 -- The tasks of a load as text, one a line, and what writing them out does.
-use Rattle.std.specs.Prelude.{◌≡◌, ℕ, zero, suc, ◌*◌, List, ◌++◌, Option, take, codes}
+use Rattle.std.specs.Prelude.{◌≡◌, ℕ, zero, suc, ◌*◌, List, ◌++◌, Option, codes}
 use Rattle.std.specs.Prelude.{decimal, flat_map}
 use Rattle.std.specs.Io.KnownBytes.{Appends}
 use Rattle.rand_pcg.specs.Lcg.{Lcg}

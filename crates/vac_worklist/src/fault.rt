@@ -4,7 +4,6 @@ ghost use Rattle.std.specs.Prelude.{◌≡◌};
 
 use std::alloc::AllocError;
 use thiserror::Error;
-use vac_lines::NotWritten;
 
 /// Why the tasks of a load were not written to their end.
 #[derive(Clone, Copy, Debug, PartialEq, Eq, Error)]
@@ -27,15 +26,5 @@ impl From<AllocError> for TasksFault {
 
     fn from(_error: AllocError) -> TasksFault {
         TasksFault::Memory
-    }
-}
-
-impl From<NotWritten> for TasksFault {
-    ghost use Rattle.vac_worklist.specs.declared.fault.TasksFault.TheVariants.{Write};
-
-    ghost from_gives = { λ _ fault. fault ≡ Write };
-
-    fn from(_error: NotWritten) -> TasksFault {
-        TasksFault::Write
     }
 }

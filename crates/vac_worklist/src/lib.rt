@@ -8,10 +8,8 @@ mod laws;
 mod lines;
 mod opening;
 mod worklist;
-mod writing;
 
 pub use fault::TasksFault;
 pub use laws::{drawn_lines_are_read, tasks_have_one_text};
 pub use opening::OPENING;
 pub use worklist::write_tasks;
-pub use writing::{send_chunk, send_rest};

@@ -4,14 +4,14 @@ ghost use Rattle.std.specs.Prelude.{◌≡◌, ◌≢◌, ◌++◌, OnOk, OnErr,
 ghost use Rattle.vac_worklist.specs.declared.fault.TasksFault.TheVariants.{Arguments};
 ghost use Rattle.vac_lines.specs.Writing.{AppendsPrefix};
 ghost use Rattle.vac_worklist.specs.Worklist.{task_line};
-ghost use Rattle.vac_worklist.specs.Sending.{Sent};
+ghost use Rattle.vac_streams.specs.Sent.{Sent};
 
 use crate::fault::TasksFault;
-use crate::writing::send_chunk;
 use std::alloc::AllocError;
 use std::io::Write;
 use vac_lines::{print_reply, print_task};
 use vac_model::{Reply, Task};
+use vac_streams::send_chunk;
 
 /// Appends the line of a client's task.
 fn append_line(hand: &mut Vec<u8>, client: u32, task: &Task) -> Result<(), AllocError>
@@ -37,5 +37,8 @@ pub(crate) fn send_line<W: Write>(
     ensures in_range { IfErr result (λ fault. fault ≢ Arguments) }
 {
     append_line(hand, client, task)?;
-    send_chunk(output, hand)
+    match send_chunk(output, hand) {
+        Ok(()) => Ok(()),
+        Err(_) => Err(TasksFault::Write),
+    }
 }

@@ -8,7 +8,8 @@ ghost use Rattle.vac_draws.specs.Tasks.{stock, stocks, customers, opening};
 ghost use Rattle.vac_worklist.specs.declared.fault.TasksFault.TheVariants.{Arguments};
 ghost use Rattle.vac_lines.specs.Writing.{AppendsPrefix};
 ghost use Rattle.vac_worklist.specs.Worklist.{opening_line};
-ghost use Rattle.vac_worklist.specs.Sending.{Sent, SentLines, SentInPart};
+ghost use Rattle.vac_streams.specs.Sent.{Sent};
+ghost use Rattle.vac_worklist.specs.Sending.{SentLines, SentInPart};
 
 use crate::fault::TasksFault;
 use crate::lines::send_line;

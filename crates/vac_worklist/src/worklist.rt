@@ -9,10 +9,10 @@ ghost use Rattle.vac_worklist.specs.Sending.{SentTasks};
 use crate::clients::send_tasks;
 use crate::fault::TasksFault;
 use crate::opening::send_opening;
-use crate::writing::send_rest;
 use std::alloc::Global;
 use std::io::Write;
 use vac_draws::{PcgDraws, Settings};
+use vac_streams::send_rest;
 
 /// Sends the lines of the opening and of all clients.
 fn send_all<W: Write>(
@@ -66,5 +66,8 @@ pub fn write_tasks<W: Write>(
     }
     let mut hand = Vec::new(alloc);
     send_all(alloc, output, &mut hand, settings)?;
-    send_rest(output, hand.as_slice())
+    match send_rest(output, hand.as_slice()) {
+        Ok(()) => Ok(()),
+        Err(_) => Err(TasksFault::Write),
+    }
 }

@@ -1,4 +1,4 @@
-use Rattle.vac_worklist.specs.Sending.{Sent}
+use Rattle.vac_streams.specs.Sent.{Sent}
 use Rattle.vac_worklist.proofs.Sending.{made}
 use Rattle.vac_worklist.proofs.opening.send_customers.Given as goal
 

@@ -1,4 +1,3 @@
-use Rattle.vac_worklist.proofs.Texts.{on_err_map}
 use Rattle.vac_worklist.proofs.Sending.{part_rest, none_of_tasks}
 use Rattle.vac_worklist.proofs.worklist.write_tasks.Goals as goal
 
@@ -6,5 +5,4 @@ pub returns-then-not-is_in_range-clause-err : goal.returns-then-not-is_in_range-
 returns-then-not-is_in_range-clause-err g c = none_of_tasks c.args.settings.now _
 
 pub returns-clause-err : goal.returns-clause-err
-returns-clause-err g c =
-    on_err_map c.send_rest.result (λ w. part_rest c.args.settings.now _ _ _ _ c.in_ok-send_all.ensures.ok (rw c.as_slice.ensures.value at w)) c.send_rest.ensures.err
+returns-clause-err g c = part_rest c.args.settings.now _ _ _ _ c.in_ok-send_all.ensures.ok (rw c.as_slice.ensures.value at c.in-Err.ensures.err)
