@@ -1,7 +1,8 @@
 -- A desk goes on with its trips.
 use Rattle.std.proofs.Common.{◌≡◌, ◌∙◌, ℕ, ◌+◌, ◌*◌, ◌<◌, inl, inr, List, [], ◌∷◌, ◌++◌, length-append, append-nil, append_assoc, refl, sym, ap, subst, arith}
 use Rattle.std.specs.Prelude.{Result, Ok, Err, Bool, true, false, ◌&&◌, nat_le}
-use Rattle.stm_core.specs.Client.{Record}
+use Rattle.stm_core.specs.Client.{Client, Record}
+use Rattle.stm_attempt.specs.declared.conflict.Conflict.{Conflict}
 use Rattle.stm_region.specs.Shown.{RegionShown}
 use Rattle.vac_model.specs.declared.replies.Reply.{Reply}
 use Rattle.vac_model.specs.Code.{code}
@@ -10,11 +11,11 @@ use Rattle.vac_model.specs.declared.tasks.Task.{Task}
 use Rattle.vac_manager.specs.declared.fault.Fault.{Fault}
 use Rattle.vac_manager.specs.declared.fault.Fault.TheVariants as fault
 use Rattle.vac_manager.specs.Session.{SessionShown, GoesOn}
-use Rattle.vac_manager.specs.Called.{CallerShown, Adds, HasCalled}
+use Rattle.vac_manager.specs.Called.{CallerShown, Adds, HasCalled, IsFault}
 use Rattle.booking_desk.specs.declared.desk.Desk.{Desk}
 use Rattle.booking_desk.specs.declared.settings.DeskSettings.{DeskSettings}
 use Rattle.booking_desk.specs.Trips.{trip_of}
-use Rattle.booking_desk.specs.Desks.{asked, AreTrips, MayServe, session_of, Serves, HasServed, price_of}
+use Rattle.booking_desk.specs.Desks.{asked, AreTrips, MayServe, session_of, Serves, HasServed, price_of, IsRefusal}
 use Rattle.booking_desk.proofs.Booking.{ascend_more, ascend_on, are_both, in_none, in_both, in_one, booked_none, same_desk, paid_none, paid_same, paid_on, paid_more}
 
 pub serves_none : (s : DeskSettings) (d : Desk) (y : SessionShown) → MayServe s d → Serves s d d y y
@@ -135,3 +136,11 @@ grows region t c c' (Err fault.Arguments) range k = absurd (some_false (is_task 
 grows region t c c' (Err fault.Memory) range k = k.attempts.0
 grows region t c c' (Err (fault.Busy conflict)) range k = let all = k.attempts in omega (arith, all)
 grows region t c c' (Err (fault.Spent version)) range k = k.attempts.0
+
+pub refused_as : (region region' : RegionShown) (t : Task) (asks : ℕ) (v : Client) (c c' : CallerShown) (why : Fault) → region' ≡ region → is_task t ≡ true →
+    HasCalled region' t 16 (Err why) c c' → ((conflict : Conflict) → why ≡ fault.Busy conflict → c'.value.attempt.number ≡ v.attempt.number + asks * 16) →
+    IsRefusal region t asks why v c'.value
+refused_as region region' t asks v c c' fault.Arguments same range k all = absurd (some_false (is_task t && (nat_le 1 16 && nat_le 16 1048576)) (rw range refl) (k.arguments.0 refl))
+refused_as region region' t asks v c c' fault.Memory same range k all = subst (λ (r : RegionShown). IsFault r t 16 fault.Memory c.value c'.value) same k.fault
+refused_as region region' t asks v c c' (fault.Busy conflict) same range k all = (all conflict refl, subst (λ (r : RegionShown). IsFault r t 16 (fault.Busy conflict) c.value c'.value) same k.fault)
+refused_as region region' t asks v c c' (fault.Spent version) same range k all = subst (λ (r : RegionShown). IsFault r t 16 (fault.Spent version) c.value c'.value) same k.fault

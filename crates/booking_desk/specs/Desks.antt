@@ -7,7 +7,7 @@ use Rattle.stm_region.specs.Shown.{RegionShown}
 use Rattle.vac_model.specs.declared.tasks.Task.{Task}
 use Rattle.vac_model.specs.declared.replies.Reply.{Reply}
 use Rattle.vac_model.specs.Code.{code}
-use Rattle.vac_manager.specs.Called.{CallerShown, IsSpent}
+use Rattle.vac_manager.specs.Called.{CallerShown, IsFault}
 use Rattle.vac_manager.specs.Session.{SessionShown, GoesOn}
 use Rattle.vac_manager.specs.declared.fault.Fault.{Fault}
 use Rattle.vac_manager.specs.declared.fault.Fault.TheVariants as fault
@@ -111,12 +111,14 @@ pub record HasServed (s : DeskSettings) (d d' : Desk) (y y' : SessionShown) : Ty
   pub serves : Serves s d d' y y'
   pub why : (asked d' ≡ s.trips) ⊎ (y'.client.value.attempt.next_from ≡ y.manager.last)
 
--- why a trip was not booked: never for its numbers; all attempts of all calls met a conflict; or
--- the clock was found to be at its last version
--- Not said: that `Memory` is returned only where memory was refused.
+-- why a trip was not booked: never for its numbers; all attempts of all calls met a conflict, and
+-- the last one showed this one; or what a call of the manager says of refused memory, and of a
+-- clock that was found at its last version
 abbrev pub IsRefusal : RegionShown → Task → ℕ → Fault → Client → Client → Type 0
 IsRefusal region t asks fault.Arguments v v' = ⊥
-IsRefusal region t asks fault.Memory v v' = Unit {0}
+IsRefusal region t asks fault.Memory v v' = IsFault region t TRIES fault.Memory v v'
 IsRefusal region t asks (fault.Busy conflict) v v' =
-    v'.attempt.number ≡ v.attempt.number + asks * TRIES
-IsRefusal region t asks (fault.Spent version) v v' = IsSpent region t version v'
+    (v'.attempt.number ≡ v.attempt.number + asks * TRIES)
+    × IsFault region t TRIES (fault.Busy conflict) v v'
+IsRefusal region t asks (fault.Spent version) v v' =
+    IsFault region t TRIES (fault.Spent version) v v'

@@ -5,6 +5,7 @@ use Rattle.booking_desk.proofs.asking.ask.Given as goal
 abbrev pub invariant-asks : goal.invariant-asks
 invariant-asks l = record {
   session : GoesOn l.fn.session l.session;
+  manager : l.session.manager ≡ l.fn.session.manager;
   some : 1 ≤ l.left;
   grants : l.session.client.value.grants ≡ l.fn.session.client.value.grants;
   floor : l.fn.session.client.value.floor ≤ l.session.client.value.floor;
