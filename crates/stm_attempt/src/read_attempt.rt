@@ -71,6 +71,15 @@ impl<'a, L: Law, R: Allocator> ReadAttempt<'a, L, R> {
         }
     }
 
+    /// The read version: what the clock said when the attempt began.
+    #[inline]
+    pub fn read_version(&self) -> Version
+        ensures { result ≡ self.now.rv }
+    {
+        let Self { rv, .. } = self;
+        *rv
+    }
+
     /// The conflict that a read of this attempt met, after which it can only be dropped.
     pub fn stopped(&self) -> Option<Conflict>
         requires { runs self.now ≡ true }
