@@ -1,26 +1,32 @@
 -- Calls that are kept.
-use Rattle.std.specs.Prelude.{◌≡◌, List, [], ◌∷◌, ◌++◌, Option, Some, None}
+use Rattle.std.specs.Prelude.{◌≡◌, List, [], ◌∷◌, ◌++◌, Option, Some, None, IfSome}
 use Rattle.stm_core.specs.Client.{Record}
 use Rattle.vac_model.specs.declared.tasks.Task.{Task}
 use Rattle.vac_model.specs.Code.{code}
 use Rattle.vac_manager.specs.declared.placed.Placed.{Placed}
 use Rattle.vac_manager.specs.Placed.{place_of}
 use Rattle.vac_manager.specs.declared.note.Note.{Note}
+use Rattle.vac_manager.specs.Tracing.{Trace, trace_of, IsLast, IsTraceOf}
 
 -- these calls after those that are kept; nothing where nothing is kept
 abbrev pub behind : Option (List Note) → List Note → Option (List Note)
 behind None more = None
 behind (Some notes) more = Some (notes ++ more)
 
--- a call of this task, which was answered so, was kept after the others
-pub record HasKept (t : Task) (p : Placed) (before after : Option (List Note)) : Type 0 where
+-- a call of this task, which was answered so when these attempts were traced, was kept after the
+-- others; where its attempt is noted, that is the last of these
+pub record HasKept (t : Task) (p : Placed) (traced : Option (List Trace))
+    (before after : Option (List Note)) : Type 0 where
   pub note : Note
   pub task : note.task ≡ t
   pub reply : note.reply ≡ p.reply
   pub place : note.place ≡ p.place
+  pub attempt : IfSome note.attempt (λ a. IsLast traced (trace_of a.value))
   pub kept : after ≡ behind before (note ∷ [])
 
--- the record is that of the call: of its task and its reply, and at its place
+-- the record is that of the call: of its task and its reply, and at its place; where the attempt
+-- that answered it is noted, it made this record
 pub record IsNoted (n : Note) (r : Record) : Type 0 where
   pub tag : r.tag ≡ code n.task n.reply
   pub place : n.place ≡ place_of r
+  pub attempt : IfSome n.attempt (λ a. IsTraceOf (trace_of a.value) r)

@@ -3,6 +3,7 @@ pub mod Legal
 pub mod Called
 pub mod Sites
 pub mod Placed
+pub mod Tracing
 pub mod Keeping
 pub mod Faults
 pub mod Opening

@@ -19,19 +19,21 @@ mod report;
 mod session;
 mod sites;
 mod told;
+mod tracer;
 
 pub use client::Client;
 pub use fault::Fault;
 pub use keep::{Keep, Unkept};
 pub use law::{ManagerLaw, serial_records_are_legal};
 pub use manager::Manager;
-pub use note::Note;
+pub use note::{AttemptNote, Note};
 pub use placed::{Effort, Place, Placed};
 pub use renew::RenewFault;
 pub use report::report_of;
 pub use session::Session;
 pub use stm_region::MOST_STRIPES;
 pub use told::Told;
+pub use tracer::{Tracer, Untraced};
 pub use vac_model::limits::MOST_TRIES;
 pub use vac_model::{
     Asks, Changes, Command, Item, Joined, Kind, Pick, Reply, Report, Task, TripReply, UpdateReply,

@@ -1,4 +1,4 @@
-use Rattle.std.proofs.Common.{refl}
+use Rattle.std.proofs.Common.{None, refl}
 use Rattle.vac_manager.proofs.keep.UnkeptKeep.keep.Goals as goal
 
 -- src/keep.rt:45:5
@@ -10,9 +10,11 @@ returns c = record {
     task = c.args._task;
     reply = c.args.placed.reply;
     place = c.args.placed.place;
+    attempt = None;
   };
   task = refl;
   reply = refl;
   place = refl;
+  attempt = tt;
   kept = refl;
 }
