@@ -108,7 +108,7 @@ abbrev pub place_at : ℕ → ℕ → Bool → Place
 place_at renewal version wrote = record { renewal = renewal; version = version; wrote = wrote }
 
 -- the place of a commit's record
-record_place : (region : RegionShown) (tag : List ℕ) (v : Client) (pairs : List (ℕ × ℕ)) (version : ℕ) → IsCommitVersion v pairs version →
+pub record_place : (region : RegionShown) (tag : List ℕ) (v : Client) (pairs : List (ℕ × ℕ)) (version : ℕ) → IsCommitVersion v pairs version →
     place_of (commit_record region tag v pairs version) ≡ place_at region.renewal version (wrote_in pairs)
 record_place region tag v [] version h = ap (λ (n : ℕ). place_at region.renewal n false) (sym h)
 record_place region tag v (p ∷ ps) version h = refl
@@ -193,7 +193,7 @@ committed region region' t r pairs rv version c c0 v1 v2 v' renewed earlier unpl
     subst (λ (x : Client). Decided region t r place c.value x) (sym end) (record { tried = tried; placed = placed; unplaced = every; reader = reader })
 
 -- a finish is a commit that wrote nothing
-finish_commits : (region region' : RegionShown) (t : Task) (r : Reply) (rv n : ℕ) (c c0 c1 c2 : ClientShown) → c0 ≡ acted region begin rv c → still c1.value ≡ still c0.value → c2 ≡ acted region' (finish (code t r)) n c1 → c2.value.attempt.held ≡ [] → HasCommitted region' (code t r) [] c1.value c2.value c1.value.attempt.rv
+pub finish_commits : (region region' : RegionShown) (t : Task) (r : Reply) (rv n : ℕ) (c c0 c1 c2 : ClientShown) → c0 ≡ acted region begin rv c → still c1.value ≡ still c0.value → c2 ≡ acted region' (finish (code t r)) n c1 → c2.value.attempt.held ≡ [] → HasCommitted region' (code t r) [] c1.value c2.value c1.value.attempt.rv
 finish_commits region region' t r rv n c c0 c1 c2 begun same ended free =
     let floor1 : c1.value.floor ≡ c1.value.attempt.rv = ap (λ (x : Client). x.floor) same ∙ (ap (λ (x : ClientShown). x.value.floor) begun ∙ (sym (ap (λ (x : ClientShown). x.value.attempt.rv) begun) ∙ sym (ap (λ (x : Client). x.attempt.rv) same))) in
     record {

@@ -6,6 +6,7 @@ pub mod Adding
 pub mod Counting
 pub mod Placing
 pub mod Leaving
+pub mod Tracing
 pub mod Histories
 pub mod Versions
 mod Words

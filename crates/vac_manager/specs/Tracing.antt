@@ -1,6 +1,6 @@
 -- What is traced of the attempts of a call.
 use Rattle.std.specs.Prelude.{◌≡◌, ◌+◌, Bool, true, false, List, [], ◌∷◌, ◌++◌, length}
-use Rattle.std.specs.Prelude.{Option, Some, Result, Ok, Err}
+use Rattle.std.specs.Prelude.{Option, Some, None, Result, Ok, Err}
 use Rattle.std.specs.FinMap.{entries, empty}
 use Rattle.tx_memory.specs.Pairs.{map_of}
 use Rattle.tx_observed.specs.declared.access.Access.{Access}
@@ -65,6 +65,23 @@ pub record IsOfAdded (v v' : Client) (t : Trace) : Type 0 where
   pub records : v'.records ≡ v.records ++ (added ∷ [])
   pub is : IsTraceOf t added
 
+-- at an answer the attempt, whose record stands at this place, and which has read and written this,
+-- if that is known, made the one record that was added
+abbrev pub HasMade : {E : Type 0} → Result Reply E → Option Place → Option (List Access)
+    → Client → Client → Type 0
+HasMade (Ok reply) (Some place) accesses v v' = (all : List Access) → accesses ≡ Some all →
+    IsOfAdded v v' (record { commits = true; place = place; accesses = all })
+HasMade (Ok reply) None accesses v v' = ⊥
+HasMade (Err e) place accesses v v' = Unit {0}
+
+-- the end of an attempt that has read and written this is traced: at an answer it committed, and
+-- its record stands at this place, else it was given up
+abbrev pub HasEnded : {E : Type 0} → Result Reply E → Option Place → Option (List Access)
+    → Option (List Trace) → Option (List Trace) → Type 0
+HasEnded (Ok reply) (Some place) accesses before after = HasCommitted place accesses before after
+HasEnded (Ok reply) None accesses before after = HasGivenUp accesses before after
+HasEnded (Err e) place accesses before after = HasGivenUp accesses before after
+
 -- one attempt, which ended so: at an answer it committed, else it was given up
 abbrev pub IsOfEnd : {E : Type 0} → Result Reply E → Client → Client → Trace → Type 0
 IsOfEnd (Ok reply) v v' t = IsOfAdded v v' t
@@ -82,7 +99,8 @@ AreOfEnd (Ok reply) v v' traces = (before : List Trace) × (last : Trace)
 AreOfEnd (Err e) v v' traces = AreGivenUp traces
 
 -- the attempts of a call that ended so are traced behind the others: each that it made, once
--- Not said: where nothing is traced, or there was no room for all, anything.
+-- Not said: where nothing is traced, or there was no room for all, anything; of an attempt that was
+-- given up, what it read and wrote, which the tracer is shown, but no call tells again.
 abbrev pub HasTraced : {E : Type 0} → Result Reply E → Client → Client
     → Option (List Trace) → Option (List Trace) → Type 0
 HasTraced result v v' before after = (all : List Trace) → after ≡ Some all →

@@ -6,36 +6,45 @@ ghost use Rattle.vac_tasks.specs.Reading as reading;
 ghost use Rattle.vac_manager.specs.Called.{HasAllGrants, MayTry, Tried, Repeated};
 ghost use Rattle.vac_manager.specs.Called.{WasShown, IsStop, IsNoConflict, IsNear, IsCount};
 ghost use Rattle.vac_manager.specs.Placed.{Leaves, Tallies, nothing_done};
+ghost use Rattle.vac_manager.specs.Tracing.{IsFresh, HasMade, HasEnded, OneMore, IsOfEnd, HasTraced};
 
 use crate::law::ManagerLaw;
 use crate::pauses::Pauses;
 use crate::placed::{Place, Traced};
 use crate::told::Told;
+use crate::tracer::{Tracer, read_task, run_task};
 use stm_attempt::{Attempt, Conflict, Gate, Logs, Point, ReadAttempt, Stop};
 use stm_region::{Client, Region};
 use tx_alloc::FreeList;
 use vac_model::{Reply, Task};
-use vac_tasks::{only_reads, read_task, run_task};
+use vac_tasks::only_reads;
 
 /// One attempt of a task that only reads. It keeps no log, and aborts only on a conflict.
-fn try_reading<G: Gate>(
+fn try_reading<G: Gate, T: Tracer>(
     region: &Region<ManagerLaw>,
     client: &mut Client<ManagerLaw>,
     task: &Task,
+    renewal: u32,
     gate: &mut G,
     place: &mut Option<Place>,
+    tracer: &mut T,
 ) -> Result<Reply, Conflict>
     requires may { MayTry region.now client.old task.now }
     requires reads { reading.only_reads task.now ≡ true }
+    requires fresh { IsFresh (T.accesses tracer.old) }
     ensures leaves { Leaves region.now task.now client.old client.new result place.new }
     ensures tried { Tried region.now task.now client.old.value client.new.value result }
     ensures stopped { IfErr result (λ conflict. WasShown region.now conflict client.new.value) }
     ensures lone { HasAllGrants client.old.value → IsOk result }
     ensures near { HasAllGrants client.old.value
         → client.new.value.floor ≡ client.old.value.floor }
+    ensures ended { T.ended tracer.new ≡ T.ended tracer.old }
+    ensures made { HasMade result place.new (T.accesses tracer.new)
+        client.old.value client.new.value }
 {
     let mut attempt = ReadAttempt::begin(region, client);
-    let answer = read_task(&mut attempt, task);
+    let began = attempt.read_version();
+    let answer = read_task(&mut attempt, task, renewal, began, tracer);
     if let Some(conflict) = attempt.stopped() {
         attempt.drop_it();
         return Err(conflict);
@@ -58,17 +67,20 @@ fn try_reading<G: Gate>(
 }
 
 /// One attempt of a task that may write.
-fn try_writing<G: Gate>(
+fn try_writing<G: Gate, T: Tracer>(
     region: &Region<ManagerLaw>,
     client: &mut Client<ManagerLaw>,
     logs: &mut Logs,
     task: &Task,
     start: FreeList,
+    renewal: u32,
     gate: &mut G,
     place: &mut Option<Place>,
+    tracer: &mut T,
 ) -> Result<Reply, Stop>
     requires may { MayTry region.now client.old task.now }
     requires writes { reading.only_reads task.now ≡ false }
+    requires fresh { IsFresh (T.accesses tracer.old) }
     ensures leaves { Leaves region.now task.now client.old client.new result place.new }
     ensures tried { Tried region.now task.now client.old.value client.new.value result }
     ensures stopped { IfErr result (λ stop. IsStop region.now task.now stop client.new.value) }
@@ -76,9 +88,13 @@ fn try_writing<G: Gate>(
     ensures near { HasAllGrants client.old.value
         → IsNear region.now.last
         client.old.value.floor client.new.value.floor result }
+    ensures ended { T.ended tracer.new ≡ T.ended tracer.old }
+    ensures made { HasMade result place.new (T.accesses tracer.new)
+        client.old.value client.new.value }
 {
     let mut attempt = Attempt::begin(region, client, logs);
-    let answer = run_task(&mut attempt, task, start);
+    let began = attempt.read_version();
+    let answer = run_task(&mut attempt, task, start, renewal, began, tracer);
     if let Some(conflict) = attempt.stopped() {
         attempt.drop_it();
         return Err(Stop::Conflict(conflict));
@@ -105,8 +121,8 @@ fn try_writing<G: Gate>(
     }
 }
 
-/// One attempt of a task.
-fn try_once<G: Gate>(
+/// One attempt of a task, whose end the tracer is not told.
+fn try_untold<G: Gate, T: Tracer>(
     region: &Region<ManagerLaw>,
     client: &mut Client<ManagerLaw>,
     logs: &mut Logs,
@@ -114,6 +130,56 @@ fn try_once<G: Gate>(
     start: FreeList,
     gate: &mut G,
     place: &mut Option<Place>,
+    tracer: &mut T,
+) -> Result<Reply, Stop>
+    requires may { MayTry region.now client.old task.now }
+    requires fresh { IsFresh (T.accesses tracer.old) }
+    ensures leaves { Leaves region.now task.now client.old client.new result place.new }
+    ensures tried { Tried region.now task.now client.old.value client.new.value result }
+    ensures stopped { IfErr result (λ stop. IsStop region.now task.now stop client.new.value) }
+    ensures lone { HasAllGrants client.old.value → IfErr result (λ stop. IsNoConflict stop) }
+    ensures near { HasAllGrants client.old.value
+        → IsNear region.now.last
+        client.old.value.floor client.new.value.floor result }
+    ensures ended { T.ended tracer.new ≡ T.ended tracer.old }
+    ensures made { HasMade result place.new (T.accesses tracer.new)
+        client.old.value client.new.value }
+{
+    let renewal = region.renewal();
+    if only_reads(task) {
+        match try_reading(region, client, task, renewal, gate, place, tracer) {
+            Ok(reply) => Ok(reply),
+            Err(conflict) => Err(Stop::Conflict(conflict)),
+        }
+    } else {
+        try_writing(
+            region, client, logs, task, start, renewal, gate, place, tracer,
+        )
+    }
+}
+
+/// Tells the tracer how an attempt ended.
+#[inline]
+fn tell_end<T: Tracer>(answer: &Result<Reply, Stop>, place: Option<Place>, tracer: &mut T)
+    ensures { HasEnded answer.now place (T.accesses tracer.old)
+        (T.ended tracer.old) (T.ended tracer.new) }
+{
+    match (answer, place) {
+        (Ok(_), Some(place)) => tracer.commit(place),
+        (Ok(_), None) | (Err(_), _) => tracer.give_up(),
+    }
+}
+
+/// One attempt of a task.
+fn try_once<G: Gate, T: Tracer>(
+    region: &Region<ManagerLaw>,
+    client: &mut Client<ManagerLaw>,
+    logs: &mut Logs,
+    task: &Task,
+    start: FreeList,
+    gate: &mut G,
+    place: &mut Option<Place>,
+    tracer: &mut T,
 ) -> Result<Reply, Stop>
     requires { MayTry region.now client.old task.now }
     ensures leaves { Leaves region.now task.now client.old client.new result place.new }
@@ -123,19 +189,17 @@ fn try_once<G: Gate>(
     ensures near { HasAllGrants client.old.value
         → IsNear region.now.last
         client.old.value.floor client.new.value.floor result }
+    ensures traced { OneMore (IsOfEnd result client.old.value client.new.value)
+        (T.ended tracer.old) (T.ended tracer.new) }
 {
-    if only_reads(task) {
-        match try_reading(region, client, task, gate, place) {
-            Ok(reply) => Ok(reply),
-            Err(conflict) => Err(Stop::Conflict(conflict)),
-        }
-    } else {
-        try_writing(region, client, logs, task, start, gate, place)
-    }
+    tracer.prepare();
+    let answer = try_untold(region, client, logs, task, start, gate, place, tracer);
+    tell_end(&answer, *place, tracer);
+    answer
 }
 
 /// Runs a task by at most `tries` attempts: one that aborts on a conflict is retried after a pause.
-pub(crate) fn run_in_attempts<G: Gate>(
+pub(crate) fn run_in_attempts<G: Gate, T: Tracer>(
     region: &Region<ManagerLaw>,
     client: &mut Client<ManagerLaw>,
     logs: &mut Logs,
@@ -145,6 +209,7 @@ pub(crate) fn run_in_attempts<G: Gate>(
     tries: u32,
     gate: &mut G,
     traced: &mut Traced,
+    tracer: &mut T,
 ) -> Result<Reply, Stop>
     requires may { MayTry region.now client.old task.now }
     requires some { 1 ≤ tries }
@@ -163,11 +228,14 @@ pub(crate) fn run_in_attempts<G: Gate>(
     ensures near { HasAllGrants client.old.value
         → IsNear region.now.last
         client.old.value.floor client.new.value.floor result }
+    ensures traced { HasTraced result client.old.value client.new.value
+        (T.ended tracer.old) (T.ended tracer.new) }
 {
     let mut left = tries;
     'tries: loop {
         left -= 1;
-        let answer = try_once(region, client, logs, task, start, gate, &mut traced.place);
+        let place = &mut traced.place;
+        let answer = try_once(region, client, logs, task, start, gate, place, tracer);
         traced.effort.count(&answer);
         match answer {
             Err(Stop::Conflict(_)) if left > 0 => pauses.wait(tries - left),

@@ -8,6 +8,7 @@ ghost use Rattle.stm_region.specs.Refused.{ClosesNot};
 ghost use Rattle.tx_alloc.specs.Pool.{heap_words};
 ghost use Rattle.vac_manager.specs.Called.{HasAllGrants, HasCalled, Splits, SplitsNot, OnlyOf};
 ghost use Rattle.vac_manager.specs.Placed.{IsPlaced, Took, WasPlaced, nothing_done, replied};
+ghost use Rattle.vac_manager.specs.Tracing.{HasTraced};
 ghost use Rattle.vac_manager.specs.Opening.{is_opening, Opens, Closes};
 
 use crate::attempts::run_in_attempts;
@@ -16,6 +17,7 @@ use crate::fault::Fault;
 use crate::law::ManagerLaw;
 use crate::pauses::Pauses;
 use crate::placed::{Effort, Placed, Traced};
+use crate::tracer::{Tracer, Untraced};
 use std::alloc::Global;
 use std::marker::Model;
 use stm_attempt::{Gate, Logs, NoGate};
@@ -126,7 +128,7 @@ impl Manager {
         ensures called { HasCalled self.now task.now tries result client.old client.new }
     {
         let mut traced = Traced::new();
-        self.call_traced(client, task, tries, gate, &mut traced)
+        self.call_traced(client, task, tries, gate, &mut traced, &mut Untraced)
     }
 
     /// Runs a task as `call_gated` does, and also returns the place of the call's record and what
@@ -145,8 +147,29 @@ impl Manager {
             client.old.value client.new.value }
         ensures took { Took self.now client.old.value client.new.value result.0 result.1 }
     {
+        self.trace_call(client, task, tries, gate, &mut Untraced)
+    }
+
+    /// Runs a task as `call_placed` does, and lets a tracer trace its attempts.
+    pub fn trace_call<G: Gate, T: Tracer>(
+        &self,
+        client: &mut Client,
+        task: &Task,
+        tries: u32,
+        gate: &mut G,
+        tracer: &mut T,
+    ) -> (Result<Placed, Fault>, Effort)
+        requires own { client.old.table ≡ self.now.table }
+        ensures called { HasCalled self.now task.now tries (replied result.0)
+            client.old client.new }
+        ensures placed { IsPlaced self.now task.now result.0
+            client.old.value client.new.value }
+        ensures took { Took self.now client.old.value client.new.value result.0 result.1 }
+        ensures traced { HasTraced (replied result.0) client.old.value client.new.value
+            (T.ended tracer.old) (T.ended tracer.new) }
+    {
         let mut traced = Traced::new();
-        let answer = self.call_traced(client, task, tries, gate, &mut traced);
+        let answer = self.call_traced(client, task, tries, gate, &mut traced, tracer);
         let end = match (answer, traced.place) {
             (Ok(reply), Some(place)) => Ok(Placed { reply, place }),
             (Ok(_), None) => unreachable!(),
@@ -157,13 +180,14 @@ impl Manager {
 
     /// Runs a task as `call_gated` does, and leaves in `traced` the place of the record and what
     /// the call took.
-    fn call_traced<G: Gate>(
+    fn call_traced<G: Gate, T: Tracer>(
         &self,
         client: &mut Client,
         task: &Task,
         tries: u32,
         gate: &mut G,
         traced: &mut Traced,
+        tracer: &mut T,
     ) -> Result<Reply, Fault>
         requires own { client.old.table ≡ self.now.table }
         requires none { traced.old.effort ≡ nothing_done }
@@ -172,6 +196,8 @@ impl Manager {
             client.old.value client.new.value }
         ensures took { Took self.now client.old.value client.new.value
             result traced.new.effort }
+        ensures traced { HasTraced result client.old.value client.new.value
+            (T.ended tracer.old) (T.ended tracer.new) }
     {
         let start = client.start;
         let tries_fit = 1 <= tries && tries <= MOST_TRIES;
@@ -188,6 +214,7 @@ impl Manager {
             tries,
             gate,
             traced,
+            tracer,
         );
         match answer {
             Ok(reply) => Ok(reply),

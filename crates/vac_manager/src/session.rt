@@ -5,12 +5,14 @@ ghost use Rattle.stm_core.specs.History.{Sub};
 ghost use Rattle.stm_region.specs.Shown.{joined};
 ghost use Rattle.vac_manager.specs.Called.{HasCalled, Splits, SplitsNot, OnlyOf};
 ghost use Rattle.vac_manager.specs.Placed.{IsPlaced, Took, replied};
+ghost use Rattle.vac_manager.specs.Tracing.{HasTraced};
 ghost use Rattle.vac_manager.specs.Session.{GoesOn};
 
 use crate::client::Client;
 use crate::fault::Fault;
 use crate::manager::Manager;
 use crate::placed::{Effort, Placed};
+use crate::tracer::Tracer;
 use std::marker::Model;
 use stm_attempt::{Gate, NoGate};
 use stm_region::RegionFault;
@@ -92,6 +94,28 @@ impl<'a> Session<'a> {
     {
         self.manager
             .call_placed(&mut self.client, task, tries, gate)
+    }
+
+    /// Runs a task as `Manager::trace_call` does.
+    pub fn trace_call<G: Gate, T: Tracer>(
+        &mut self,
+        task: &Task,
+        tries: u32,
+        gate: &mut G,
+        tracer: &mut T,
+    ) -> (Result<Placed, Fault>, Effort)
+        ensures session { GoesOn self.old self.new }
+        ensures called { HasCalled self.old.manager task.now tries (replied result.0)
+            self.old.client self.new.client }
+        ensures placed { IsPlaced self.old.manager task.now result.0
+            self.old.client.value self.new.client.value }
+        ensures took { Took self.old.manager self.old.client.value self.new.client.value
+            result.0 result.1 }
+        ensures traced { HasTraced (replied result.0) self.old.client.value self.new.client.value
+            (T.ended tracer.old) (T.ended tracer.new) }
+    {
+        self.manager
+            .trace_call(&mut self.client, task, tries, gate, tracer)
     }
 
     /// Splits off a session of a new client of the same manager, which costs a grant: 63 times in

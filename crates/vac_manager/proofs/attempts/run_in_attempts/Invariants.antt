@@ -1,4 +1,7 @@
-use Rattle.std.proofs.Common.{◌≡◌, ◌≤◌}
+use Rattle.std.proofs.Common.{◌≡◌, ◌≤◌, Err}
+use Rattle.stm_attempt.specs.declared.conflict.Stop.{Stop}
+use Rattle.stm_attempt.specs.declared.conflict.Stop.TheVariants as stop
+use Rattle.vac_manager.specs.Tracing.{HasTraced}
 use Rattle.vac_manager.specs.Called.{HasAllGrants, MayTry}
 use Rattle.vac_manager.proofs.Trying.{Trying}
 use Rattle.vac_manager.proofs.Placing.{Met}
@@ -13,6 +16,7 @@ invariant-tries g l = record {
   trying : Trying l.initial.client.value l.client.value l.left l.tries;
   tries : l.tries ≤ 1048576;
   met : Met l.region l.initial.client.value l.client.value l.traced.effort;
+  traced : HasTraced {E = Stop} (Err stop.Memory) l.initial.client.value l.client.value (g.T.Tracer.ended l.initial.tracer) (g.T.Tracer.ended l.tracer);
 }
 
 abbrev pub decreases-tries : goal.decreases-tries

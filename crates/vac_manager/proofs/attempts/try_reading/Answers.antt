@@ -1,12 +1,15 @@
-use Rattle.std.proofs.Common.{rules, refl, ap, ◌∙◌}
+use Rattle.std.proofs.Common.{rules, [], refl, ap, ◌∙◌}
+use Rattle.stm_logs.specs.Log.{empty_log}
+use Rattle.vac_model.specs.Code.{code}
 use Rattle.stm_region.specs.Shown.{RegionShown, ClientShown}
 use Rattle.stm_attempt.specs.Meaning.{Origin}
 use Rattle.stm_attempt.specs.Begun.{is_unfinished}
-use Rattle.vac_manager.proofs.Adding.{finished, finished_last, unplaced_begun}
-use Rattle.vac_manager.proofs.Lawful.{holds_begun, lawful_read}
+use Rattle.vac_manager.proofs.Adding.{finished, finished_last, finish_commits, unplaced_begun}
+use Rattle.vac_manager.proofs.Lawful.{holds_begun, lawful_read, no_pairs}
 use Rattle.vac_manager.proofs.Leaving.{left_decided}
 use Rattle.vac_manager.proofs.Legality.{finished_legal}
 use Rattle.vac_manager.proofs.Trying.{shown_by_read, tried_as, near_begun, near_finished}
+use Rattle.vac_manager.proofs.Tracing.{tracked_begun, made}
 use Rattle.vac_manager.proofs.attempts.try_reading.Goals as goal
 
 pub read_task-answer-requires-clause-state : goal.read_task-answer-requires-clause-state
@@ -56,3 +59,16 @@ returns-in-Some-clause-leaves g c = record {
   spares = tt;
   legal = tt;
 }
+
+pub read_task-answer-requires-clause-tracked : goal.read_task-answer-requires-clause-tracked
+read_task-answer-requires-clause-tracked g c =
+    tracked_begun _ _ c.begin-attempt.result.client.now.value empty_log _ (ap (λ (x : ClientShown). x.value.attempt.reads) c.begin-attempt.ensures.value) refl c.requires.fresh
+
+pub returns-clause-made : goal.returns-clause-made
+returns-clause-made g c =
+    made _ _ _ c.read_task-answer.new.memory.region.now _ _ _ _ c.begin-attempt.result.client.now c.read_task-answer.new.memory.client.now empty_log _ (code c.args.task.now c.in-Ok.reply) [] _ _ _ _ _ c.args.client.now.value _ _ (ap (λ (x : ClientShown). is_unfinished x.value.attempt.phase) c.begin-attempt.ensures.value)
+    c.in-Ok.ensures.origin c.in-Ok.ensures.tracked no_pairs
+    (finish_commits c.args.region.now c.read_task-answer.new.memory.region.now c.args.task.now c.in-Ok.reply _ _ c.args.client.now c.begin-attempt.result.client.now c.read_task-answer.new.memory.client.now _ c.begin-attempt.ensures.value (ap (λ (o : Origin). o.client.value) c.in-Ok.ensures.origin) c.finish-version.ensures.client.1 c.finish-version.ensures.free_handed.1)
+    (finished_last c.args.region.now c.read_task-answer.new.memory.region.now c.args.task.now c.in-Ok.reply _ _ c.args.client.now _ c.read_task-answer.new.memory.client.now _ (ap (λ (o : Origin). o.region.renewal) c.in-Ok.ensures.origin ∙ ap (λ (r : RegionShown). r.renewal) c.begin-attempt.ensures.region) c.begin-attempt.ensures.earlier c.requires.may.unplaced c.begin-attempt.ensures.value
+    (ap (λ (o : Origin). o.client.value) c.in-Ok.ensures.origin) c.finish-version.ensures.client.1 c.finish-version.ensures.free_handed.1)
+    (search rules) (ap (λ (o : Origin). o.region.renewal) c.in-Ok.ensures.origin ∙ ap (λ (r : RegionShown). r.renewal) c.begin-attempt.ensures.region) (search rules) (search rules) refl

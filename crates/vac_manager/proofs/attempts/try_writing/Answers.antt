@@ -1,11 +1,13 @@
-use Rattle.std.proofs.Common.{rules, ap, ◌∙◌}
-use Rattle.stm_region.specs.Shown.{RegionShown}
+use Rattle.std.proofs.Common.{rules, refl, ap, ◌∙◌}
+use Rattle.stm_region.specs.Shown.{RegionShown, ClientShown}
+use Rattle.vac_model.specs.Code.{code}
 use Rattle.stm_attempt.specs.Meaning.{Origin}
 use Rattle.vac_manager.proofs.Adding.{added_last, committed, wrote_is, unplaced_begun, unplaced_stopped}
 use Rattle.vac_manager.proofs.Lawful.{holds_begun, lawful, wrote_nothing}
 use Rattle.vac_manager.proofs.Leaving.{left_decided, wrote_none}
 use Rattle.vac_manager.proofs.Legality.{committed_legal}
 use Rattle.vac_manager.proofs.Trying.{shown_by_read, none_shown, commit_stop, near_begun, near_committed, near_stopped}
+use Rattle.vac_manager.proofs.Tracing.{tracked_begun, made}
 use Rattle.vac_manager.proofs.attempts.try_writing.Goals as goal
 
 pub run_task-answer-requires-clause-state : goal.run_task-answer-requires-clause-state
@@ -96,3 +98,16 @@ returns-in_default-answer-clause-leaves g c = record {
   spares = tt;
   legal = tt;
 }
+
+pub run_task-answer-requires-clause-tracked : goal.run_task-answer-requires-clause-tracked
+run_task-answer-requires-clause-tracked g c =
+    tracked_begun _ _ c.begin-attempt.result.client.now.value _ _ (ap (λ (x : ClientShown). x.value.attempt.reads) c.begin-attempt.ensures.value) c.begin-attempt.ensures.empty.1 c.requires.fresh
+
+pub returns-in-Ok-commit-clause-made : goal.returns-in-Ok-commit-clause-made
+returns-in-Ok-commit-clause-made g c =
+    made _ _ _ c.run_task-answer.new.memory.region.now _ _ _ _ c.begin-attempt.result.client.now c.run_task-answer.new.memory.client.now _ _ (code c.args.task.now c.in-Ok.reply) _ _ _ _ _ _ c.args.client.now.value _ _ c.begin-attempt.ensures.empty.2
+    c.run_task-answer.ensures.origin c.in-Ok.ensures.tracked refl c.in-Ok-commit.ensures.ok
+    (added_last c.args.region.now c.run_task-answer.new.memory.region.now c.args.task.now c.in-Ok.reply _ _ _ c.args.client.now _ c.run_task-answer.new.memory.client.now.value _ (ap (λ (o : Origin). o.region.renewal) c.run_task-answer.ensures.origin ∙ ap (λ (r : RegionShown). r.renewal) c.begin-attempt.ensures.region) c.begin-attempt.ensures.earlier c.requires.may.unplaced c.begin-attempt.ensures.value
+    (ap (λ (o : Origin). o.client.value) c.run_task-answer.ensures.origin) c.in-Ok-commit.ensures.ok)
+    (search rules) (ap (λ (o : Origin). o.region.renewal) c.run_task-answer.ensures.origin ∙ ap (λ (r : RegionShown). r.renewal) c.begin-attempt.ensures.region) (search rules) (search rules)
+    (wrote_is c.run_task-answer.new.memory.client.now.value _ _ _ _ (search rules) (search rules) c.in-Ok-commit.ensures.ok.versioned)
