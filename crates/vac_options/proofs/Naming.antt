@@ -169,7 +169,7 @@ blocks_fit name = (fit refl refl refl, (fit refl refl refl, tt))
 
 settings_fit : (name : Text) → AllFit (with_settings name).rules
 unfolding shape_at with_settings
-settings_fit name = (fit refl refl refl, (fit refl refl refl, (fit refl refl refl, (fit refl refl refl, (fit refl refl refl, (fit refl refl refl, (fit refl refl refl, (fit refl refl refl, (fit refl refl refl, (fit refl refl refl, (fit refl refl refl, (fit refl refl refl, (fit refl refl refl, (fit refl refl refl, tt))))))))))))))
+settings_fit name = (fit refl refl refl, (fit refl refl refl, (fit refl refl refl, (fit refl refl refl, (fit refl refl refl, (fit refl refl refl, (fit refl refl refl, (fit refl refl refl, (fit refl refl refl, (fit refl refl refl, (fit refl refl refl, (fit refl refl refl, (fit refl refl refl, (fit refl refl refl, (fit refl refl refl, tt)))))))))))))))
 
 -- ---- what the words give
 
@@ -204,6 +204,7 @@ settings_given of rows e = record {
     progress = settings_flag of rows e (codes "progress") refl;
     stats = settings_flag of rows e (codes "stats") refl;
     history = settings_flag of rows e (codes "history") refl;
+    attempts = settings_flag of rows e (codes "attempts") refl;
   };
 }
 

@@ -129,10 +129,10 @@ judging_options = blocks_option ∷ file_option ∷ flag (codes "any-order") ∷
 abbrev pub words_option : Rule
 words_option = number_option (codes "words") 1 MOST_WORDS (codes "65536")
 
--- those that say what a load writes of itself, and whether it writes its history
+-- those that say what a load writes of itself, and whether it writes its history or its attempts
 abbrev pub telling_options : List Rule
-telling_options =
-    flag (codes "progress") ∷ flag (codes "stats") ∷ flag (codes "history") ∷ []
+telling_options = flag (codes "progress") ∷ flag (codes "stats")
+    ∷ flag (codes "history") ∷ flag (codes "attempts") ∷ []
 
 -- the options of a load
 abbrev pub load_options : List Rule
@@ -259,6 +259,7 @@ pub record HasFlags (rows : List Row) : Type 0 where
   pub progress : IsFlag rows (codes "progress")
   pub stats : IsFlag rows (codes "stats")
   pub history : IsFlag rows (codes "history")
+  pub attempts : IsFlag rows (codes "attempts")
 
 -- each option of a load gives a number in its range, and each flag is set or not
 pub record HasSettings (rows : List Row) : Type 0 where
@@ -293,6 +294,7 @@ pub record IsTold (rows : List Row) (how : How) : Type 0 where
   pub progress : Says rows (codes "progress") how.progress
   pub stats : Says rows (codes "stats") how.stats
   pub history : Says rows (codes "history") how.history
+  pub attempts : Says rows (codes "attempts") how.attempts
 
 -- the words name this subcommand, and clap found this for its options
 abbrev pub Names : List Text → Text → List Row → Type 0

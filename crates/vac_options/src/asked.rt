@@ -28,6 +28,8 @@ pub struct How {
     pub stats: bool,
     /// Whether to write the history of its calls to the output, and its two lines to the errors.
     pub history: bool,
+    /// Whether to write the attempts of its calls so.
+    pub attempts: bool,
 }
 
 /// The most steps of a search.
@@ -135,6 +137,7 @@ fn how_of(matches: &ArgMatches) -> How
         progress: flag_of(matches, "progress"),
         stats: flag_of(matches, "stats"),
         history: flag_of(matches, "history"),
+        attempts: flag_of(matches, "attempts"),
     }
 }
 

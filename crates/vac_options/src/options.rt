@@ -299,7 +299,14 @@ fn add_telling_options<'a>(
         is_run,
         "Writes its calls as a history for judge, the two lines on standard error",
     );
-    add_option(add_option(add_option(command, progress), stats), history)
+    let attempts = flag(
+        alloc,
+        "attempts",
+        is_run,
+        "Writes its attempts for opaque, the two lines on standard error",
+    );
+    let command = add_option(add_option(command, progress), stats);
+    add_option(add_option(command, history), attempts)
 }
 
 /// A subcommand without options. Its help ends with an example.

@@ -5,5 +5,6 @@ use Rattle.vac_options.proofs.options.add_telling_options.Goals as goal
 pub returns : goal.returns
 returns c =
     let s1 = option_more _ _ _ _ [] _ (no_option c.args.command) c.add_option.ensures c.flag-progress.ensures in
-    let s2 = option_more _ _ _ _ _ _ s1 c.add_option-2.ensures c.flag-stats.ensures in
-    option_more _ _ _ _ _ _ s2 c.add_option-3.ensures c.flag-history.ensures
+    let s2 = option_more _ _ _ _ _ _ s1 c.add_option-command.ensures c.flag-stats.ensures in
+    let s3 = option_more _ _ _ _ _ _ s2 c.add_option-2.ensures c.flag-history.ensures in
+    option_more _ _ _ _ _ _ s3 c.add_option-3.ensures c.flag-attempts.ensures
