@@ -3,13 +3,14 @@
 use std::alloc::{AllocError, Global};
 use std::io::Read;
 use std::test::Fail;
-use vac_judge::{CALL_BYTES, Judge, JudgeFault, Verdict, judge_history, print_verdict};
+use vac_judge::{CALL_BYTES, Judge, Verdict, judge_history, print_verdict};
+use vac_streams::StreamFault;
 
 /// The blocks of the system.
 const BLOCKS: u32 = 4;
 
 /// The verdict on these lines.
-fn verdict_on(alloc: Global, lines: &[&str]) -> Result<Verdict, JudgeFault> {
+fn verdict_on(alloc: Global, lines: &[&str]) -> Result<Verdict, StreamFault> {
     let mut judge = Judge::new(alloc, BLOCKS)?;
     for line in lines {
         if let Some(verdict) = judge.judge_line(alloc, line.as_bytes())? {
@@ -20,7 +21,7 @@ fn verdict_on(alloc: Global, lines: &[&str]) -> Result<Verdict, JudgeFault> {
 }
 
 /// The text of the verdict on these lines.
-fn judged(alloc: Global, lines: &[&str]) -> Result<Vec<u8>, JudgeFault> {
+fn judged(alloc: Global, lines: &[&str]) -> Result<Vec<u8>, StreamFault> {
     let verdict = verdict_on(alloc, lines)?;
     let mut text = Vec::new(alloc);
     print_verdict(&verdict, &mut text)?;
@@ -156,7 +157,7 @@ fn filled(alloc: Global, bytes: usize) -> Result<Vec<u8>, AllocError> {
 }
 
 /// The text of the verdict that a first line brings, or none where its call is right.
-fn first_judged(alloc: Global, line: &[u8]) -> Result<Vec<u8>, JudgeFault> {
+fn first_judged(alloc: Global, line: &[u8]) -> Result<Vec<u8>, StreamFault> {
     let mut judge = Judge::new(alloc, BLOCKS)?;
     let mut text = Vec::new(alloc);
     if let Some(verdict) = judge.judge_line(alloc, line)? {
@@ -176,8 +177,29 @@ fn lines_of_most_bytes(rt: HostRuntime) -> Result<(), Fail> {
     Ok(())
 }
 
+#[test]
+fn long_lines_in_pieces(rt: HostRuntime) -> Result<(), Fail> {
+    let rows: [(usize, &[u8]); 3] = [
+        (CALL_BYTES, b"illegal reply 2 false exists\n"),
+        (CALL_BYTES + 1, b"fault long-line 2\n"),
+        (70_000, b"fault long-line 2\n"),
+    ];
+    for (bytes, wanted) in rows {
+        let line = filled(rt.alloc(), bytes)?;
+        let mut history = Vec::new(rt.alloc());
+        history.extend_from_slice(b"0 0 0 newcust 1 -> true\n")?;
+        history.extend_from_slice(line.as_slice())?;
+        history.extend_from_slice(b"\nno call\n")?;
+        for first in [0, 24, 4_000, 4_120, 4_121, 4_122, 66_000] {
+            let text = judged_in_pieces(rt.alloc(), history.as_slice(), first)?;
+            assert_eq!(rt; text.as_slice(), wanted);
+        }
+    }
+    Ok(())
+}
+
 /// What is written of a history that is given in two pieces, the first of `first` bytes.
-fn judged_in_pieces(alloc: Global, history: &[u8], first: usize) -> Result<Vec<u8>, JudgeFault> {
+fn judged_in_pieces(alloc: Global, history: &[u8], first: usize) -> Result<Vec<u8>, StreamFault> {
     let first = first.min(history.len());
     let mut input = (&history[..first]).chain(&history[first..]);
     let mut text = Vec::new(alloc);

@@ -2,13 +2,14 @@
 
 use std::alloc::Global;
 use std::test::Fail;
-use vac_judge::{JudgeFault, judge_work};
+use vac_judge::judge_work;
+use vac_streams::StreamFault;
 
 /// The blocks of the system.
 const BLOCKS: u32 = 4;
 
 /// What is written of a history, held against these tasks, and whether it is legal.
-fn held(alloc: Global, tasks: &str, history: &str) -> Result<(bool, Vec<u8>), JudgeFault> {
+fn held(alloc: Global, tasks: &str, history: &str) -> Result<(bool, Vec<u8>), StreamFault> {
     let mut tasks = tasks.as_bytes();
     let mut history = history.as_bytes();
     let mut text = Vec::new(alloc);

@@ -9,6 +9,7 @@ use Rattle.std.proofs.lemmas.Bool.Decides.{nat_tests}
 use Rattle.tx_memory.specs.Seen.{same_or}
 use Rattle.vac_model.specs.declared.tasks.Task.{Task}
 use Rattle.vac_lines.specs.Lines.{lines_of, HasNo}
+use Rattle.vac_streams.proofs.Cutting.{HasNoEnd, lines_cut, lines_last}
 use Rattle.vac_judge.specs.declared.fault.CallFault.{CallFault}
 use Rattle.vac_judge.specs.declared.fault.CallFault.TheVariants.{BadCall}
 use Rattle.vac_judge.specs.declared.work.Work.{Work}
@@ -17,10 +18,14 @@ use Rattle.vac_judge.specs.declared.holding.Holding.{Holding}
 use Rattle.vac_judge.specs.Call.{Call, line_call, joined}
 use Rattle.vac_judge.specs.Work.{Asked, words_asked, text_asked, line_asked, onto_work, work_of, tasks_of, made_by, has_stopped, is_next, first_foreign, calls_in, is_missing, first_missing}
 use Rattle.vac_judge.specs.Holding.{asked_of, listed, IsWork, onto_all, IsProgress, IsKept, Counts, Sees}
-use Rattle.vac_judge.proofs.Cutting.{HasNoEnd, lines_cut, lines_last}
 use Rattle.vac_judge.proofs.Arrows.{first_word, one_word, word_first, text_is}
 
 -- ---- lines and words
+
+-- a text of no bytes
+pub no_bytes : (text : List ℕ) → length text ≡ 0 → text ≡ []
+no_bytes [] e = refl
+no_bytes (b ∷ bs) e = absurd (omega arith)
 
 pub first_line : (text line behind : List ℕ) → HasNoEnd line → text ≡ line ++ 10 ∷ behind → lines_of text ≡ line ∷ lines_of behind
 first_line text line behind h e = ap lines_of e ∙ lines_cut line behind h

@@ -4,11 +4,11 @@ use Rattle.std.specs.List.{list_any}
 use Rattle.std.proofs.lemmas.List.Elements.{All-head, All-tail, All-nil, All-cons}
 use Rattle.vac_lines.specs.Lines.{lines_of, HasNo}
 use Rattle.vac_lines.specs.LineTable.{is_bad_byte}
+use Rattle.vac_streams.proofs.Cutting.{lines_cut}
 use Rattle.vac_judge.specs.declared.fault.CallFault.{CallFault}
 use Rattle.vac_judge.specs.Call.{Call, line_call}
 use Rattle.vac_judge.specs.Laws.{Lists, IsLinearization, LegalIsLinearization}
 use Rattle.vac_judge.specs.CallText.{call_text, history_text, IsWritten, AreWritten, HistoriesAreRead, CallTextsAreRead}
-use Rattle.vac_judge.proofs.Cutting.{lines_cut}
 use Rattle.vac_judge.proofs.CallText.{call_clean}
 
 false_both : (a b : Bool) → (a || b) ≡ false → (a ≡ false) × (b ≡ false)

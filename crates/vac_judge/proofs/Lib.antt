@@ -5,10 +5,9 @@ pub mod Arrows
 pub mod Keeping
 pub mod Lines
 pub mod Cutting
-pub mod Texts
+pub mod Telling
 pub mod CallText
 pub mod Handed
 pub mod Done
 pub mod NotWhole
 pub mod Histories
-pub mod Stops

@@ -1,12 +1,12 @@
 -- What judging a line says of the verdict on it and those behind it.
-use Rattle.std.proofs.Common.{◌≡◌, ℕ, ◌+◌, List, ◌∷◌, length, Option, Some, None, Result, Ok, Err, refl, sym, ap, ◌∙◌}
+use Rattle.std.proofs.Common.{◌≡◌, ℕ, ◌+◌, List, ◌∷◌, length, Option, Some, None, Result, Ok, refl, sym, ap, ◌∙◌}
 use Rattle.std.proofs.lemmas.List.{length-map}
 use Rattle.vac_model.specs.State.{State}
 use Rattle.vac_model.specs.Run.{run}
 use Rattle.vac_judge.specs.declared.fault.CallFault.{CallFault}
 use Rattle.vac_judge.specs.declared.judge.Judge.{Judge}
 use Rattle.vac_judge.specs.declared.verdict.Wrong.{Wrong}
-use Rattle.vac_judge.specs.declared.verdict.Verdict.TheVariants.{Fault, Illegal}
+use Rattle.vac_judge.specs.declared.verdict.Verdict.TheVariants.{Illegal}
 use Rattle.vac_judge.specs.Call.{Call}
 use Rattle.vac_judge.specs.Order.{span_of}
 use Rattle.vac_judge.specs.Verdict.{judged, unless_wrong}
@@ -20,11 +20,6 @@ JudgesNext judge after call found =
 -- the number of the next line
 number_is : (judge : Judge) (line : ℕ) (s : State) (earlier : List Call) → line ≡ judge.spans.count + 1 → Follows judge s earlier → length earlier + 1 ≡ line
 number_is judge line s earlier n f = sym (n ∙ ap (λ k. k + 1) (f.spans.count_is ∙ length-map earlier span_of))
-
-pub ends_fault : (judge : Judge) (read : Result Call CallFault) (line : ℕ) (fault : CallFault) → read ≡ Err fault → line ≡ judge.spans.count + 1 → Ends judge read (Fault line fault)
-ends_fault judge read line fault e n = record {
-  on = λ s earlier f more. ap (λ l. judged s earlier (l ∷ more)) e ∙ ap (λ k. Fault k fault) (number_is judge line s earlier n f);
-}
 
 pub ends_wrong : (judge after : Judge) (read : Result Call CallFault) (call : Call) (line : ℕ) (wrong : Wrong) → read ≡ Ok call → line ≡ judge.spans.count + 1
     → JudgesNext judge after call (Some wrong) → Ends judge read (Illegal line wrong)

@@ -2,8 +2,8 @@
 use Rattle.std.specs.Prelude.{◌≡◌, ℕ, Bool, Option, List, []}
 use Rattle.std.specs.Io.KnownBytes.{Appends, Consumes, IsAtEnd}
 use Rattle.vac_lines.specs.Writing.{AppendsPrefix}
-use Rattle.vac_judge.specs.declared.fault.JudgeFault.{JudgeFault}
-use Rattle.vac_judge.specs.declared.fault.JudgeFault.TheVariants as fault
+use Rattle.vac_streams.specs.declared.fault.StreamFault.{StreamFault}
+use Rattle.vac_streams.specs.declared.fault.StreamFault.TheVariants as fault
 use Rattle.vac_judge.specs.Work.{held_verdict, held_text, is_whole}
 
 -- an input was read to its end, and these are its bytes
@@ -34,7 +34,7 @@ pub record HasHeldInPart (n : ℕ) (tasks tasks_left unread left held holds : Op
 
 -- a fault ended it: one of the output while the verdict was written, any other before
 -- Not said: which of the faults of reading, of memory and of bounds comes for which cause.
-abbrev pub HasHeldStopped : ℕ → JudgeFault → Option (List ℕ) → Option (List ℕ) → Option (List ℕ)
+abbrev pub HasHeldStopped : ℕ → StreamFault → Option (List ℕ) → Option (List ℕ) → Option (List ℕ)
     → Option (List ℕ) → Option (List ℕ) → Option (List ℕ) → Type 0
 HasHeldStopped n fault.Write tasks tasks_left unread left held holds =
     HasHeldInPart n tasks tasks_left unread left held holds

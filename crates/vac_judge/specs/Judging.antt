@@ -2,10 +2,10 @@
 use Rattle.std.specs.Prelude.{Bool, ◌≡◌, ◌⊎◌, ◌+◌, ◌^◌, Option, Some, None, Result, List, ◌∷◌, map}
 use Rattle.vac_model.specs.State.{State}
 use Rattle.vac_model.specs.Run.{run}
+use Rattle.vac_streams.specs.declared.fault.StreamFault.{StreamFault}
+use Rattle.vac_streams.specs.declared.fault.StreamFault.TheVariants as fault
 use Rattle.vac_spans.specs.Keeping.{Keeps}
 use Rattle.vac_judge.specs.declared.fault.CallFault.{CallFault}
-use Rattle.vac_judge.specs.declared.fault.JudgeFault.{JudgeFault}
-use Rattle.vac_judge.specs.declared.fault.JudgeFault.TheVariants as fault
 use Rattle.vac_judge.specs.declared.judge.Judge.{Judge}
 use Rattle.vac_judge.specs.declared.verdict.Wrong.{Wrong}
 use Rattle.vac_judge.specs.declared.verdict.Wrong.TheVariants.{Client, Time, Reply}
@@ -55,6 +55,6 @@ pub record Ends (judge : Judge) (line : Result Call CallFault) (verdict : Verdic
 -- why a judge did not judge a line: memory was refused, or it has judged as many calls as it can
 -- count
 -- Not said: that memory was refused where Memory is returned.
-abbrev pub IsStop : Judge → JudgeFault → Type 0
+abbrev pub IsStop : Judge → StreamFault → Type 0
 IsStop judge stop =
     (stop ≡ fault.Memory) ⊎ ((stop ≡ fault.Bound) × (judge.spans.count + 1 ≡ 2 ^ 64))

@@ -7,6 +7,7 @@ pub mod Wrongs
 pub mod Follows
 pub mod Judging
 pub mod Reading
+pub mod Hearing
 pub mod CallText
 pub mod Work
 pub mod Holding

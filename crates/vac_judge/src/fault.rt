@@ -1,8 +1,7 @@
 //! Why a line of a history is no call.
 
-use std::alloc::AllocError;
 use thiserror::Error;
-use vac_lines::{LineFault, NotWritten};
+use vac_lines::LineFault;
 
 /// Why a line of a history is no call.
 #[derive(Clone, Copy, Debug, PartialEq, Eq, Error)]
@@ -24,44 +23,5 @@ impl From<LineFault> for CallFault {
 
     fn from(fault: LineFault) -> CallFault {
         CallFault::Line(fault)
-    }
-}
-
-/// Why a history was not judged to its end.
-#[derive(Clone, Copy, Debug, PartialEq, Eq, Error)]
-pub enum JudgeFault {
-    /// The input could not be read.
-    #[error("the input could not be read")]
-    Read = 1,
-    /// The output could not be written, or a write took nothing.
-    #[error("the output could not be written")]
-    Write = 2,
-    /// Memory was refused.
-    #[error("out of memory")]
-    Memory = 3,
-    /// More than 4,294,967,296 reads were made, or there are 2^64 lines.
-    #[error("the history is too long")]
-    Bound = 4,
-}
-
-impl From<AllocError> for JudgeFault {
-    ghost use Rattle.std.specs.Prelude.{◌≡◌};
-    ghost use Rattle.vac_judge.specs.declared.fault.JudgeFault.TheVariants.{Memory};
-
-    ghost from_gives = { λ _ fault. fault ≡ Memory };
-
-    fn from(_error: AllocError) -> JudgeFault {
-        JudgeFault::Memory
-    }
-}
-
-impl From<NotWritten> for JudgeFault {
-    ghost use Rattle.std.specs.Prelude.{◌≡◌};
-    ghost use Rattle.vac_judge.specs.declared.fault.JudgeFault.TheVariants.{Write};
-
-    ghost from_gives = { λ _ fault. fault ≡ Write };
-
-    fn from(_error: NotWritten) -> JudgeFault {
-        JudgeFault::Write
     }
 }

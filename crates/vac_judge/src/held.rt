@@ -6,7 +6,6 @@ ghost use Rattle.vac_lines.specs.Script.{as_line};
 ghost use Rattle.vac_judge.specs.Work.{comes_first, held_verdict, held_text, is_whole};
 ghost use Rattle.vac_judge.specs.HeldReading.{IsReadWhole, HasHeld, HasHeldStopped};
 
-use crate::fault::JudgeFault;
 use crate::holding::{first_missing, hold_calls};
 use crate::reading::judge_input;
 use crate::verdict::{Verdict, append_counted, print_verdict};
@@ -15,6 +14,7 @@ use std::alloc::{AllocError, Global};
 use std::io::{ErrorKind, Read, Write};
 use vac_lines::write_and_flush;
 use vac_model::limits::MOST_BLOCKS;
+use vac_streams::StreamFault;
 
 /// What is said of a history that is held against work. Lines are numbered from 1.
 #[derive(Clone, Copy, Debug, PartialEq, Eq)]
@@ -42,11 +42,16 @@ fn comes_first(line: u64, verdict: &Verdict) -> bool
 }
 
 /// The verdict on a history, held against the text of the work.
-fn hold(alloc: Global, blocks: u32, tasks: &[u8], history: &[u8]) -> Result<HeldVerdict, JudgeFault>
+fn hold(
+    alloc: Global,
+    blocks: u32,
+    tasks: &[u8],
+    history: &[u8],
+) -> Result<HeldVerdict, StreamFault>
     requires some { 1 ≤ blocks }
     requires most { blocks ≤ MOST_BLOCKS }
     ensures held { IfOk result (λ verdict. verdict ≡ held_verdict blocks tasks.now history.now) }
-    ensures fault { IfErr result (λ fault. fault ≢ JudgeFault.Write) }
+    ensures fault { IfErr result (λ fault. fault ≢ StreamFault.Write) }
 {
     let work = match read_work(alloc, tasks)? {
         Ok(work) => work,
@@ -107,16 +112,16 @@ fn is_whole(verdict: &HeldVerdict) -> bool
 }
 
 /// All that an input has.
-fn read_all<R: Read>(alloc: Global, input: &mut R) -> Result<Vec<u8>, JudgeFault>
+fn read_all<R: Read>(alloc: Global, input: &mut R) -> Result<Vec<u8>, StreamFault>
     ensures bytes { IfOk result (λ bytes.
         IsReadWhole (R.remaining input.old) (R.remaining input.new) bytes.items) }
-    ensures fault { IfErr result (λ fault. fault ≢ JudgeFault.Write) }
+    ensures fault { IfErr result (λ fault. fault ≢ StreamFault.Write) }
 {
     let mut bytes = Vec::new(alloc);
     match input.read_to_end(&mut bytes) {
         Ok(_) => Ok(bytes),
-        Err(error) if error.kind() == ErrorKind::OutOfMemory => Err(JudgeFault::Memory),
-        Err(_) => Err(JudgeFault::Read),
+        Err(error) if error.kind() == ErrorKind::OutOfMemory => Err(StreamFault::Memory),
+        Err(_) => Err(StreamFault::Read),
     }
 }
 
@@ -135,7 +140,7 @@ pub fn judge_work<V: Read, R: Read, W: Write>(
     tasks: &mut V,
     input: &mut R,
     output: &mut W,
-) -> Result<bool, JudgeFault>
+) -> Result<bool, StreamFault>
     requires some { 1 ≤ blocks }
     requires most { blocks ≤ MOST_BLOCKS }
     ensures ok { IfOk result (λ legal. HasHeld blocks legal

@@ -11,11 +11,12 @@ ghost use Rattle.vac_judge.specs.Holding.{IsWork, Counts, IsProgress};
 
 use crate::by_client::ByClient;
 use crate::call::{CallLine, read_call};
-use crate::fault::{CallFault, JudgeFault};
+use crate::fault::CallFault;
 use crate::work::{Work, next_line};
 use std::alloc::{AllocError, Global};
 use vac_lines::{LineFault, print_task};
 use vac_model::Task;
+use vac_streams::StreamFault;
 
 /// How far a client is.
 #[derive(Clone, Copy, Drop)]
@@ -46,13 +47,13 @@ fn have_one_form(alloc: Global, wanted: &Task, given: &Task) -> Result<bool, All
 }
 
 /// How far a client is after one more call.
-fn progress_after(progress: Progress, call: &CallLine<'_>) -> Result<Progress, JudgeFault>
+fn progress_after(progress: Progress, call: &CallLine<'_>) -> Result<Progress, StreamFault>
     ensures made { IfOk result (λ next. next.made ≡ progress.made + 1) }
     ensures stopped { IfOk result (λ next.
         next.stopped ≡ (is_none (shown_call call.now).reply || progress.stopped)) }
-    ensures fault { IfErr result (λ fault. fault ≢ JudgeFault.Write) }
+    ensures fault { IfErr result (λ fault. fault ≢ StreamFault.Write) }
 {
-    let made = progress.made.checked_add(1).ok_or(JudgeFault::Bound)?;
+    let made = progress.made.checked_add(1).ok_or(StreamFault::Bound)?;
     let stopped = call.answer.is_none() || progress.stopped;
     Ok(Progress { made, stopped })
 }
@@ -82,27 +83,27 @@ impl Holding {
     }
 
     /// Counts one more call.
-    fn count(&mut self, call: &CallLine<'_>, progress: Progress) -> Result<(), JudgeFault>
+    fn count(&mut self, call: &CallLine<'_>, progress: Progress) -> Result<(), StreamFault>
         ensures counts { OnOk result ((calls : List Call) → Counts self.old calls →
             IsProgress progress call.now.client calls →
             Counts self.new (shown_call call.now ∷ calls)) }
-        ensures fault { IfErr result (λ fault. fault ≢ JudgeFault.Write) }
+        ensures fault { IfErr result (λ fault. fault ≢ StreamFault.Write) }
     {
         let next = progress_after(progress, call)?;
-        let count = self.count.checked_add(1).ok_or(JudgeFault::Bound)?;
+        let count = self.count.checked_add(1).ok_or(StreamFault::Bound)?;
         self.clients.insert(call.client, next)?;
         self.count = count;
         Ok(())
     }
 
     /// Whether a call asks for the task that comes next for its client. Where it does, it counts.
-    fn take(&mut self, alloc: Global, work: &Work, call: &CallLine<'_>) -> Result<bool, JudgeFault>
+    fn take(&mut self, alloc: Global, work: &Work, call: &CallLine<'_>) -> Result<bool, StreamFault>
         ensures next { IfOk result (λ next. (asked : List Asked) (calls : List Call) →
             IsWork work.now asked → Counts self.old calls →
             next ≡ is_next asked calls (shown_call call.now)) }
         ensures counts { IfOk result (λ next. next ≡ true → (calls : List Call) →
             Counts self.old calls → Counts self.new (shown_call call.now ∷ calls)) }
-        ensures fault { IfErr result (λ fault. fault ≢ JudgeFault.Write) }
+        ensures fault { IfErr result (λ fault. fault ≢ StreamFault.Write) }
     {
         let progress = self.progress(call.client);
         let Some(wanted) = work.get(call.client, progress.made) else {
@@ -122,20 +123,20 @@ pub(crate) fn hold_calls(
     alloc: Global,
     work: &Work,
     text: &[u8],
-) -> Result<(Holding, Option<u64>), JudgeFault>
+) -> Result<(Holding, Option<u64>), StreamFault>
     ensures line { IfOk result (λ found. (asked : List Asked) → IsWork work.now asked →
         found.1 ≡ first_foreign asked [] (map line_call (lines_of text.now))) }
     ensures counts { IfOk result (λ found. found.1 ≡ None →
         Counts found.0 (calls_in [] (map line_call (lines_of text.now)))) }
-    ensures fault { IfErr result (λ fault. fault ≢ JudgeFault.Write) }
+    ensures fault { IfErr result (λ fault. fault ≢ StreamFault.Write) }
 {
     let mut held = Holding::new(alloc);
     let mut rest = text;
     while let Some((line, behind)) = next_line(rest) {
-        let number = held.count.checked_add(1).ok_or(JudgeFault::Bound)?;
+        let number = held.count.checked_add(1).ok_or(StreamFault::Bound)?;
         let call = match read_call(alloc, line) {
             Ok(call) => call,
-            Err(CallFault::Line(LineFault::Memory)) => return Err(JudgeFault::Memory),
+            Err(CallFault::Line(LineFault::Memory)) => return Err(StreamFault::Memory),
             Err(_) => return Ok((held, None)),
         };
         if !held.take(alloc, work, &call)? {
@@ -152,17 +153,17 @@ pub(crate) fn first_missing(
     alloc: Global,
     work: &Work,
     held: &Holding,
-) -> Result<Option<(u32, u64)>, JudgeFault>
+) -> Result<Option<(u32, u64)>, StreamFault>
     ensures missing { IfOk result (λ found. (asked : List Asked) (calls : List Call) →
         IsWork work.now asked → Counts held.now calls → found ≡ first_missing calls [] asked) }
-    ensures fault { IfErr result (λ fault. fault ≢ JudgeFault.Write) }
+    ensures fault { IfErr result (λ fault. fault ≢ StreamFault.Write) }
 {
     let mut seen: ByClient<usize> = ByClient::new(alloc);
     let mut rest = work.clients();
     while let Some((client, behind)) = rest.split_first() {
         let client = *client;
         let before = seen.get(client).copied().unwrap_or(0);
-        let number = before.checked_add(1).ok_or(JudgeFault::Bound)?;
+        let number = before.checked_add(1).ok_or(StreamFault::Bound)?;
         let progress = held.progress(client);
         if progress.made <= before && !progress.stopped {
             return Ok(Some((client, number as u64)));

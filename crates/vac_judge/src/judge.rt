@@ -1,6 +1,6 @@
 //! Judging one call after another.
 
-ghost use Rattle.std.specs.Prelude.{◌≡◌, ◌≢◌, ◌≤◌, ◌<◌, ◌^◌, ◌+◌, IfOk, OnOk, IfErr, MatchOption, List, [], ◌∷◌, true};
+ghost use Rattle.std.specs.Prelude.{◌≡◌, ◌≢◌, ◌≤◌, ◌<◌, ◌^◌, ◌+◌, IfOk, OnOk, IfErr, MatchOption, List, [], ◌∷◌, true, Err};
 ghost use Rattle.std.specs.Str.{bytes_eq};
 ghost use Rattle.vac_model.specs.Ranges.{is_task};
 ghost use Rattle.vac_model.specs.State.{State, empty_state};
@@ -13,7 +13,7 @@ ghost use Rattle.vac_judge.specs.Judging.{IsStop};
 ghost use Rattle.vac_judge.specs.Verdict.{summary_of};
 
 use crate::call::{Answer, CallLine, read_call};
-use crate::fault::{CallFault, JudgeFault};
+use crate::fault::CallFault;
 use crate::verdict::{Summary, Verdict, Wrong};
 use std::alloc::{AllocError, Global};
 use tx_alloc::FreeList;
@@ -22,6 +22,7 @@ use vac_model::Reply;
 use vac_model::limits::MOST_BLOCKS;
 use vac_plain::Heap;
 use vac_spans::{Misplaced, Spans};
+use vac_streams::StreamFault;
 
 /// A judge of a history that is given line by line: the state that the calls so far leave, and
 /// what the order of a further call is judged by.
@@ -59,30 +60,42 @@ fn is_right(
 }
 
 /// The fault of a line, where it is not that memory was refused.
-fn own_fault(fault: CallFault) -> Result<CallFault, JudgeFault>
+fn own_fault(fault: CallFault) -> Result<CallFault, StreamFault>
     ensures own { IfOk result (λ found.
         (found ≡ fault) × (fault ≢ CallFault.Line LineFault.Memory)) }
-    ensures refused { IfErr result (λ refused. refused ≡ JudgeFault.Memory) }
+    ensures refused { IfErr result (λ refused. refused ≡ StreamFault.Memory) }
 {
     if matches!(fault, CallFault::Line(LineFault::Memory)) {
-        return Err(JudgeFault::Memory);
+        return Err(StreamFault::Memory);
     }
     Ok(fault)
 }
 
 impl Judge {
     /// A history without calls, of a system of `blocks` blocks.
-    pub fn new(alloc: Global, blocks: u32) -> Result<Judge, JudgeFault>
+    pub fn new(alloc: Global, blocks: u32) -> Result<Judge, StreamFault>
         requires some { 1 ≤ blocks }
         requires most { blocks ≤ MOST_BLOCKS }
         ensures empty { IfOk result (λ judge. Follows judge (empty_state blocks) []) }
-        ensures refused { IfErr result (λ fault. fault ≡ JudgeFault.Memory) }
+        ensures refused { IfErr result (λ fault. fault ≡ StreamFault.Memory) }
     {
         Ok(Judge {
             heap: Heap::new(alloc, blocks)?,
             spans: Spans::new(alloc),
             expected: Vec::new(alloc),
         })
+    }
+
+    /// The number of the next line.
+    fn number(&self) -> Result<u64, StreamFault>
+        ensures line { IfOk result (λ line. line ≡ self.now.spans.count + 1) }
+        ensures refused { IfErr result (λ fault. IsStop self.now fault) }
+    {
+        let count = self.spans.count();
+        if count == u64::MAX {
+            return Err(StreamFault::Bound);
+        }
+        Ok(count + 1)
     }
 
     /// What is wrong with the times of a call, after the calls before it.
@@ -123,17 +136,13 @@ impl Judge {
     ///
     /// Not said: that it keeps no more than the heap, one number for each client and a reply, which
     /// is read in the code.
-    pub fn judge_line(&mut self, alloc: Global, text: &[u8]) -> Result<Option<Verdict>, JudgeFault>
+    pub fn judge_line(&mut self, alloc: Global, text: &[u8]) -> Result<Option<Verdict>, StreamFault>
         ensures judged { IfOk result (λ found. MatchOption found
             (Takes self.old self.new (line_call text.now))
             (λ verdict. IsEnd self.old (line_call text.now) verdict)) }
         ensures refused { IfErr result (λ fault. IsStop self.old fault) }
     {
-        let count = self.spans.count();
-        if count == u64::MAX {
-            return Err(JudgeFault::Bound);
-        }
-        let line = count + 1;
+        let line = self.number()?;
         match read_call(alloc, text) {
             Ok(call) => match self.judge_call(&call)? {
                 Some(wrong) => Ok(Some(Verdict::Illegal { line, wrong })),
@@ -144,6 +153,19 @@ impl Judge {
                 Ok(Some(Verdict::Fault { line, fault }))
             }
         }
+    }
+
+    /// The verdict that a line brings which is too long.
+    pub(crate) fn long_line(&self) -> Result<Verdict, StreamFault>
+        ensures judged { IfOk result (λ verdict.
+            IsEnd self.now (Err (CallFault.Line LineFault.LongLine)) verdict) }
+        ensures refused { IfErr result (λ fault. IsStop self.now fault) }
+    {
+        let line = self.number()?;
+        Ok(Verdict::Fault {
+            line,
+            fault: CallFault::Line(LineFault::LongLine),
+        })
     }
 
     /// What is said of the calls, where no further line follows.

@@ -1,114 +1,53 @@
 //! Reading a history, and writing the verdict on it.
 
-ghost use Rattle.std.specs.Prelude.{◌≡◌, ◌≢◌, ◌≤◌, ◌+◌, [], ◌++◌, length, take};
-ghost use Rattle.std.specs.Prelude.{OnOk, IfOk, IfErr, MatchOption};
-ghost use Rattle.vac_model.specs.State.{empty_state};
-ghost use Rattle.vac_judge.specs.Call.{line_call};
-ghost use Rattle.vac_judge.specs.Judging.{Follows, Takes, Ends, IsStop};
+ghost use Rattle.std.specs.Prelude.{◌≡◌, ◌≢◌, ◌≤◌, IfOk, IfErr};
 ghost use Rattle.vac_judge.specs.Verdict.{is_legal};
-ghost use Rattle.vac_judge.specs.Reading.{HasBegun, HasVerdict, HasJudged, HasStopped};
-ghost use Rattle.vac_judge.specs.Reading.{TakesText, EndsText, EndsLast, IsStopOfLines};
+ghost use Rattle.vac_judge.specs.Reading.{HasVerdict, HasJudged, HasStopped};
 
 use crate::call::CALL_BYTES;
-use crate::fault::JudgeFault;
 use crate::judge::Judge;
 use crate::verdict::{Verdict, print_verdict};
-use std::alloc::{AllocError, Global};
-use std::io::{ErrorKind, Read, Write};
-use vac_lines::{CHUNK_BYTES, MOST_READS, cut_at, write_and_flush};
+use std::alloc::Global;
+use std::io::{Read, Write};
+use vac_lines::write_and_flush;
 use vac_model::limits::MOST_BLOCKS;
-
-/// How much is kept of a line that has not ended: enough to see that it is too long.
-const KEPT_BYTES: usize = CALL_BYTES + 1;
+use vac_streams::{Next, Sink, StreamFault, read_lines};
 
 /// A history that is read.
 #[derive(Drop)]
 struct History {
+    alloc: Global,
     judge: Judge,
-    /// The line that has begun, up to [`KEPT_BYTES`] of it.
-    line: Vec<u8>,
+    /// The verdict of the first line that brings one.
+    found: Option<Verdict>,
 }
 
-/// Keeps what follows of a line that has begun, as far as it is needed.
-#[tactic(auto, using(crate::proofs::Cutting::kept_prefix))]
-fn keep_start(line: &mut Vec<u8>, more: &[u8]) -> Result<(), AllocError>
-    requires { length line.old.items ≤ CALL_BYTES + 1 }
-    ensures { OnOk result
-        (line.new.items ≡ take (CALL_BYTES + 1) (line.old.items ++ more.now)) }
-{
-    let room = KEPT_BYTES - line.len();
-    let kept = room.min(more.len());
-    line.extend_from_slice(&more[..kept])
-}
+impl Sink<()> for History {
+    ghost use Rattle.vac_streams.specs.declared.reading.TheConstants.{MOST_LINES};
+    ghost use Rattle.vac_judge.specs.Hearing.{HearsCall};
 
-impl History {
-    /// A history of which nothing was read, of a system of `blocks` blocks.
-    fn new(alloc: Global, blocks: u32) -> Result<History, JudgeFault>
-        requires some { 1 ≤ blocks }
-        requires most { blocks ≤ MOST_BLOCKS }
-        ensures judge { IfOk result (λ history. Follows history.judge (empty_state blocks) []) }
-        ensures line { IfOk result (λ history. history.line.items ≡ []) }
-        ensures refused { IfErr result (λ fault. fault ≡ JudgeFault.Memory) }
-    {
-        let judge = Judge::new(alloc, blocks)?;
-        let line = Vec::with_capacity(alloc, KEPT_BYTES)?;
-        Ok(History { judge, line })
-    }
+    ghost room = { λ _. MOST_LINES };
 
-    /// Judges the line that has begun, whose rest this is.
-    fn end_line(&mut self, alloc: Global, rest: &[u8]) -> Result<Option<Verdict>, JudgeFault>
-        requires { length self.old.line.items ≤ CALL_BYTES + 1 }
-        ensures line { OnOk result (self.new.line.items ≡ []) }
-        ensures judged { IfOk result (λ found. MatchOption found
-            (Takes self.old.judge self.new.judge (line_call (self.old.line.items ++ rest.now)))
-            (λ verdict. Ends self.old.judge (line_call (self.old.line.items ++ rest.now))
-            verdict)) }
-        ensures refused { IfErr result (λ fault. IsStop self.old.judge fault) }
-    {
-        if self.line.is_empty() {
-            return self.judge.judge_line(alloc, rest);
-        }
-        keep_start(&mut self.line, rest)?;
-        let found = self.judge.judge_line(alloc, self.line.as_slice())?;
-        self.line.clear();
-        Ok(found)
-    }
+    ghost hears = { λ x _ told answer y _. HearsCall x told answer y };
 
-    /// Judges the lines that end in a chunk of the input, and keeps what follows them. Returns the
-    /// verdict of the first that brings one.
-    fn feed(&mut self, alloc: Global, chunk: &[u8]) -> Result<Option<Verdict>, JudgeFault>
-        requires { HasBegun self.old.line.items }
-        ensures judged { IfOk result (λ found. MatchOption found
-            (HasBegun self.new.line.items × TakesText self.old.judge self.new.judge
-            (self.old.line.items ++ chunk.now) self.new.line.items)
-            (λ verdict. EndsText self.old.judge (self.old.line.items ++ chunk.now) verdict)) }
-        ensures refused { IfErr result IsStopOfLines }
-    {
-        let mut rest = chunk;
-        while let Some((line, behind)) = cut_at(b'\n', rest) {
-            if let Some(verdict) = self.end_line(alloc, line)? {
-                return Ok(Some(verdict));
-            }
-            rest = behind;
-        }
-        keep_start(&mut self.line, rest)?;
-        Ok(None)
-    }
-
-    /// The verdict at the end of the input: that of the last line, where it has begun and has no
-    /// end, or what is said of all calls.
-    fn finish(&mut self, alloc: Global) -> Result<Verdict, JudgeFault>
-        requires { HasBegun self.old.line.items }
-        ensures judged { IfOk result (λ verdict.
-            EndsLast self.old.judge self.old.line.items verdict) }
-        ensures refused { IfErr result IsStopOfLines }
-    {
-        if !self.line.is_empty() {
-            if let Some(verdict) = self.end_line(alloc, &[])? {
-                return Ok(verdict);
+    fn line(&mut self, line: &[u8], _output: &mut ()) -> Result<Next, StreamFault> {
+        match self.judge.judge_line(self.alloc, line)? {
+            None => Ok(Next::GoOn),
+            Some(verdict) => {
+                self.found = Some(verdict);
+                Ok(Next::Stop)
             }
         }
-        Ok(Verdict::Legal(self.judge.summary()))
+    }
+
+    fn long_line(&mut self, _output: &mut ()) -> Result<Next, StreamFault> {
+        let verdict = self.judge.long_line()?;
+        self.found = Some(verdict);
+        Ok(Next::Stop)
+    }
+
+    fn pause(&mut self, _output: &mut ()) -> Result<Next, StreamFault> {
+        Ok(Next::GoOn)
     }
 }
 
@@ -118,32 +57,25 @@ pub(crate) fn judge_input<R: Read>(
     alloc: Global,
     blocks: u32,
     input: &mut R,
-) -> Result<Verdict, JudgeFault>
+) -> Result<Verdict, StreamFault>
     requires some { 1 ≤ blocks }
     requires most { blocks ≤ MOST_BLOCKS }
     ensures judged { IfOk result (λ verdict.
         HasVerdict blocks (R.remaining input.old) (R.remaining input.new) verdict) }
-    ensures refused { IfErr result (λ fault. fault ≢ JudgeFault.Write) }
+    ensures refused { IfErr result (λ fault. fault ≢ StreamFault.Write) }
 {
-    let mut history = History::new(alloc, blocks)?;
-    let mut buffer = vec![in alloc; 0; CHUNK_BYTES]?;
-    let chunk = buffer.as_mut_slice();
-    'reads: for _ in 0..=MOST_READS {
-        match input.read(chunk) {
-            Ok(0) => return history.finish(alloc),
-            Ok(count) => {
-                if let Some(verdict) = history.feed(alloc, &chunk[..count])? {
-                    return Ok(verdict);
-                }
-            }
-            Err(error) => {
-                if error.kind() != ErrorKind::Interrupted {
-                    return Err(JudgeFault::Read);
-                }
-            }
-        }
+    let mut history = History {
+        alloc,
+        judge: Judge::new(alloc, blocks)?,
+        found: None,
+    };
+    match read_lines(alloc, CALL_BYTES, input, &mut history, &mut ())? {
+        Next::GoOn => Ok(Verdict::Legal(history.judge.summary())),
+        Next::Stop => match history.found {
+            Some(verdict) => Ok(verdict),
+            None => unreachable!(),
+        },
     }
-    Err(JudgeFault::Bound)
 }
 
 /// Whether a verdict is that a history is legal.
@@ -162,7 +94,7 @@ pub fn judge_history<R: Read, W: Write>(
     blocks: u32,
     input: &mut R,
     output: &mut W,
-) -> Result<bool, JudgeFault>
+) -> Result<bool, StreamFault>
     requires some { 1 ≤ blocks }
     requires most { blocks ≤ MOST_BLOCKS }
     ensures ok { IfOk result (λ legal. HasJudged blocks legal

@@ -10,10 +10,11 @@ ghost use Rattle.vac_judge.specs.Holding.{IsWork, asked_of, listed};
 
 use crate::by_client::ByClient;
 use crate::call::client_at;
-use crate::fault::{CallFault, JudgeFault};
+use crate::fault::CallFault;
 use std::alloc::{AllocError, Global};
 use vac_lines::{LineFault, cut_at, read_line};
 use vac_model::Task;
+use vac_streams::StreamFault;
 
 /// The work that was handed out.
 #[derive(Drop)]
@@ -118,21 +119,21 @@ impl Work {
 }
 
 /// The work of these lines, or the number of the first line that hands out no task.
-pub(crate) fn read_work(alloc: Global, text: &[u8]) -> Result<Result<Work, u64>, JudgeFault>
+pub(crate) fn read_work(alloc: Global, text: &[u8]) -> Result<Result<Work, u64>, StreamFault>
     ensures work { IfOk result (λ found. MatchResult found
         (λ kept. (work : List Asked) × IsWork kept work
         × (work_of (list.map line_asked (lines_of text.now)) ≡ Ok work))
         (λ line. work_of (list.map line_asked (lines_of text.now)) ≡ Err line)) }
-    ensures fault { IfErr result (λ fault. fault ≢ JudgeFault.Write) }
+    ensures fault { IfErr result (λ fault. fault ≢ StreamFault.Write) }
 {
     let mut work = Work::new(alloc);
     let mut rest = text;
     let mut count: u64 = 0;
     while let Some((line, behind)) = next_line(rest) {
-        count = count.checked_add(1).ok_or(JudgeFault::Bound)?;
+        count = count.checked_add(1).ok_or(StreamFault::Bound)?;
         match asked_at(alloc, line) {
             Ok((client, task)) => work.push(alloc, client, task)?,
-            Err(CallFault::Line(LineFault::Memory)) => return Err(JudgeFault::Memory),
+            Err(CallFault::Line(LineFault::Memory)) => return Err(StreamFault::Memory),
             Err(_) => return Ok(Err(count)),
         }
         rest = behind;

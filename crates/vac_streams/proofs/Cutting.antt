@@ -42,7 +42,7 @@ parts_behind (b ∷ bs) text first rest h e =
     ∙ ap (onto_first b) (parts_behind bs text first rest (All-tail (λ x. x ≢ 10) b bs h) e)
 
 -- a line that has its end
-lines_cut : (line text : List ℕ) → HasNoEnd line → lines_of (line ++ 10 ∷ text) ≡ line ∷ lines_of text
+pub lines_cut : (line text : List ℕ) → HasNoEnd line → lines_of (line ++ 10 ∷ text) ≡ line ∷ lines_of text
 lines_cut line text h =
     let p = parts text in
     let e = parts_behind line (10 ∷ text) [] (slice_split is_end text) h refl in
@@ -51,7 +51,7 @@ lines_cut line text h =
     ∙ ap (λ t. line ∷ without_empty_end t) (sym p.2)
 
 -- a last line without its end
-lines_last : (line : List ℕ) → HasNoEnd line → lines_of line ≡ cond (eqb (length line) 0) [] (line ∷ [])
+pub lines_last : (line : List ℕ) → HasNoEnd line → lines_of line ≡ cond (eqb (length line) 0) [] (line ∷ [])
 lines_last line h =
     let e = parts_behind line [] [] [] h refl in
     ap lines_of (sym (append-nil line)) ∙ ap without_empty_end (e ∙ ap (λ t. t ∷ []) (append-nil line))

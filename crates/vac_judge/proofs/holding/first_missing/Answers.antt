@@ -1,7 +1,6 @@
 use Rattle.std.proofs.Common.{◌≡◌, ◌≤◌, ◌+◌, ◌∷◌, ◌&&◌, not, nat_le, false, unwrap_or, rules}
 use Rattle.std.specs.FinMap.{get}
-use Rattle.vac_judge.proofs.Handed.{seen_first, seen_more, seen_missing, seen_all, found_open, closed_by_stop, closed_by_made}
-use Rattle.vac_judge.proofs.Texts.{no_bytes}
+use Rattle.vac_judge.proofs.Handed.{no_bytes, seen_first, seen_more, seen_missing, seen_all, found_open, closed_by_stop, closed_by_made}
 use Rattle.vac_judge.proofs.holding.first_missing.Goals as goal
 use Rattle.vac_judge.proofs.holding.first_missing.Goals.{else-progress-before-via-then-progress-before+else-not-progress, else-progress-before-via-else-progress-before}
 

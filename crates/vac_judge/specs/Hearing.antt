@@ -1,0 +1,34 @@
+-- What being told a line makes of a history that is read.
+use Rattle.std.specs.Prelude.{◌≡◌, Some, Result, Ok, Err}
+use Rattle.vac_lines.specs.declared.fault.LineFault.TheVariants.{LongLine}
+use Rattle.vac_streams.specs.declared.fault.StreamFault.{StreamFault}
+use Rattle.vac_streams.specs.declared.next.Next.{Next}
+use Rattle.vac_streams.specs.declared.next.Next.TheVariants.{GoOn, Stop}
+use Rattle.vac_streams.specs.Told as told
+use Rattle.vac_streams.specs.Told.{Told}
+use Rattle.vac_judge.specs.declared.fault.CallFault.{CallFault}
+use Rattle.vac_judge.specs.declared.fault.CallFault.TheVariants as fault
+use Rattle.vac_judge.specs.declared.verdict.Verdict.{Verdict}
+use Rattle.vac_judge.specs.declared.reading.History.{History}
+use Rattle.vac_judge.specs.Call.{Call, line_call}
+use Rattle.vac_judge.specs.Judging.{Takes, Ends, IsStop}
+
+-- the call of a line that was told, or its fault; a pause is no call
+abbrev pub told_call : Told → Result Call CallFault
+told_call (told.Line text) = line_call text
+told_call told.LongLine = Err (fault.Line LongLine)
+told_call told.Pause = Err fault.BadCall
+
+-- a line brought a verdict, which is kept
+pub record BringsVerdict (x : History) (line : Told) (y : History) : Type 0 where
+  pub verdict : Verdict
+  pub found : y.found ≡ Some verdict
+  pub ends : Ends x.judge (told_call line) verdict
+
+-- what being told this makes of a history: its judge took a line, or a line brought a verdict; a
+-- pause changes nothing; or a fault of the judge ended it
+abbrev pub HearsCall : History → Told → Result Next StreamFault → History → Type 0
+HearsCall x line (Err stop) y = IsStop x.judge stop
+HearsCall x told.Pause (Ok next) y = (next ≡ GoOn) × (y ≡ x)
+HearsCall x line (Ok GoOn) y = Takes x.judge y.judge (told_call line)
+HearsCall x line (Ok Stop) y = BringsVerdict x line y
