@@ -10,4 +10,7 @@ pub mod CallText
 pub mod Handed
 pub mod Done
 pub mod NotWhole
+pub mod BadTasks
+pub mod Foreign
+pub mod Missing
 pub mod Histories

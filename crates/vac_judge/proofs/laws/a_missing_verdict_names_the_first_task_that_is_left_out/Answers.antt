@@ -1,4 +1,4 @@
-use Rattle.vac_judge.proofs.NotWhole.{missing_is_first}
+use Rattle.vac_judge.proofs.Missing.{missing_is_first}
 use Rattle.vac_judge.proofs.laws.a_missing_verdict_names_the_first_task_that_is_left_out.Goals as goal
 
 pub returns : goal.returns
